@@ -1,0 +1,3 @@
+pub mod BoolStream
+pub mod Plain
+pub mod Word

@@ -1,0 +1,206 @@
+// From bools to the stream, with carries.
+ghost use Rattle.std.specs.Prelude.{◌≡◌, ℕ, ◌+◌, ◌-◌, ◌*◌, ◌^◌, ◌<◌, ◌≤◌, Some, None, List, length, take, drop, IsSome, IfSome, IfOk, OnOk, OnErr, option_map};
+ghost use Rattle.std.specs.Int.Digits.{number_from_digits, AllBelowBase};
+ghost use Rattle.bool_coder.specs.BoolStream.{opening, after, split, chosen, stream};
+ghost use Rattle.bool_coder.specs.Word.{kept};
+
+use std::alloc::{AllocError, Global};
+use std::marker::Model;
+
+/// Where the first four bytes of the word are written. A bool adds seven bits at most, so the word has 46 bits and a
+/// carry at most.
+const FULL: u32 = 40;
+
+/// What a list of bools leaves of the line, on the way to its stream.
+///
+/// Clauses see the interval, or nothing once there was no memory: the encoder is then spent.
+#[derive(Drop)]
+pub struct Encoder {
+    // The bytes of the bottom that are whole, but for a carry.
+    written: Vec<u8>,
+    // The bits of the bottom after them, and above those the carry.
+    low: u64,
+    // How many bits that is, without the carry.
+    bits: u32,
+    range: u32,
+    spent: bool,
+}
+
+impl Model for Encoder {
+    ghost use Rattle.std.specs.Prelude.{Option};
+    ghost use Rattle.bool_coder.specs.BoolStream.{Interval};
+
+    ghost Value = { Option Interval };
+
+    ghost use Rattle.bool_coder.specs.Word.{interval_of, IsSound};
+
+    ghost view = { interval_of };
+
+    ghost invariant = { IsSound };
+}
+
+impl Encoder {
+    /// Before the first bool: the line of 255 parts (RFC 6386, 7.3).
+    pub fn new(alloc: Global) -> Self
+        ensures { result ≡ Some opening }
+    {
+        Encoder {
+            written: Vec::new(alloc),
+            low: 0,
+            bits: 8,
+            range: 255,
+            spent: false,
+        }
+    }
+
+    /// Codes a bool whose probability of a zero is `prob` in 256, from 1 to 255 (RFC 6386, 7.3). The one error is
+    /// want of memory. The encoder is then spent, and answers that error from then on.
+    pub fn put(&mut self, prob: u8, bit: bool) -> Result<(), AllocError>
+        requires { 0 < prob }
+        ensures coded { OnOk result (self.new ≡ option_map (λ i. after i (prob, bit)) self.old) }
+        ensures lasting { OnOk result (IsSome self.old) }
+        ensures spent { OnErr result (self.new ≡ None) }
+    {
+        if self.spent {
+            return Err(AllocError);
+        }
+        let (low, bits, range) = step(self.low, self.bits, self.range, prob, bit);
+        if bits < FULL {
+            self.low = low;
+            self.bits = bits;
+        } else {
+            let left = bits - 32;
+            if append(&mut self.written, low >> left, 4).is_err() {
+                self.spent = true;
+                return Err(AllocError);
+            }
+            self.low = low & ((1 << left) - 1);
+            self.bits = left;
+        }
+        self.range = range;
+        Ok(())
+    }
+
+    /// The stream of the bools that were coded: the bottom in eight bits and one more for each shift, the highest
+    /// first, and zero bits up to a whole byte. The flush of RFC 6386 isn't used. The one error is want of memory,
+    /// here or at a `put`.
+    pub fn finish(self) -> Result<Vec<u8>, AllocError>
+        ensures stream { IfOk result (λ bytes. IfSome self (λ i. bytes.items ≡ stream i)) }
+        ensures spent { OnOk result (IsSome self) }
+    {
+        let Encoder {
+            mut written,
+            low,
+            bits,
+            range: _,
+            spent,
+        } = self;
+        if spent {
+            return Err(AllocError);
+        }
+        let count = bits.div_ceil(8);
+        append(&mut written, low << (8 * count - bits), count as usize)?;
+        Ok(written)
+    }
+}
+
+// What a bool makes of the word. It adds seven bits at most.
+#[inline(always)]
+fn step(low: u64, bits: u32, range: u32, prob: u8, bit: bool) -> (u64, u32, u32)
+    requires wide { 128 ≤ range }
+    requires byte { range ≤ 255 }
+    requires begun { 8 ≤ bits }
+    requires short { bits < 40 }
+    requires one_carry { low + range ≤ 2 ^ (bits + 1) }
+    requires prob { 0 < prob }
+    ensures coded { (written : List ℕ) → kept written result.0 result.1 result.2 ≡ after (kept written low bits range) (prob, bit) }
+    ensures no_fewer { bits ≤ result.1 }
+    ensures few_more { result.1 ≤ bits + 7 }
+    ensures one_carry { result.0 + result.2 ≤ 2 ^ (result.1 + 1) }
+{
+    let (low, range) = choose(low, range, prob, bit);
+    let shift = doublings(range);
+    (low << shift, bits + shift, range << shift)
+}
+
+// The part of the word that a bool keeps, as an interval of its own.
+#[inline(always)]
+fn choose(low: u64, range: u32, prob: u8, bit: bool) -> (u64, u32)
+    requires wide { 128 ≤ range }
+    requires byte { range ≤ 255 }
+    requires prob { 0 < prob }
+    requires room { low < 2 ^ 63 }
+    ensures low { result.0 ≡ (chosen (record { bottom = low; range = range; shifts = 0 }) prob bit).bottom }
+    ensures range { result.1 ≡ (chosen (record { bottom = low; range = range; shifts = 0 }) prob bit).range }
+{
+    let split = split_of(range, prob);
+    if bit {
+        (low + u64::from(split), range - split)
+    } else {
+        (low, split)
+    }
+}
+
+// How much of a range stands for a zero.
+#[inline(always)]
+fn split_of(range: u32, prob: u8) -> u32
+    requires low { 128 ≤ range }
+    requires high { range ≤ 255 }
+    requires prob { 0 < prob }
+    ensures split { result ≡ split range prob }
+    ensures some { 0 < result }
+    ensures part { result < range }
+{
+    1 + (((range - 1) * u32::from(prob)) >> 8)
+}
+
+// How often a range is doubled until it is at least 128.
+#[inline(always)]
+fn doublings(range: u32) -> u32
+    requires some { 0 < range }
+    requires high { range ≤ 255 }
+    ensures few { result ≤ 7 }
+    ensures enough { 128 ≤ range * 2 ^ result }
+    ensures no_more { range * 2 ^ result ≤ 255 }
+{
+    range.leading_zeros() - 24
+}
+
+// Appends the last `count` bytes of a number, and adds the carry above them to what was written.
+#[inline(always)]
+fn append(written: &mut Vec<u8>, number: u64, count: usize) -> Result<(), AllocError>
+    requires count { count ≤ 7 }
+    requires carry { number < 2 * 256 ^ count }
+    requires room { number_from_digits 256 written.old.items * 256 ^ count + number
+        < 256 ^ (length written.old.items + count) }
+    ensures number { OnOk result (number_from_digits 256 written.new.items
+        ≡ number_from_digits 256 written.old.items * 256 ^ count + number) }
+    ensures longer { OnOk result (length written.new.items ≡ length written.old.items + count) }
+    ensures bytes { OnOk result (AllBelowBase 256 written.new.items) }
+    ensures err { OnErr result (written.new.items ≡ written.old.items) }
+{
+    let whole = written.len();
+    written.extend_from_slice(&number.to_be_bytes()[8 - count..])?;
+    if number >> (8 * count) != 0 {
+        carry(written, whole);
+    }
+    Ok(())
+}
+
+// Adds one to the number of the first `end` bytes. It goes back through bytes of 0xff, each of which it makes 0, so
+// that it comes to a byte no more often than the byte was written as 0xff.
+fn carry(written: &mut Vec<u8>, end: usize)
+    requires end { end ≤ length written.old.items }
+    requires room { number_from_digits 256 (take end written.old.items) + 1 < 256 ^ end }
+    ensures number { number_from_digits 256 (take end written.new.items)
+        ≡ number_from_digits 256 (take end written.old.items) + 1 }
+    ensures rest { drop end written.new.items ≡ drop end written.old.items }
+    ensures len { length written.new.items ≡ length written.old.items }
+{
+    let mut place = end - 1;
+    while written[place] == 0xff {
+        written[place] = 0;
+        place -= 1;
+    }
+    written[place] += 1;
+}

@@ -1,0 +1,20 @@
+//! The boolean coder (RFC 6386, section 7): bools, each with the probability of a zero, as one stream of bytes.
+//!
+//!     bottom          bottom + split         bottom + range
+//!       |------- 0 -------|--------- 1 ---------|          then both are doubled until range is at least 128
+//!
+//! The bottom is one long number, highest bits first. The encoder keeps its last bits in a machine word and the bytes
+//! before them in a buffer; a carry out of the word goes back through written bytes of 0xff. Adapting the
+//! probabilities is left to others.
+#![tactic(auto)]
+
+mod encoder;
+mod laws;
+mod plain;
+
+pub use encoder::Encoder;
+pub use laws::{rows_of_the_definition, stays_on_the_line};
+pub use plain::plain_stream;
+
+#[cfg(test)]
+mod tests;

@@ -1,0 +1,4 @@
+mod Bits
+mod Places
+mod Shuffle
+mod Zeros

@@ -1,0 +1,55 @@
+// Coefficients that are all within their limits.
+ghost use Rattle.std.specs.Prelude.{◌≡◌, ◌<◌, List, ℤ, pos, Some, replicate, slice_get, slice_set};
+ghost use Rattle.coef_block.specs.Block.{IsCoefficient, IsBlock};
+
+use std::marker::Model;
+
+/// 64 quantized DCT coefficients, by natural place: 8 times the row plus the column (ITU-T T.81, A.3.4). The first,
+/// the DC coefficient, is within 32767 of 0, and each other, an AC coefficient, within 1023.
+///
+/// Clauses see the list of the coefficients.
+#[derive(Clone, Copy, Debug, PartialEq, Eq)]
+pub struct Block {
+    values: [i16; 64],
+}
+
+impl Model for Block {
+    ghost Value = { List ℤ };
+
+    ghost view = { λ b. b.values };
+
+    ghost inverse = { λ values. record { values = values } };
+
+    ghost invariant = { λ b. IsBlock b.values };
+}
+
+impl Block {
+    /// 64 zeros.
+    #[tactic(auto, using(crate::proofs::Zeros::zeros_are_a_block))]
+    pub fn zero() -> Self
+        ensures { result ≡ replicate 64 (pos 0) }
+    {
+        Block { values: [0; 64] }
+    }
+
+    /// The coefficient at a natural place, from 0 to 63.
+    #[inline]
+    pub fn get(&self, place: usize) -> i16
+        requires { place < 64 }
+        ensures value { slice_get self.now place ≡ Some result }
+        ensures coefficient { IsCoefficient place result }
+        ensures block { IsBlock self.now }
+    {
+        self.values[place]
+    }
+
+    /// Puts a coefficient at a natural place, from 0 to 63.
+    #[inline]
+    pub fn set(&mut self, place: usize, value: i16)
+        requires place { place < 64 }
+        requires coefficient { IsCoefficient place value }
+        ensures { self.new ≡ slice_set self.old place value }
+    {
+        self.values[place] = value;
+    }
+}

@@ -1,0 +1,12 @@
+pub mod Coded
+pub mod Places
+pub mod Lists
+pub mod WholeBytes
+pub mod Blocks
+pub mod Calm
+pub mod ScanText
+pub mod Reader
+pub mod Signed
+pub mod Scanned
+pub mod Files
+pub mod Endings

@@ -1,0 +1,7 @@
+pub mod Bits
+pub mod Scan
+pub mod Jpeg
+pub mod Events
+pub mod Reading
+pub mod Container
+pub mod Answer

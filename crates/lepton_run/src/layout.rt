@@ -1,0 +1,60 @@
+// The container, field by field.
+ghost use Rattle.std.specs.Prelude.{◌≡◌, ◌^◌, ◌<◌, [], ◌∷◌, ◌++◌, length, replicate, IfOk, OnOk};
+ghost use Rattle.std.specs.Int.{w32, w64, to_be_bytes};
+ghost use Rattle.lepton_run.specs.Container.{layout, magic, first_segment};
+
+use std::alloc::{AllocError, Global};
+
+const MAGIC: [u8; 4] = *b"LPSG";
+
+const VERSION: u8 = 0;
+
+/// The bit that the scan is padded with.
+const PAD: u8 = 1;
+
+/// A container has one segment, which starts where the scan does: nothing is begun, no block and no restart was before.
+const SEGMENTS: u8 = 1;
+
+const START: [u8; 14] = [0; 14];
+
+/// Bytes before the header.
+const FIELDS: usize = 37;
+
+/// The container of a header, a trailer, and the stream of the one segment.
+pub fn container(
+    alloc: Global,
+    header: &[u8],
+    trailer: &[u8],
+    stream: &[u8],
+) -> Result<Vec<u8>, AllocError>
+    requires header { length header.now < 2 ^ 32 }
+    requires trailer { length trailer.now < 2 ^ 32 }
+    ensures { IfOk result (λ made. made.items
+        ≡ layout 0 1 (first_segment stream.now ∷ []) header.now trailer.now) }
+{
+    let room = (FIELDS + header.len() + trailer.len()).saturating_add(stream.len());
+    let mut made = Vec::with_capacity(alloc, room)?;
+    put_fields(
+        &mut made,
+        header.len() as u32,
+        trailer.len() as u32,
+        stream.len() as u64,
+    )?;
+    made.extend_from_slice(header)?;
+    made.extend_from_slice(trailer)?;
+    made.extend_from_slice(stream)?;
+    Ok(made)
+}
+
+fn put_fields(made: &mut Vec<u8>, header: u32, trailer: u32, stream: u64) -> Result<(), AllocError>
+    ensures { OnOk result (made.new.items ≡ made.old.items ++ (magic ++ 0 ∷ 1 ∷ 1 ∷ to_be_bytes w32 header
+        ++ to_be_bytes w32 trailer ++ replicate 14 0 ++ to_be_bytes w64 stream)) }
+{
+    made.extend_from_slice(&MAGIC)?;
+    made.extend_from_slice(&[VERSION, PAD, SEGMENTS])?;
+    made.extend_from_slice(&header.to_be_bytes())?;
+    made.extend_from_slice(&trailer.to_be_bytes())?;
+    made.extend_from_slice(&START)?;
+    made.extend_from_slice(&stream.to_be_bytes())?;
+    Ok(())
+}

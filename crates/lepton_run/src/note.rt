@@ -1,0 +1,51 @@
+// A line, made in a buffer of its own.
+ghost use Rattle.std.specs.Prelude.{◌≡◌, ◌+◌, ◌≤◌, [], ◌++◌, length};
+
+use std::marker::Model;
+
+/// More than any line has.
+const ROOM: usize = 96;
+
+/// The bytes of a line so far, at most `ROOM`.
+#[derive(Drop)]
+pub struct Line {
+    bytes: [u8; ROOM],
+    length: usize,
+}
+
+impl Model for Line {
+    ghost use Rattle.std.specs.Prelude.{List, ℕ, ◌≤◌, take};
+
+    ghost Value = { List ℕ };
+
+    ghost view = { λ line. take line.length line.bytes };
+
+    ghost invariant = { λ line. line.length ≤ 96 };
+}
+
+impl Line {
+    pub fn new() -> Self
+        ensures { result ≡ [] }
+    {
+        Line {
+            bytes: [0; ROOM],
+            length: 0,
+        }
+    }
+
+    /// Adds the text at the end.
+    pub fn push(&mut self, text: &[u8])
+        requires { length self.old + length text.now ≤ 96 }
+        ensures { self.new ≡ self.old ++ text.now }
+    {
+        let end = self.length + text.len();
+        self.bytes[self.length..end].copy_from_slice(text);
+        self.length = end;
+    }
+
+    pub fn bytes(&self) -> &[u8]
+        ensures { result.now ≡ self.now }
+    {
+        &self.bytes[..self.length]
+    }
+}

@@ -1,0 +1,14 @@
+-- What a count of faults says of two states of an end (this project's own).
+use Rattle.std.specs.Prelude.{ℕ, ◌<◌, ◌⊎◌}
+
+-- the count rose from one state to a later one, or stands at its last value, where it can't rise
+abbrev pub Rose : {End : Type 0} → (End → ℕ) → (End → Type 0) → End → End → Type 0
+Rose faults full old new = (faults old < faults new) ⊎ full new
+
+-- the count of an end that has none
+abbrev pub no_faults : {End : Type 0} → End → ℕ
+no_faults _ = 0
+
+-- the last value of a count that has none
+abbrev pub Never : {End : Type 0} → End → Type 0
+Never _ = ⊥

@@ -1,0 +1,76 @@
+// What is asked of the outside.
+ghost use Rattle.std.specs.Prelude.{◌≡◌, ℕ, ◌<◌, ◌≤◌, Option, List, length, take, drop, IfOk, OnOk, OnErr};
+ghost use Rattle.std.specs.Io.KnownBytes.{Appends, Consumes, IsAtEnd, Keeps};
+ghost use Rattle.outside_core.specs.Faults.{Rose};
+
+/// An end failed. What went wrong is the end's to count, and nobody else's to know.
+#[derive(Clone, Copy, Debug, PartialEq, Eq)]
+pub struct Failed;
+
+/// Where bytes come from.
+pub trait Source {
+    /// The bytes left, where the source tells them.
+    ghost left: { Self → Option (List ℕ) };
+
+    /// How often it has failed. It never falls.
+    ghost faults: { Self → ℕ };
+
+    /// The count stands at its last value. Never, where it has none.
+    ghost full: { Self → Type 0 };
+
+    /// Moves the first `n` bytes left into the front of `buf` and answers `n`, which is 0 only where `buf` is empty
+    /// or nothing is left.
+    fn read(&mut self, buf: &mut [u8]) -> Result<usize, Failed>
+        ensures count { IfOk result (λ n. n ≤ length buf.old) }
+        ensures moved { IfOk result (λ n. Consumes (left self.old) (left self.new) (take n buf.new)) }
+        ensures rest { IfOk result (λ n. drop n buf.new ≡ drop n buf.old) }
+        ensures end { IfOk result (λ n. n ≡ 0 → 0 < length buf.old → IsAtEnd (left self.new)) }
+        ensures stays { OnErr result (Keeps (left self.old) (left self.new)) }
+        ensures failed { OnErr result (Rose faults full self.old self.new) }
+        ensures lasting { faults self.old ≤ faults self.new };
+}
+
+/// Where bytes go.
+pub trait Sink {
+    /// The bytes held, where the sink tells them.
+    ghost held: { Self → Option (List ℕ) };
+
+    /// How often it has failed. It never falls.
+    ghost faults: { Self → ℕ };
+
+    /// The count stands at its last value. Never, where it has none.
+    ghost full: { Self → Type 0 };
+
+    /// Appends the first `n` of the bytes and answers `n`, at least 1 for a piece that isn't empty.
+    fn write(&mut self, bytes: &[u8]) -> Result<usize, Failed>
+        ensures count { IfOk result (λ n. n ≤ length bytes.now) }
+        ensures some { IfOk result (λ n. 0 < length bytes.now → 0 < n) }
+        ensures appended { IfOk result (λ n. Appends (held self.old) (held self.new) (take n bytes.now)) }
+        ensures stays { OnErr result (Keeps (held self.old) (held self.new)) }
+        ensures failed { OnErr result (Rose faults full self.old self.new) }
+        ensures lasting { faults self.old ≤ faults self.new };
+}
+
+/// Is told what the threads of a decode are about to do. It promises nothing, and may hold its caller.
+pub trait Gate {
+    /// A worker, before each piece that it puts.
+    fn before_put(&self, segment: u8);
+
+    /// A worker, after each put was answered.
+    fn after_put(&self, segment: u8);
+
+    /// The emitter, before it asks for a segment of its own.
+    fn before_own(&self, segment: u8);
+}
+
+/// Lets all pass.
+#[derive(Clone, Copy)]
+pub struct OpenGate;
+
+impl Gate for OpenGate {
+    fn before_put(&self, _segment: u8) {}
+
+    fn after_put(&self, _segment: u8) {}
+
+    fn before_own(&self, _segment: u8) {}
+}

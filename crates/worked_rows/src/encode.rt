@@ -1,0 +1,226 @@
+// Files and their containers; files and words that are refused.
+use crate::files::{END, LEVEL, START, STEPS, joined};
+use crate::trial::{NONE, run_over};
+use std::alloc::{AllocError, Global};
+use std::test::Fail;
+
+// A file by its height and width, what stands behind them, its scan and its trailer; and its stream.
+struct Row<'a> {
+    name: &'a str,
+    size: [u8; 4],
+    tail: &'a [u8],
+    scan: &'a [u8],
+    trailer: &'a [u8],
+    stream: &'a [u8],
+}
+
+const ROWS: [Row<'static>; 9] = [
+    Row {
+        name: "least file",
+        size: [0, 8, 0, 8],
+        tail: &LEVEL,
+        scan: &[0x3f],
+        trailer: &END,
+        stream: &[0, 0, 0],
+    },
+    Row {
+        name: "a DC of 1",
+        size: [0, 8, 0, 8],
+        tail: &STEPS,
+        scan: &[0xdf],
+        trailer: &END,
+        stream: &[0, 8, 0],
+    },
+    Row {
+        name: "two blocks",
+        size: [0, 8, 0, 16],
+        tail: &LEVEL,
+        scan: &[0x0f],
+        trailer: &END,
+        stream: &[0, 0, 0, 0, 0],
+    },
+    Row {
+        name: "a DC of -1",
+        size: [0, 8, 0, 8],
+        tail: &STEPS,
+        scan: &[0x9f],
+        trailer: &END,
+        stream: &[0, 10, 0],
+    },
+    Row {
+        name: "up and down again, over a corner of a block",
+        size: [0, 9, 0, 9],
+        tail: &STEPS,
+        scan: &[0xd0, 0x9f],
+        trailer: &END,
+        stream: &[0, 8, 0, 0, 0, 0, 5, 0],
+    },
+    Row {
+        name: "no bit is padded",
+        size: [0, 32, 0, 8],
+        tail: &LEVEL,
+        scan: &[0x00],
+        trailer: &END,
+        stream: &[0, 0, 0, 0, 0, 0, 0, 0],
+    },
+    Row {
+        name: "no end of the image",
+        size: [0, 8, 0, 8],
+        tail: &LEVEL,
+        scan: &[0x3f],
+        trailer: &[],
+        stream: &[0, 0, 0],
+    },
+    Row {
+        name: "bytes after the end",
+        size: [0, 1, 0, 1],
+        tail: &LEVEL,
+        scan: &[0x3f],
+        trailer: &[0xff, 0xd9, 0, 0xff, 0xff, 7],
+        stream: &[0, 0, 0],
+    },
+    Row {
+        name: "a trailer that looks like a stuffed byte",
+        size: [0, 8, 0, 8],
+        tail: &LEVEL,
+        scan: &[0x3f],
+        trailer: &[0x00, 0xff],
+        stream: &[0, 0, 0],
+    },
+];
+
+impl Row<'_> {
+    fn header(&self, alloc: Global) -> Result<Vec<u8>, AllocError> {
+        let mut header = Vec::from_slice(alloc, &START)?;
+        header.extend_from_slice(&self.size)?;
+        header.extend_from_slice(self.tail)?;
+        Ok(header)
+    }
+
+    fn file(&self, alloc: Global) -> Result<Vec<u8>, AllocError> {
+        let mut file = self.header(alloc)?;
+        file.extend_from_slice(self.scan)?;
+        file.extend_from_slice(self.trailer)?;
+        Ok(file)
+    }
+
+    fn container(&self, alloc: Global) -> Result<Vec<u8>, AllocError> {
+        let header = self.header(alloc)?;
+        let mut made = Vec::from_slice(alloc, b"LPSG")?;
+        made.extend_from_slice(&[0, 1, 1, 0, 0, 0])?;
+        made.push(if header.len() == 69 { 69 } else { 70 })?;
+        made.extend_from_slice(&[0, 0, 0])?;
+        made.push(if self.trailer.len() < 256 {
+            self.trailer.len() as u8
+        } else {
+            0
+        })?;
+        made.extend_from_slice(&[0; 14])?;
+        made.extend_from_slice(&[0, 0, 0, 0, 0, 0, 0])?;
+        made.push(if self.stream.len() < 256 {
+            self.stream.len() as u8
+        } else {
+            0
+        })?;
+        made.extend_from_slice(header.as_slice())?;
+        made.extend_from_slice(self.trailer)?;
+        made.extend_from_slice(self.stream)?;
+        Ok(made)
+    }
+}
+
+#[test]
+fn containers_of_files(rt: HostRuntime) -> Result<(), Fail> {
+    let alloc = rt.alloc();
+    for row in &ROWS {
+        let file = row.file(alloc)?;
+        let container = row.container(alloc)?;
+        let tried = run_over(&rt, alloc, &["encode"], file.as_slice(), NONE)?;
+        assert_eq!(rt; tried.status, 0, "{}", row.name);
+        assert!(rt;
+            tried.written.as_slice() == container.as_slice(),
+            "{}",
+            row.name
+        );
+        assert!(rt; tried.noted.is_empty(), "{}", row.name);
+        assert!(rt; tried.left.is_empty(), "{}", row.name);
+    }
+    Ok(())
+}
+
+// A file that is refused: what was changed, the size, what stands behind it, and the rest.
+type Outside<'a> = (&'a str, [u8; 4], &'a [u8], &'a [u8]);
+
+const OUTSIDE: [Outside<'static>; 9] = [
+    ("no scan", [0, 8, 0, 8], &LEVEL, &[]),
+    ("a marker for a scan", [0, 8, 0, 8], &LEVEL, &END),
+    ("cut in the scan", [0, 40, 0, 8], &LEVEL, &[0x00]),
+    ("a pad bit of 0", [0, 8, 0, 8], &LEVEL, &[0x1f, 0xff, 0xd9]),
+    ("no code word", [0, 8, 0, 8], &LEVEL, &[0x7f, 0xff, 0xd9]),
+    ("no end of the block", [0, 8, 0, 8], &STEPS, &[0xff, 0xd9]),
+    ("no height", [0, 0, 0, 8], &LEVEL, &[0x3f]),
+    ("no width", [0, 8, 0, 0], &LEVEL, &[0x3f]),
+    ("too many blocks", [0x40, 0, 0x40, 8], &LEVEL, &[0x00]),
+];
+
+#[test]
+fn refused_with_outside(rt: HostRuntime) -> Result<(), Fail> {
+    let alloc = rt.alloc();
+    for (name, size, tail, rest) in &OUTSIDE {
+        let file = joined(alloc, &[&START, size, tail, rest])?;
+        let tried = run_over(&rt, rt.alloc(), &["encode"], file.as_slice(), NONE)?;
+        assert_eq!(rt; tried.status, 1, "{name}");
+        assert!(rt; tried.written.is_empty(), "{name}");
+        assert!(rt;
+            tried.noted.as_slice() == b"lepton: refused 0 Outside\n".as_slice(),
+            "{name}"
+        );
+    }
+    let empty = run_over(&rt, rt.alloc(), &["encode"], &[], NONE)?;
+    assert_eq!(rt; empty.status, 1);
+    assert!(rt; empty.noted.as_slice() == b"lepton: refused 0 Outside\n".as_slice());
+    // Another kind of frame: progressive.
+    let mut file = joined(alloc, &[&START, &[0, 8, 0, 8], &LEVEL, &[0x3f], &END])?;
+    assert!(rt; file.len() == 72);
+    file[3] = 0xc2;
+    let progressive = run_over(&rt, rt.alloc(), &["encode"], file.as_slice(), NONE)?;
+    assert_eq!(rt; progressive.status, 1);
+    assert!(rt; progressive.written.is_empty());
+    Ok(())
+}
+
+// The DC may climb to 32767, and not past it: 32,768 blocks, each of them one up, or the last of them level.
+#[test]
+fn the_greatest_dc(rt: HostRuntime) -> Result<(), Fail> {
+    let alloc = rt.alloc();
+    for (last, status) in [(0xb1, 0), (0xb6, 1)] {
+        let mut file = joined(alloc, &[&START, &[0, 32], &[0xff, 0xff], &STEPS])?;
+        for _ in 0..4096 {
+            file.extend_from_slice(&[0xdb, 0x6d, 0xb6])?;
+        }
+        file.pop();
+        file.push(last)?;
+        let tried = run_over(&rt, rt.alloc(), &["encode"], file.as_slice(), NONE)?;
+        assert_eq!(rt; tried.status, status);
+    }
+    Ok(())
+}
+
+#[test]
+fn words(rt: HostRuntime) -> Result<(), Fail> {
+    let refused: [&[&str]; 5] = [
+        &[],
+        &["recode"],
+        &["encode", "encode"],
+        &["Encode"],
+        &["encode "],
+    ];
+    for words in refused {
+        let tried = run_over(&rt, rt.alloc(), words, &[0xff, 0xd8], NONE)?;
+        assert_eq!(rt; tried.status, 2, "{words:?}");
+        assert!(rt; tried.written.is_empty());
+        assert!(rt; tried.noted.as_slice() == b"lepton: words refused\n".as_slice());
+        assert!(rt; tried.left.as_slice() == [0xff, 0xd8].as_slice());
+    }
+    Ok(())
+}

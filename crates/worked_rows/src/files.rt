@@ -1,0 +1,33 @@
+// The small files of the rows, by their parts.
+use std::alloc::{AllocError, Global};
+
+/// From the start of the image up to the height.
+pub const START: [u8; 7] = [0xff, 0xd8, 0xff, 0xc0, 0, 11, 8];
+
+/// Behind the width: code words for the DC category 0 and the end of a block, each `0`.
+pub const LEVEL: [u8; 58] = [
+    1, 1, 0x11, 0, //
+    0xff, 0xc4, 0, 20, 0x00, 1, 0, 0, 0, 0, 0, 0, 0, 0, 0, 0, 0, 0, 0, 0, 0, 0, //
+    0xff, 0xc4, 0, 20, 0x10, 1, 0, 0, 0, 0, 0, 0, 0, 0, 0, 0, 0, 0, 0, 0, 0, 0, //
+    0xff, 0xda, 0, 8, 1, 1, 0x00, 0, 63, 0,
+];
+
+/// Behind the width: code words for the DC categories 0 and 1, `0` and `1`, and the end of a block.
+pub const STEPS: [u8; 59] = [
+    1, 1, 0x11, 0, //
+    0xff, 0xc4, 0, 21, 0x00, 2, 0, 0, 0, 0, 0, 0, 0, 0, 0, 0, 0, 0, 0, 0, 0, 0, 1, //
+    0xff, 0xc4, 0, 20, 0x10, 1, 0, 0, 0, 0, 0, 0, 0, 0, 0, 0, 0, 0, 0, 0, 0, 0, //
+    0xff, 0xda, 0, 8, 1, 1, 0x00, 0, 63, 0,
+];
+
+/// End of the image.
+pub const END: [u8; 2] = [0xff, 0xd9];
+
+/// The parts, one after another.
+pub fn joined(alloc: Global, parts: &[&[u8]]) -> Result<Vec<u8>, AllocError> {
+    let mut all = Vec::new(alloc);
+    for part in parts {
+        all.extend_from_slice(part)?;
+    }
+    Ok(all)
+}

@@ -1,0 +1,66 @@
+// The top call, tried over ends in memory.
+use crate::files::joined;
+use lepton_run::run;
+use outside_core::{MemSink, MemSource, OpenGate, read_all};
+use std::alloc::Global;
+use std::sync::Wait;
+use std::test::Fail;
+use std::thread::Threads;
+
+/// What a trial left.
+#[derive(Drop)]
+pub struct Trial {
+    pub status: u8,
+    pub written: Vec<u8>,
+    pub noted: Vec<u8>,
+    pub left: Vec<u8>,
+}
+
+/// The calls that fail, by number.
+#[derive(Clone, Copy)]
+pub struct Faults<'a> {
+    pub reads: &'a [u64],
+    pub writes: &'a [u64],
+    pub notes: &'a [u64],
+}
+
+pub const NONE: Faults<'static> = Faults {
+    reads: &[],
+    writes: &[],
+    notes: &[],
+};
+
+/// Calls `run` with these words after the program's name, over a source of pieces of 16 bytes and a sink of pieces
+/// of 7.
+pub fn run_over<R: Threads + Wait + Sync>(
+    rt: &R,
+    alloc: Global,
+    words: &[&str],
+    input: &[u8],
+    faults: Faults,
+) -> Result<Trial, Fail> {
+    let mut texts = Vec::new(alloc);
+    texts.push(String::from_str(alloc, "lepton")?)?;
+    for word in words {
+        texts.push(String::from_str(alloc, word)?)?;
+    }
+    let mut source = MemSource::new(input, 16, faults.reads);
+    let mut sink = MemSink::new(alloc, 1 << 20, 7, faults.writes)?;
+    let mut note = MemSink::new(alloc, 4096, 7, faults.notes)?;
+    let status = run(
+        rt,
+        alloc,
+        texts.as_slice(),
+        &mut source,
+        &mut sink,
+        &mut note,
+        &OpenGate,
+    );
+    let left = read_all(alloc, &mut source, 1 << 20).map_err(|_| "what is left can't be read")?;
+    Ok(Trial {
+        status,
+        written: joined(alloc, &[sink.bytes()])?,
+        noted: joined(alloc, &[note.bytes()])?,
+        left,
+    })
+}
