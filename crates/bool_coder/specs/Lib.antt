@@ -1,3 +1,5 @@
 pub mod BoolStream
 pub mod Plain
+pub mod Reading
+pub mod Window
 pub mod Word

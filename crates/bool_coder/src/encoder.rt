@@ -143,7 +143,7 @@ fn choose(low: u64, range: u32, prob: u8, bit: bool) -> (u64, u32)
 
 // How much of a range stands for a zero.
 #[inline(always)]
-fn split_of(range: u32, prob: u8) -> u32
+pub(crate) fn split_of(range: u32, prob: u8) -> u32
     requires low { 128 ≤ range }
     requires high { range ≤ 255 }
     requires prob { 0 < prob }
@@ -156,7 +156,7 @@ fn split_of(range: u32, prob: u8) -> u32
 
 // How often a range is doubled until it is at least 128.
 #[inline(always)]
-fn doublings(range: u32) -> u32
+pub(crate) fn doublings(range: u32) -> u32
     requires some { 0 < range }
     requires high { range ≤ 255 }
     ensures few { result ≤ 7 }

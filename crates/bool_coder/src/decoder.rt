@@ -1,0 +1,208 @@
+//! From a stream back to bools (RFC 6386, section 7.3).
+//!
+//!     the bytes:    8 + shifts bits, looked at  |  next bits  |  not yet fetched
+//!                   less the bottom: offset     |             |
+//!                  [------------------- value ---------------]
+//!
+//! A bool is a one where the offset is at least the split, and a one takes the split off. The word has the offset and
+//! the next bits as one number, so that nothing is shifted but the split: a bool that doubles the range moves the
+//! border. Four bytes are fetched where fewer next bits are left than a bool may take. Past the end of the bytes come
+//! zero bits.
+ghost use Rattle.std.specs.Prelude.{◌≡◌, ◌↔◌, ◌⊎◌, ℕ, Bool, ◌+◌, ◌-◌, ◌*◌, ◌/◌, ◌%◌, ◌^◌, ◌<◌, ◌≤◌, List, [], ◌∷◌, ◌++◌, length, nat_le, slice_index, IsSome, IsNone, IfSome, IfNone, IsTrue};
+ghost use Rattle.std.specs.List.{AllByRecursion};
+ghost use Rattle.bool_coder.specs.BoolStream.{IsBool, chosen, coded, split, stream};
+ghost use Rattle.bool_coder.specs.Reading.{front, next_bit, Starts, Reads, seen_bit, seen_after};
+ghost use Rattle.bool_coder.specs.Window.{seen_in, IsWindow};
+
+use crate::encoder::{doublings, split_of};
+use std::marker::Model;
+
+/// The most that one bool shifts: where fewer bits are left, four bytes are fetched.
+const MOST: u32 = 7;
+
+/// A stream on its way back to bools. Clauses see the bytes and where the decoder stands in them.
+#[derive(Drop)]
+pub struct Decoder<'a> {
+    bytes: &'a [u8],
+    // How many bytes were fetched, zero bytes past the end too. It stands still some bytes past the end.
+    fetched: usize,
+    // The offset, and after it the next bits.
+    value: u64,
+    // How many next bits there are.
+    bits: u32,
+    range: u32,
+}
+
+impl<'a> Model for Decoder<'a> {
+    ghost use Rattle.bool_coder.specs.Reading.{Seen};
+
+    ghost Value = { Seen };
+
+    ghost use Rattle.bool_coder.specs.Window.{seen_of, IsDecoder};
+
+    ghost view = { seen_of };
+
+    ghost invariant = { IsDecoder };
+}
+
+impl<'a> Decoder<'a> {
+    /// Before the first bool (RFC 6386, 7.3). `None` where no list of bools has this stream, by its first byte alone:
+    /// there is none, or it is 255.
+    pub fn start(bytes: &'a [u8]) -> Option<Self>
+        ensures some { IsSome result ↔ Starts bytes.now }
+        ensures none { IsNone result ↔ ((bytes.now ≡ []) ⊎ (slice_index bytes.now 0 ≡ 255)) }
+        ensures no_stream { IfNone result ((bools : List (ℕ × Bool)) → AllByRecursion IsBool bools
+            → ¬ (bytes.now ≡ stream (coded bools))) }
+        ensures opened { IfSome result (λ d. (d.bytes ≡ bytes.now) × Reads [] d) }
+    {
+        if bytes.is_empty() || bytes[0] == 255 {
+            None
+        } else {
+            Some(Decoder {
+                bytes,
+                fetched: 1,
+                value: u64::from(bytes[0]),
+                bits: 0,
+                range: 255,
+            })
+        }
+    }
+
+    /// The next bool, whose probability of a zero is `prob` in 256, from 1 to 255 (RFC 6386, 7.3). Past the end of
+    /// the bytes it reads zero bits. `next` and `taken` are for a decoder that has taken a list of bools, `bit` and
+    /// `step` for any.
+    pub fn take(&mut self, prob: u8) -> bool
+        requires { 0 < prob }
+        ensures bytes { self.new.bytes ≡ self.old.bytes }
+        ensures next { (bools : List (ℕ × Bool)) → Reads bools self.old → result ≡ next_bit self.old.bytes (coded bools) prob }
+        ensures taken { (bools : List (ℕ × Bool)) → Reads bools self.old → Reads (bools ++ (prob, result) ∷ []) self.new }
+        ensures in_turn { (bools rest : List (ℕ × Bool)) (bit : Bool) → Reads bools self.old
+            → AllByRecursion IsBool (bools ++ (prob, bit) ∷ rest)
+            → self.old.bytes ≡ stream (coded (bools ++ (prob, bit) ∷ rest)) → result ≡ bit }
+        ensures bit { result ≡ seen_bit self.old prob }
+        ensures step { self.new ≡ seen_after self.old prob }
+    {
+        let (fetched, value, bits) = fill(self.bytes, self.fetched, self.value, self.bits);
+        let (bit, value, bits, range) = step(value, bits, self.range, prob);
+        self.fetched = fetched;
+        self.value = value;
+        self.bits = bits;
+        self.range = range;
+        bit
+    }
+
+    /// Whether the bytes are the stream of the bools that were taken, no byte and no bit more or less: the offset and
+    /// all next bits are zero, and the byte with the last bit that was looked at is the last byte.
+    pub fn exact(&self) -> bool
+        ensures { (bools : List (ℕ × Bool)) → Reads bools self.now → (IsTrue result ↔ (self.now.bytes ≡ stream (coded bools))) }
+    {
+        self.value == 0 && self.fetched - (self.bits / 8) as usize == self.bytes.len()
+    }
+}
+
+// Fetches four bytes where a bool may want more bits than there are.
+#[inline(always)]
+fn fill(bytes: &[u8], fetched: usize, value: u64, bits: u32) -> (usize, u64, u32)
+    requires within { fetched ≤ length bytes.now + 11 }
+    requires small { bits < 7 → value < 2 ^ 15 }
+    ensures enough { 7 ≤ result.2 }
+    ensures window { (range : ℕ) → IsWindow bytes.now fetched value bits range → IsWindow bytes.now result.0 result.1 result.2 range }
+    ensures same { (range : ℕ) → IsWindow bytes.now fetched value bits range
+        → seen_in bytes.now result.0 result.1 result.2 range ≡ seen_in bytes.now fetched value bits range }
+{
+    if bits < MOST {
+        let four = next_four(bytes, fetched);
+        let fetched = four_on(fetched, bytes.len());
+        (fetched, (value << 32) + u64::from(four), bits + 32)
+    } else {
+        (fetched, value, bits)
+    }
+}
+
+// The next four bytes as a number, with zero bytes past the end.
+#[inline(always)]
+fn next_four(bytes: &[u8], fetched: usize) -> u32
+    requires within { fetched ≤ length bytes.now + 11 }
+    ensures { result ≡ front bytes.now (8 * fetched + 32) % 2 ^ 32 }
+{
+    if fetched + 4 <= bytes.len() {
+        let four = &bytes[fetched..fetched + 4];
+        u32::from_be_bytes([four[0], four[1], four[2], four[3]])
+    } else {
+        last_four(bytes, fetched)
+    }
+}
+
+// The next four bytes one by one, near the end and past it.
+fn last_four(bytes: &[u8], fetched: usize) -> u32
+    requires within { fetched ≤ length bytes.now + 11 }
+    ensures { result ≡ front bytes.now (8 * fetched + 32) % 2 ^ 32 }
+{
+    u32::from_be_bytes([
+        byte_or_zero(bytes, fetched),
+        byte_or_zero(bytes, fetched + 1),
+        byte_or_zero(bytes, fetched + 2),
+        byte_or_zero(bytes, fetched + 3),
+    ])
+}
+
+// A zero byte past the end.
+fn byte_or_zero(bytes: &[u8], place: usize) -> u8
+    ensures { result ≡ slice_index bytes.now place }
+{
+    if place < bytes.len() { bytes[place] } else { 0 }
+}
+
+// Four bytes more, up to some bytes past the end.
+#[inline(always)]
+fn four_on(fetched: usize, len: usize) -> usize
+    requires len { len < 2 ^ 63 }
+    ensures moved { fetched < len + 8 → result ≡ fetched + 4 }
+    ensures still { len + 8 ≤ fetched → result ≡ fetched }
+{
+    if fetched < len + 8 {
+        fetched + 4
+    } else {
+        fetched
+    }
+}
+
+// A bool taken from the word.
+#[inline(always)]
+fn step(value: u64, bits: u32, range: u32, prob: u8) -> (bool, u64, u32, u32)
+    requires wide { 128 ≤ range }
+    requires byte { range ≤ 255 }
+    requires enough { 7 ≤ bits }
+    requires short { bits < 40 }
+    requires prob { 0 < prob }
+    ensures bit { result.0 ≡ nat_le (split range prob) (value / 2 ^ bits) }
+    ensures window { (bytes : List ℕ) (fetched : ℕ) → IsWindow bytes fetched value bits range → IsWindow bytes fetched result.1 result.2 result.3 }
+    ensures step { (bytes : List ℕ) (fetched : ℕ) → IsWindow bytes fetched value bits range
+        → seen_in bytes fetched result.1 result.2 result.3 ≡ seen_after (seen_in bytes fetched value bits range) prob }
+{
+    let (bit, value, range) = choose(value, bits, range, prob);
+    let shift = doublings(range);
+    (bit, value, bits - shift, range << shift)
+}
+
+// The part of the range that the word lies in, and the word less where that begins.
+#[inline(always)]
+fn choose(value: u64, bits: u32, range: u32, prob: u8) -> (bool, u64, u32)
+    requires wide { 128 ≤ range }
+    requires byte { range ≤ 255 }
+    requires short { bits < 40 }
+    requires prob { 0 < prob }
+    ensures bit { result.0 ≡ nat_le (split range prob) (value / 2 ^ bits) }
+    ensures value { result.1 + (chosen (record { bottom = 0; range = range; shifts = 0 }) prob result.0).bottom * 2 ^ bits ≡ value }
+    ensures some { 0 < result.2 }
+    ensures part { result.2 < range }
+    ensures range { result.2 ≡ (chosen (record { bottom = 0; range = range; shifts = 0 }) prob result.0).range }
+{
+    let split = split_of(range, prob);
+    let start = u64::from(split) << bits;
+    if value >= start {
+        (true, value - start, range - split)
+    } else {
+        (false, value, split)
+    }
+}
