@@ -1,0 +1,7 @@
+pub mod LowBits
+pub mod Wholes
+pub mod Stuffing
+pub mod Cursors
+pub mod Rounds
+pub mod Machine
+pub mod Putting

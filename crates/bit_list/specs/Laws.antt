@@ -1,0 +1,22 @@
+-- What holds of all bits and bytes.
+use Rattle.std.specs.Prelude.{◌≡◌, ℕ, ◌+◌, Bool, List, [], ◌++◌, length, Ok}
+use Rattle.bit_list.specs.Bits.{bytes_after, stuffed}
+use Rattle.bit_list.specs.Units.{Cursor, starting, bits_at, and_then}
+
+-- behind the last bit of the unit before a place
+pub record StandsAt (place : ℕ) (cursor : Cursor) : Type 0 where
+  pub left : cursor.left ≡ []
+  pub skip : cursor.skip ≡ 0
+  pub next : cursor.next ≡ place
+
+-- bits that were put as whole bytes, among other bytes, are taken again, and the next unit is the one behind them
+abbrev pub IsTakenAgain : List Bool → List ℕ → List ℕ → Type 0
+IsTakenAgain bits front rest =
+    (cursor : Cursor) × (bits_at (length bits) (front ++ (stuffed (bytes_after [] bits) ++ rest)) (starting (length front) 0) ≡ Ok (bits, cursor))
+    × StandsAt (length front + length (stuffed (bytes_after [] bits))) cursor
+
+-- to take some bits is to take the first of them, and then the others
+abbrev pub IsTakenInParts : ℕ → ℕ → List ℕ → Cursor → Type 0
+IsTakenInParts m n bytes cursor =
+    bits_at (m + n) bytes cursor
+    ≡ and_then (bits_at m bytes cursor) (λ front. and_then (bits_at n bytes front.1) (λ more. Ok (front.0 ++ more.0, more.1)))

@@ -1,0 +1,5 @@
+pub mod Bits
+pub mod Again
+pub mod Units
+pub mod Kept
+pub mod Laws

@@ -1,0 +1,30 @@
+//! Single bits, stuffed bytes and units of a scan, written and read (ITU-T T.81, B.1.1.5, C.3 and F.1.2.3).
+//!
+//!     101  1111111111101              two codes, the highest bit first
+//!     10111111  11111101              the bytes that they complete
+//!
+//!     bf    ff        d8    3f        coded bytes
+//!     bf    ff 00     d8    3f        stuffed: behind 0xff stands a zero, so that no marker shows
+//!     ^     ^         ^     ^         the places of the units: what each coded byte became
+//!
+//! A byte begun waits in `BitOut`, whole bytes go to a `Piece`. `BitIn` reads units, from any bit on, and stops at
+//! the end of the bytes and at a marker. What the bits mean is left to others.
+#![tactic(auto)]
+
+mod bit_in;
+mod bit_out;
+mod fault;
+mod laws;
+mod piece;
+
+pub use bit_in::BitIn;
+pub use bit_out::BitOut;
+pub use fault::BitFault;
+pub use laws::{
+    begun_of_parts, bits_are_bytes, bits_are_numbers, bytes_of_parts, eight_bits_a_byte,
+    put_is_taken_again, stuffed_has_one_reading, stuffed_of_parts, taken_in_parts,
+};
+pub use piece::{Piece, ROOM};
+
+#[cfg(test)]
+mod tests;

@@ -1,0 +1,92 @@
+// Bytes on their way out, in a room that is taken once.
+ghost use Rattle.std.specs.Prelude.{◌≡◌, ◌+◌, ◌-◌, ◌<◌, ◌≤◌, [], ◌∷◌, ◌++◌, length, take, IfOk};
+
+use std::alloc::{AllocError, Global};
+use std::marker::Model;
+
+/// How many bytes a piece has room for.
+pub const ROOM: usize = 8_192;
+
+/// Up to 8,192 bytes, in a room that is taken once.
+///
+/// Clauses see the list of the bytes.
+#[derive(Drop)]
+pub struct Piece {
+    room: Vec<u8>,
+    // How many bytes of the room are used.
+    used: usize,
+}
+
+impl Model for Piece {
+    ghost use Rattle.std.specs.Prelude.{◌≡◌, ℕ, ◌≤◌, List, length, take};
+
+    ghost Value = { List ℕ };
+
+    ghost view = { λ p. take p.used p.room.items };
+
+    ghost invariant = { λ p. (length p.room.items ≡ 8192) × (p.used ≤ 8192) };
+}
+
+impl Piece {
+    /// No bytes yet. The one error is want of memory.
+    pub fn new(alloc: Global) -> Result<Piece, AllocError>
+        ensures { IfOk result (λ p. p ≡ []) }
+    {
+        Ok(Piece {
+            room: vec![in alloc; 0; ROOM]?,
+            used: 0,
+        })
+    }
+
+    /// How many bytes there are.
+    #[inline]
+    pub fn len(&self) -> usize
+        ensures count { result ≡ length self.now }
+        ensures within { length self.now ≤ 8192 }
+    {
+        self.used
+    }
+
+    /// How many more bytes there is room for.
+    #[inline]
+    pub fn free(&self) -> usize
+        ensures count { result ≡ 8192 - length self.now }
+        ensures within { length self.now ≤ 8192 }
+    {
+        ROOM - self.used
+    }
+
+    /// The bytes.
+    #[inline]
+    pub fn bytes(&self) -> &[u8]
+        ensures bytes { result.now ≡ self.now }
+        ensures within { length self.now ≤ 8192 }
+    {
+        &self.room[..self.used]
+    }
+
+    /// Lets all bytes go.
+    pub fn clear(&mut self)
+        ensures { self.new ≡ [] }
+    {
+        self.used = 0;
+    }
+
+    /// Lets all bytes but the first ones go.
+    pub fn back_to(&mut self, len: usize)
+        requires { len ≤ length self.old }
+        ensures { self.new ≡ take len self.old }
+    {
+        self.used = len;
+    }
+
+    /// One byte more.
+    #[inline(always)]
+    pub(crate) fn push(&mut self, byte: u8)
+        requires { length self.old < 8192 }
+        ensures { self.new ≡ self.old ++ byte ∷ [] }
+    {
+        self.room[self.used] = byte;
+        self.used += 1;
+    }
+}
