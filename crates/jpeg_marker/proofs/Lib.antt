@@ -1,0 +1,9 @@
+pub mod Chosen
+pub mod HeaderLaws
+pub mod Kept
+pub mod OneSegment
+pub mod Repeats
+pub mod SegmentTexts
+pub mod Spaces
+pub mod TableLists
+pub mod Walking

@@ -1,0 +1,81 @@
+-- Tables that come one after the other, in a segment and over segments.
+use Rattle.std.proofs.Common.{◌≡◌, ℕ, zero, suc, ◌+◌, ◌*◌, ◌/◌, ◌%◌, ◌<◌, ◌≤◌, Bool, true, false, List, [], ◌∷◌, ◌++◌, length, take, drop, set, sum, filter, Option, Some, None, option_map, refl, ap, sym, ◌∙◌, arith, append_assoc, subst, cond}
+use Rattle.std.proofs.lemmas.List.{get_or-set_other, length-set, append-nil}
+use Rattle.std.proofs.lemmas.List.Elements.{filter-append}
+use Rattle.std.proofs.lemmas.Bool.Decides.{nat_tests}
+use Rattle.std.proofs.lemmas.Grind.{get_or-set_at, fold-append}
+use Rattle.jpeg_marker.specs.Refusals.{or_else}
+use Rattle.jpeg_marker.specs.Segments.{last_of}
+use Rattle.jpeg_marker.specs.Tables.{Table, TableFields, fields_at, tables_after, is_of, latest}
+use Rattle.jpeg_marker.specs.TableFaults.{table_fault, tables_fault}
+use Rattle.jpeg_marker.specs.Holds.{Holds, table_in}
+
+-- bytes that are skipped first
+tables_after-drop : (skipped : ℕ) (bytes : List ℕ) → tables_after skipped bytes ≡ tables_after 0 (drop skipped bytes)
+tables_after-drop zero bytes = refl
+tables_after-drop (suc skipped) [] = refl
+tables_after-drop (suc skipped) (byte ∷ bytes) = tables_after-drop skipped bytes
+
+tables_fault-drop : (at place skipped : ℕ) (bytes : List ℕ) → skipped ≤ length bytes → tables_fault at place skipped bytes ≡ tables_fault at (place + skipped) 0 (drop skipped bytes)
+tables_fault-drop at place zero bytes h = ap (λ p. tables_fault at p 0 bytes) (omega arith)
+tables_fault-drop at place (suc skipped) [] h = absurd (omega arith)
+tables_fault-drop at place (suc skipped) (byte ∷ bytes) h = tables_fault-drop at (place + 1) skipped bytes (omega arith) ∙ ap (λ p. tables_fault at p 0 (drop skipped bytes)) (omega arith)
+
+-- one table, and those after it
+pub tables_fault-more : (at place byte n : ℕ) (bytes : List ℕ) → table_fault at place byte bytes ≡ None → n ≡ 16 + sum (take 16 bytes) → n ≤ length bytes → tables_fault at (place + (1 + n)) 0 (drop n bytes) ≡ tables_fault at place 0 (byte ∷ bytes)
+tables_fault-more at place byte n bytes passed is within =
+    ap (λ p. tables_fault at p 0 (drop n bytes)) (omega arith)
+    ∙ sym (tables_fault-drop at (place + 1) n bytes within)
+    ∙ ap (λ k. tables_fault at (place + 1) k bytes) is
+    ∙ sym (ap (λ first. or_else first (tables_fault at (place + 1) (16 + sum (take 16 bytes)) bytes)) passed)
+
+pub tables_after-more : (byte n : ℕ) (bytes : List ℕ) → n ≡ 16 + sum (take 16 bytes) → tables_after 0 (byte ∷ bytes) ≡ record { class = byte / 16; number = byte % 16; fields = fields_at bytes } ∷ tables_after 0 (drop n bytes)
+tables_after-more byte n bytes is =
+    ap (λ others. record { class = byte / 16; number = byte % 16; fields = fields_at bytes } ∷ others) (ap (λ k. tables_after k bytes) (sym is) ∙ tables_after-drop n bytes)
+
+-- the last of a list that one more is put to
+pub last_of-push : {A : Type 0} (xs : List A) (y : A) → last_of (xs ++ y ∷ []) ≡ Some y
+last_of-push xs y = fold-append (λ _ x. Some x) None xs (y ∷ [])
+
+last_case : (b : Bool) (xs : List Table) (t : Table) → option_map (λ u. u.fields) (last_of (xs ++ cond b (t ∷ []) [])) ≡ cond b (Some t.fields) (option_map (λ u. u.fields) (last_of xs))
+last_case true xs t = ap (option_map (λ u. u.fields)) (last_of-push xs t)
+last_case false xs t = ap (λ found. option_map (λ u. u.fields) (last_of found)) (append-nil xs)
+
+-- the latest of a class and number, where one more table comes
+latest-push : (class number : ℕ) (tables : List Table) (t : Table) → latest class number (tables ++ t ∷ []) ≡ cond (is_of class number t) (Some t.fields) (latest class number tables)
+latest-push class number tables t = ap (λ found. option_map (λ u. u.fields) (last_of found)) (filter-append (is_of class number) tables (t ∷ [])) ∙ last_case (is_of class number t) (filter (is_of class number) tables) t
+
+place_push : (kept : List (Option TableFields)) (t : Table) (old : Option TableFields) (c n : ℕ) → t.class < 2 → t.number < 4 → c < 2 → n < 4 → length kept ≡ 8 → table_in kept c n ≡ old → table_in (set kept (4 * t.class + t.number) (Some t.fields)) c n ≡ cond (is_of c n t) (Some t.fields) old
+place_push kept t old c n class number cs ns size same = grind (arith, nat_tests, get_or-set_at, get_or-set_other)
+
+-- a table put at its place is the latest there
+pub Holds-push : (kept : List (Option TableFields)) (tables : List Table) (t : Table) → t.class < 2 → t.number < 4 → Holds kept tables → Holds (set kept (4 * t.class + t.number) (Some t.fields)) (tables ++ t ∷ [])
+Holds-push kept tables t class number holds = record {
+  size = length-set kept (4 * t.class + t.number) (Some t.fields) ∙ holds.size;
+  each = λ c n cs ns. place_push kept t (latest c n tables) c n class number cs ns holds.size (holds.each c n cs ns) ∙ sym (latest-push c n tables t);
+}
+
+-- Tables that were kept, from the front of a segment up to a rest.
+pub record Held (first kept : List (Option TableFields)) (body rest : List ℕ) : Type 0 where
+  pub done : List Table
+  pub come : tables_after 0 body ≡ done ++ tables_after 0 rest
+  pub holds : (before : List Table) → Holds first before → Holds kept (before ++ done)
+
+pub Held-start : (first : List (Option TableFields)) (body : List ℕ) → Held first first body body
+Held-start first body = record { done = []; come = refl; holds = λ before h. subst (Holds first) (sym (append-nil before)) h }
+
+pub Held-more : (first kept : List (Option TableFields)) (body rest bytes after : List ℕ) (byte n class number : ℕ) (fields : TableFields) → rest ≡ byte ∷ bytes → after ≡ drop n bytes → n ≡ 16 + sum (take 16 bytes) → class ≡ byte / 16 → class < 2 → number ≡ byte % 16 → number < 4 → fields ≡ fields_at bytes → Held first kept body rest → Held first (set kept (4 * class + number) (Some fields)) body after
+Held-more first kept body rest bytes after byte n class number fields front back size of_class two of_number four table held =
+    let t : Table = record { class = class; number = number; fields = fields } in
+    let same : t ≡ record { class = byte / 16; number = byte % 16; fields = fields_at bytes } = rw (of_class, of_number, table) refl in
+    let split : tables_after 0 rest ≡ t ∷ tables_after 0 after =
+    ap (tables_after 0) front ∙ tables_after-more byte n bytes size ∙ ap (λ u. u ∷ tables_after 0 (drop n bytes)) (sym same) ∙ ap (λ b. t ∷ tables_after 0 b) (sym back) in
+    record {
+      done = held.done ++ t ∷ [];
+      come = held.come ∙ ap (λ others. held.done ++ others) split ∙ sym (append_assoc held.done (t ∷ []) (tables_after 0 after));
+      holds = λ before h. subst (Holds (set kept (4 * class + number) (Some fields))) (append_assoc before held.done (t ∷ [])) (Holds-push kept (before ++ held.done) t two four (held.holds before h));
+    }
+
+pub Held-all : (first kept : List (Option TableFields)) (body rest : List ℕ) → length rest < 1 → Held first kept body rest → (before : List Table) → Holds first before → Holds kept (before ++ tables_after 0 body)
+Held-all first kept body [] none held before h = subst (λ (ts : List Table). Holds kept (before ++ ts)) (sym (held.come ∙ append-nil held.done)) (held.holds before h)
+Held-all first kept body (byte ∷ rest) none held before h = absurd (omega arith)

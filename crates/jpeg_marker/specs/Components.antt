@@ -1,0 +1,6 @@
+-- What stands where there is no component.
+use Rattle.jpeg_marker.specs.Tables.{no_table}
+use Rattle.jpeg_marker.specs.declared.component.Component.{Component}
+
+abbrev pub no_component : Component
+no_component = record { id = 0; h = 0; v = 0; dc = no_table; ac = no_table }

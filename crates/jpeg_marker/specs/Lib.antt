@@ -1,0 +1,16 @@
+pub mod Components
+pub mod FrameInside
+pub mod Frames
+pub mod Good
+pub mod HeaderPlan
+pub mod Holds
+pub mod OneHeader
+pub mod PlanInside
+pub mod Plans
+pub mod Refusals
+pub mod Segments
+pub mod Stands
+pub mod TableFaults
+pub mod TableFields
+pub mod Tables
+pub mod Walks

@@ -1,0 +1,35 @@
+//! The header of a baseline JPEG file (ITU-T T.81, Annex B), up to the coded bytes of its scan.
+//!
+//!     FF D8 | FF E0 ..      | FF C0 ..  | FF C4 ..            | FF DD ..  | FF DA .. | coded bytes
+//!     start | passed unread | the frame | tables, any segment | restarts  | the scan | not looked at
+//!
+//! `read_header` gives the plan, or the first check that fails and where. It takes no memory. What the
+//! coded bytes mean, and which code words a table stands for, is left to others.
+#![tactic(auto)]
+
+mod component;
+mod cursor;
+mod found;
+mod frame;
+mod grid;
+mod header;
+mod part;
+mod plan;
+mod refusal;
+mod scan;
+mod segment;
+mod table;
+mod tables;
+
+pub use component::Component;
+pub use header::{header_has_one_plan, read_header};
+pub use plan::Plan;
+pub use refusal::HeaderRefusal;
+pub use table::RawTable;
+
+#[cfg(test)]
+mod plan_tests;
+#[cfg(test)]
+mod refusal_tests;
+#[cfg(test)]
+mod samples;
