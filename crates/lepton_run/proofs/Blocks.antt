@@ -33,7 +33,7 @@ size_large : (n : ℕ) → 2 ≤ n → 2 ≤ size n
 size_large n h = omega (arith, length-digits_of_step 2 n (omega arith) (omega arith), length-digits_of_step 2 (n / 2) (omega arith) (omega arith))
 
 -- so it has no bits
-no_block : (table : DcTable) (difference : ℤ) → 2 ≤ unsigned_abs difference → block_bits table difference ≡ None
+pub no_block : (table : DcTable) (difference : ℤ) → 2 ≤ unsigned_abs difference → block_bits table difference ≡ None
 no_block table difference h =
     ap (option_map (λ (word : List Bool). word ++ mag difference ++ end_of_block)) (no_word table (size (unsigned_abs difference)) (size_large _ h))
 

@@ -1,10 +1,9 @@
 -- What an encoder holds after bits, one list after another.
-use Rattle.std.proofs.Common.{◌≡◌, ℕ, zero, suc, ◌+◌, ◌*◌, ◌^◌, ◌<◌, ◌≤◌, ◌⊎◌, Bool, true, List, [], ◌∷◌, ◌++◌, length, replicate, map, fold, Option, Some, None, option_map, refl, sym, ap, ◌∙◌, subst, inl, inr, arith, length-append, append-nil, add-one, pow-suc, nat_eq, ◌-◌, ◌/◌, ◌==◌, false, ℤ, pos, int_lt, unsigned_abs, if◌then◌else◌}
+use Rattle.std.proofs.Common.{◌≡◌, ℕ, zero, suc, ◌+◌, ◌*◌, ◌^◌, ◌<◌, ◌≤◌, Bool, true, List, [], ◌∷◌, ◌++◌, replicate, fold, Option, Some, None, option_map, refl, sym, ap, ◌∙◌, arith, append-nil, pow-suc, nat_eq, ◌-◌, ◌/◌, ◌==◌, false, ℤ, pos, int_lt, unsigned_abs, if◌then◌else◌}
 use Rattle.std.proofs.lemmas.Bool.Decides.{nat_tests}
 use Rattle.std.specs.Prelude.{bit_and}
 use Rattle.std.proofs.lemmas.Nat.{pow_pos}
 use Rattle.std.proofs.lemmas.Nat.Bits.{shr_and_one}
-use Rattle.std.specs.Int.Digits.{digits_of}
 use Rattle.std.proofs.lemmas.Int.Digits.{length-digits_of_step, length-digits_of-le}
 use Rattle.bool_coder.specs.BoolStream.{Interval, after, opening, coded}
 use Rattle.lepton_run.specs.Bits.{size, low_bits}
@@ -58,7 +57,7 @@ small_size n h = length-digits_of-le 2 15 n (omega arith) (omega arith)
 
 module _ (dc : ℤ) (bits : ℕ) (is : bits ≡ size (unsigned_abs dc)) (small : bits ≤ 15) where
   -- the bits of a value below the last step
-  spelled : value_bits 16 dc ≡ replicate bits true ++ (false ∷ []) ++ (if bits == 0 then [] else int_lt dc (pos 0) ∷ low_bits (bits - 1) (unsigned_abs dc))
+  pub spelled : value_bits 16 dc ≡ replicate bits true ++ (false ∷ []) ++ (if bits == 0 then [] else int_lt dc (pos 0) ∷ low_bits (bits - 1) (unsigned_abs dc))
   spelled =
       let not_last : (bits == 16) ≡ false = grind (arith, nat_tests) in
       rw (← is) (ap (λ b. replicate bits true ++ (if b then [] else false ∷ []) ++ (if bits == 0 then [] else int_lt dc (pos 0) ∷ low_bits (bits - 1) (unsigned_abs dc))) not_last)

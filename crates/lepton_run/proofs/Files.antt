@@ -1,9 +1,9 @@
 -- A file by its header and its scan.
-use Rattle.std.proofs.Common.{◌≡◌, ℕ, ◌+◌, ◌*◌, ◌/◌, ◌%◌, ◌^◌, ◌<◌, ◌≤◌, List, [], ◌∷◌, ◌++◌, length, get_or, drop, ℤ, Option, Some, option_map, refl, sym, ap, subst, ◌∙◌, append_assoc, take, length-append, length-drop, arith}
+use Rattle.std.proofs.Common.{◌≡◌, ℕ, ◌*◌, ◌/◌, ◌%◌, ◌^◌, ◌<◌, ◌≤◌, List, [], ◌∷◌, ◌++◌, length, get_or, drop, ℤ, Some, option_map, refl, sym, ap, ◌∙◌, append_assoc, take, length-append, length-drop, arith}
 use Rattle.std.proofs.lemmas.List.{take_at}
 use Rattle.lepton_run.specs.Container.{layout, first_segment}
 use Rattle.lepton_run.specs.Scan.{scan_bytes}
-use Rattle.lepton_run.specs.Jpeg.{Jpeg, IsFile, IsWithinProfile, header_bytes, header_of, blocks_across, most_blocks}
+use Rattle.lepton_run.specs.Jpeg.{Jpeg, IsFile, header_bytes, header_of, blocks_across, most_blocks}
 use Rattle.lepton_run.specs.Reading.{IsScanOf}
 use Rattle.lepton_run.specs.declared.header.DcTable.{DcTable}
 use Rattle.lepton_run.specs.declared.header.DcTable.TheVariants.{Level, Steps}

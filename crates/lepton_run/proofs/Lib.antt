@@ -10,3 +10,11 @@ pub mod Signed
 pub mod Scanned
 pub mod Files
 pub mod Endings
+pub mod Written
+pub mod Taken
+pub mod Restored
+pub mod Opening
+pub mod Unpacked
+pub mod Sizes
+pub mod OneStream
+pub mod Both

@@ -2,12 +2,12 @@
 use Rattle.std.proofs.Common.{◌≡◌, ℕ, suc, ◌+◌, ◌-◌, ◌*◌, ◌/◌, ◌%◌, ◌≤◌, Bool, true, zero, List, [], ◌∷◌, ◌++◌, length, drop, replicate, ℤ, pos, Some, option_map, sym, refl, ap, ◌∙◌, subst, append_assoc, length-append, length-drop, arith}
 use Rattle.std.specs.List.{AllByRecursion}
 use Rattle.std.proofs.lemmas.List.{drop_at}
-use Rattle.lepton_run.specs.Bits.{bits_of, bytes_after, padded, stuffed}
+use Rattle.lepton_run.specs.Bits.{IsByte, bits_of, bytes_after, padded, stuffed}
 use Rattle.lepton_run.specs.Scan.{scan_bits, scan_bytes}
 use Rattle.lepton_run.specs.Reading.{blocks_at}
 use Rattle.lepton_run.specs.Jpeg.{IsDc}
 use Rattle.lepton_run.specs.declared.header.DcTable.{DcTable}
-use Rattle.lepton_run.proofs.WholeBytes.{IsByte, bits_of-append, length-bits_of, drop-bits_of, bytes_after-bits_of, bits_of-bytes_after, bytes_after-append}
+use Rattle.lepton_run.proofs.WholeBytes.{bits_of-append, length-bits_of, drop-bits_of, bytes_after-bits_of, bits_of-bytes_after, bytes_after-append}
 use Rattle.lepton_run.proofs.Blocks.{option_map_some, blocks_take, blocks_again}
 use Rattle.lepton_run.proofs.Calm.{length-padded, not_stuffed}
 
@@ -16,7 +16,7 @@ abbrev pub end_of : ℕ → ℕ
 end_of place = (place + 7) / 8
 
 -- the bytes of a scan are those that its padded bits complete
-scan_made : (table : DcTable) (blocks : List ℤ) (front : List Bool) → scan_bits table (pos 0) blocks ≡ Some front
+pub scan_made : (table : DcTable) (blocks : List ℤ) (front : List Bool) → scan_bits table (pos 0) blocks ≡ Some front
     → scan_bytes table blocks ≡ Some (bytes_after [] (padded front))
 scan_made table blocks front spelled =
     ap (option_map (λ (bits : List Bool). stuffed (bytes_after [] (padded bits)))) spelled ∙ ap (λ (bs : List ℕ). Some bs) (not_stuffed table (pos 0) blocks front spelled)

@@ -1,13 +1,13 @@
 -- What the reader's answers say of a scan.
-use Rattle.std.proofs.Common.{◌≡◌, ℕ, suc, ◌+◌, ◌-◌, ◌*◌, ◌/◌, ◌<◌, ◌≤◌, Bool, true, List, [], ◌∷◌, ◌++◌, length, get_or, take, drop, replicate, ℤ, pos, Option, Some, None, option_map, refl, sym, ap, subst, ◌∙◌, arith, length-drop}
+use Rattle.std.proofs.Common.{◌≡◌, ℕ, suc, ◌+◌, ◌-◌, ◌*◌, ◌/◌, ◌<◌, ◌≤◌, Bool, true, List, [], ◌∷◌, ◌++◌, length, get_or, drop, replicate, ℤ, pos, Option, Some, None, option_map, sym, ap, subst, ◌∙◌, arith, length-drop}
 use Rattle.std.specs.List.{AllByRecursion}
-use Rattle.lepton_run.specs.Bits.{bits_of}
+use Rattle.lepton_run.specs.Bits.{IsByte, bits_of}
 use Rattle.lepton_run.specs.Scan.{scan_bytes}
 use Rattle.lepton_run.specs.Reading.{blocks_at, IsScanOf}
 use Rattle.lepton_run.specs.declared.header.DcTable.{DcTable}
-use Rattle.lepton_run.proofs.WholeBytes.{IsByte, length-bits_of}
+use Rattle.lepton_run.proofs.WholeBytes.{length-bits_of}
 use Rattle.lepton_run.proofs.Blocks.{option_map_some}
-use Rattle.lepton_run.proofs.ScanText.{end_of, Found, scan_found, Again, scan_again}
+use Rattle.lepton_run.proofs.ScanText.{end_of, scan_found, Again, scan_again}
 
 -- bytes by their places
 pub all_bytes : (xs : List ℕ) → ((i : ℕ) → get_or xs i 0 < 256) → AllByRecursion IsByte xs

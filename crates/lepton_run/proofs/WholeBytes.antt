@@ -5,11 +5,7 @@ use Rattle.std.specs.Bool.{beq}
 use Rattle.std.proofs.lemmas.Bool.{agree_below_at, eqb-true, and_parts}
 use Rattle.std.proofs.lemmas.List.{drop_all}
 use Rattle.std.proofs.lemmas.List.Concat.{flat_map-append}
-use Rattle.lepton_run.specs.Bits.{low_bits, bits_of, number_of, bytes_after}
-
--- a number that a byte can be
-abbrev pub IsByte : ℕ → Type 0
-IsByte byte = byte < 256
+use Rattle.lepton_run.specs.Bits.{IsByte, low_bits, bits_of, number_of, bytes_after}
 
 -- the bits of bytes that stand end to end
 pub bits_of-append : (xs ys : List ℕ) → bits_of (xs ++ ys) ≡ bits_of xs ++ bits_of ys

@@ -1,30 +1,44 @@
 -- What the top call answers (this project's own): words, limits, refusals with their causes, and the lines of the note.
-use Rattle.std.specs.Prelude.{ℕ, ◌≡◌, ◌+◌, ◌<◌, ◌≤◌, List, [], ◌∷◌, ◌++◌, Option, codes, take, length, ◌==◌, if◌then◌else◌}
+use Rattle.std.specs.Prelude.{ℕ, ◌≡◌, ◌+◌, ◌≤◌, List, [], ◌∷◌, ◌++◌, Option, Some, codes, take, length, ◌==◌, if◌then◌else◌}
 use Rattle.std.specs.Io.KnownBytes.{Appends, Consumes, IsAtEnd}
 use Rattle.outside_core.specs.Faults.{Rose}
-use Rattle.lepton_run.specs.Jpeg.{Jpeg, IsFile}
+use Rattle.lepton_run.specs.Jpeg.{Jpeg, IsFile, text_of}
+use Rattle.lepton_run.specs.Container.{IsContainer, container_of}
+use Rattle.lepton_run.specs.declared.command.Command.{Command}
+use Rattle.lepton_run.specs.declared.command.Command.TheVariants.{Encode, Decode}
 use Rattle.lepton_run.specs.declared.ending.Refusal.{Refusal}
 use Rattle.lepton_run.specs.declared.ending.Refusal.TheVariants.{Outside, TooLong}
 use Rattle.lepton_run.specs.declared.ending.Ending.{Ending}
 use Rattle.lepton_run.specs.declared.ending.Ending.TheVariants.{Done, Refused, WordsRefused, ReadFailed, WriteFailed, NoMemory}
 
--- two words, of which the second is the command
-abbrev pub AreEncode : List (List ℕ) → Type 0
-AreEncode (program ∷ command ∷ []) = command ≡ codes "encode"
-AreEncode words = ⊥
+-- the word of a command
+abbrev pub word_of : Command → List ℕ
+word_of Encode = codes "encode"
+word_of Decode = codes "decode"
 
--- the most bytes of a file
-abbrev pub jpeg_limit : ℕ
-jpeg_limit = 67108864
+-- two words, of which the second is the command's
+abbrev pub Means : List (List ℕ) → Command → Type 0
+Means (program ∷ word ∷ []) command = word ≡ word_of command
+Means words command = ⊥
+
+-- the most bytes that a command reads
+abbrev pub limit_of : Command → ℕ
+limit_of Encode = 67108864
+limit_of Decode = 8589934592
+
+-- what a command makes of bytes: of a file its container, and of a container its file
+abbrev pub Gives : Command → List ℕ → List ℕ → Type 0
+Gives Encode bytes made = (jpeg : Jpeg) × IsFile jpeg bytes × (made ≡ container_of jpeg)
+Gives Decode bytes made = (jpeg : Jpeg) × IsContainer jpeg bytes × (text_of jpeg ≡ Some made)
 
 -- a source gave these bytes, and has nothing left
 abbrev pub TookAll : Option (List ℕ) → Option (List ℕ) → List ℕ → Type 0
 TookAll old new bytes = Consumes old new bytes × IsAtEnd new
 
--- why a source's bytes are refused: one past the limit was taken; or they were all read and aren't a file
-abbrev pub Refuses : Refusal → Option (List ℕ) → Option (List ℕ) → Type 0
-Refuses TooLong old new = (taken : List ℕ) × (length taken ≡ jpeg_limit + 1) × Consumes old new taken
-Refuses Outside old new = (bytes : List ℕ) × (length bytes ≤ jpeg_limit) × TookAll old new bytes × ((jpeg : Jpeg) → ¬ IsFile jpeg bytes)
+-- why a source's bytes are refused: one past the limit was taken; or they were all read and the command makes nothing of them
+abbrev pub Refuses : Command → Refusal → Option (List ℕ) → Option (List ℕ) → Type 0
+Refuses command TooLong old new = (taken : List ℕ) × (length taken ≡ limit_of command + 1) × Consumes old new taken
+Refuses command Outside old new = (bytes : List ℕ) × (length bytes ≤ limit_of command) × TookAll old new bytes × ((made : List ℕ) → ¬ Gives command bytes made)
 
 -- number and name
 abbrev pub refusal_text : Refusal → List ℕ

@@ -1,7 +1,11 @@
 -- Numbers as bits, and bits as bytes, the highest bit first (ITU-T T.81, F.1.2.3 and C.3).
-use Rattle.std.specs.Prelude.{ℕ, zero, suc, ◌+◌, ◌-◌, ◌*◌, ◌%◌, Bool, true, false, List, [], ◌∷◌, ◌++◌, length, flat_map, fold, replicate, ◌==◌, if◌then◌else◌}
+use Rattle.std.specs.Prelude.{ℕ, zero, suc, ◌+◌, ◌-◌, ◌*◌, ◌%◌, ◌<◌, Bool, true, List, [], ◌∷◌, ◌++◌, length, flat_map, fold, replicate, ◌==◌, if◌then◌else◌}
 use Rattle.std.specs.Int.{bit_at}
 use Rattle.std.specs.Int.Digits.{digits_of}
+
+-- a byte
+abbrev pub IsByte : ℕ → Type 0
+IsByte byte = byte < 256
 
 -- how many bits a magnitude has: 0 for 0 (Table F.1)
 abbrev pub size : ℕ → ℕ

@@ -1,9 +1,9 @@
 -- The container (this project's own): docs/FORMAT.md has it by offset.
-use Rattle.std.specs.Prelude.{ℕ, List, [], ◌∷◌, ◌++◌, length, replicate, flat_map}
+use Rattle.std.specs.Prelude.{ℕ, ◌≡◌, ◌<◌, ◌^◌, List, [], ◌∷◌, ◌++◌, length, replicate, flat_map}
 use Rattle.std.specs.Int.{w32, w64, to_be_bytes}
 use Rattle.bool_coder.specs.BoolStream.{coded, stream}
 use Rattle.lepton_run.specs.Events.{priced, segment_events}
-use Rattle.lepton_run.specs.Jpeg.{Jpeg, header_of}
+use Rattle.lepton_run.specs.Jpeg.{Jpeg, IsWithinProfile, header_of}
 
 -- a segment: the fourteen bytes of what it starts from, and its stream
 pub record Segment : Type 0 where
@@ -30,3 +30,9 @@ first_segment bytes = record { handover = replicate 14 0; stream = bytes }
 -- the container of a file: version 0, pads of ones, and one segment
 abbrev pub container_of : Jpeg → List ℕ
 container_of jpeg = layout 0 1 (first_segment (stream (coded (priced (segment_events jpeg.blocks)))) ∷ []) (header_of jpeg) jpeg.trailer
+
+-- the bytes are the container of a file with these parts, whatever the file's length
+pub record IsContainer (jpeg : Jpeg) (bytes : List ℕ) : Type 0 where
+  pub profile : IsWithinProfile jpeg
+  pub trailer_fits : length jpeg.trailer < 2 ^ 32
+  pub spelled : bytes ≡ container_of jpeg

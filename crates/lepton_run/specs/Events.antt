@@ -1,5 +1,5 @@
 -- The bools of a segment (this project's own): a block's values as bits, each with its prob.
-use Rattle.std.specs.Prelude.{ℕ, ◌+◌, ◌-◌, Bool, true, false, List, [], ◌∷◌, ◌++◌, ℤ, unsigned_abs, replicate, map, flat_map, int_lt, pos, fold, Option, option_map, ◌==◌, if◌then◌else◌}
+use Rattle.std.specs.Prelude.{ℕ, ◌-◌, Bool, true, false, List, [], ◌∷◌, ◌++◌, ℤ, unsigned_abs, replicate, map, flat_map, int_lt, pos, fold, Option, option_map, ◌==◌, if◌then◌else◌}
 use Rattle.bool_coder.specs.BoolStream.{Interval, after}
 use Rattle.lepton_run.specs.Bits.{size, low_bits}
 

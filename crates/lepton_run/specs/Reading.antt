@@ -3,6 +3,9 @@ use Rattle.std.specs.Prelude.{ℕ, zero, suc, Bool, true, false, List, [], ◌�
 use Rattle.std.specs.List.{AllByRecursion}
 use Rattle.lepton_run.specs.Jpeg.{IsDc}
 use Rattle.lepton_run.specs.Scan.{scan_bytes}
+use Rattle.bool_coder.specs.BoolStream.{coded, stream}
+use Rattle.bool_coder.specs.Reading.{Seen, Reads}
+use Rattle.lepton_run.specs.Events.{priced}
 use Rattle.lepton_run.specs.declared.header.DcTable.{DcTable}
 use Rattle.lepton_run.specs.declared.header.DcTable.TheVariants.{Level, Steps}
 
@@ -28,3 +31,13 @@ pub record IsScanOf (table : DcTable) (count : ℕ) (bytes : List ℕ) (blocks :
   pub many : length blocks ≡ count
   pub dcs : AllByRecursion IsDc blocks
   pub text : option_map (λ made. made ++ rest) (scan_bytes table blocks) ≡ Some bytes
+
+-- a decoder has taken these bits
+abbrev pub Took : List Bool → Seen → Type 0
+Took bits decoder = Reads (priced bits) decoder
+
+-- a decoder's bytes are the stream of the bits that it has taken and then these
+pub record Ahead (rest : List Bool) (decoder : Seen) : Type 0 where
+  pub taken : List Bool
+  pub took : Took taken decoder
+  pub bytes : decoder.bytes ≡ stream (coded (priced (taken ++ rest)))

@@ -5,7 +5,6 @@ ghost use Rattle.lepton_run.specs.Events.{priced, segment_events};
 ghost use Rattle.lepton_run.specs.Reading.{IsScanOf};
 ghost use Rattle.lepton_run.specs.Jpeg.{Jpeg, IsFile};
 ghost use Rattle.lepton_run.specs.Container.{container_of};
-ghost use Rattle.lepton_run.specs.Answer.{jpeg_limit};
 ghost use Rattle.lepton_run.specs.declared.coding.RecodeError.TheVariants.{NoMemory};
 
 use crate::header::{DcTable, read_header};
@@ -31,11 +30,11 @@ impl From<AllocError> for RecodeError {
 }
 
 /// The most blocks of a frame.
-const MOST_BLOCKS: u64 = 4_194_304;
+pub const MOST_BLOCKS: u64 = 4_194_304;
 
 /// The container of a file.
 pub fn recode(alloc: Global, bytes: &[u8]) -> Result<Vec<u8>, RecodeError>
-    requires { length bytes.now ≤ jpeg_limit }
+    requires { length bytes.now ≤ 67108864 }
     ensures file { IfOk result (λ made. ((jpeg : Jpeg) × IsFile jpeg bytes.now × (made.items ≡ container_of jpeg))) }
     ensures outside { IsErrOf result RecodeError.Outside → (jpeg : Jpeg) → ¬ IsFile jpeg bytes.now }
 {

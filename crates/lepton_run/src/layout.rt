@@ -5,17 +5,11 @@ ghost use Rattle.lepton_run.specs.Container.{layout, magic, first_segment};
 
 use std::alloc::{AllocError, Global};
 
-const MAGIC: [u8; 4] = *b"LPSG";
+/// The bytes up to the header's length: `LPSG`, version 0, pads of ones, one segment.
+pub const FRONT: [u8; 7] = [0x4c, 0x50, 0x53, 0x47, 0, 1, 1];
 
-const VERSION: u8 = 0;
-
-/// The bit that the scan is padded with.
-const PAD: u8 = 1;
-
-/// A container has one segment, which starts where the scan does: nothing is begun, no block and no restart was before.
-const SEGMENTS: u8 = 1;
-
-const START: [u8; 14] = [0; 14];
+/// What the segment starts from, where the scan does: nothing is begun, no block and no restart was before.
+pub const START: [u8; 14] = [0; 14];
 
 /// Bytes before the header.
 const FIELDS: usize = 37;
@@ -50,8 +44,7 @@ fn put_fields(made: &mut Vec<u8>, header: u32, trailer: u32, stream: u64) -> Res
     ensures { OnOk result (made.new.items ≡ made.old.items ++ (magic ++ 0 ∷ 1 ∷ 1 ∷ to_be_bytes w32 header
         ++ to_be_bytes w32 trailer ++ replicate 14 0 ++ to_be_bytes w64 stream)) }
 {
-    made.extend_from_slice(&MAGIC)?;
-    made.extend_from_slice(&[VERSION, PAD, SEGMENTS])?;
+    made.extend_from_slice(&FRONT)?;
     made.extend_from_slice(&header.to_be_bytes())?;
     made.extend_from_slice(&trailer.to_be_bytes())?;
     made.extend_from_slice(&START)?;

@@ -7,16 +7,25 @@
 //! are private parts; the boolean coder and the ends of the outside are crates below.
 #![tactic(auto)]
 
+mod bit_writer;
 mod bits;
 mod coding;
+mod command;
 mod ending;
 mod events;
 mod header;
+mod laws;
 mod layout;
 mod note;
+mod opened;
+mod restoring;
 mod scan;
+mod scan_text;
+mod taking;
 mod top;
 
+pub use command::Command;
 pub use ending::{Ending, Refusal};
 pub use header::DcTable;
+pub use laws::{decode_undoes_encode, one_file_a_container, one_spelling_a_file};
 pub use top::run;

@@ -1,133 +1,8 @@
 // Files and their containers; files and words that are refused.
 use crate::files::{END, LEVEL, START, STEPS, joined};
+use crate::rows::ROWS;
 use crate::trial::{NONE, run_over};
-use std::alloc::{AllocError, Global};
 use std::test::Fail;
-
-// A file by its height and width, what stands behind them, its scan and its trailer; and its stream.
-struct Row<'a> {
-    name: &'a str,
-    size: [u8; 4],
-    tail: &'a [u8],
-    scan: &'a [u8],
-    trailer: &'a [u8],
-    stream: &'a [u8],
-}
-
-const ROWS: [Row<'static>; 9] = [
-    Row {
-        name: "least file",
-        size: [0, 8, 0, 8],
-        tail: &LEVEL,
-        scan: &[0x3f],
-        trailer: &END,
-        stream: &[0, 0, 0],
-    },
-    Row {
-        name: "a DC of 1",
-        size: [0, 8, 0, 8],
-        tail: &STEPS,
-        scan: &[0xdf],
-        trailer: &END,
-        stream: &[0, 8, 0],
-    },
-    Row {
-        name: "two blocks",
-        size: [0, 8, 0, 16],
-        tail: &LEVEL,
-        scan: &[0x0f],
-        trailer: &END,
-        stream: &[0, 0, 0, 0, 0],
-    },
-    Row {
-        name: "a DC of -1",
-        size: [0, 8, 0, 8],
-        tail: &STEPS,
-        scan: &[0x9f],
-        trailer: &END,
-        stream: &[0, 10, 0],
-    },
-    Row {
-        name: "up and down again, over a corner of a block",
-        size: [0, 9, 0, 9],
-        tail: &STEPS,
-        scan: &[0xd0, 0x9f],
-        trailer: &END,
-        stream: &[0, 8, 0, 0, 0, 0, 5, 0],
-    },
-    Row {
-        name: "no bit is padded",
-        size: [0, 32, 0, 8],
-        tail: &LEVEL,
-        scan: &[0x00],
-        trailer: &END,
-        stream: &[0, 0, 0, 0, 0, 0, 0, 0],
-    },
-    Row {
-        name: "no end of the image",
-        size: [0, 8, 0, 8],
-        tail: &LEVEL,
-        scan: &[0x3f],
-        trailer: &[],
-        stream: &[0, 0, 0],
-    },
-    Row {
-        name: "bytes after the end",
-        size: [0, 1, 0, 1],
-        tail: &LEVEL,
-        scan: &[0x3f],
-        trailer: &[0xff, 0xd9, 0, 0xff, 0xff, 7],
-        stream: &[0, 0, 0],
-    },
-    Row {
-        name: "a trailer that looks like a stuffed byte",
-        size: [0, 8, 0, 8],
-        tail: &LEVEL,
-        scan: &[0x3f],
-        trailer: &[0x00, 0xff],
-        stream: &[0, 0, 0],
-    },
-];
-
-impl Row<'_> {
-    fn header(&self, alloc: Global) -> Result<Vec<u8>, AllocError> {
-        let mut header = Vec::from_slice(alloc, &START)?;
-        header.extend_from_slice(&self.size)?;
-        header.extend_from_slice(self.tail)?;
-        Ok(header)
-    }
-
-    fn file(&self, alloc: Global) -> Result<Vec<u8>, AllocError> {
-        let mut file = self.header(alloc)?;
-        file.extend_from_slice(self.scan)?;
-        file.extend_from_slice(self.trailer)?;
-        Ok(file)
-    }
-
-    fn container(&self, alloc: Global) -> Result<Vec<u8>, AllocError> {
-        let header = self.header(alloc)?;
-        let mut made = Vec::from_slice(alloc, b"LPSG")?;
-        made.extend_from_slice(&[0, 1, 1, 0, 0, 0])?;
-        made.push(if header.len() == 69 { 69 } else { 70 })?;
-        made.extend_from_slice(&[0, 0, 0])?;
-        made.push(if self.trailer.len() < 256 {
-            self.trailer.len() as u8
-        } else {
-            0
-        })?;
-        made.extend_from_slice(&[0; 14])?;
-        made.extend_from_slice(&[0, 0, 0, 0, 0, 0, 0])?;
-        made.push(if self.stream.len() < 256 {
-            self.stream.len() as u8
-        } else {
-            0
-        })?;
-        made.extend_from_slice(header.as_slice())?;
-        made.extend_from_slice(self.trailer)?;
-        made.extend_from_slice(self.stream)?;
-        Ok(made)
-    }
-}
 
 #[test]
 fn containers_of_files(rt: HostRuntime) -> Result<(), Fail> {
@@ -208,12 +83,16 @@ fn the_greatest_dc(rt: HostRuntime) -> Result<(), Fail> {
 
 #[test]
 fn words(rt: HostRuntime) -> Result<(), Fail> {
-    let refused: [&[&str]; 5] = [
+    let refused: [&[&str]; 9] = [
         &[],
         &["recode"],
         &["encode", "encode"],
         &["Encode"],
         &["encode "],
+        &["decode", "decode"],
+        &["decode", "encode"],
+        &["Decode"],
+        &["decode "],
     ];
     for words in refused {
         let tried = run_over(&rt, rt.alloc(), words, &[0xff, 0xd8], NONE)?;

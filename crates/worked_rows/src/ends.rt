@@ -1,5 +1,6 @@
 // Ends that fail in mid-stream, and inputs at the limit.
 use crate::files::{END, LEVEL, START, joined};
+use crate::rows::ROWS;
 use crate::trial::{Faults, NONE, run_over};
 use lepton_run::run;
 use outside_core::{MemSink, NeverSource, OpenGate, ReadAll, read_all};
@@ -54,6 +55,54 @@ fn a_write_that_fails(rt: HostRuntime) -> Result<(), Fail> {
         assert_eq!(rt; tried.status, 4, "write {n}");
         assert_eq!(rt; tried.written.len() as u64, 7 * (n - 1));
         assert!(rt; whole.written.starts_with(tried.written.as_slice()));
+        assert!(rt; tried.noted.as_slice() == b"lepton: write failed\n".as_slice());
+    }
+    Ok(())
+}
+
+#[test]
+fn a_read_that_fails_on_the_way_back(rt: HostRuntime) -> Result<(), Fail> {
+    let alloc = rt.alloc();
+    let container = ROWS[0].container(alloc)?;
+    for n in 1..9 {
+        let tried = run_over(
+            &rt,
+            alloc,
+            &["decode"],
+            container.as_slice(),
+            Faults {
+                reads: &[n],
+                ..NONE
+            },
+        )?;
+        // Seven reads give all the bytes and the eighth tells the end.
+        assert_eq!(rt; tried.status, 3, "read {n}");
+        assert!(rt; tried.written.is_empty());
+        assert!(rt; tried.noted.as_slice() == b"lepton: read failed\n".as_slice());
+    }
+    Ok(())
+}
+
+#[test]
+fn a_write_that_fails_on_the_way_back(rt: HostRuntime) -> Result<(), Fail> {
+    let alloc = rt.alloc();
+    let container = ROWS[0].container(alloc)?;
+    let file = least_file(alloc)?;
+    // Ten pieces of 7 bytes and one of 2.
+    for n in 1..12u64 {
+        let tried = run_over(
+            &rt,
+            alloc,
+            &["decode"],
+            container.as_slice(),
+            Faults {
+                writes: &[n],
+                ..NONE
+            },
+        )?;
+        assert_eq!(rt; tried.status, 4, "write {n}");
+        assert_eq!(rt; tried.written.len() as u64, 7 * (n - 1));
+        assert!(rt; file.starts_with(tried.written.as_slice()));
         assert!(rt; tried.noted.as_slice() == b"lepton: write failed\n".as_slice());
     }
     Ok(())

@@ -2,10 +2,14 @@
 #![tactic(auto)]
 
 #[cfg(test)]
+mod decode;
+#[cfg(test)]
 mod encode;
 #[cfg(test)]
 mod ends;
 #[cfg(test)]
 mod files;
+#[cfg(test)]
+mod rows;
 #[cfg(test)]
 mod trial;

@@ -16,6 +16,24 @@ pub struct Trial {
     pub left: Vec<u8>,
 }
 
+impl Trial {
+    /// Whether all was read and it was refused with Outside, and nothing written.
+    pub fn is_outside(&self) -> bool {
+        self.status == 1
+            && self.written.is_empty()
+            && self.left.is_empty()
+            && self.noted.as_slice() == b"lepton: refused 0 Outside\n".as_slice()
+    }
+
+    /// Whether all was read, exactly these bytes were written, and nothing noted.
+    pub fn is_done(&self, bytes: &[u8]) -> bool {
+        self.status == 0
+            && self.written.as_slice() == bytes
+            && self.left.is_empty()
+            && self.noted.is_empty()
+    }
+}
+
 /// The calls that fail, by number.
 #[derive(Clone, Copy)]
 pub struct Faults<'a> {

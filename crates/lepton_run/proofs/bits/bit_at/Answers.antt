@@ -1,4 +1,4 @@
-use Rattle.std.proofs.Common.{◌≡◌, ◌<◌, ◌≤◌, ◌/◌, ◌∙◌, ap, sym, nat_eq, length, get_or, arith, rules, tests}
+use Rattle.std.proofs.Common.{◌≡◌, ◌<◌, ◌≤◌, ◌/◌, length, get_or, rules, tests}
 use Rattle.lepton_run.proofs.Places.{bit_here, no_bit}
 use Rattle.lepton_run.proofs.bits.bit_at.Goals as goal
 

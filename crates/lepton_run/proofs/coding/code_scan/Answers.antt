@@ -1,9 +1,7 @@
-use Rattle.std.proofs.Common.{◌≡◌, ◌∙◌, ap, sym, ℕ, List, Err, Some, ◌++◌, drop, replicate, true, ◌*◌, ◌-◌, rules}
+use Rattle.std.proofs.Common.{◌≡◌, ◌∙◌, ap, Err, Some, rules}
 use Rattle.std.proofs.lemmas.Result.{err_from_is_err_and}
-use Rattle.bool_coder.specs.BoolStream.{coded, stream}
-use Rattle.lepton_run.specs.Bits.{bits_of}
+use Rattle.bool_coder.specs.BoolStream.{coded}
 use Rattle.lepton_run.specs.Events.{priced, segment_events, coded_from}
-use Rattle.lepton_run.specs.Reading.{IsScanOf}
 use Rattle.lepton_run.specs.declared.coding.RecodeError.TheVariants.{Outside}
 use Rattle.lepton_run.proofs.Coded.{coded_whole}
 use Rattle.lepton_run.proofs.Scanned.{all_bytes, scan_not, scan_unpadded, scan_is}

@@ -1,5 +1,4 @@
-use Rattle.std.proofs.Common.{◌≡◌, ◌≤◌, ◌-◌, ◌∙◌, ap, sym, unsigned_abs, List, Bool, [], ◌∷◌, int_lt, pos, ℤ, OnOk, arith, rules}
-use Rattle.std.specs.Prelude.{FitsSigned}
+use Rattle.std.proofs.Common.{◌≡◌, ◌≤◌, ◌-◌, ◌∙◌, ap, unsigned_abs, [], ◌∷◌, int_lt, pos, ℤ, arith}
 use Rattle.std.proofs.lemmas.Int.{to_z-of_z}
 use Rattle.std.specs.Int.{w32}
 use Rattle.std.proofs.lemmas.Result.{on_ok_weaker}

@@ -1,4 +1,4 @@
-use Rattle.std.proofs.Common.{◌≡◌, ◌-◌, ◌∙◌, sym, ap, arith}
+use Rattle.std.proofs.Common.{◌≡◌, ◌∙◌, sym, ap, arith}
 use Rattle.lepton_run.specs.Bits.{low_bits}
 use Rattle.lepton_run.specs.Events.{coded_from}
 use Rattle.lepton_run.proofs.Coded.{one_more, low_bits_left, coded_from-nil}

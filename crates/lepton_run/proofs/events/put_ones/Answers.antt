@@ -1,4 +1,4 @@
-use Rattle.std.proofs.Common.{◌≡◌, ◌-◌, ◌∙◌, sym, ap, true, List, Bool, [], replicate, arith}
+use Rattle.std.proofs.Common.{◌≡◌, ◌-◌, ◌∙◌, sym, ap, true, replicate, arith}
 use Rattle.lepton_run.specs.Events.{coded_from}
 use Rattle.lepton_run.proofs.Coded.{one_more, ones_left, coded_from-nil}
 use Rattle.lepton_run.proofs.events.put_ones.Goals as goal

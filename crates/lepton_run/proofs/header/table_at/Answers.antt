@@ -1,4 +1,4 @@
-use Rattle.std.proofs.Common.{rules, ◌≡◌, refl, sym, ◌∙◌, true, nat_eq, drop, length}
+use Rattle.std.proofs.Common.{refl, sym, ◌∙◌, true}
 use Rattle.std.proofs.lemmas.Slice.Eq.{starts_is}
 use Rattle.std.proofs.lemmas.Bool.Decides.{Decides-eqb}
 use Rattle.lepton_run.specs.Jpeg.{tail}

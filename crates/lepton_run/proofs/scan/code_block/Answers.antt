@@ -1,5 +1,4 @@
-use Rattle.std.proofs.Common.{◌≡◌, ◌≤◌, ◌<◌, ◌∙◌, ◌+ℤ◌, ap, sym, drop, Some, ℤ, List, Bool, unsigned_abs, arith}
-use Rattle.std.specs.Int.{w32}
+use Rattle.std.proofs.Common.{◌≤◌, ◌<◌, ◌∙◌, ◌+ℤ◌, ap, sym, drop, Some, ℤ, unsigned_abs, arith}
 use Rattle.lepton_run.specs.Bits.{bits_of}
 use Rattle.lepton_run.proofs.Reader.{dc_at-none, dc_at-far, dc_at-some}
 use Rattle.lepton_run.proofs.Signed.{sum_is}

@@ -1,4 +1,4 @@
-use Rattle.std.proofs.Common.{◌≡◌, ◌-◌, ◌+◌, ◌∙◌, ◌++◌, ◌∷◌, [], ap, sym, subst, suc, ℕ, ℤ, List, drop, pos, refl, arith}
+use Rattle.std.proofs.Common.{◌≡◌, ◌-◌, ◌+◌, ◌∙◌, ◌++◌, ◌∷◌, [], ap, sym, suc, drop, pos, arith}
 use Rattle.std.specs.Int.{w32}
 use Rattle.std.specs.Prelude.{Err}
 use Rattle.lepton_run.specs.declared.coding.RecodeError.TheVariants.{Outside}
@@ -8,9 +8,8 @@ use Rattle.std.proofs.lemmas.Result.{err_from_is_err_and}
 use Rattle.lepton_run.proofs.Signed.{fits}
 use Rattle.lepton_run.specs.Bits.{bits_of}
 use Rattle.lepton_run.specs.Events.{coded_from, segment_events, block_events}
-use Rattle.lepton_run.specs.Reading.{blocks_at}
 use Rattle.lepton_run.proofs.Coded.{coded_from-nil, coded_from-append}
-use Rattle.lepton_run.proofs.Reader.{with_front, blocks_start, blocks_on, blocks_stop, blocks_end, events_pushed}
+use Rattle.lepton_run.proofs.Reader.{blocks_start, blocks_on, blocks_stop, blocks_end, events_pushed}
 use Rattle.lepton_run.proofs.scan.code_blocks.Goals as goal
 
 pub loop-init : goal.loop-init

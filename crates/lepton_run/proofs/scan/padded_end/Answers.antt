@@ -1,4 +1,4 @@
-use Rattle.std.proofs.Common.{◌≡◌, ◌+◌, ◌-◌, ◌*◌, ◌/◌, ◌<◌, ◌∙◌, ◌∷◌, ◌++◌, ap, sym, true, false, List, Bool, replicate, drop, arith}
+use Rattle.std.proofs.Common.{◌≡◌, ◌+◌, ◌-◌, ◌*◌, ◌/◌, ◌<◌, ◌∙◌, ◌∷◌, ◌++◌, ap, sym, true, false, replicate, drop, arith}
 use Rattle.lepton_run.specs.Bits.{bits_of}
 use Rattle.lepton_run.proofs.Places.{ones_ahead, ones_on}
 use Rattle.lepton_run.proofs.scan.padded_end.Goals as goal

@@ -1,5 +1,4 @@
 use Rattle.lepton_run.proofs.Endings.{notes_of}
-use Rattle.lepton_run.specs.Answer.{line_of}
 use Rattle.std.proofs.Common.{◌∙◌}
 use Rattle.lepton_run.proofs.top.tell.Goals as goal
 

@@ -1,0 +1,16 @@
+use Rattle.std.proofs.Common.{subst, List, ℕ, ◌≤◌, length, take}
+use Rattle.std.specs.Io.KnownBytes.{Appends}
+use Rattle.lepton_run.specs.Answer.{Gives}
+use Rattle.lepton_run.proofs.top.transfer.Goals as goal
+
+-- the sink took a front of what is made of the bytes that were read
+pub returns-clause-cut : goal.returns-clause-cut
+returns-clause-cut g c = λ _. (
+  c.in-Ok.bytes.items,
+  c.in-Ok-carry_out.made.items,
+  c.in-Err.field-0.written,
+  subst (λ n. length c.in-Ok.bytes.items ≤ n) c.limit.ensures c.in-Ok.ensures.within,
+  (c.in-Ok.ensures.whole, c.in-Ok.ensures.end),
+  subst (λ (bytes : List ℕ). Gives c.args.command bytes c.in-Ok-carry_out.made.items) c.as_slice.ensures.value c.in-Ok-carry_out.ensures.made,
+  subst (λ (l : List ℕ). Appends (g.K.Sink.held c.args.sink.now) (g.K.Sink.held c.write_all.new.sink) (take c.in-Err.field-0.written l)) c.as_slice-2.ensures.value c.in-Err.ensures.part,
+)
