@@ -165,3 +165,41 @@ fn limits(rt: HostRuntime) -> Result<(), Fail> {
     }
     Ok(())
 }
+
+// The container of the longest file is longer than a file may be, and gives it back.
+#[test]
+fn the_longest_file_comes_back(rt: HostRuntime) -> Result<(), Fail> {
+    let alloc = rt.alloc();
+    let mut file = least_file(alloc)?;
+    file.resize(67_108_864, 0)?;
+    assert!(rt; file.len() == 67_108_864);
+    let (header, rest) = file.as_slice().split_at(69);
+    let (_, trailer) = rest.split_at(1);
+    let mut container = joined(alloc, &[b"LPSG", &[0, 1, 1, 0, 0, 0, 69]])?;
+    container.extend_from_slice(&67_108_794u32.to_be_bytes())?;
+    container.extend_from_slice(&[0; 14])?;
+    container.extend_from_slice(&[0, 0, 0, 0, 0, 0, 0, 3])?;
+    container.extend_from_slice(header)?;
+    container.extend_from_slice(trailer)?;
+    container.extend_from_slice(&[0, 0, 0])?;
+    let words = [
+        String::from_str(alloc, "lepton")?,
+        String::from_str(alloc, "decode")?,
+    ];
+    let mut source = NeverSource::new(container.as_slice());
+    let mut sink = MemSink::new(alloc, 1 << 27, 1 << 20, &[])?;
+    let mut noted = MemSink::new(alloc, 100, 100, &[])?;
+    let ended = run(
+        &rt,
+        alloc,
+        &words,
+        &mut source,
+        &mut sink,
+        &mut noted,
+        &OpenGate,
+    );
+    assert_eq!(rt; ended, 0);
+    assert!(rt; noted.bytes().is_empty());
+    assert!(rt; sink.bytes() == file.as_slice());
+    Ok(())
+}
