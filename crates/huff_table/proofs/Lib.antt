@@ -1,0 +1,11 @@
+pub mod Sizes
+pub mod Pairs
+pub mod Fits
+pub mod Places
+pub mod Found
+pub mod Apart
+pub mod Decoded
+pub mod Lookup
+pub mod Reading
+pub mod Built
+pub mod Components

@@ -1,0 +1,7 @@
+use Rattle.std.proofs.Common.{◌≡◌, get_or}
+use Rattle.huff_table.specs.PlanWords.{tables_of, no_codes}
+use Rattle.huff_table.proofs.Components.{filled_so_far}
+use Rattle.huff_table.proofs.plan_codes.PlanCodes.build.Given as goal
+
+abbrev pub invariant-loop-i : goal.invariant-loop-i
+invariant-loop-i l = l.all ≡ filled_so_far tables_of (get_or l.initial.all 0 no_codes) l.components l.i

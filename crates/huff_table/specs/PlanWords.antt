@@ -1,0 +1,29 @@
+-- The tables of each component of a plan.
+use Rattle.std.specs.Prelude.{◌≡◌, ◌-◌, ◌≤◌, ◌++◌, List, length, take, replicate, get_or}
+use Rattle.jpeg_marker.specs.Tables.{no_table}
+use Rattle.jpeg_marker.specs.declared.component.Component.{Component}
+use Rattle.huff_table.specs.declared.plan_codes.ComponentCodes.{ComponentCodes}
+use Rattle.huff_table.specs.declared.plan_codes.PlanCodes.TheInside.{Inside}
+
+-- the two tables of a component (B.2.3)
+abbrev pub tables_of : Component → ComponentCodes
+tables_of c = record { dc = c.dc; ac = c.ac }
+
+abbrev pub no_codes : ComponentCodes
+no_codes = record { dc = no_table; ac = no_table }
+
+-- four of them: behind the last one stands the first one again
+abbrev pub filled : List ComponentCodes → List ComponentCodes
+filled all = all ++ replicate (4 - length all) (get_or all 0 no_codes)
+
+abbrev pub components_of : Inside → List ComponentCodes
+components_of p = take p.count p.components
+
+-- nothing else stands behind the last one, so that the components tell all
+pub record AreComponents (p : Inside) : Type 0 where
+  pub few : length (components_of p) ≤ 4
+  pub long : length (components_of p) ≡ p.count
+  pub blank : p.components ≡ filled (components_of p)
+
+abbrev pub inside_of : List ComponentCodes → Inside
+inside_of all = record { components = filled all; count = length all }

@@ -1,0 +1,127 @@
+// The code words of one table.
+ghost use Rattle.std.specs.Prelude.{◌≡◌, ℕ, ◌+◌, ◌*◌, ◌-◌, ◌^◌, ◌<◌, ◌≤◌, ◌↔◌, Bool, List, length, Ok, Err, Some, None, IsSome, IfSome, IfNone, IfOk, IfErr, OnErr, Contains};
+ghost use Rattle.bit_list.specs.Bits.{low_bits};
+ghost use Rattle.bit_list.specs.Units.{bits_at};
+ghost use Rattle.huff_table.specs.CodeWords.{word_of};
+ghost use Rattle.huff_table.specs.Decoding.{value_at};
+ghost use Rattle.huff_table.specs.Kept.{placed};
+ghost use Rattle.huff_table.specs.Levels.{level, value_among};
+
+use crate::fault::CodeFault;
+use crate::word::{NONE, Word};
+use bit_list::BitIn;
+use jpeg_marker::RawTable;
+use std::marker::Model;
+
+/// The code words of a Huffman table (ITU-T T.81, Annex C). Clauses see the table.
+#[derive(Clone, Copy)]
+pub struct Codes {
+    table: RawTable,
+    // By value.
+    words: [Word; 256],
+}
+
+impl Model for Codes {
+    ghost use Rattle.jpeg_marker.specs.Tables.{TableFields};
+
+    ghost Value = { TableFields };
+
+    ghost use Rattle.huff_table.specs.Kept.{IsKept, inside_of};
+    ghost use Rattle.std.specs.Prelude.{refl};
+
+    ghost view = { λ c. c.table };
+
+    ghost invariant = { IsKept };
+
+    ghost inverse = { inside_of };
+
+    ghost inverse_ok = { λ a h. let e = h.words in Prim.rw e refl };
+}
+
+impl Codes {
+    /// The code words of a table.
+    pub fn build(table: &RawTable) -> Codes
+        ensures { result ≡ table.now }
+    {
+        let mut words = [NONE; 256];
+        let counts = table.counts();
+        let mut values = table.values();
+        let mut first = 0;
+        for (i, count) in counts.iter().enumerate() {
+            let (these, longer) = values.split_at(usize::from(*count));
+            place_level(&mut words, these, first, i as u8 + 1);
+            first = 2 * (first + u32::from(*count));
+            values = longer;
+        }
+        Codes {
+            table: *table,
+            words,
+        }
+    }
+
+    /// The code word of a value as a number, and how many bits it has, from 1 to 16.
+    #[inline]
+    pub fn word(&self, symbol: u8) -> Option<(u16, u8)>
+        ensures some { IfSome result (λ word. word_of self.now symbol ≡ Some (low_bits word.1 word.0)) }
+        ensures below { IfSome result (λ word. word.0 < 2 ^ word.1) }
+        ensures size { IfSome result (λ word. (1 ≤ word.1) × (word.1 ≤ 16)) }
+        ensures none { IfNone result (word_of self.now symbol ≡ None) }
+        ensures there { IsSome result ↔ Contains self.now.values symbol }
+    {
+        let word = self.words[usize::from(symbol)];
+        if word.size == 0 {
+            return None;
+        }
+        Some((word.code, word.size))
+    }
+
+    /// Takes the value whose code word stands next. A fault leaves the input behind the bits that were looked at.
+    pub fn next(&self, input: &mut BitIn) -> Result<u8, CodeFault>
+        ensures ok { IfOk result (λ value. value_at self.now input.old.bytes input.old.cursor ≡ Ok (value, input.new.cursor)) }
+        ensures err { IfErr result (λ fault. value_at self.now input.old.bytes input.old.cursor ≡ Err fault) }
+        ensures stopped { OnErr result ((bits : List Bool) × (length bits ≤ 16)
+            × (bits_at (length bits) input.old.bytes input.old.cursor ≡ Ok (bits, input.new.cursor))) }
+        ensures bytes { input.new.bytes ≡ input.old.bytes }
+    {
+        let counts = self.table.counts();
+        let mut values = self.table.values();
+        let mut first = 0;
+        let mut code = 0;
+        for count in counts {
+            code = 2 * code + u32::from(input.bit()?);
+            let (these, longer) = values.split_at(usize::from(*count));
+            if let Some(value) = value_among(these, first, code) {
+                return Ok(value);
+            }
+            first = 2 * (first + u32::from(*count));
+            values = longer;
+        }
+        Err(CodeFault::NoWord {
+            place: input.place(),
+        })
+    }
+}
+
+// Gives values the code words of a size, from a first one on.
+fn place_level(words: &mut [Word; 256], values: &[u8], first: u32, size: u8)
+    requires { first + length values.now ≤ 65536 }
+    ensures { words.new ≡ placed words.old (level size first values.now) }
+{
+    let mut code = first;
+    for value in values {
+        words[usize::from(*value)] = Word {
+            code: code as u16,
+            size,
+        };
+        code += 1;
+    }
+}
+
+// The value of a code word, among those of one size from a first word on.
+#[inline(always)]
+fn value_among(values: &[u8], first: u32, code: u32) -> Option<u8>
+    ensures { result ≡ value_among values.now first code }
+{
+    let place = code.checked_sub(first)?;
+    values.get(place as usize).copied()
+}

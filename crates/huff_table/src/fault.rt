@@ -1,0 +1,22 @@
+// Why no value can be taken.
+ghost use Rattle.huff_table.specs.declared.fault.CodeFault.TheVariants.{Bits};
+ghost use Rattle.std.specs.Prelude.{◌≡◌};
+
+use bit_list::BitFault;
+
+/// Why no value can be taken.
+#[derive(Clone, Copy, Debug, PartialEq, Eq)]
+pub enum CodeFault {
+    /// A bit that is due isn't there.
+    Bits(BitFault),
+    /// The sixteen bits due are no code word, and no first ones of them are; `place` is that of the last one's unit.
+    NoWord { place: usize },
+}
+
+impl From<BitFault> for CodeFault {
+    ghost from_gives = { λ fault error. error ≡ Bits fault };
+
+    fn from(fault: BitFault) -> Self {
+        CodeFault::Bits(fault)
+    }
+}

@@ -1,0 +1,28 @@
+//! The code words of Huffman tables (ITU-T T.81, Annex C, F.1.2 and F.2.2.3), to be written and to be read.
+//!
+//!     counts 1 1 2, values e a t s        the table, as `jpeg_marker` reads it
+//!
+//!     e      a      t       s             values by rising length
+//!     0      10     110     111           their code words: the next of a length is one more, and a longer one has
+//!                                         zeros behind
+//!     |-------------|------|---|---|      what begins with each of them, among all words of one length
+//!
+//! `Codes` gives a value's code word, and takes the value whose word stands next in a scan's bits. It takes no memory.
+//! What values mean is left to others.
+#![tactic(auto)]
+
+mod codes;
+mod fault;
+mod laws;
+mod plan_codes;
+mod word;
+
+pub use codes::Codes;
+pub use fault::CodeFault;
+pub use laws::{a_fault_is_no_word, a_word_is_read, no_word_begins_another, words_are_values};
+pub use plan_codes::{ComponentCodes, PlanCodes};
+
+#[cfg(test)]
+mod standard_tables;
+#[cfg(test)]
+mod tests;

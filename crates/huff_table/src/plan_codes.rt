@@ -1,0 +1,94 @@
+// The code words of all components.
+ghost use Rattle.std.specs.Prelude.{◌≡◌, ◌<◌, ◌≤◌, length, map, slice_get, Some, IfSome};
+
+use crate::codes::Codes;
+use jpeg_marker::{Component, Plan};
+use std::marker::Model;
+
+/// The code words of a component's two tables.
+#[derive(Clone, Copy)]
+pub struct ComponentCodes {
+    pub dc: Codes,
+    pub ac: Codes,
+}
+
+/// The code words of each component of a plan, in the frame's order. Clauses see the tables.
+#[derive(Clone, Copy)]
+pub struct PlanCodes {
+    components: [ComponentCodes; 4],
+    count: usize,
+}
+
+impl Model for PlanCodes {
+    ghost use Rattle.std.specs.Prelude.{List};
+    ghost use Rattle.std.proofs.Common.{sym, ap₂};
+    ghost use Rattle.huff_table.specs.declared.plan_codes.ComponentCodes.{ComponentCodes};
+
+    ghost Value = { List ComponentCodes };
+
+    ghost use Rattle.huff_table.specs.PlanWords.{components_of, AreComponents, inside_of};
+
+    ghost view = { components_of };
+
+    ghost invariant = { AreComponents };
+
+    ghost inverse = { inside_of };
+
+    ghost inverse_ok = { λ a h. ap₂ (λ all n. record { components = all; count = n }) (sym h.blank) h.long };
+}
+
+ghost use Rattle.huff_table.specs.PlanWords.{tables_of};
+
+impl ComponentCodes {
+    /// The code words of a component's tables.
+    pub fn build(component: &Component) -> ComponentCodes
+        ensures { result ≡ tables_of component.now }
+    {
+        ComponentCodes {
+            dc: Codes::build(component.dc()),
+            ac: Codes::build(component.ac()),
+        }
+    }
+}
+
+impl PlanCodes {
+    /// The code words of a plan's tables.
+    pub fn build(plan: &Plan) -> PlanCodes
+        ensures { result ≡ map tables_of plan.now.components }
+    {
+        let components = plan.components();
+        let first = ComponentCodes::build(&components[0]);
+        let mut all = [first; 4];
+        for (i, component) in components.iter().enumerate() {
+            all[i] = ComponentCodes::build(component);
+        }
+        PlanCodes {
+            components: all,
+            count: components.len(),
+        }
+    }
+
+    /// The code words of a component's DC differences.
+    pub fn dc(&self, component: usize) -> &Codes
+        requires { component < length self.now }
+        ensures { IfSome (slice_get self.now component) (λ c. result.now ≡ c.dc) }
+    {
+        &self.components()[component].dc
+    }
+
+    /// The code words of a component's AC coefficients.
+    pub fn ac(&self, component: usize) -> &Codes
+        requires { component < length self.now }
+        ensures { IfSome (slice_get self.now component) (λ c. result.now ≡ c.ac) }
+    {
+        &self.components()[component].ac
+    }
+
+    /// The code words of each component.
+    pub fn components(&self) -> &[ComponentCodes]
+        ensures value { result.now ≡ self.now }
+        ensures few { length self.now ≤ 4 }
+    {
+        &self.components[..self.count]
+    }
+}
