@@ -5,7 +5,7 @@ use Rattle.lepton_run.specs.Answer.{Gives, TookAll, limit_of}
 use Rattle.lepton_run.specs.Jpeg.{header_of}
 use Rattle.lepton_run.specs.Scan.{scan_bytes}
 use Rattle.lepton_run.specs.declared.command.Command.TheVariants.{Encode, Decode}
-use Rattle.lepton_run.proofs.Endings.{all_taken}
+use Rattle.lepton_run.proofs.Sources.{all_taken}
 use Rattle.lepton_run.proofs.Files.{file_parts, header_same}
 use Rattle.lepton_run.proofs.OneStream.{blocks_same}
 use Rattle.lepton_run.proofs.Sizes.{container_fits}

@@ -18,3 +18,7 @@ pub mod Unpacked
 pub mod Sizes
 pub mod OneStream
 pub mod Both
+pub mod Headers
+pub mod OneAnswer
+pub mod Sources
+pub mod Stops

@@ -1,13 +1,16 @@
--- What the top call answers (this project's own): words, limits, refusals with their causes, and the lines of the note.
-use Rattle.std.specs.Prelude.{ℕ, ◌≡◌, ◌+◌, ◌≤◌, List, [], ◌∷◌, ◌++◌, Option, Some, codes, take, length, ◌==◌, if◌then◌else◌}
+-- What the top call answers (this project's own): words, limits, what commands make, and refusals with their causes.
+use Rattle.std.specs.Prelude.{ℕ, ◌≡◌, ◌+◌, ◌<◌, ◌≤◌, List, [], ◌∷◌, Option, Some, codes, take, length, ◌==◌, if◌then◌else◌}
 use Rattle.std.specs.Io.KnownBytes.{Appends, Consumes, IsAtEnd}
 use Rattle.outside_core.specs.Faults.{Rose}
 use Rattle.lepton_run.specs.Jpeg.{Jpeg, IsFile, text_of}
 use Rattle.lepton_run.specs.Container.{IsContainer, container_of}
 use Rattle.lepton_run.specs.declared.command.Command.{Command}
 use Rattle.lepton_run.specs.declared.command.Command.TheVariants.{Encode, Decode}
-use Rattle.lepton_run.specs.declared.ending.Refusal.{Refusal}
-use Rattle.lepton_run.specs.declared.ending.Refusal.TheVariants.{Outside, TooLong}
+use Rattle.lepton_run.specs.declared.refusal.Refusal.{Refusal}
+use Rattle.lepton_run.specs.declared.refusal.Refusal.TheVariants.{Outside, Header, TooLong}
+use Rattle.lepton_run.specs.Lines.{line, refusal_line}
+use Rattle.jpeg_marker.specs.Plans.{PlanFields}
+use Rattle.jpeg_marker.specs.HeaderPlan.{Accepts, Refuses as HeaderRefuses}
 use Rattle.lepton_run.specs.declared.ending.Ending.{Ending}
 use Rattle.lepton_run.specs.declared.ending.Ending.TheVariants.{Done, Refused, WordsRefused, ReadFailed, WriteFailed, NoMemory}
 
@@ -35,15 +38,19 @@ Gives Decode bytes made = (jpeg : Jpeg) × IsContainer jpeg bytes × (text_of jp
 abbrev pub TookAll : Option (List ℕ) → Option (List ℕ) → List ℕ → Type 0
 TookAll old new bytes = Consumes old new bytes × IsAtEnd new
 
--- why a source's bytes are refused: one past the limit was taken; or they were all read and the command makes nothing of them
+-- why bytes are refused: there are too many; encode's begin with no header that is taken, or with one and of the
+-- rest nothing is made; of decode's nothing is made
+abbrev pub IsRefused : Command → Refusal → List ℕ → Type 0
+IsRefused command TooLong bytes = limit_of command < length bytes
+IsRefused Encode (Header refusal) bytes = (length bytes ≤ limit_of Encode) × HeaderRefuses bytes refusal
+IsRefused Encode Outside bytes = (length bytes ≤ limit_of Encode) × ((plan : PlanFields) × Accepts bytes plan) × ((made : List ℕ) → ¬ Gives Encode bytes made)
+IsRefused Decode (Header refusal) bytes = ⊥
+IsRefused Decode Outside bytes = (length bytes ≤ limit_of Decode) × ((made : List ℕ) → ¬ Gives Decode bytes made)
+
+-- what of a source's bytes was taken where they are refused: one past the limit, else all of them
 abbrev pub Refuses : Command → Refusal → Option (List ℕ) → Option (List ℕ) → Type 0
 Refuses command TooLong old new = (taken : List ℕ) × (length taken ≡ limit_of command + 1) × Consumes old new taken
-Refuses command Outside old new = (bytes : List ℕ) × (length bytes ≤ limit_of command) × TookAll old new bytes × ((made : List ℕ) → ¬ Gives command bytes made)
-
--- number and name
-abbrev pub refusal_text : Refusal → List ℕ
-refusal_text Outside = codes "0 Outside"
-refusal_text TooLong = codes "50 TooLong"
+Refuses command refusal old new = (bytes : List ℕ) × TookAll old new bytes × IsRefused command refusal bytes
 
 abbrev pub status_of : Ending → ℕ
 status_of Done = 0
@@ -52,13 +59,6 @@ status_of WordsRefused = 2
 status_of ReadFailed = 3
 status_of WriteFailed = 4
 status_of NoMemory = 5
-
--- a line of the note
-abbrev pub line : List ℕ → List ℕ
-line text = codes "lepton: " ++ text ++ 10 ∷ []
-
-abbrev pub refusal_line : Refusal → List ℕ
-refusal_line refusal = line (codes "refused " ++ refusal_text refusal)
 
 -- the line of a status that isn't a refusal's: nothing for 0
 abbrev pub line_at : ℕ → List ℕ

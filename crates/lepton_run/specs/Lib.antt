@@ -4,4 +4,5 @@ pub mod Jpeg
 pub mod Events
 pub mod Reading
 pub mod Container
+pub mod Lines
 pub mod Answer

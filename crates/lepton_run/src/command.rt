@@ -1,10 +1,13 @@
 // The commands: their words, their limits, and what they make of bytes.
 ghost use Rattle.std.specs.Prelude.{◌≡◌, ◌≤◌, ℕ, List, String, string_bytes, map, length, IfSome, IfNone, IfOk, IsErrOf};
-ghost use Rattle.lepton_run.specs.Answer.{Gives, Means, limit_of};
+ghost use Rattle.lepton_run.specs.Answer.{Gives, IsRefused, Means, limit_of};
 ghost use Rattle.lepton_run.specs.declared.command.Command.{Command};
+ghost use Rattle.lepton_run.specs.declared.refusal.Refusal.{Refusal};
 
 use crate::coding::{RecodeError, recode};
+use crate::refusal::Refusal;
 use crate::restoring::restore;
+use jpeg_marker::read_header;
 use std::alloc::Global;
 
 /// What the words ask for.
@@ -12,6 +15,13 @@ use std::alloc::Global;
 pub enum Command {
     Encode,
     Decode,
+}
+
+/// Why a command makes nothing of bytes.
+#[derive(Clone, Copy, Debug, PartialEq, Eq)]
+pub enum Stop {
+    Refused(Refusal),
+    NoMemory,
 }
 
 /// The command that the words mean, if they mean one.
@@ -38,14 +48,37 @@ impl Command {
     }
 
     /// What it makes of the bytes.
-    pub fn carry_out(self, alloc: Global, bytes: &[u8]) -> Result<Vec<u8>, RecodeError>
+    pub fn carry_out(self, alloc: Global, bytes: &[u8]) -> Result<Vec<u8>, Stop>
         requires { length bytes.now ≤ limit_of self }
         ensures made { IfOk result (λ made. Gives self bytes.now made.items) }
-        ensures outside { IsErrOf result RecodeError.Outside → (made : List ℕ) → ¬ Gives self bytes.now made }
+        ensures refused { (refusal : Refusal) → IsErrOf result (Stop.Refused refusal) → IsRefused self refusal bytes.now }
     {
         match self {
-            Command::Encode => recode(alloc, bytes),
-            Command::Decode => restore(alloc, bytes),
+            Command::Encode => encode(alloc, bytes),
+            Command::Decode => restore(alloc, bytes).map_err(stop_of),
         }
+    }
+}
+
+// The container of a file. Its header is read first, so that a refused header has its own number.
+fn encode(alloc: Global, bytes: &[u8]) -> Result<Vec<u8>, Stop>
+    requires { length bytes.now ≤ limit_of Command.Encode }
+    ensures made { IfOk result (λ made. Gives Command.Encode bytes.now made.items) }
+    ensures refused { (refusal : Refusal) → IsErrOf result (Stop.Refused refusal) → IsRefused Command.Encode refusal bytes.now }
+{
+    match read_header(bytes) {
+        Ok(_) => recode(alloc, bytes).map_err(stop_of),
+        Err(refusal) => Err(Stop::Refused(Refusal::Header(refusal))),
+    }
+}
+
+// Bytes that no container or no file is made of are outside the profile.
+fn stop_of(error: RecodeError) -> Stop
+    ensures refused { (refusal : Refusal) → result ≡ Stop.Refused refusal
+        → (error ≡ RecodeError.Outside) × (refusal ≡ Refusal.Outside) }
+{
+    match error {
+        RecodeError::Outside => Stop::Refused(Refusal::Outside),
+        RecodeError::NoMemory => Stop::NoMemory,
     }
 }

@@ -1,17 +1,9 @@
 // How a command ends, and the line that says so.
 ghost use Rattle.std.specs.Prelude.{◌≡◌};
-ghost use Rattle.lepton_run.specs.Answer.{status_of, line_of, refusal_text};
+ghost use Rattle.lepton_run.specs.Answer.{status_of, line_of};
 
 use crate::note::Line;
-
-/// Why bytes are refused.
-#[derive(Clone, Copy, Debug, PartialEq, Eq)]
-pub enum Refusal {
-    /// 0: the bytes aren't a file of the profile.
-    Outside,
-    /// 50: there are more bytes than the limit.
-    TooLong,
-}
+use crate::refusal::Refusal;
 
 /// How a command ended.
 #[derive(Clone, Copy, Debug, PartialEq, Eq)]
@@ -50,7 +42,7 @@ impl Ending {
             Ending::Done => return line,
             Ending::Refused(refusal) => {
                 line.push(b"lepton: refused ");
-                line.push(refusal.text());
+                refusal.note(&mut line);
             }
             Ending::WordsRefused => line.push(b"lepton: words refused"),
             Ending::ReadFailed => line.push(b"lepton: read failed"),
@@ -59,17 +51,5 @@ impl Ending {
         }
         line.push(b"\n");
         line
-    }
-}
-
-impl Refusal {
-    // Number and name.
-    fn text(self) -> &'static [u8]
-        ensures { result.now ≡ refusal_text self }
-    {
-        match self {
-            Refusal::Outside => b"0 Outside",
-            Refusal::TooLong => b"50 TooLong",
-        }
     }
 }

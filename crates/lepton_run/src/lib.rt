@@ -18,14 +18,19 @@ mod laws;
 mod layout;
 mod note;
 mod opened;
+mod refusal;
 mod restoring;
 mod scan;
 mod scan_text;
 mod taking;
 mod top;
 
-pub use command::Command;
-pub use ending::{Ending, Refusal};
+pub use command::{Command, Stop};
+pub use ending::Ending;
 pub use header::DcTable;
-pub use laws::{decode_undoes_encode, one_file_a_container, one_spelling_a_file};
+pub use laws::{
+    a_file_has_a_header, decode_undoes_encode, one_answer, one_file_a_container,
+    one_spelling_a_file,
+};
+pub use refusal::Refusal;
 pub use top::run;

@@ -1,6 +1,7 @@
 // A line, made in a buffer of its own.
-ghost use Rattle.std.specs.Prelude.{◌≡◌, ◌+◌, ◌≤◌, [], ◌++◌, length};
+ghost use Rattle.std.specs.Prelude.{◌≡◌, ◌+◌, ◌≤◌, [], ◌++◌, length, decimal};
 
+use itoa::Buffer;
 use std::marker::Model;
 
 /// More than any line has.
@@ -41,6 +42,16 @@ impl Line {
         let end = self.length + text.len();
         self.bytes[self.length..end].copy_from_slice(text);
         self.length = end;
+    }
+
+    /// Adds a number at the end, in decimal.
+    pub fn push_number(&mut self, number: usize)
+        requires { length self.old + 20 ≤ 96 }
+        ensures text { self.new ≡ self.old ++ decimal number }
+        ensures short { length self.new ≤ length self.old + 20 }
+    {
+        let mut digits = Buffer::new();
+        self.push(digits.format(number).as_bytes());
     }
 
     pub fn bytes(&self) -> &[u8]

@@ -2,14 +2,15 @@
 ghost use Rattle.std.specs.Prelude.{◌≡◌, ◌≢◌, ◌⊎◌, ◌↔◌, ◌<◌, ◌≤◌, ℕ, List, String, string_bytes, map, length, take, IfSome};
 ghost use Rattle.std.specs.Io.KnownBytes.{Appends};
 ghost use Rattle.outside_core.specs.Faults.{Rose};
-ghost use Rattle.lepton_run.specs.Answer.{Gives, Means, Notes, Refuses, TookAll, limit_of, line_at, line_of, refusal_line, status_of};
+ghost use Rattle.lepton_run.specs.Answer.{Gives, IsRefused, Means, Notes, Refuses, TookAll, limit_of, line_at, line_of, status_of};
+ghost use Rattle.lepton_run.specs.Lines.{refusal_line};
 ghost use Rattle.lepton_run.specs.declared.command.Command.{Command};
 ghost use Rattle.lepton_run.specs.declared.command.Command.TheVariants.{Encode, Decode};
-ghost use Rattle.lepton_run.specs.declared.ending.Refusal.{Refusal};
+ghost use Rattle.lepton_run.specs.declared.refusal.Refusal.{Refusal};
 
-use crate::coding::RecodeError;
-use crate::command::{Command, command_of};
-use crate::ending::{Ending, Refusal};
+use crate::command::{Command, Stop, command_of};
+use crate::ending::Ending;
+use crate::refusal::Refusal;
 use outside_core::{Gate, ReadAll, Sink, Source, read_all, write_all};
 use std::alloc::Global;
 use std::sync::Wait;
@@ -20,7 +21,7 @@ use std::thread::Threads;
 /// | status | comes | note |
 /// |---|---|---|
 /// | 0 | the container, or the file, was written | nothing |
-/// | 1 | the bytes are refused | `lepton: refused `, the refusal's number and name |
+/// | 1 | the bytes are refused | `lepton: refused `, the refusal's number and name, and the place or the code that it holds |
 /// | 2 | the words are refused | `lepton: words refused` |
 /// | 3 | the source failed | `lepton: read failed` |
 /// | 4 | the sink failed | `lepton: write failed` |
@@ -81,6 +82,12 @@ pub fn run<R: Threads + Wait + Sync, S: Source, K: Sink + Send, N: Sink + Send, 
         → ¬ Rose S.faults S.full source.old source.new
         → IfSome (S.left source.old) (λ bytes. ((made : List ℕ) → length bytes ≤ limit_of command
         → ¬ Gives command bytes made) → (result ≡ 1) ⊎ (result ≡ 5)) }
+
+    // Each refusal comes exactly where the bytes have its cause, unless the source failed or there was no memory.
+    ensures caused { (command : Command) (refusal : Refusal) → Means (map string_bytes words.now) command
+        → ¬ Rose S.faults S.full source.old source.new
+        → IfSome (S.left source.old) (λ bytes. IsRefused command refusal bytes
+        → ((result ≡ 1) × Notes N.held N.faults N.full note.old note.new (refusal_line refusal)) ⊎ (result ≡ 5)) }
 
     // What was encoded is decoded: of the container of a file within the limit, exactly that file is appended.
     ensures back { Means (map string_bytes words.now) Decode
@@ -159,8 +166,8 @@ fn transfer<S: Source, K: Sink>(
     };
     let made = match command.carry_out(alloc, bytes.as_slice()) {
         Ok(made) => made,
-        Err(RecodeError::Outside) => return Ending::Refused(Refusal::Outside),
-        Err(RecodeError::NoMemory) => return Ending::NoMemory,
+        Err(Stop::Refused(refusal)) => return Ending::Refused(refusal),
+        Err(Stop::NoMemory) => return Ending::NoMemory,
     };
     match write_all(sink, made.as_slice()) {
         Ok(()) => Ending::Done,

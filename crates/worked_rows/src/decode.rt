@@ -1,5 +1,6 @@
 // Containers and their files; containers that are refused.
 use crate::files::{END, LEVEL, START, STEPS, joined};
+use crate::lines::NOT_JPEG;
 use crate::rows::{ROWS, Row};
 use crate::trial::{NONE, run_over};
 use std::test::Fail;
@@ -26,7 +27,7 @@ fn the_other_command(rt: HostRuntime) -> Result<(), Fail> {
         assert!(rt; decoded.is_outside(), "{}", row.name);
         let container = row.container(alloc)?;
         let encoded = run_over(&rt, alloc, &["encode"], container.as_slice(), NONE)?;
-        assert!(rt; encoded.is_outside(), "{}", row.name);
+        assert!(rt; encoded.is_refused(NOT_JPEG), "{}", row.name);
     }
     Ok(())
 }

@@ -23,19 +23,16 @@ fn containers_of_files(rt: HostRuntime) -> Result<(), Fail> {
     Ok(())
 }
 
-// A file that is refused: what was changed, the size, what stands behind it, and the rest.
+// A file with a header of the profile that is refused: what was changed, the size, what stands behind it, and the rest.
 type Outside<'a> = (&'a str, [u8; 4], &'a [u8], &'a [u8]);
 
-const OUTSIDE: [Outside<'static>; 9] = [
+const OUTSIDE: [Outside<'static>; 6] = [
     ("no scan", [0, 8, 0, 8], &LEVEL, &[]),
     ("a marker for a scan", [0, 8, 0, 8], &LEVEL, &END),
     ("cut in the scan", [0, 40, 0, 8], &LEVEL, &[0x00]),
     ("a pad bit of 0", [0, 8, 0, 8], &LEVEL, &[0x1f, 0xff, 0xd9]),
     ("no code word", [0, 8, 0, 8], &LEVEL, &[0x7f, 0xff, 0xd9]),
     ("no end of the block", [0, 8, 0, 8], &STEPS, &[0xff, 0xd9]),
-    ("no height", [0, 0, 0, 8], &LEVEL, &[0x3f]),
-    ("no width", [0, 8, 0, 0], &LEVEL, &[0x3f]),
-    ("too many blocks", [0x40, 0, 0x40, 8], &LEVEL, &[0x00]),
 ];
 
 #[test]
@@ -43,24 +40,9 @@ fn refused_with_outside(rt: HostRuntime) -> Result<(), Fail> {
     let alloc = rt.alloc();
     for (name, size, tail, rest) in &OUTSIDE {
         let file = joined(alloc, &[&START, size, tail, rest])?;
-        let tried = run_over(&rt, rt.alloc(), &["encode"], file.as_slice(), NONE)?;
-        assert_eq!(rt; tried.status, 1, "{name}");
-        assert!(rt; tried.written.is_empty(), "{name}");
-        assert!(rt;
-            tried.noted.as_slice() == b"lepton: refused 0 Outside\n".as_slice(),
-            "{name}"
-        );
+        let tried = run_over(&rt, alloc, &["encode"], file.as_slice(), NONE)?;
+        assert!(rt; tried.is_outside(), "{name}");
     }
-    let empty = run_over(&rt, rt.alloc(), &["encode"], &[], NONE)?;
-    assert_eq!(rt; empty.status, 1);
-    assert!(rt; empty.noted.as_slice() == b"lepton: refused 0 Outside\n".as_slice());
-    // Another kind of frame: progressive.
-    let mut file = joined(alloc, &[&START, &[0, 8, 0, 8], &LEVEL, &[0x3f], &END])?;
-    assert!(rt; file.len() == 72);
-    file[3] = 0xc2;
-    let progressive = run_over(&rt, rt.alloc(), &["encode"], file.as_slice(), NONE)?;
-    assert_eq!(rt; progressive.status, 1);
-    assert!(rt; progressive.written.is_empty());
     Ok(())
 }
 

@@ -10,6 +10,20 @@ mod ends;
 #[cfg(test)]
 mod files;
 #[cfg(test)]
+mod headers;
+#[cfg(test)]
+mod lines;
+#[cfg(test)]
+mod refused;
+#[cfg(test)]
+mod refused_scans;
+#[cfg(test)]
 mod rows;
+#[cfg(test)]
+mod segments;
+#[cfg(test)]
+mod tables;
+#[cfg(test)]
+mod taken;
 #[cfg(test)]
 mod trial;

@@ -1,5 +1,6 @@
 // The top call, tried over ends in memory.
 use crate::files::joined;
+use crate::lines::OUTSIDE;
 use lepton_run::run;
 use outside_core::{MemSink, MemSource, OpenGate, read_all};
 use std::alloc::Global;
@@ -17,12 +18,17 @@ pub struct Trial {
 }
 
 impl Trial {
-    /// Whether all was read and it was refused with Outside, and nothing written.
-    pub fn is_outside(&self) -> bool {
+    /// Whether all was read and it was refused with exactly this line and its end, and nothing written.
+    pub fn is_refused(&self, line: &str) -> bool {
         self.status == 1
             && self.written.is_empty()
             && self.left.is_empty()
-            && self.noted.as_slice() == b"lepton: refused 0 Outside\n".as_slice()
+            && matches!(self.noted.as_slice(), [said @ .., b'\n'] if said == line.as_bytes())
+    }
+
+    /// Whether it was so with Outside.
+    pub fn is_outside(&self) -> bool {
+        self.is_refused(OUTSIDE)
     }
 
     /// Whether all was read, exactly these bytes were written, and nothing noted.
