@@ -3,7 +3,8 @@ use Rattle.std.proofs.Common.{◌≡◌, ℕ, zero, suc, ◌+◌, ◌-◌, ◌*�
 use Rattle.std.proofs.lemmas.Bool.{eqb-true, false_from_ne_true}
 use Rattle.std.proofs.lemmas.List.{length-replicate}
 use Rattle.std.proofs.lemmas.Option.{same_Some}
-use Rattle.lepton_run.specs.Bits.{low_bits, number_of, bytes_after, padded, stuffed}
+use Rattle.bit_list.specs.Bits.{low_bits, number_of, bytes_after, stuffed}
+use Rattle.lepton_run.specs.Bits.{padded}
 use Rattle.lepton_run.specs.Scan.{scan_bits}
 use Rattle.lepton_run.specs.declared.header.DcTable.{DcTable}
 use Rattle.lepton_run.proofs.WholeBytes.{eight_bits}

@@ -6,7 +6,8 @@ use Rattle.std.proofs.lemmas.Nat.{pow_pos}
 use Rattle.std.proofs.lemmas.Nat.Bits.{shr_and_one}
 use Rattle.std.proofs.lemmas.Int.Digits.{length-digits_of_step, length-digits_of-le}
 use Rattle.bool_coder.specs.BoolStream.{Interval, after, opening, coded}
-use Rattle.lepton_run.specs.Bits.{size, low_bits}
+use Rattle.bit_list.specs.Bits.{low_bits}
+use Rattle.lepton_run.specs.Bits.{size}
 use Rattle.lepton_run.specs.Events.{coded_from, priced, value_bits}
 
 pub coded_from-nil : (encoder : Option Interval) → coded_from encoder [] ≡ encoder

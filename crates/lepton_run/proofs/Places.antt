@@ -4,7 +4,7 @@ use Rattle.std.specs.Int.{bit_at}
 use Rattle.std.specs.Prelude.{bit_and}
 use Rattle.std.proofs.lemmas.List.{drop-drop, drop_more, drop_all, drop_at, replicate_more, replicate-append-replicate, length-replicate}
 use Rattle.std.proofs.lemmas.Nat.Bits.{shr_and_one}
-use Rattle.lepton_run.specs.Bits.{low_bits, bits_of}
+use Rattle.bit_list.specs.Bits.{low_bits, bits_of}
 
 -- the bit of a byte, whatever follows the byte
 in_byte : (byte : ℕ) (rest : List Bool) (r : ℕ) → r < 8 → drop r (low_bits 8 byte ++ rest) ≡ (bit_at byte (7 - r) == 1) ∷ drop (r + 1) (low_bits 8 byte ++ rest)

@@ -5,7 +5,8 @@ use Rattle.std.specs.List.{AllByRecursion}
 use Rattle.std.specs.Prelude.{IsTrue, ◌↔◌}
 use Rattle.bool_coder.specs.BoolStream.{coded, stream}
 use Rattle.bool_coder.specs.Reading.{Seen, Reads}
-use Rattle.lepton_run.specs.Bits.{IsByte, bits_of, bytes_after, padded, stuffed}
+use Rattle.bit_list.specs.Bits.{IsByte, bits_of, bytes_after, stuffed}
+use Rattle.lepton_run.specs.Bits.{padded}
 use Rattle.lepton_run.specs.Jpeg.{IsDc}
 use Rattle.lepton_run.specs.Scan.{block_bits, scan_bits, scan_bytes}
 use Rattle.lepton_run.specs.Events.{priced, block_events, segment_events}
@@ -15,7 +16,7 @@ use Rattle.lepton_run.proofs.Blocks.{option_map_some}
 use Rattle.lepton_run.proofs.Reader.{events_pushed}
 use Rattle.lepton_run.proofs.ScanText.{scan_made}
 use Rattle.lepton_run.proofs.Taken.{took_on, took_none, none_some}
-use Rattle.lepton_run.proofs.WholeBytes.{bytes_after-bits_of}
+use Rattle.bit_list.proofs.Wholes.{bytes_after-bits_of}
 
 -- the DC of the last block, or the one before the first
 pub last_of : ℤ → List ℤ → ℤ

@@ -2,12 +2,14 @@
 use Rattle.std.proofs.Common.{◌≡◌, ℕ, suc, ◌+◌, ◌-◌, ◌*◌, ◌/◌, ◌%◌, ◌≤◌, Bool, true, zero, List, [], ◌∷◌, ◌++◌, length, drop, replicate, ℤ, pos, Some, option_map, sym, refl, ap, ◌∙◌, subst, append_assoc, length-append, length-drop, arith}
 use Rattle.std.specs.List.{AllByRecursion}
 use Rattle.std.proofs.lemmas.List.{drop_at}
-use Rattle.lepton_run.specs.Bits.{IsByte, bits_of, bytes_after, padded, stuffed}
+use Rattle.bit_list.specs.Bits.{IsByte, bits_of, bytes_after, stuffed}
+use Rattle.lepton_run.specs.Bits.{padded}
 use Rattle.lepton_run.specs.Scan.{scan_bits, scan_bytes}
 use Rattle.lepton_run.specs.Reading.{blocks_at}
 use Rattle.lepton_run.specs.Jpeg.{IsDc}
 use Rattle.lepton_run.specs.declared.header.DcTable.{DcTable}
-use Rattle.lepton_run.proofs.WholeBytes.{bits_of-append, length-bits_of, drop-bits_of, bytes_after-bits_of, bits_of-bytes_after, bytes_after-append}
+use Rattle.bit_list.proofs.Wholes.{bytes_after-bits_of, bits_of-bytes_after}
+use Rattle.lepton_run.proofs.WholeBytes.{bits_of-append, length-bits_of, drop-bits_of, bytes_after-append}
 use Rattle.lepton_run.proofs.Blocks.{option_map_some, blocks_take, blocks_again}
 use Rattle.lepton_run.proofs.Calm.{length-padded, not_stuffed}
 
@@ -98,7 +100,7 @@ again_bits : (table : DcTable) (blocks : List ℤ) (front : List Bool) (scan mad
 again_bits table blocks front scan made rest spelled written stands =
     let k = end_of (length front) in
     let whole : bits_of made ≡ padded front =
-    ap bits_of (sym written ∙ not_stuffed table (pos 0) blocks front spelled) ∙ bits_of-bytes_after k (padded front) (length-padded front) in
+    ap bits_of (sym written ∙ not_stuffed table (pos 0) blocks front spelled) ∙ bits_of-bytes_after (padded front) (omega (arith, length-padded front)) in
     ap bits_of stands ∙ bits_of-append made rest ∙ ap (λ (bs : List Bool). bs ++ bits_of rest) whole
     ∙ append_assoc front (replicate ((8 - length front % 8) % 8) true) (bits_of rest)
     ∙ ap (λ (n : ℕ). front ++ (replicate n true ++ bits_of rest)) (padding_to_end (length front))

@@ -1,7 +1,7 @@
 -- What the reader's answers say of a scan.
 use Rattle.std.proofs.Common.{◌≡◌, ℕ, suc, ◌+◌, ◌-◌, ◌*◌, ◌/◌, ◌<◌, ◌≤◌, Bool, true, List, [], ◌∷◌, ◌++◌, length, get_or, drop, replicate, ℤ, pos, Option, Some, None, option_map, sym, ap, subst, ◌∙◌, arith, length-drop}
 use Rattle.std.specs.List.{AllByRecursion}
-use Rattle.lepton_run.specs.Bits.{IsByte, bits_of}
+use Rattle.bit_list.specs.Bits.{IsByte, bits_of}
 use Rattle.lepton_run.specs.Scan.{scan_bytes}
 use Rattle.lepton_run.specs.Reading.{blocks_at, IsScanOf}
 use Rattle.lepton_run.specs.declared.header.DcTable.{DcTable}

@@ -6,7 +6,8 @@ use Rattle.std.proofs.lemmas.List.{length-replicate}
 use Rattle.bool_coder.specs.BoolStream.{Interval, opening, doubled, widened, chosen, after, coded}
 use Rattle.bool_coder.proofs.ReadBack.{length-stream}
 use Rattle.lepton_run.specs.Answer.{Gives, limit_of}
-use Rattle.lepton_run.specs.Bits.{size, low_bits}
+use Rattle.bit_list.specs.Bits.{low_bits}
+use Rattle.lepton_run.specs.Bits.{size}
 use Rattle.lepton_run.specs.Events.{priced, value_bits, block_events, segment_events}
 use Rattle.lepton_run.specs.Jpeg.{Jpeg, IsDc, header_of, header_bytes}
 use Rattle.lepton_run.specs.declared.command.Command.TheVariants.{Encode, Decode}

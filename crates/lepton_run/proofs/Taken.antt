@@ -9,7 +9,8 @@ use Rattle.std.proofs.lemmas.Bool.Decides.{nat_tests, leb_tells}
 use Rattle.std.specs.List.{AllByRecursion}
 use Rattle.bool_coder.specs.BoolStream.{IsBool, coded, stream}
 use Rattle.bool_coder.specs.Reading.{Seen, Reads}
-use Rattle.lepton_run.specs.Bits.{size, low_bits}
+use Rattle.bit_list.specs.Bits.{low_bits}
+use Rattle.lepton_run.specs.Bits.{size}
 use Rattle.lepton_run.specs.Events.{priced, value_bits}
 use Rattle.lepton_run.proofs.Coded.{spelled, size_of_bound, small_size}
 use Rattle.lepton_run.specs.Reading.{Took, Ahead}

@@ -3,7 +3,8 @@ use Rattle.std.proofs.Common.{◌≡◌, ℕ, ◌*◌, ◌^◌, ◌<◌, ◌≤�
 use Rattle.std.specs.List.{AllByRecursion}
 use Rattle.std.proofs.lemmas.List.{take_at, drop_at, drop_all}
 use Rattle.bool_coder.specs.BoolStream.{coded, stream}
-use Rattle.lepton_run.specs.Bits.{IsByte, bits_of, padded}
+use Rattle.bit_list.specs.Bits.{IsByte, bits_of}
+use Rattle.lepton_run.specs.Bits.{padded}
 use Rattle.lepton_run.specs.Container.{layout, first_segment, IsContainer}
 use Rattle.lepton_run.specs.Events.{priced, segment_events}
 use Rattle.lepton_run.specs.Jpeg.{Jpeg, IsDc, header_bytes, header_of, text_of, blocks_across, most_blocks}

@@ -1,7 +1,8 @@
 -- The bools of a segment (this project's own): a block's values as bits, each with its prob.
 use Rattle.std.specs.Prelude.{ℕ, ◌-◌, Bool, true, false, List, [], ◌∷◌, ◌++◌, ℤ, unsigned_abs, replicate, map, flat_map, int_lt, pos, fold, Option, option_map, ◌==◌, if◌then◌else◌}
 use Rattle.bool_coder.specs.BoolStream.{Interval, after}
-use Rattle.lepton_run.specs.Bits.{size, low_bits}
+use Rattle.bit_list.specs.Bits.{low_bits}
+use Rattle.lepton_run.specs.Bits.{size}
 
 -- a value in so many steps: whether its size is above 0, above 1 and so on, to the first no or the last step; then its
 -- sign, a one for a negative value, and its bits below the top one

@@ -1,6 +1,7 @@
 -- The text of a scan of one component whose blocks have a DC alone (ITU-T T.81, F.1.2).
 use Rattle.std.specs.Prelude.{ℕ, ◌+◌, ◌-◌, ◌^◌, Bool, true, false, List, [], ◌∷◌, ◌++◌, ℤ, pos, negsuc, ◌-ℤ◌, unsigned_abs, Option, Some, None, option_and_then, option_map, ◌==◌, if◌then◌else◌}
-use Rattle.lepton_run.specs.Bits.{size, low_bits, padded, bytes_after, stuffed}
+use Rattle.bit_list.specs.Bits.{low_bits, bytes_after, stuffed}
+use Rattle.lepton_run.specs.Bits.{size, padded}
 use Rattle.lepton_run.specs.declared.header.DcTable.{DcTable}
 use Rattle.lepton_run.specs.declared.header.DcTable.TheVariants.{Level, Steps}
 

@@ -1,6 +1,7 @@
 // Bits written into bytes, the highest first.
 ghost use Rattle.std.specs.Prelude.{◌≡◌, ◌<◌, ◌+◌, ◌-◌, ◌*◌, ◌^◌, [], ◌∷◌, ◌++◌, IfOk, OnOk, OnErr};
-ghost use Rattle.lepton_run.specs.Bits.{bits_of, padded};
+ghost use Rattle.bit_list.specs.Bits.{bits_of};
+ghost use Rattle.lepton_run.specs.Bits.{padded};
 
 use std::alloc::{AllocError, Global};
 use std::marker::Model;
@@ -16,7 +17,7 @@ pub struct BitWriter {
 
 impl Model for BitWriter {
     ghost use Rattle.std.specs.Prelude.{Bool, List, ◌++◌, ◌<◌, ◌^◌};
-    ghost use Rattle.lepton_run.specs.Bits.{bits_of, low_bits};
+    ghost use Rattle.bit_list.specs.Bits.{bits_of, low_bits};
 
     ghost Value = { List Bool };
 

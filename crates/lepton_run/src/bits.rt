@@ -1,6 +1,6 @@
 // Single bits of bytes, the highest first.
 ghost use Rattle.std.specs.Prelude.{◌≡◌, ◌+◌, ◌*◌, ◌<◌, ◌≤◌, ◌∷◌, [], length, drop, MatchOption};
-ghost use Rattle.lepton_run.specs.Bits.{bits_of};
+ghost use Rattle.bit_list.specs.Bits.{bits_of};
 
 /// The bit at a place, counted in bits from the first byte's highest; none past the end.
 #[inline(always)]

@@ -2,7 +2,7 @@
 ghost use Rattle.std.specs.Prelude.{◌≡◌, ◌++◌, ℕ, List, IfOk, IsErrOf};
 ghost use Rattle.std.specs.List.{AllByRecursion};
 ghost use Rattle.lepton_run.specs.Answer.{Gives};
-ghost use Rattle.lepton_run.specs.Bits.{IsByte};
+ghost use Rattle.bit_list.specs.Bits.{IsByte};
 ghost use Rattle.lepton_run.specs.declared.command.Command.TheVariants.{Decode};
 
 use crate::coding::{MOST_BLOCKS, RecodeError};

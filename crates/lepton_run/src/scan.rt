@@ -1,6 +1,6 @@
 // The scan of a file, read block by block and coded at once.
 ghost use Rattle.std.specs.Prelude.{◌≡◌, ℕ, ◌+◌, ◌-◌, ◌*◌, ◌/◌, ◌%◌, ◌^◌, ◌<◌, ◌≤◌, ◌++◌, true, Bool, Some, None, List, length, drop, replicate, pos, ℤ, unsigned_abs, option_map, IfSome, IfNone, IfOk, IsErrOf};
-ghost use Rattle.lepton_run.specs.Bits.{bits_of};
+ghost use Rattle.bit_list.specs.Bits.{bits_of};
 ghost use Rattle.lepton_run.specs.Events.{coded_from, block_events, segment_events};
 ghost use Rattle.lepton_run.specs.Reading.{difference_at, dc_at, blocks_at};
 

@@ -3,7 +3,8 @@ ghost use Rattle.std.specs.Prelude.{◌≡◌, ◌++◌, ◌≤◌, ℕ, ℤ, Bo
 ghost use Rattle.std.specs.Bool.{OnTrue, OnFalse};
 ghost use Rattle.std.specs.List.{AllByRecursion};
 ghost use Rattle.bool_coder.specs.BoolStream.{coded, stream as stream_of};
-ghost use Rattle.lepton_run.specs.Bits.{bits_of, padded};
+ghost use Rattle.bit_list.specs.Bits.{bits_of};
+ghost use Rattle.lepton_run.specs.Bits.{padded};
 ghost use Rattle.lepton_run.specs.Jpeg.{IsDc};
 ghost use Rattle.lepton_run.specs.Scan.{block_bits, scan_bits};
 ghost use Rattle.lepton_run.specs.Events.{block_events, priced, segment_events};

@@ -1,6 +1,6 @@
 // The values of a block, taken from a stream.
 ghost use Rattle.std.specs.Prelude.{◌≡◌, ◌^◌, ◌<◌, ◌≤◌, ℕ, ℤ, Bool, List, true, false, [], ◌∷◌, ◌++◌, Some, replicate, unsigned_abs, int_lt, pos, IfSome, IfNone};
-ghost use Rattle.lepton_run.specs.Bits.{low_bits};
+ghost use Rattle.bit_list.specs.Bits.{low_bits};
 ghost use Rattle.lepton_run.specs.Events.{value_bits, block_events};
 ghost use Rattle.lepton_run.specs.Reading.{Took, Ahead};
 

@@ -2,7 +2,7 @@ use Rattle.std.proofs.Common.{◌∙◌, ap, ℤ}
 use Rattle.std.specs.Int.{w32}
 use Rattle.std.proofs.lemmas.Int.{to_z-of_z}
 use Rattle.std.proofs.lemmas.Result.{on_ok_weaker}
-use Rattle.lepton_run.specs.Bits.{low_bits}
+use Rattle.bit_list.specs.Bits.{low_bits}
 use Rattle.lepton_run.specs.Events.{coded_from, value_bits}
 use Rattle.lepton_run.proofs.Coded.{four_coded}
 use Rattle.lepton_run.proofs.events.put_block.Goals as goal

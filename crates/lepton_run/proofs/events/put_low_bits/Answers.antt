@@ -1,5 +1,5 @@
 use Rattle.std.proofs.Common.{◌≡◌, ◌∙◌, sym, ap, arith}
-use Rattle.lepton_run.specs.Bits.{low_bits}
+use Rattle.bit_list.specs.Bits.{low_bits}
 use Rattle.lepton_run.specs.Events.{coded_from}
 use Rattle.lepton_run.proofs.Coded.{one_more, low_bits_left, coded_from-nil}
 use Rattle.lepton_run.proofs.events.put_low_bits.Goals as goal

@@ -1,5 +1,5 @@
 use Rattle.std.proofs.Common.{◌≤◌, ◌<◌, ◌∙◌, ◌+ℤ◌, ap, sym, drop, Some, ℤ, unsigned_abs, arith}
-use Rattle.lepton_run.specs.Bits.{bits_of}
+use Rattle.bit_list.specs.Bits.{bits_of}
 use Rattle.lepton_run.proofs.Reader.{dc_at-none, dc_at-far, dc_at-some}
 use Rattle.lepton_run.proofs.Signed.{sum_is}
 use Rattle.lepton_run.proofs.scan.code_block.Goals as goal

@@ -6,7 +6,7 @@ use mir.Val.{to_z, of_z}
 use Rattle.std.proofs.lemmas.Int.{to_z-of_z}
 use Rattle.std.proofs.lemmas.Result.{err_from_is_err_and}
 use Rattle.lepton_run.proofs.Signed.{fits}
-use Rattle.lepton_run.specs.Bits.{bits_of}
+use Rattle.bit_list.specs.Bits.{bits_of}
 use Rattle.lepton_run.specs.Events.{coded_from, segment_events, block_events}
 use Rattle.lepton_run.proofs.Coded.{coded_from-nil, coded_from-append}
 use Rattle.lepton_run.proofs.Reader.{blocks_start, blocks_on, blocks_stop, blocks_end, events_pushed}

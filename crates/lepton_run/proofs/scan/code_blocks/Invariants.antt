@@ -1,5 +1,5 @@
 use Rattle.std.proofs.Common.{◌≡◌, ◌-◌, ◌*◌, ◌≤◌, List, ℤ, pos, length, drop, unsigned_abs}
-use Rattle.lepton_run.specs.Bits.{bits_of}
+use Rattle.bit_list.specs.Bits.{bits_of}
 use Rattle.lepton_run.specs.Events.{coded_from, segment_events}
 use Rattle.lepton_run.specs.Reading.{blocks_at}
 use Rattle.lepton_run.proofs.Reader.{with_front}

@@ -1,5 +1,5 @@
 use Rattle.std.proofs.Common.{◌≡◌, ◌+◌, ◌-◌, ◌*◌, ◌/◌, ◌<◌, ◌∙◌, ◌∷◌, ◌++◌, ap, sym, true, false, replicate, drop, arith}
-use Rattle.lepton_run.specs.Bits.{bits_of}
+use Rattle.bit_list.specs.Bits.{bits_of}
 use Rattle.lepton_run.proofs.Places.{ones_ahead, ones_on}
 use Rattle.lepton_run.proofs.scan.padded_end.Goals as goal
 

@@ -1,6 +1,6 @@
 use Rattle.std.proofs.Common.{◌≡◌, ◌∙◌, [], sym}
 use Rattle.lepton_run.specs.Events.{priced, segment_events}
-use Rattle.lepton_run.specs.Bits.{bits_of}
+use Rattle.bit_list.specs.Bits.{bits_of}
 use Rattle.lepton_run.proofs.Taken.{priced_are}
 use Rattle.lepton_run.proofs.Restored.{ahead_start, ended, padded_of}
 use Rattle.lepton_run.proofs.scan_text.write_scan.Goals as goal

@@ -1,5 +1,5 @@
 use Rattle.std.proofs.Common.{◌≡◌, ◌++◌, subst, arith}
-use Rattle.lepton_run.specs.Bits.{low_bits}
+use Rattle.bit_list.specs.Bits.{low_bits}
 use Rattle.lepton_run.specs.Events.{value_bits}
 use Rattle.lepton_run.specs.Reading.{Took}
 use Rattle.lepton_run.proofs.Taken.{five_parts, nested_parts, ahead_as, if_some_weaker}

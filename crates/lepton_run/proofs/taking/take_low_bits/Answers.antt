@@ -1,6 +1,6 @@
 use Rattle.std.proofs.Common.{◌≡◌, ◌+◌, ◌-◌, ◌*◌, ◌/◌, ◌^◌, ◌<◌, ◌==◌, ◌∙◌, ◌++◌, ◌∷◌, [], suc, sym, ap, subst, arith, pow-suc}
 use mir.Val.{bool_byte}
-use Rattle.lepton_run.specs.Bits.{low_bits}
+use Rattle.bit_list.specs.Bits.{low_bits}
 use Rattle.lepton_run.specs.Reading.{Ahead}
 use Rattle.lepton_run.proofs.Written.{low_bits_pushed, byte_small, byte_is_one}
 use Rattle.lepton_run.proofs.Taken.{took_on, low_on}

@@ -1,5 +1,5 @@
 use Rattle.std.proofs.Common.{◌≡◌, ◌<◌, ◌-◌, ◌/◌, ◌^◌, ◌++◌, ℕ, List, Bool}
-use Rattle.lepton_run.specs.Bits.{low_bits}
+use Rattle.bit_list.specs.Bits.{low_bits}
 use Rattle.lepton_run.specs.Reading.{Took, Ahead}
 use Rattle.lepton_run.proofs.taking.take_low_bits.Given as goal
 

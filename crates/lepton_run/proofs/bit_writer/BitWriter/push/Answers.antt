@@ -1,5 +1,5 @@
 use Rattle.std.proofs.Common.{◌∙◌, ◌++◌, ◌∷◌, ◌+◌, ◌*◌, [], ap, sym, List, Bool, ℕ}
-use Rattle.lepton_run.specs.Bits.{bits_of, low_bits}
+use Rattle.bit_list.specs.Bits.{bits_of, low_bits}
 use Rattle.lepton_run.proofs.Written.{pushed_full, pushed_on, byte_small, byte_is_one}
 use mir.Val.{bool_byte}
 use Rattle.lepton_run.proofs.bit_writer.BitWriter.push.Goals as goal
