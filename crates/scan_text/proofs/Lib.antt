@@ -1,0 +1,4 @@
+pub mod Values
+pub mod Signed
+pub mod Texts
+pub mod Words

@@ -1,0 +1,4 @@
+pub mod Values
+pub mod BlockBits
+pub mod Plain
+pub mod Rows

@@ -1,0 +1,19 @@
+-- Differences and coefficients as bits (ITU-T T.81, F.1.2.1, F.2.2.1).
+use Rattle.std.specs.Prelude.{ℕ, ◌+◌, ◌-◌, ◌^◌, Bool, true, false, List, [], ◌∷◌, length, ℤ, pos, negsuc, neg_ℤ}
+use Rattle.std.specs.Int.Digits.{digits_of}
+use Rattle.bit_list.specs.Bits.{low_bits, number_of}
+
+-- how many bits a magnitude has: the category SSSS, 0 for 0 (Tables F.1 and F.2)
+abbrev pub size : ℕ → ℕ
+size n = length (digits_of 2 n)
+
+-- the bits of a value behind its category: those of the number, or of the number less one from below (F.1.2.1)
+abbrev pub mag : ℤ → List Bool
+mag (pos n) = low_bits (size n) n
+mag (negsuc n) = low_bits (size (n + 1)) (2 ^ size (n + 1) - 1 - (n + 1))
+
+-- the value of a category's bits: negative where the first of them is a zero (Figure F.12, EXTEND)
+abbrev pub extend : List Bool → ℤ
+extend [] = pos 0
+extend (true ∷ bits) = pos (number_of (true ∷ bits))
+extend (false ∷ bits) = neg_ℤ (pos (2 ^ length (false ∷ bits) - 1 - number_of (false ∷ bits)))

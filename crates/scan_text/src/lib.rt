@@ -1,0 +1,23 @@
+//! The text of a scan: which bits a block has (ITU-T T.81, F.1.2).
+//!
+//!     15  0 -1  0 ..     behind a DC of 12, with the tables K.3 and K.5
+//!     -2 -1  0 ..
+//!     -1 -1  0 ..
+//!      0 ..
+//!
+//!     category 2, 3     run 1, -2    -1     -1     -1     run 2, -1    end
+//!     011 11            11011 01     00 0   00 0   00 0   11100 0      1010
+//!
+//! These are definitions for whatever reads or writes a scan, and beside them a plain program, too slow for use.
+#![tactic(auto)]
+
+mod laws;
+mod plain;
+mod stop;
+
+pub use laws::{rows_of_the_definition, values_are_bits};
+pub use plain::{PlainError, plain_block};
+pub use stop::WriteStop;
+
+#[cfg(test)]
+mod tests;
