@@ -5,8 +5,8 @@ use Rattle.std.proofs.lemmas.Bool.{leb-true, le-leb}
 use Rattle.std.proofs.lemmas.Int.{ints}
 use Rattle.std.proofs.lemmas.Int.Digits.{length-digits_of_step}
 use Rattle.std.proofs.lemmas.Option.{none-some, same_Some, cond_some, option_and_then_some, some_pair_parts}
-use Rattle.lepton_run.specs.Bits.{size}
-use Rattle.lepton_run.specs.Scan.{dc_word, mag, end_of_block, block_bits, scan_bits}
+use Rattle.scan_text.specs.Values.{size, mag}
+use Rattle.lepton_run.specs.Scan.{dc_word, end_of_block, block_bits, scan_bits}
 use Rattle.lepton_run.specs.Reading.{difference_at, dc_at, blocks_at}
 use Rattle.lepton_run.specs.Jpeg.{IsDc}
 use Rattle.lepton_run.specs.declared.header.DcTable.{DcTable}

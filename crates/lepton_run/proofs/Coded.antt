@@ -1,13 +1,12 @@
 -- What an encoder holds after bits, one list after another.
-use Rattle.std.proofs.Common.{◌≡◌, ℕ, zero, suc, ◌+◌, ◌*◌, ◌^◌, ◌<◌, ◌≤◌, Bool, true, List, [], ◌∷◌, ◌++◌, replicate, fold, Option, Some, None, option_map, refl, sym, ap, ◌∙◌, arith, append-nil, pow-suc, nat_eq, ◌-◌, ◌/◌, ◌==◌, false, ℤ, pos, int_lt, unsigned_abs, if◌then◌else◌}
+use Rattle.std.proofs.Common.{◌≡◌, ℕ, zero, suc, ◌+◌, ◌^◌, ◌<◌, ◌≤◌, Bool, true, List, [], ◌∷◌, ◌++◌, replicate, fold, Option, Some, None, option_map, refl, sym, ap, ◌∙◌, arith, append-nil, nat_eq, ◌-◌, ◌/◌, ◌==◌, false, ℤ, pos, int_lt, unsigned_abs, if◌then◌else◌}
 use Rattle.std.proofs.lemmas.Bool.Decides.{nat_tests}
 use Rattle.std.specs.Prelude.{bit_and}
-use Rattle.std.proofs.lemmas.Nat.{pow_pos}
 use Rattle.std.proofs.lemmas.Nat.Bits.{shr_and_one}
-use Rattle.std.proofs.lemmas.Int.Digits.{length-digits_of_step, length-digits_of-le}
 use Rattle.bool_coder.specs.BoolStream.{Interval, after, opening, coded}
 use Rattle.bit_list.specs.Bits.{low_bits}
-use Rattle.lepton_run.specs.Bits.{size}
+use Rattle.scan_text.specs.Values.{size}
+use Rattle.scan_text.proofs.Values.{small_size as size_fits}
 use Rattle.lepton_run.specs.Events.{coded_from, priced, value_bits}
 
 pub coded_from-nil : (encoder : Option Interval) → coded_from encoder [] ≡ encoder
@@ -43,18 +42,8 @@ low_bits_left (suc k) number h =
     let e : suc k - 1 ≡ k = omega arith in
     rw e (ap (λ b. nat_eq b 1 ∷ low_bits k number) (sym (shr_and_one number k)))
 
--- a magnitude with so many bits and no fewer
-pub size_of_bound : (m n : ℕ) → n < 2 ^ m → 2 ^ m ≤ 2 * n + 1 → m ≡ size n
-size_of_bound zero n below above = let e : n ≡ 0 = omega arith in rw e refl
-size_of_bound (suc m) n below above =
-    let twice : 2 ^ suc m ≡ 2 * 2 ^ m = omega (arith, pow-suc 2 m) in
-    let some : 0 < n = omega (arith, pow_pos m) in
-    let half = size_of_bound m (n / 2) (omega arith) (omega arith) in
-    omega (arith, length-digits_of_step 2 n (omega arith) some)
-
--- a magnitude of at most 15 bits
 pub small_size : (n : ℕ) → n ≤ 32767 → size n ≤ 15
-small_size n h = length-digits_of-le 2 15 n (omega arith) (omega arith)
+small_size n h = size_fits 15 n (omega arith)
 
 module _ (dc : ℤ) (bits : ℕ) (is : bits ≡ size (unsigned_abs dc)) (small : bits ≤ 15) where
   -- the bits of a value below the last step

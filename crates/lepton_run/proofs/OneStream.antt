@@ -10,7 +10,7 @@ use Rattle.bool_coder.specs.BoolStream.{IsBool, coded, stream}
 use Rattle.bool_coder.specs.Reading.{next_bit}
 use Rattle.bool_coder.proofs.ReadBack.{read_in_turn}
 use Rattle.bit_list.specs.Bits.{low_bits}
-use Rattle.lepton_run.specs.Bits.{size}
+use Rattle.scan_text.specs.Values.{size}
 use Rattle.lepton_run.specs.Events.{priced, value_bits, block_events, segment_events}
 use Rattle.lepton_run.specs.Jpeg.{IsDc}
 use Rattle.lepton_run.proofs.Coded.{spelled, small_size}

@@ -1,5 +1,5 @@
 -- A DC and a difference, as the machine adds them.
-use Rattle.std.proofs.Common.{◌≡◌, ◌≤◌, zero, suc, ℤ, pos, negsuc, ◌+ℤ◌, ◌-ℤ◌, unsigned_abs, ◌⊎◌, inl, inr, ap, ap₂, ◌∙◌, refl, arith}
+use Rattle.std.proofs.Common.{◌≡◌, ◌≤◌, zero, suc, ℤ, pos, negsuc, ◌+ℤ◌, unsigned_abs, ◌⊎◌, inl, inr, ap, ap₂, ◌∙◌, refl, arith}
 use Rattle.std.specs.Prelude.{FitsSigned}
 use Rattle.std.specs.Int.{w32}
 use Rattle.std.proofs.lemmas.Int.{ints, to_z-of_z}
@@ -23,14 +23,3 @@ far (pos (suc zero)) none one = absurd (one (inr refl))
 far (pos (suc (suc n))) none one = omega arith
 far (negsuc zero) none one = absurd (one (inl refl))
 far (negsuc (suc n)) none one = omega arith
-
-fits_apart : (z : ℤ) → unsigned_abs z ≤ 65534 → FitsSigned w32 z
-fits_apart (pos n) h = record { sfits = omega arith }
-fits_apart (negsuc n) h = record { sfits = omega arith }
-
-pub difference_is : (dc before : ℤ) → unsigned_abs dc ≤ 32767 → unsigned_abs before ≤ 32767
-    → to_z w32 (of_z w32 (to_z w32 (of_z w32 dc) -ℤ to_z w32 (of_z w32 before))) ≡ dc -ℤ before
-difference_is dc before small small' =
-    let bounded : unsigned_abs (dc -ℤ before) ≤ 65534 = omega (arith, ints) in
-    ap (λ z. to_z w32 (of_z w32 z)) (ap₂ ◌-ℤ◌ (to_z-of_z w32 dc (fits dc (omega arith))) (to_z-of_z w32 before (fits before (omega arith))))
-    ∙ to_z-of_z w32 (dc -ℤ before) (fits_apart (dc -ℤ before) bounded)

@@ -7,7 +7,7 @@ use Rattle.bool_coder.specs.BoolStream.{Interval, opening, doubled, widened, cho
 use Rattle.bool_coder.proofs.ReadBack.{length-stream}
 use Rattle.lepton_run.specs.Answer.{Gives, limit_of}
 use Rattle.bit_list.specs.Bits.{low_bits}
-use Rattle.lepton_run.specs.Bits.{size}
+use Rattle.scan_text.specs.Values.{size}
 use Rattle.lepton_run.specs.Events.{priced, value_bits, block_events, segment_events}
 use Rattle.lepton_run.specs.Jpeg.{Jpeg, IsDc, header_of, header_bytes}
 use Rattle.lepton_run.specs.declared.command.Command.TheVariants.{Encode, Decode}

@@ -1,7 +1,8 @@
 -- The text of a scan of one component whose blocks have a DC alone (ITU-T T.81, F.1.2).
-use Rattle.std.specs.Prelude.{ℕ, ◌+◌, ◌-◌, ◌^◌, Bool, true, false, List, [], ◌∷◌, ◌++◌, ℤ, pos, negsuc, ◌-ℤ◌, unsigned_abs, Option, Some, None, option_and_then, option_map, ◌==◌, if◌then◌else◌}
-use Rattle.bit_list.specs.Bits.{low_bits, bytes_after, stuffed}
-use Rattle.lepton_run.specs.Bits.{size, padded}
+use Rattle.std.specs.Prelude.{ℕ, Bool, true, false, List, [], ◌∷◌, ◌++◌, ℤ, pos, ◌-ℤ◌, unsigned_abs, Option, Some, None, option_and_then, option_map, ◌==◌, if◌then◌else◌}
+use Rattle.bit_list.specs.Bits.{bytes_after, stuffed}
+use Rattle.scan_text.specs.Values.{size, mag}
+use Rattle.lepton_run.specs.Bits.{padded}
 use Rattle.lepton_run.specs.declared.header.DcTable.{DcTable}
 use Rattle.lepton_run.specs.declared.header.DcTable.TheVariants.{Level, Steps}
 
@@ -13,11 +14,6 @@ dc_word Steps category = if category == 0 then Some (false ∷ []) else (if cate
 -- the code word of the end of a block, the only one of the AC table (F.1.2.2)
 abbrev pub end_of_block : List Bool
 end_of_block = false ∷ []
-
--- the bits of a difference after its category: those of the number, or of the number less one from below (F.1.2.1.1)
-abbrev pub mag : ℤ → List Bool
-mag (pos n) = low_bits (size n) n
-mag (negsuc n) = low_bits (size (n + 1)) (2 ^ size (n + 1) - 1 - (n + 1))
 
 -- the bits of a block whose DC differs so much from the one before
 abbrev pub block_bits : DcTable → ℤ → Option (List Bool)

@@ -21,7 +21,7 @@ mod opened;
 mod refusal;
 mod restoring;
 mod scan;
-mod scan_text;
+mod scan_writing;
 mod taking;
 mod top;
 

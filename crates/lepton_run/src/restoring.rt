@@ -8,7 +8,7 @@ ghost use Rattle.lepton_run.specs.declared.command.Command.TheVariants.{Decode};
 use crate::coding::{MOST_BLOCKS, RecodeError};
 use crate::header::read_header;
 use crate::opened::open;
-use crate::scan_text::write_scan;
+use crate::scan_writing::write_scan;
 use std::alloc::{AllocError, Global};
 
 /// The file of a container.

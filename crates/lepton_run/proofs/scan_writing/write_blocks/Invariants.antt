@@ -1,6 +1,6 @@
 use Rattle.std.proofs.Common.{◌≡◌, ◌≤◌, ℤ, List, unsigned_abs}
 use Rattle.lepton_run.proofs.Restored.{Done}
-use Rattle.lepton_run.proofs.scan_text.write_blocks.Given as goal
+use Rattle.lepton_run.proofs.scan_writing.write_blocks.Given as goal
 
 -- some blocks are taken and written
 abbrev pub invariant-loop : goal.invariant-loop

@@ -5,7 +5,7 @@ use mir.Val.{to_z}
 use Rattle.lepton_run.specs.Scan.{block_bits}
 use Rattle.lepton_run.proofs.Blocks.{no_block}
 use Rattle.lepton_run.proofs.Signed.{far}
-use Rattle.lepton_run.proofs.scan_text.put_difference.Goals as goal
+use Rattle.lepton_run.proofs.scan_writing.put_difference.Goals as goal
 
 pub returns-in_default-clause-none : goal.returns-in_default-clause-none
 returns-in_default-clause-none c =

@@ -3,7 +3,7 @@ use Rattle.lepton_run.specs.Events.{priced, segment_events}
 use Rattle.bit_list.specs.Bits.{bits_of}
 use Rattle.lepton_run.proofs.Taken.{priced_are}
 use Rattle.lepton_run.proofs.Restored.{ahead_start, ended, padded_of}
-use Rattle.lepton_run.proofs.scan_text.write_scan.Goals as goal
+use Rattle.lepton_run.proofs.scan_writing.write_scan.Goals as goal
 
 pub returns-in_default-clause-outside : goal.returns-in_default-clause-outside
 returns-in_default-clause-outside c = λ e blocks made is eq. c.in_default.ensures.no_stream (priced (segment_events blocks)) (priced_are (segment_events blocks)) eq

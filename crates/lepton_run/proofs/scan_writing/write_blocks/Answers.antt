@@ -7,7 +7,7 @@ use Rattle.std.proofs.lemmas.Int.{to_z-of_z}
 use Rattle.std.proofs.lemmas.Result.{err_from_is_err_and}
 use Rattle.lepton_run.proofs.Signed.{fits}
 use Rattle.lepton_run.proofs.Restored.{done_none, done_on, done_stop, done_all}
-use Rattle.lepton_run.proofs.scan_text.write_blocks.Goals as goal
+use Rattle.lepton_run.proofs.scan_writing.write_blocks.Goals as goal
 
 pub loop-init : goal.loop-init
 loop-init c = record { small = omega arith; bytes = refl; blocks = ([], done_none c.args.table c.args.decoder.now c.args.writer.now) }

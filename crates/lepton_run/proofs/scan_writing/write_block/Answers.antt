@@ -3,9 +3,10 @@ use Rattle.std.specs.Int.{w32}
 use Rattle.std.proofs.lemmas.Int.{to_z-of_z}
 use Rattle.std.proofs.lemmas.Option.{same_Some}
 use Rattle.lepton_run.specs.Scan.{block_bits}
-use Rattle.lepton_run.proofs.Signed.{fits, difference_is}
+use Rattle.lepton_run.proofs.Signed.{fits}
+use Rattle.scan_text.proofs.Signed.{difference_is}
 use Rattle.lepton_run.proofs.Taken.{none_some}
-use Rattle.lepton_run.proofs.scan_text.write_block.Goals as goal
+use Rattle.lepton_run.proofs.scan_writing.write_block.Goals as goal
 
 pub returns-in_default-clause-outside : goal.returns-in_default-clause-outside
 returns-in_default-clause-outside c = λ e other rest small a. let kept = c.in_default.ensures.again other rest small a in absurd (none_some kept.0)
