@@ -33,3 +33,7 @@ fits_half (negsuc n) h = record { sfits = omega arith }
 pub widened : (z r : ℤ) → unsigned_abs z ≤ 32767 → r ≡ to_z w16 (of_z w16 z) → to_z w32 (of_z w32 r) ≡ z
 widened z r small is =
     ap (λ v. to_z w32 (of_z w32 v)) (is ∙ to_z-of_z w16 z (fits_half z small)) ∙ to_z-of_z w32 z (fits z (omega arith))
+
+-- a DC, as the machine keeps it
+pub kept_half : (z : ℤ) → unsigned_abs z ≤ 32767 → to_z w16 (of_z w16 z) ≡ z
+kept_half z small = to_z-of_z w16 z (fits_half z small)

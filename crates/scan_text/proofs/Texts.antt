@@ -8,11 +8,11 @@ use Rattle.scan_text.specs.declared.plain.PlainError.TheVariants.{Stop, NoMemory
 abbrev pub Done : Type 0
 Done = Result (Prim.Unit {0}) PlainError
 
-behind_nothing : (text : Text) → text ≡ behind [] text
+pub behind_nothing : (text : Text) → text ≡ behind [] text
 behind_nothing (Ok bits) = refl
 behind_nothing (Err stop) = refl
 
-behind_twice : (a b : List Bool) (text : Text) → behind a (behind b text) ≡ behind (a ++ b) text
+pub behind_twice : (a b : List Bool) (text : Text) → behind a (behind b text) ≡ behind (a ++ b) text
 behind_twice a b (Ok bits) = ap Ok (sym (append_assoc a b bits))
 behind_twice a b (Err stop) = refl
 

@@ -11,9 +11,8 @@ use Rattle.bit_list.specs.Bits.{low_bits}
 use Rattle.jpeg_marker.specs.Tables.{TableFields}
 use Rattle.huff_table.specs.CodeWords.{word_of}
 use Rattle.scan_text.specs.Values.{size, mag}
-use Rattle.scan_text.specs.BlockBits.{Text, behind, then_text, block_text, coded_word, word_text, value_text, zeros_text, coefficient_text, ac_text, dc_text, value_at, ac_values}
+use Rattle.scan_text.specs.BlockBits.{then_text, block_text, coded_word, word_text, value_text, zeros_text, coefficient_text, ac_text, dc_text, value_at, ac_values}
 use Rattle.huff_table.specs.declared.plan_codes.ComponentCodes.{ComponentCodes}
-use Rattle.scan_text.specs.declared.stop.WriteStop.{WriteStop}
 use Rattle.scan_text.specs.declared.stop.WriteStop.TheVariants.{NoCode, DiffRange}
 
 pub word_none : (table : TableFields) (symbol : ℕ) → word_of table symbol ≡ None → word_text table symbol ≡ Err NoCode
@@ -119,18 +118,10 @@ ac_next block index place value some below is stands =
 pub no_more : (block : List ℤ) (index : ℕ) → 64 ≤ index → drop (index - 1) (ac_values block) ≡ []
 no_more block index h = drop_all (index - 1) (ac_values block) (omega (arith, length-ac_values block))
 
--- a block's text, by what came of its parts
-pub block_dc_stop : (codes : ComponentCodes) (before before' dc : ℤ) (block : List ℤ) (stop : WriteStop) → before' ≡ before → dc ≡ value_at block 0
-    → dc_text codes.dc before' dc ≡ Err stop → block_text codes before block ≡ Err stop
+-- a block's text is its DC's and then its AC coefficients'
+pub block_is : (codes : ComponentCodes) (before : ℤ) (block : List ℤ) → block_text codes before block ≡ then_text (dc_text codes.dc before (value_at block 0)) (ac_text codes.ac 0 (ac_values block))
 unfolding block_text
-block_dc_stop codes before before' dc block stop same is e =
-    ap (λ t. then_text t (ac_text codes.ac 0 (ac_values block))) (ap₂ (dc_text codes.dc) (sym same) (sym is) ∙ e)
-
-pub block_parts : (codes : ComponentCodes) (before before' dc : ℤ) (block : List ℤ) (front : List Bool) (rest : Text) → before' ≡ before → dc ≡ value_at block 0
-    → dc_text codes.dc before' dc ≡ Ok front → ac_text codes.ac 0 (ac_values block) ≡ rest → block_text codes before block ≡ behind front rest
-unfolding block_text
-block_parts codes before before' dc block front rest same is e f =
-    ap₂ then_text (ap₂ (dc_text codes.dc) (sym same) (sym is) ∙ e) f
+block_is codes before block = refl
 
 -- a coefficient of a block is small
 pub small_value : (place : ℕ) (value : ℤ) → 0 < place → IsCoefficient place value → unsigned_abs value ≤ 32767

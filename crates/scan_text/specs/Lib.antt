@@ -1,4 +1,5 @@
 pub mod Values
 pub mod BlockBits
+pub mod Blocks
 pub mod Plain
 pub mod Rows

@@ -1,4 +1,4 @@
-//! The text of a scan: which bits a block has (ITU-T T.81, F.1.2).
+//! The text of a scan: which bits a block has, and blocks behind one another (ITU-T T.81, F.1.1.5.1, F.1.2).
 //!
 //!     15  0 -1  0 ..     behind a DC of 12, with the tables K.3 and K.5
 //!     -2 -1  0 ..
@@ -13,10 +13,12 @@
 
 mod laws;
 mod plain;
+mod slot;
 mod stop;
 
-pub use laws::{rows_of_the_definition, values_are_bits};
-pub use plain::{PlainError, plain_block};
+pub use laws::{blocks_in_parts, rows_of_the_definition, values_are_bits};
+pub use plain::{PlainError, plain_block, plain_blocks};
+pub use slot::Slot;
 pub use stop::WriteStop;
 
 #[cfg(test)]

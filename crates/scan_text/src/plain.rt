@@ -1,11 +1,14 @@
 // The plain program: a block's bits, one after another, into a list.
 ghost use Rattle.std.specs.Prelude.{◌≡◌, ℕ, ◌+◌, ◌*◌, ◌^◌, ◌<◌, ◌≤◌, ◌++◌, ℤ, pos, Bool, List, length, unsigned_abs, ◌∷◌, Ok, Err, IfOk, IfErr, OnOk, IsErrOf};
+ghost use Rattle.std.specs.List.{All};
 ghost use Rattle.bit_list.specs.Bits.{low_bits};
 ghost use Rattle.scan_text.specs.Values.{size as size_of, mag};
 ghost use Rattle.scan_text.specs.BlockBits.{Text, word_text, value_text, zeros_text, coefficient_text, ac_text, dc_text, block_text, ac_values};
+ghost use Rattle.scan_text.specs.Blocks.{blocks_text};
 ghost use Rattle.scan_text.specs.Plain.{Goes, Writes};
 ghost use Rattle.scan_text.specs.declared.plain.PlainError.TheVariants.{NoMemory};
 
+use crate::slot::Slot;
 use crate::stop::WriteStop;
 use coef_block::{Block, size, zigzag_place};
 use huff_table::{Codes, ComponentCodes};
@@ -38,14 +41,46 @@ pub fn plain_block(
     ensures stop { (stop : WriteStop) → IsErrOf result (PlainError.Stop stop) → block_text codes.now before block.now ≡ Err stop }
 {
     let mut bits = Vec::new(alloc);
-    put_dc(
-        &codes.dc,
-        i32::from(before),
-        i32::from(block.get(0)),
-        &mut bits,
-    )?;
-    put_acs(&codes.ac, block, &mut bits)?;
+    put_block(codes, before, block, &mut bits)?;
     Ok(bits)
+}
+
+/// The bits of blocks, each behind the last one of its component. `before` has the DC of each component's last one
+/// before them.
+pub fn plain_blocks(
+    alloc: Global,
+    slots: &[Slot],
+    before: [i16; 4],
+    blocks: &[Block],
+) -> Result<Vec<bool>, PlainError>
+    requires long { length slots.now ≡ length blocks.now }
+    requires slots { All (λ slot. slot.component < 4) slots.now }
+    requires before { All (λ dc. unsigned_abs dc ≤ 32767) before }
+    ensures bits { IfOk result (λ bits. blocks_text slots.now before blocks.now ≡ Ok bits.items) }
+    ensures stop { (stop : WriteStop) → IsErrOf result (PlainError.Stop stop) → blocks_text slots.now before blocks.now ≡ Err stop }
+{
+    let mut bits = Vec::new(alloc);
+    let mut last = before;
+    for i in 0..slots.len() {
+        let slot = &slots[i];
+        let block = &blocks[i];
+        put_block(&slot.codes, last[slot.component], block, &mut bits)?;
+        last[slot.component] = block.get(0);
+    }
+    Ok(bits)
+}
+
+fn put_block(
+    codes: &ComponentCodes,
+    before: i16,
+    block: &Block,
+    bits: &mut Vec<bool>,
+) -> Result<(), PlainError>
+    requires { unsigned_abs before ≤ 32767 }
+    ensures { Writes result bits.old.items bits.new.items (block_text codes.now before block.now) }
+{
+    put_dc(&codes.dc, i32::from(before), i32::from(block.get(0)), bits)?;
+    put_acs(&codes.ac, block, bits)
 }
 
 fn put_dc(codes: &Codes, before: i32, dc: i32, bits: &mut Vec<bool>) -> Result<(), PlainError>

@@ -114,3 +114,29 @@ fn expect_bits(rt: &impl Abort, bits: &[bool], text: &[u8]) {
         assert_eq!(rt; *bit, *digit == b'1');
     }
 }
+
+// Two blocks of the first component and one of the second, twice: each DC is coded behind that of its component.
+#[test]
+fn worked_mcus(rt: HostRuntime) -> Result<(), Fail> {
+    let alloc = rt.alloc();
+    let codes = codes_of(alloc, SHORT_K5)?;
+    assert_eq!(rt; codes.components().len(), 1);
+    let mut slots = Vec::new(alloc);
+    let mut blocks = Vec::new(alloc);
+    for (component, dc) in [(0, 4), (0, 5), (1, 5), (0, 5), (0, 4), (1, 5)] {
+        slots.push(Slot {
+            component,
+            codes: codes.components()[0],
+        })?;
+        blocks.push(block_of(&rt, &[(0, dc)]))?;
+    }
+    assert_eq!(rt; slots.len(), blocks.len());
+    assert!(rt; slots.iter().all(|slot| slot.component < 4));
+    let bits = plain_blocks(alloc, &slots, [3, 0, 0, 0], &blocks);
+    let text = b"0101101001011010100101101000101001001010001010";
+    assert!(rt; bits.is_ok());
+    if let Ok(bits) = bits {
+        expect_bits(&rt, &bits, text);
+    }
+    Ok(())
+}
