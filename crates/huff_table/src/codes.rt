@@ -2,6 +2,7 @@
 ghost use Rattle.std.specs.Prelude.{◌≡◌, ℕ, ◌+◌, ◌*◌, ◌-◌, ◌^◌, ◌<◌, ◌≤◌, ◌↔◌, Bool, List, length, Ok, Err, Some, None, IsSome, IfSome, IfNone, IfOk, IfErr, OnErr, Contains};
 ghost use Rattle.bit_list.specs.Bits.{low_bits};
 ghost use Rattle.bit_list.specs.Units.{bits_at};
+ghost use Rattle.jpeg_marker.specs.Tables.{IsTable};
 ghost use Rattle.huff_table.specs.CodeWords.{word_of};
 ghost use Rattle.huff_table.specs.Decoding.{value_at};
 ghost use Rattle.huff_table.specs.Kept.{placed};
@@ -67,6 +68,7 @@ impl Codes {
         ensures size { IfSome result (λ word. (1 ≤ word.1) × (word.1 ≤ 16)) }
         ensures none { IfNone result (word_of self.now symbol ≡ None) }
         ensures there { IsSome result ↔ Contains self.now.values symbol }
+        ensures kept { IsTable self.now }
     {
         let word = self.words[usize::from(symbol)];
         if word.size == 0 {
@@ -82,6 +84,7 @@ impl Codes {
         ensures stopped { OnErr result ((bits : List Bool) × (length bits ≤ 16)
             × (bits_at (length bits) input.old.bytes input.old.cursor ≡ Ok (bits, input.new.cursor))) }
         ensures bytes { input.new.bytes ≡ input.old.bytes }
+        ensures kept { IsTable self.now }
     {
         let counts = self.table.counts();
         let mut values = self.table.values();
