@@ -19,7 +19,10 @@ mod word;
 
 pub use codes::Codes;
 pub use fault::CodeFault;
-pub use laws::{a_fault_is_no_word, a_word_is_read, no_word_begins_another, words_are_values};
+pub use laws::{
+    a_fault_is_no_word, a_word_is_read, no_word_begins_another, words_are_values,
+    words_of_a_standard_table,
+};
 pub use plan_codes::{ComponentCodes, PlanCodes};
 
 #[cfg(test)]

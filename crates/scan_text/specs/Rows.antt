@@ -13,10 +13,11 @@ short_k5 = record {
   values = 0x01 ∷ 0x02 ∷ 0x03 ∷ 0x00 ∷ 0x04 ∷ 0x11 ∷ 0x05 ∷ 0x12 ∷ 0x21 ∷ [];
 }
 
--- tables of the words `0` for the symbols F0 and `1` for 00, and of `0` for the symbol 0
-abbrev pub zeros_table : TableFields
-zeros_table = record { counts = 2 ∷ replicate 15 0; values = 0xf0 ∷ 0x00 ∷ [] }
+-- `0` for F0, `10` for 01, `110` for E1 and `111` for 00
+abbrev pub runs_table : TableFields
+runs_table = record { counts = 1 ∷ 1 ∷ 2 ∷ replicate 13 0; values = 0xf0 ∷ 0x01 ∷ 0xe1 ∷ 0x00 ∷ [] }
 
+-- `0` for 00
 abbrev pub level_table : TableFields
 level_table = record { counts = 1 ∷ replicate 15 0; values = 0 ∷ [] }
 
@@ -25,6 +26,9 @@ standard = record { dc = table_k3; ac = short_k5 }
 
 abbrev pub level : ComponentCodes
 level = record { dc = level_table; ac = level_table }
+
+abbrev pub runs : ComponentCodes
+runs = record { dc = level_table; ac = runs_table }
 
 -- a DC of 15 and five AC coefficients, by rows
 abbrev pub six_values : List ℤ
@@ -39,3 +43,7 @@ rows =
     × (block_text level (pos 0) (pos 1 ∷ replicate 63 (pos 0)) ≡ Err NoCode)
     × (block_text level (pos 2048) (replicate 64 (pos 0)) ≡ Err DiffRange)
     × (block_text level (pos 0) (pos 0 ∷ replicate 62 (pos 0) ++ pos 1 ∷ []) ≡ Err NoCode)
+    × (block_text runs (pos 0) (replicate 42 (pos 0) ++ pos 1 ∷ replicate 21 (pos 0))
+    ≡ Ok (false ∷ false ∷ false ∷ true ∷ false ∷ true ∷ true ∷ true ∷ true ∷ []))
+    × (block_text runs (pos 0) (replicate 63 (pos 0) ++ negsuc 0 ∷ [])
+    ≡ Ok (false ∷ false ∷ false ∷ false ∷ true ∷ true ∷ false ∷ false ∷ []))

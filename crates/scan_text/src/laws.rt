@@ -1,4 +1,4 @@
-// What holds of all values, and the definition computed on rows.
+// What holds of all values and of all blocks, and the definition computed on rows.
 ghost use Rattle.std.specs.Prelude.{◌≡◌, ◌++◌, ℤ, Bool, List, length, unsigned_abs};
 ghost use Rattle.scan_text.specs.Values.{size, mag, extend};
 ghost use Rattle.scan_text.specs.BlockBits.{then_text};

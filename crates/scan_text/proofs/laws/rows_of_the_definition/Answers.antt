@@ -5,4 +5,4 @@ use Rattle.scan_text.proofs.laws.rows_of_the_definition.Goals as goal
 
 pub returns : goal.returns
 unfolding block_text dc_text ac_text ac_values value_text zeros_text word_text word_of words_of
-returns c = (refl, refl, refl, refl, refl)
+returns c = (refl, refl, refl, refl, refl, refl, refl)
