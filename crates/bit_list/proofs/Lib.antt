@@ -5,3 +5,4 @@ pub mod Cursors
 pub mod Rounds
 pub mod Machine
 pub mod Putting
+pub mod Spanning

@@ -36,7 +36,7 @@ plain_unit end place byte [] other = rw other refl
 plain_unit end place byte (x ∷ rest) other = rw other refl
 
 -- the unit of a coded byte, whatever follows it
-unit_again : (end place byte : ℕ) (rest : List ℕ) (t : Bool) → (byte == 255) ≡ t
+pub unit_again : (end place byte : ℕ) (rest : List ℕ) (t : Bool) → (byte == 255) ≡ t
     → unit_of end place ((byte ∷ (if t then 0 ∷ [] else [])) ++ rest) ≡ Ok (byte, place + length (byte ∷ (if t then 0 ∷ [] else [])))
 unit_again end place byte rest true full = rw (eqb-true byte 255 full) refl
 unit_again end place byte rest false other = plain_unit end place byte rest other

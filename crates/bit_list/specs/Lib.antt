@@ -3,3 +3,4 @@ pub mod Again
 pub mod Units
 pub mod Kept
 pub mod Laws
+pub mod Taken

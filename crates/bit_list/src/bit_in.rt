@@ -46,8 +46,7 @@ impl<'a> Model for BitIn<'a> {
 impl<'a> BitIn<'a> {
     /// From the unit at a place on, without its first `bits` bits.
     pub fn at(bytes: &'a [u8], place: usize, bits: u8) -> Self
-        requires bits { bits ≤ 7 }
-        requires place { place ≤ length bytes.now }
+        requires { bits ≤ 7 }
         ensures { result ≡ record { bytes = bytes.now; cursor = starting place bits } }
     {
         BitIn {
@@ -103,6 +102,25 @@ impl<'a> BitIn<'a> {
         self.at.number = 0;
         self.at.count = 0;
         rest
+    }
+
+    /// The place of the next unit: behind the bits that are left, if there are any.
+    #[inline]
+    pub fn next_place(&self) -> usize
+        ensures { result ≡ self.now.cursor.next }
+    {
+        self.at.next
+    }
+
+    /// The bits that are left of a unit begun, as a number, and how many they are.
+    #[inline]
+    pub fn left(&self) -> (u8, u8)
+        ensures count { result.1 ≡ length self.now.cursor.left }
+        ensures number { result.0 ≡ number_of self.now.cursor.left }
+        ensures few { result.1 ≤ 8 }
+        ensures below { result.0 < 2 ^ result.1 }
+    {
+        (self.at.number, self.at.count)
     }
 
     /// The place of the unit of the last bit that was taken; before the first, where it began.

@@ -4,6 +4,7 @@ ghost use Rattle.std.specs.List.{AllByRecursion};
 ghost use Rattle.bit_list.specs.Bits.{IsByte, low_bits, number_of, bits_of, bytes_after, begun_after, padding, stuffed};
 ghost use Rattle.bit_list.specs.Units.{Cursor};
 ghost use Rattle.bit_list.specs.Laws.{IsTakenAgain, IsTakenInParts};
+ghost use Rattle.bit_list.specs.Taken.{TakenStand, StandingAreTaken, TakenFromWithin, StuffedAreFew};
 
 /// Bits that were put as whole bytes, stuffed, among other bytes, are taken again, and the next unit is the one
 /// behind them.
@@ -59,4 +60,13 @@ pub fn bits_are_bytes()
     ensures bytes { (bytes : List ℕ) → AllByRecursion IsByte bytes → bytes_after [] (bits_of bytes) ≡ bytes }
     ensures bits { (bits : List Bool) → length bits % 8 ≡ 0 → bits_of (bytes_after [] bits) ≡ bits }
     ensures begun { (bits : List Bool) → length bits % 8 ≡ 0 → begun_after [] bits ≡ [] }
+{}
+
+/// Bits that are taken are those of the units between, those of the units between are taken, also from within a unit,
+/// and stuffed bytes are at most twice as many.
+pub fn bits_stand_in_units()
+    ensures stand { TakenStand }
+    ensures taken { StandingAreTaken }
+    ensures within { TakenFromWithin }
+    ensures few { StuffedAreFew }
 {}

@@ -21,8 +21,9 @@ pub use bit_in::BitIn;
 pub use bit_out::BitOut;
 pub use fault::BitFault;
 pub use laws::{
-    begun_of_parts, bits_are_bytes, bits_are_numbers, bytes_of_parts, eight_bits_a_byte,
-    put_is_taken_again, stuffed_has_one_reading, stuffed_of_parts, taken_in_parts,
+    begun_of_parts, bits_are_bytes, bits_are_numbers, bits_stand_in_units, bytes_of_parts,
+    eight_bits_a_byte, put_is_taken_again, stuffed_has_one_reading, stuffed_of_parts,
+    taken_in_parts,
 };
 pub use piece::{Piece, ROOM};
 

@@ -260,3 +260,7 @@ word_size table value bits is e =
     let fits = found_holds Fits (λ (x : CodeWord). eqb x.value value) w.0 (words_of table) (words_fit table is) w.1 in
     let size = size_of_bits w.0 bits w.2 in
     (omega (arith, size, fits.some), omega (arith, size, fits.few))
+
+-- a value that has a word is one of the table's
+pub value_there : (table : TableFields) (value : ℕ) (bits : List Bool) → IsTable table → word_of table value ≡ Some bits → Contains table.values value
+value_there table value bits is e = let w = some_word table value bits e in (has_by table value is w.0 w.1).there

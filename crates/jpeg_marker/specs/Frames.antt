@@ -72,3 +72,5 @@ pub record IsFrame (f : FrameFields) : Type 0 where
   pub some : 1 ≤ length f.parts
   pub few : length f.parts ≤ 4
   pub components : IsTrue (are_components f.parts)
+  pub high : 1 ≤ f.height
+  pub wide : 1 ≤ f.width

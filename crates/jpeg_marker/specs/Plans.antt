@@ -142,3 +142,5 @@ pub record IsPlan (p : PlanFields) : Type 0 where
   pub components : IsTrue (are_components (map part_of p.components))
   pub grid : p.blocks ≡ p.across * p.down * blocks_in_mcu (map part_of p.components)
   pub blocks : p.blocks ≤ most_blocks
+  pub wide : 1 ≤ p.across
+  pub high : 1 ≤ p.down

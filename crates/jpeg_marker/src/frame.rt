@@ -50,8 +50,9 @@ impl Frame {
     }
 }
 
-ghost use Rattle.std.specs.Prelude.{ℕ, ◌≡◌, ◌≤◌, ◌+◌, ◌*◌, ◌∷◌, [], length, take, map, sum_by, slice_index, IfOk, OnOk, Option, None};
+ghost use Rattle.std.specs.Prelude.{ℕ, ◌≡◌, ◌≤◌, ◌+◌, ◌*◌, ◌∷◌, [], length, take, map, sum_by, slice_index, drop, IfOk, OnOk, Option, None};
 ghost use Rattle.std.specs.List.{list_all};
+ghost use Rattle.jpeg_marker.specs.Segments.{number_at};
 ghost use Rattle.jpeg_marker.specs.Refusals.{fault_in};
 ghost use Rattle.jpeg_marker.specs.Frames.{frame_at, frame_fault, numbers_fault, parts_of, is_sampled, area, fit_an_mcu, are_components};
 
@@ -78,6 +79,8 @@ fn check_numbers(body: &[u8], at: usize) -> Result<(), HeaderRefusal>
     ensures fault { fault_in result ≡ numbers_fault at body.now }
     ensures size { OnOk result (length body.now ≡ 6 + 3 * slice_index body.now 5) }
     ensures some { OnOk result (1 ≤ slice_index body.now 5) }
+    ensures high { OnOk result (1 ≤ number_at (drop 1 body.now)) }
+    ensures wide { OnOk result (1 ≤ number_at (drop 3 body.now)) }
     ensures few { OnOk result (slice_index body.now 5 ≤ 4) }
 {
     if body.len() < 6 || body.len() != 6 + 3 * usize::from(body[5]) {

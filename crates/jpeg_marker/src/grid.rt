@@ -8,8 +8,10 @@ use crate::part::Part;
 
 /// MCUs in a row.
 pub(crate) fn across(frame: &Frame) -> u32
+    requires { IsFrame frame.now }
     ensures value { result ≡ across_of frame.now }
     ensures few { result ≤ 8192 }
+    ensures some { 1 ≤ result }
 {
     let parts = frame.parts();
     let blocks = if parts.len() == 1 {
@@ -22,8 +24,10 @@ pub(crate) fn across(frame: &Frame) -> u32
 
 /// Rows of MCUs.
 pub(crate) fn down(frame: &Frame) -> u32
+    requires { IsFrame frame.now }
     ensures value { result ≡ down_of frame.now }
     ensures few { result ≤ 8192 }
+    ensures some { 1 ≤ result }
 {
     let parts = frame.parts();
     let blocks = if parts.len() == 1 {
@@ -49,9 +53,11 @@ pub(crate) fn blocks_in_mcu(frame: &Frame) -> u32
 
 // MCUs that cover so many samples, each of some blocks of eight.
 fn cover(samples: u16, blocks: u8) -> u32
-    requires { 1 ≤ blocks }
+    requires blocks { 1 ≤ blocks }
+    requires samples { 1 ≤ samples }
     ensures value { result ≡ cover samples blocks }
     ensures few { result ≤ 8192 }
+    ensures some { 1 ≤ result }
 {
     let size = 8 * u32::from(blocks);
     (u32::from(samples) + (size - 1)) / size

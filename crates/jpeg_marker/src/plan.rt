@@ -56,6 +56,7 @@ impl Plan {
         ensures value { IfSome result (λ plan. plan
             ≡ plan_with frame.now interval header_length (take (length frame.now.parts) components)) }
     {
+        let count = frame.parts().len();
         let across = across(frame);
         let down = down(frame);
         let blocks = across * down * blocks_in_mcu(frame);
@@ -64,7 +65,7 @@ impl Plan {
         }
         Some(Plan {
             components,
-            count: frame.parts().len(),
+            count,
             across,
             down,
             interval,

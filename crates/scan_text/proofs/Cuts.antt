@@ -7,7 +7,7 @@ use Rattle.scan_text.specs.declared.slot.Slot.{Slot}
 use Rattle.scan_text.proofs.Texts.{behind_nothing, behind_twice}
 
 -- a text, and then another, and then a third
-then_twice : (a b c : Text) → then_text a (then_text b c) ≡ then_text (then_text a b) c
+pub then_twice : (a b c : Text) → then_text a (then_text b c) ≡ then_text (then_text a b) c
 then_twice (Err stop) b c = refl
 then_twice (Ok front) (Err stop) c = refl
 then_twice (Ok front) (Ok more) c = behind_twice front more c

@@ -3,3 +3,17 @@ pub mod Signed
 pub mod Texts
 pub mod Words
 pub mod Cuts
+pub mod Parts
+pub mod ItemsRead
+pub mod ItemsOnce
+pub mod PutWhole
+pub mod Taking
+pub mod AcsRead
+pub mod AcsAgain
+pub mod ZigzagLaws
+pub mod BlocksTaken
+pub mod Intervals
+pub mod Rests
+pub mod ScanTaken
+pub mod Short
+pub mod McuByMcu

@@ -41,7 +41,7 @@ size_least k n is =
     ]
 
 -- a magnitude other than 0 has bits
-size_some : (n : ℕ) → 0 < n → (k : ℕ) × (size n ≡ suc k)
+pub size_some : (n : ℕ) → 0 < n → (k : ℕ) × (size n ≡ suc k)
 size_some n some = (size (n / 2), omega (arith, length-digits_of_step 2 n (omega arith) some))
 
 -- the least count of bits that a magnitude fits is its category

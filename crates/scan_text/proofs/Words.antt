@@ -94,7 +94,7 @@ pub value_is : (block : List ℤ) (place : ℕ) (value : ℤ) → slice_get bloc
 value_is block place value e = get_or_from_slice_get block place value (pos 0) e
 
 -- the next AC coefficient
-length-ac_values : (block : List ℤ) → length (ac_values block) ≡ 63
+pub length-ac_values : (block : List ℤ) → length (ac_values block) ≡ 63
 unfolding ac_values
 length-ac_values block = refl
 

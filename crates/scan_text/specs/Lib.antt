@@ -3,3 +3,12 @@ pub mod BlockBits
 pub mod Blocks
 pub mod Plain
 pub mod Rows
+pub mod Slots
+pub mod Scans
+pub mod Spots
+pub mod ScanReading
+pub mod Items
+pub mod ScanLaws
+pub mod ScanRows
+pub mod Calls
+pub mod Peeks

@@ -13,11 +13,16 @@
 
 mod laws;
 mod plain;
+mod refusal;
 mod slot;
 mod stop;
 
-pub use laws::{blocks_in_parts, rows_of_the_definition, values_are_bits};
+pub use laws::{
+    blocks_are_text, blocks_in_parts, items_are_read, rows_of_scans, rows_of_the_definition,
+    scans_are_text, values_are_bits, zigzag_tells_blocks,
+};
 pub use plain::{PlainError, plain_block, plain_blocks};
+pub use refusal::ScanRefusal;
 pub use slot::Slot;
 pub use stop::WriteStop;
 

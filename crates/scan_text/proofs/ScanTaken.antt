@@ -1,0 +1,580 @@
+-- A scan that is read has the text that stands there, the text is read again, and so bytes tell the scan.
+use Rattle.std.proofs.Common.{◌≡◌, ℕ, zero, suc, ◌+◌, ◌<◌, ◌≤◌, Bool, true, false, ◌==◌, ◌||◌, if◌then◌else◌, List, [], ◌∷◌, ◌++◌, length, map, drop, replicate, ℤ, Option, Some, None, Result, Ok, refl, sym, ap, ap₂, ◌∙◌, subst, arith, append-nil, length-append, length-drop}
+use Rattle.std.specs.Prelude.{unwrap_or, sum_by}
+use Rattle.std.specs.List.{AllByRecursion, onto_first}
+use Rattle.std.proofs.lemmas.Bool.{eqb-true, eq-eqb, false_from_ne_true}
+use Rattle.std.proofs.lemmas.List.{drop_at}
+use Rattle.std.proofs.Math.Nat.{zero-div}
+use Rattle.coef_block.specs.Block.{IsBlock}
+use Rattle.bit_list.specs.Bits.{IsByte}
+use Rattle.bit_list.specs.Units.{Cursor, starting}
+use Rattle.scan_text.specs.Blocks.{blocks_text, behind_blocks}
+use Rattle.scan_text.specs.Slots.{Shape}
+use Rattle.scan_text.specs.Scans.{Mcu, no_dcs, mcus_bits, restart_marker, ends_interval, intervals_behind, scan_bytes, IsMcu, IsScan, pads_behind}
+use Rattle.scan_text.specs.Spots.{interval_number}
+use Rattle.scan_text.specs.ScanReading.{and_then, in_zigzag, BlocksRead, blocks_at, Standing, standing_at, pads_at, restart_at, behind_mcu, mcu_at, mcus_at, scan_at}
+use Rattle.scan_text.specs.ScanLaws.{IsShape, Begins, zigzag_of, IsSpelled, IsReadAgain, OneScan}
+use Rattle.scan_text.specs.declared.slot.Slot.{Slot}
+use Rattle.scan_text.specs.declared.refusal.ScanRefusal.{ScanRefusal}
+use Rattle.scan_text.proofs.Cuts.{text_in_parts}
+use Rattle.scan_text.proofs.PutWhole.{number_next_of, number_same_of, intervals_some}
+use Rattle.scan_text.proofs.Taking.{Takes, takes_split, fine, is_fine, both_fine, then_fine}
+use Rattle.scan_text.proofs.AcsAgain.{text_parts}
+use Rattle.scan_text.proofs.ZigzagLaws.{zigzag_tells}
+use Rattle.scan_text.proofs.BlocksTaken.{McuTaken, blocks_read, blocks_again}
+use Rattle.scan_text.proofs.Intervals.{Agrees, pad_behind, pad_behind_more, agrees_behind, pads_read, pads_fine, pads_are, restart_fine, restart_again}
+use Rattle.scan_text.proofs.Rests.{slots_for, blocks_in, pads_in, all_bytes, Later, Rest, RestOf, Goes, TextOf, text_of_rest, rest_of_text, closed_rest, onto_rest}
+
+-- ---- behind the blocks of an MCU
+
+abbrev pub place_standing : ℕ → ℕ → Option Bool → Standing
+place_standing place count known = record { cursor = starting place 0; before = no_dcs; count = count + 1; pad = known }
+
+abbrev pub over_standing : Cursor → ℕ → Option Bool → Standing
+over_standing cursor count known = record { cursor = cursor; before = no_dcs; count = count + 1; pad = known }
+
+abbrev pub on_standing : Cursor → List ℤ → ℕ → Option Bool → Standing
+on_standing cursor before count known = record { cursor = cursor; before = before; count = count + 1; pad = known }
+
+abbrev pub end_by : Bool → Bool → Shape → List ℕ → Standing → BlocksRead → Result Standing ScanRefusal
+end_by over ends shape bytes s read =
+    if over || ends
+    then (and_then (pads_at s.pad read.cursor) (λ padded. if over then Ok (over_standing padded.1 s.count padded.0)
+    else and_then (restart_at bytes (interval_number shape s.count) padded.1.next) (λ place. Ok (place_standing place s.count padded.0))))
+    else Ok (on_standing read.cursor read.before s.count s.pad)
+
+-- pad bits that were read
+pub record PadsTaken (known : Option Bool) (cursor : Cursor) (pad : Bool) (next : Option Bool) : Type 0 where
+  pub agrees : Agrees known pad
+  pub k : ℕ
+  pub left : cursor.left ≡ replicate k pad
+  pub next_is : next ≡ pad_behind known k pad
+
+pads_taken : (known : Option Bool) (cursor : Cursor) (x : Option Bool × Cursor) (pad : Bool) → pads_at known cursor ≡ Ok x → Agrees x.0 pad → PadsTaken known cursor pad x.0
+pads_taken known cursor x pad e a =
+    let f = pads_fine known cursor x e in
+    let p = pads_read cursor.left known x.0 pad f.0 a in
+    record { agrees = p.0; k = length cursor.left; left = p.1; next_is = p.2 }
+
+-- the last MCU
+pub record EndTaken (s : Standing) (read : BlocksRead) (pad : Bool) (end : Standing) : Type 0 where
+  pub pads : PadsTaken s.pad read.cursor pad end.pad
+  pub is : end ≡ over_standing (record read.cursor { left = [] }) s.count end.pad
+  pub next : end.cursor.next ≡ read.cursor.next
+
+pub end_taken : (ends : Bool) (shape : Shape) (bytes : List ℕ) (s end : Standing) (read : BlocksRead) (pad : Bool) → end_by true ends shape bytes s read ≡ Ok end → Agrees end.pad pad → EndTaken s read pad end
+end_taken ends shape bytes s end read pad e a =
+    let x = then_fine (pads_at s.pad read.cursor) (λ padded. fine (over_standing padded.1 s.count padded.0)) end e in
+    let is = is_fine (over_standing x.0.1 s.count x.0.0) end x.2 in
+    let f = pads_fine s.pad read.cursor x.0 x.1 in
+    let same : x.0.0 ≡ end.pad = ap (λ (t : Standing). t.pad) is in
+    let p = pads_taken s.pad read.cursor x.0 pad x.1 (subst (λ (o : Option Bool). Agrees o pad) (sym same) a) in
+    record {
+      pads = subst (λ (o : Option Bool). PadsTaken s.pad read.cursor pad o) same p;
+      is = sym is ∙ ap₂ (λ (c : Cursor) (o : Option Bool). over_standing c s.count o) f.1 same;
+      next = sym (ap (λ (t : Standing). t.cursor.next) is) ∙ ap (λ (c : Cursor). c.next) f.1;
+    }
+
+-- the last one of another interval
+pub record MarkerTaken (shape : Shape) (bytes : List ℕ) (s : Standing) (read : BlocksRead) (next : Standing) : Type 0 where
+  pub known : Option Bool
+  pub place : ℕ
+  pub is : next ≡ place_standing place s.count known
+  pub marker : drop read.cursor.next bytes ≡ restart_marker (interval_number shape s.count) ++ drop place bytes
+  pub place_is : place ≡ read.cursor.next + 2
+  pub pads : (pad : Bool) → Agrees known pad → PadsTaken s.pad read.cursor pad known
+
+pub marker_taken : (shape : Shape) (bytes : List ℕ) (s next : Standing) (read : BlocksRead) → end_by false true shape bytes s read ≡ Ok next → MarkerTaken shape bytes s read next
+marker_taken shape bytes s next read e =
+    let n = interval_number shape s.count in
+    let x = then_fine (pads_at s.pad read.cursor) (λ padded. and_then (restart_at bytes n padded.1.next) (λ place. fine (place_standing place s.count padded.0))) next e in
+    let m = then_fine (restart_at bytes n x.0.1.next) (λ place. fine (place_standing place s.count x.0.0)) next x.2 in
+    let f = pads_fine s.pad read.cursor x.0 x.1 in
+    let same : x.0.1.next ≡ read.cursor.next = ap (λ (c : Cursor). c.next) f.1 in
+    let r = restart_fine bytes n x.0.1.next m.0 m.1 in
+    record {
+      known = x.0.0;
+      place = m.0;
+      is = sym (is_fine (place_standing m.0 s.count x.0.0) next m.2);
+      marker = ap (λ (k : ℕ). drop k bytes) (sym same) ∙ r.0;
+      place_is = r.1 ∙ ap (λ (k : ℕ). k + 2) same;
+      pads = λ pad a. pads_taken s.pad read.cursor x.0 pad x.1 a;
+    }
+
+-- ---- one MCU
+
+pub record McuFine (shape : Shape) (bytes : List ℕ) (s : Standing) (blocks : List (List ℤ)) (next : Standing) : Type 0 where
+  pub read : BlocksRead
+  pub is : blocks_at shape.slots s.before bytes s.cursor ≡ Ok read
+  pub behind : behind_mcu shape bytes s read ≡ Ok next
+  pub same : blocks ≡ read.blocks
+
+pub mcu_fine : (shape : Shape) (bytes : List ℕ) (s : Standing) (x : List (List ℤ) × Standing) → mcu_at shape bytes s ≡ Ok x → McuFine shape bytes s x.0 x.1
+unfolding mcu_at
+mcu_fine shape bytes s x e =
+    let r = then_fine (blocks_at shape.slots s.before bytes s.cursor) (λ read. and_then (behind_mcu shape bytes s read) (λ next. Ok (read.blocks, next))) x e in
+    let n = then_fine (behind_mcu shape bytes s r.0) (λ next. fine (r.0.blocks, next)) x r.2 in
+    let p = both_fine (r.0.blocks, n.0) x n.2 in
+    record { read = r.0; is = r.1; behind = n.1 ∙ ap (λ (t : Standing). fine t) p.1; same = sym p.0 }
+
+mcu_again : (shape : Shape) (bytes : List ℕ) (s next : Standing) (read : BlocksRead) → blocks_at shape.slots s.before bytes s.cursor ≡ Ok read → behind_mcu shape bytes s read ≡ Ok next
+    → mcu_at shape bytes s ≡ Ok (read.blocks, next)
+unfolding mcu_at
+mcu_again shape bytes s next read e f =
+    ap (λ r. and_then {A = BlocksRead} {B = List (List ℤ) × Standing} r (λ read. and_then (behind_mcu shape bytes s read) (λ next. Ok (read.blocks, next)))) e
+    ∙ ap (λ r. and_then {A = Standing} {B = List (List ℤ) × Standing} r (λ next. Ok (read.blocks, next))) f
+
+-- and then others
+record McusFine (n : ℕ) (shape : Shape) (bytes : List ℕ) (s : Standing) (blocks : List (List (List ℤ))) (end : Standing) : Type 0 where
+  first : List (List ℤ)
+  next : Standing
+  more : List (List (List ℤ))
+  one : mcu_at shape bytes s ≡ Ok (first, next)
+  others : mcus_at n shape bytes next ≡ Ok (more, end)
+  same : blocks ≡ first ∷ more
+
+mcus_fine : (n : ℕ) (shape : Shape) (bytes : List ℕ) (s : Standing) (x : List (List (List ℤ)) × Standing) → mcus_at (suc n) shape bytes s ≡ Ok x → McusFine n shape bytes s x.0 x.1
+unfolding mcus_at
+mcus_fine n shape bytes s x e =
+    let f = then_fine (mcu_at shape bytes s) (λ first. and_then (mcus_at n shape bytes first.1) (λ more. Ok (first.0 ∷ more.0, more.1))) x e in
+    let m = then_fine (mcus_at n shape bytes f.0.1) (λ more. fine (f.0.0 ∷ more.0, more.1)) x f.2 in
+    let p = both_fine (f.0.0 ∷ m.0.0, m.0.1) x m.2 in
+    record { first = f.0.0; next = f.0.1; more = m.0.0; one = f.1; others = m.1 ∙ ap (λ (t : Standing). fine (m.0.0, t)) p.1; same = sym p.0 }
+
+mcus_more : (n : ℕ) (shape : Shape) (bytes : List ℕ) (s next end : Standing) (first : List (List ℤ)) (more : List (List (List ℤ))) → mcu_at shape bytes s ≡ Ok (first, next) → mcus_at n shape bytes next ≡ Ok (more, end)
+    → mcus_at (suc n) shape bytes s ≡ Ok (first ∷ more, end)
+unfolding mcus_at
+mcus_more n shape bytes s next end first more e f =
+    ap (λ r. and_then {A = List (List ℤ) × Standing} {B = List (List (List ℤ)) × Standing} r (λ first. and_then (mcus_at n shape bytes first.1) (λ more. Ok (first.0 ∷ more.0, more.1)))) e
+    ∙ ap (λ r. and_then {A = List (List (List ℤ)) × Standing} {B = List (List (List ℤ)) × Standing} r (λ more. Ok (first ∷ more.0, more.1))) f
+
+no_mcus : (shape : Shape) (bytes : List ℕ) (s : Standing) → mcus_at 0 shape bytes s ≡ Ok ([], s)
+unfolding mcus_at
+no_mcus shape bytes s = refl
+
+-- ---- what is read is the text
+
+one_interval : (t : Bool) (mcu : Mcu) → (if t then (mcu ∷ []) ∷ [] else onto_first mcu []) ≡ (mcu ∷ []) ∷ []
+one_interval true mcu = refl
+one_interval false mcu = refl
+
+-- MCUs that were read, the last of them the last of the scan
+record McusTaken (n : ℕ) (shape : Shape) (bytes : List ℕ) (s : Standing) (blocks : List (List (List ℤ))) (pad : Bool) (end : Standing) : Type 0 where
+  mcus : List Mcu
+  long : length mcus ≡ n
+  each : AllByRecursion (IsMcu shape.slots) mcus
+  same : blocks ≡ zigzag_of mcus
+  agrees : Agrees s.pad pad
+  k : ℕ
+  total : ℕ
+  padded : end.pad ≡ pad_behind s.pad total pad
+  rest : RestOf shape pad bytes end.cursor.next s.count s.before s.cursor k mcus total
+
+-- behind an MCU that ends its interval
+later_some : (all : List (List Mcu)) (slots : List Slot) (pad : Bool) (bytes : List ℕ) (behind n at place : ℕ) → 0 < length all → drop at bytes ≡ restart_marker n ++ drop place bytes → place ≡ at + 2
+    → TextOf slots pad bytes behind (n + 1) place all → Later slots pad bytes behind n all at
+later_some [] slots pad bytes behind n at place some m p t = absurd (omega (arith, some))
+later_some (i ∷ is) slots pad bytes behind n at place some m p t =
+    let g = t.2 in
+    (t.0, t.1, m ∙ ap (λ (l : List ℕ). restart_marker n ++ l) g.there, (let a = g.long in omega (arith, a, p)))
+
+last_mcu : (shape : Shape) (bytes : List ℕ) (s end : Standing) (blocks : List (List (List ℤ))) (pad : Bool) → IsShape shape → s.count + 1 ≡ shape.mcus → mcus_at 1 shape bytes s ≡ Ok (blocks, end) → Agrees end.pad pad
+    → McusTaken 1 shape bytes s blocks pad end
+last_mcu shape bytes s end blocks pad is count e a =
+    let f = mcus_fine 0 shape bytes s (blocks, end) e in
+    let p = both_fine {A = List (List (List ℤ))} {B = Standing} ([], f.next) (f.more, end) (sym (no_mcus shape bytes f.next) ∙ f.others) in
+    let one = mcu_fine shape bytes s (f.first, f.next) f.one in
+    let m = blocks_read shape.slots s.before bytes s.cursor one.read is.slots one.is in
+    let over : (s.count + 1 == shape.mcus) ≡ true = eq-eqb (s.count + 1) shape.mcus count in
+    let ends = ends_interval shape.interval (s.count + 1) in
+    let t = end_taken ends shape bytes s end one.read pad (sym (ap (λ (b : Bool). end_by b ends shape bytes s one.read) over) ∙ one.behind ∙ ap (λ (g : Standing). fine g) p.1) a in
+    let pads = t.pads in
+    let interval : intervals_behind shape.interval s.count (m.mcu ∷ []) ≡ (m.mcu ∷ []) ∷ [] = one_interval ends m.mcu in
+    record {
+      mcus = m.mcu ∷ [];
+      long = refl;
+      each = ((m.long, m.each), tt);
+      same = f.same ∙ ap₂ (λ (b : List (List ℤ)) (l : List (List (List ℤ))). b ∷ l) (one.same ∙ m.same) (sym p.0);
+      agrees = pads.agrees;
+      k = pads.k;
+      total = pads.k + pads_in shape.slots [];
+      padded = pads.next_is ∙ (let z : pads.k ≡ pads.k + pads_in shape.slots [] = omega arith in ap (λ (n : ℕ). pad_behind s.pad n pad) z);
+      rest = closed_rest shape pad bytes end.cursor.next s.count s.before s.cursor one.read.cursor pads.k m.mcu [] [] m.bits interval m.text m.takes pads.left (sym t.next);
+    }
+
+-- an MCU before others, by whether it ends its interval
+more_mcus : (ends : Bool) (n : ℕ) (shape : Shape) (bytes : List ℕ) (s next end : Standing) (first : List (List ℤ)) (more : List (List (List ℤ))) (read : BlocksRead) (pad : Bool) → IsShape shape → AllByRecursion IsByte bytes
+    → ends_interval shape.interval (s.count + 1) ≡ ends → McuTaken shape.slots s.before bytes s.cursor read → first ≡ read.blocks → end_by false ends shape bytes s read ≡ Ok next
+    → (next.count ≡ s.count + 1 → McusTaken (suc n) shape bytes next more pad end) → McusTaken (suc (suc n)) shape bytes s (first ∷ more) pad end
+more_mcus true n shape bytes s next end first more read pad is all closes m same e later =
+    let t = marker_taken shape bytes s next read e in
+    let st = place_standing t.place s.count t.known in
+    let r = subst (λ (g : Standing). McusTaken (suc n) shape bytes g more pad end) t.is (later (ap (λ (g : Standing). g.count) t.is)) in
+    let x = text_of_rest shape pad bytes end.cursor.next (s.count + 1) t.place r.k r.mcus r.total all r.rest in
+    let intervals = intervals_behind shape.interval (s.count + 1) r.mcus in
+    let number : interval_number shape (s.count + 1) ≡ interval_number shape s.count + 1 = number_next_of (shape.interval == 0) shape.interval s.count refl closes in
+    let text : TextOf shape.slots pad bytes end.cursor.next (interval_number shape s.count + 1) t.place intervals = subst (λ (k : ℕ). TextOf shape.slots pad bytes end.cursor.next k t.place intervals) number x.1 in
+    let w = r.rest in
+    let some : 0 < length intervals = let l = ap length w.is in omega (arith, l) in
+    let pads = t.pads pad r.agrees in
+    let interval : intervals_behind shape.interval s.count (m.mcu ∷ r.mcus) ≡ (m.mcu ∷ []) ∷ intervals = ap (λ (b : Bool). if b then (m.mcu ∷ []) ∷ intervals else onto_first m.mcu intervals) closes in
+    record {
+      mcus = m.mcu ∷ r.mcus;
+      long = ap suc r.long;
+      each = ((m.long, m.each), r.each);
+      same = ap₂ (λ (b : List (List ℤ)) (l : List (List (List ℤ))). b ∷ l) (same ∙ m.same) r.same;
+      agrees = pads.agrees;
+      k = pads.k;
+      total = pads.k + pads_in shape.slots intervals;
+      padded =
+          r.padded ∙ ap₂ (λ (o : Option Bool) (k : ℕ). pad_behind o k pad) pads.next_is x.0 ∙ pad_behind_more s.pad pads.k (pads_in shape.slots intervals) pad;
+      rest = closed_rest shape pad bytes end.cursor.next s.count s.before s.cursor read.cursor pads.k m.mcu r.mcus intervals m.bits interval m.text m.takes pads.left
+          (later_some intervals shape.slots pad bytes end.cursor.next (interval_number shape s.count) read.cursor.next t.place some t.marker t.place_is text);
+    }
+more_mcus false n shape bytes s next end first more read pad is all on m same e later =
+    let st = on_standing read.cursor read.before s.count s.pad in
+    let same_next : st ≡ next = is_fine st next e in
+    let r = subst (λ (g : Standing). McusTaken (suc n) shape bytes g more pad end) (sym same_next) (later (sym (ap (λ (g : Standing). g.count) same_next))) in
+    let rest = subst (λ (d : List ℤ). RestOf shape pad bytes end.cursor.next (s.count + 1) d read.cursor r.k r.mcus r.total) m.last r.rest in
+    record {
+      mcus = m.mcu ∷ r.mcus;
+      long = ap suc r.long;
+      each = ((m.long, m.each), r.each);
+      same = ap₂ (λ (b : List (List ℤ)) (l : List (List (List ℤ))). b ∷ l) (same ∙ m.same) r.same;
+      agrees = r.agrees;
+      k = r.k;
+      total = r.total;
+      padded = r.padded;
+      rest = onto_rest shape pad bytes end.cursor.next s.count s.before s.cursor read.cursor r.k m.mcu r.mcus m.bits r.total on (sym m.long) m.text m.takes rest;
+    }
+
+mcus_read : (n : ℕ) (shape : Shape) (bytes : List ℕ) (s end : Standing) (blocks : List (List (List ℤ))) (pad : Bool) → IsShape shape → AllByRecursion IsByte bytes → s.count + suc n ≡ shape.mcus
+    → mcus_at (suc n) shape bytes s ≡ Ok (blocks, end) → Agrees end.pad pad → McusTaken (suc n) shape bytes s blocks pad end
+mcus_read zero shape bytes s end blocks pad is all count e a = last_mcu shape bytes s end blocks pad is count e a
+mcus_read (suc n) shape bytes s end blocks pad is all count e a =
+    let f = mcus_fine (suc n) shape bytes s (blocks, end) e in
+    let one = mcu_fine shape bytes s (f.first, f.next) f.one in
+    let m = blocks_read shape.slots s.before bytes s.cursor one.read is.slots one.is in
+    let ends = ends_interval shape.interval (s.count + 1) in
+    let on : (s.count + 1 == shape.mcus) ≡ false = false_from_ne_true (s.count + 1 == shape.mcus) (λ z. let h = eqb-true (s.count + 1) shape.mcus z in omega (arith, h, count)) in
+    let g : end_by false ends shape bytes s one.read ≡ Ok f.next = sym (ap (λ (b : Bool). end_by b ends shape bytes s one.read) on) ∙ one.behind in
+    let r = more_mcus ends n shape bytes s f.next end f.first f.more one.read pad is all refl m one.same g
+    (λ c. mcus_read n shape bytes f.next end f.more pad is all (omega (arith, c, count)) f.others a) in
+    subst (λ (b : List (List (List ℤ))). McusTaken (suc (suc n)) shape bytes s b pad end) (sym f.same) r
+
+agrees_known : (known : Option Bool) → Agrees known (unwrap_or known true)
+agrees_known None = tt
+agrees_known (Some pad) = refl
+
+first_number : (shape : Shape) → interval_number shape 0 ≡ 0
+first_number shape = by (shape.interval == 0) where
+  by : (t : Bool) → (if t then 0 else Rattle.std.specs.Prelude.◌/◌ 0 shape.interval) ≡ 0
+  by true = refl
+  by false = zero-div shape.interval
+
+-- a pad bit that isn't told is 1
+told_pad : (n : ℕ) (known : Option Bool) (pad : Bool) → known ≡ pad_behind None n pad → pad ≡ unwrap_or known true → n ≡ 0 → pad ≡ true
+told_pad zero known pad e is none = is ∙ ap (λ (o : Option Bool). unwrap_or o true) e
+told_pad (suc n) known pad e is none = absurd (omega (arith, none))
+
+spelled_by : (n : ℕ) (shape : Shape) (bytes : List ℕ) (place : ℕ) (blocks : List (List (List ℤ))) (end : Standing) → n ≡ shape.mcus → IsShape shape → AllByRecursion IsByte bytes → place ≤ length bytes
+    → mcus_at n shape bytes (standing_at place) ≡ Ok (blocks, end)
+    → (mcus : List Mcu) × (blocks ≡ zigzag_of mcus) × Begins shape mcus (unwrap_or end.pad true) bytes place end.cursor.next
+unfolding scan_bytes
+spelled_by zero shape bytes place blocks end n is all within e = absurd (let h = is.mcus in omega (arith, n, h))
+spelled_by (suc n) shape bytes place blocks end count is all within e =
+    let pad = unwrap_or end.pad true in
+    let behind = end.cursor.next in
+    let r = mcus_read n shape bytes (standing_at place) end blocks pad is all (omega (arith, count)) e (agrees_known end.pad) in
+    let x = text_of_rest shape pad bytes behind 0 place r.k r.mcus r.total all r.rest in
+    let intervals = intervals_behind shape.interval 0 r.mcus in
+    let text : TextOf shape.slots pad bytes behind 0 place intervals = subst (λ (k : ℕ). TextOf shape.slots pad bytes behind k place intervals) (first_number shape) x.1 in
+    let g = text.2 in (
+      r.mcus,
+      r.same,
+      record {
+        scan = text.0;
+        is = record {
+          grid = record { count = r.long ∙ count; each = r.each };
+          told = λ none. told_pad r.total end.pad pad r.padded refl (x.0 ∙ none);
+          text = text.1;
+        };
+        text = g.there;
+        within =
+            let a = ap length g.there in let b = length-append text.0 (drop behind bytes) in let c = length-drop place bytes in let d = length-drop behind bytes in let f = g.long in omega (arith, a, b, c, d, f, within);
+        long = g.long;
+      },
+    )
+
+pub spelled : IsSpelled
+spelled shape bytes place blocks end is all within e = spelled_by shape.mcus shape bytes place blocks end refl is all within e
+
+-- ---- the text is read again
+
+abbrev no_left : Cursor → Cursor
+no_left cursor = record cursor { left = [] }
+
+end_again : (ends : Bool) (shape : Shape) (bytes : List ℕ) (s : Standing) (read : BlocksRead) (pad : Bool) (k : ℕ) → Agrees s.pad pad → read.cursor.left ≡ replicate k pad
+    → end_by true ends shape bytes s read ≡ Ok (over_standing (no_left read.cursor) s.count (pad_behind s.pad k pad))
+end_again ends shape bytes s read pad k a left =
+    ap (λ r. and_then {A = Option Bool × Cursor} {B = Standing} r (λ padded. Ok (over_standing padded.1 s.count padded.0))) (pads_are k s.pad read.cursor pad a left)
+
+marker_again : (shape : Shape) (bytes more : List ℕ) (s : Standing) (read : BlocksRead) (pad : Bool) (k : ℕ) → Agrees s.pad pad → read.cursor.left ≡ replicate k pad
+    → drop read.cursor.next bytes ≡ restart_marker (interval_number shape s.count) ++ more → end_by false true shape bytes s read ≡ Ok (place_standing (read.cursor.next + 2) s.count (pad_behind s.pad k pad))
+marker_again shape bytes more s read pad k a left e =
+    let n = interval_number shape s.count in
+    ap (λ r. and_then {A = Option Bool × Cursor} {B = Standing} r (λ padded. and_then (restart_at bytes n padded.1.next) (λ place. Ok (place_standing place s.count padded.0)))) (pads_are k s.pad read.cursor pad a left)
+    ∙ ap (λ r. and_then {A = ℕ} {B = Standing} r (λ place. Ok (place_standing place s.count (pad_behind s.pad k pad)))) (restart_again bytes more n read.cursor.next e).0
+
+lists_same : (a b : List Mcu) (xs ys : List (List Mcu)) → a ∷ xs ≡ b ∷ ys → (a ≡ b) × (xs ≡ ys)
+lists_same a b xs ys e = (cc, cc)
+
+list_split : (all : List (List Mcu)) → 0 < length all → (first : List Mcu) × (others : List (List Mcu)) × (all ≡ first ∷ others)
+list_split [] some = absurd (omega (arith, some))
+list_split (i ∷ is) some = (i, is, refl)
+
+-- the first MCU, where it ends its interval
+record ClosedMcu (shape : Shape) (pad : Bool) (bytes : List ℕ) (behind count : ℕ) (before : List ℤ) (cursor : Cursor) (k : ℕ) (mcu : Mcu) (others : List (List Mcu)) (total : ℕ) : Type 0 where
+  bits : List Bool
+  text : blocks_text shape.slots before mcu ≡ Ok bits
+  to : Cursor
+  takes : Takes bytes cursor bits to
+  left : to.left ≡ replicate k pad
+  later : Later shape.slots pad bytes behind (interval_number shape count) others to.next
+  sum : total ≡ k + pads_in shape.slots others
+
+closed_parts : (shape : Shape) (pad : Bool) (bytes : List ℕ) (behind count : ℕ) (before : List ℤ) (cursor : Cursor) (k : ℕ) (mcu : Mcu) (mcus : List Mcu) (others : List (List Mcu)) (total : ℕ)
+    → RestOf shape pad bytes behind count before cursor k (mcu ∷ mcus) total → intervals_behind shape.interval count (mcu ∷ mcus) ≡ (mcu ∷ []) ∷ others
+    → ClosedMcu shape pad bytes behind count before cursor k mcu others total
+closed_parts shape pad bytes behind count before cursor k mcu mcus others total r is =
+    let p = lists_same r.first (mcu ∷ []) r.others others (sym r.is ∙ is) in
+    let n = interval_number shape count in
+    let a = subst (λ (f : List Mcu). Rest shape.slots pad bytes behind n before cursor k f r.others) p.0 r.rest in
+    let w = subst (λ (o : List (List Mcu)). Rest shape.slots pad bytes behind n before cursor k (mcu ∷ []) o) p.1 a in
+    record {
+      bits = w.bits;
+      text = sym (ap₂ (λ (s : List Slot) (b : Mcu). blocks_text s before b) (append-nil shape.slots) (append-nil mcu)) ∙ w.text;
+      to = w.to;
+      takes = w.takes;
+      left = w.left;
+      later = w.later;
+      sum = r.sum ∙ ap (λ (o : List (List Mcu)). k + pads_in shape.slots o) p.1;
+    }
+
+-- and where the interval goes on
+record OnMcu (shape : Shape) (pad : Bool) (bytes : List ℕ) (behind count : ℕ) (before : List ℤ) (cursor : Cursor) (k : ℕ) (mcu : Mcu) (mcus : List Mcu) (total : ℕ) : Type 0 where
+  bits : List Bool
+  text : blocks_text shape.slots before mcu ≡ Ok bits
+  mid : Cursor
+  takes : Takes bytes cursor bits mid
+  rest : RestOf shape pad bytes behind (count + 1) (behind_blocks shape.slots before mcu) mid k mcus total
+
+on_parts : (shape : Shape) (pad : Bool) (bytes : List ℕ) (behind count : ℕ) (before : List ℤ) (cursor : Cursor) (k : ℕ) (mcu : Mcu) (mcus first : List Mcu) (others : List (List Mcu)) (total : ℕ)
+    → length shape.slots ≡ length mcu → ends_interval shape.interval (count + 1) ≡ false → intervals_behind shape.interval (count + 1) mcus ≡ first ∷ others
+    → RestOf shape pad bytes behind count before cursor k (mcu ∷ mcus) total → OnMcu shape pad bytes behind count before cursor k mcu mcus total
+on_parts shape pad bytes behind count before cursor k mcu mcus first others total size on is r =
+    let whole : intervals_behind shape.interval count (mcu ∷ mcus) ≡ (mcu ∷ first) ∷ others =
+    ap (λ (t : Bool). if t then (mcu ∷ []) ∷ intervals_behind shape.interval (count + 1) mcus else onto_first mcu (intervals_behind shape.interval (count + 1) mcus)) on ∙ ap (onto_first mcu) is in
+    let p = lists_same r.first (mcu ∷ first) r.others others (sym r.is ∙ whole) in
+    let n = interval_number shape count in
+    let a = subst (λ (f : List Mcu). Rest shape.slots pad bytes behind n before cursor k f r.others) p.0 r.rest in
+    let w = subst (λ (o : List (List Mcu)). Rest shape.slots pad bytes behind n before cursor k (mcu ∷ first) o) p.1 a in
+    let d = behind_blocks shape.slots before mcu in
+    let t = text_parts (blocks_text shape.slots before mcu) (blocks_text (slots_for shape.slots first) d (blocks_in first)) w.bits
+    (sym (text_in_parts shape.slots (slots_for shape.slots first) before mcu (blocks_in first) size) ∙ w.text) in
+    let x = takes_split bytes cursor w.to t.0 t.1 (subst (λ (l : List Bool). Takes bytes cursor l w.to) t.4 w.takes) in
+    let same : interval_number shape (count + 1) ≡ n = number_same_of (shape.interval == 0) shape.interval count refl on in
+    record {
+      bits = t.0;
+      text = t.2;
+      mid = x.0;
+      takes = x.1;
+      rest = record {
+        first = first;
+        others = others;
+        is = is;
+        rest = record {
+          bits = t.1;
+          text = t.3;
+          to = w.to;
+          takes = x.2;
+          left = w.left;
+          later = subst (λ (m : ℕ). Later shape.slots pad bytes behind m others w.to.next) (sym same) w.later;
+        };
+        sum = r.sum ∙ ap (λ (o : List (List Mcu)). k + pads_in shape.slots o) p.1;
+      };
+    }
+
+record McusAgain (n : ℕ) (shape : Shape) (bytes : List ℕ) (s : Standing) (blocks : List (List (List ℤ))) (behind : ℕ) (pad : Bool) (total : ℕ) : Type 0 where
+  end : Standing
+  is : mcus_at n shape bytes s ≡ Ok (blocks, end)
+  next : end.cursor.next ≡ behind
+  padded : end.pad ≡ pad_behind s.pad total pad
+
+abbrev read_of : List Slot → List ℤ → Mcu → Cursor → BlocksRead
+read_of slots before mcu cursor = record { blocks = map in_zigzag mcu; before = behind_blocks slots before mcu; cursor = cursor }
+
+last_again : (shape : Shape) (bytes : List ℕ) (s : Standing) (mcu : Mcu) (pad : Bool) (behind k total : ℕ) → IsShape shape → IsMcu shape.slots mcu → s.count + 1 ≡ shape.mcus → Agrees s.pad pad
+    → RestOf shape pad bytes behind s.count s.before s.cursor k (mcu ∷ []) total → McusAgain 1 shape bytes s (zigzag_of (mcu ∷ [])) behind pad total
+last_again shape bytes s mcu pad behind k total is one count a r =
+    let ends = ends_interval shape.interval (s.count + 1) in
+    let c = closed_parts shape pad bytes behind s.count s.before s.cursor k mcu [] [] total r (one_interval ends mcu) in
+    let read = read_of shape.slots s.before mcu c.to in
+    let blocks = blocks_again shape.slots s.before mcu bytes c.bits s.cursor c.to is.slots one.1 one.0 c.text c.takes in
+    let over : (s.count + 1 == shape.mcus) ≡ true = eq-eqb (s.count + 1) shape.mcus count in
+    let end = over_standing (no_left c.to) s.count (pad_behind s.pad k pad) in
+    let sum = c.sum in
+    let same : k ≡ total = omega (arith, sum) in
+    record {
+      end = end;
+      is =
+          mcus_more 0 shape bytes s end end (map in_zigzag mcu) []
+          (mcu_again shape bytes s end read blocks (ap (λ (b : Bool). end_by b ends shape bytes s read) over ∙ end_again ends shape bytes s read pad k a c.left)) (no_mcus shape bytes end);
+      next = c.later;
+      padded = ap (λ (n : ℕ). pad_behind s.pad n pad) same;
+    }
+
+some_text : (all : List (List Mcu)) (slots : List Slot) (pad : Bool) (bytes : List ℕ) (behind n at : ℕ) → 0 < length all → Later slots pad bytes behind n all at
+    → (text : List ℕ) × (all_bytes slots pad (n + 1) all ≡ Ok text) × (drop at bytes ≡ restart_marker n ++ (text ++ drop behind bytes)) × (behind ≡ at + (2 + length text))
+some_text [] slots pad bytes behind n at some l = absurd (omega (arith, some))
+some_text (i ∷ is) slots pad bytes behind n at some l = l
+
+-- an MCU before others, by whether it ends its interval
+more_again : (ends : Bool) (n : ℕ) (shape : Shape) (bytes : List ℕ) (s : Standing) (mcu next : Mcu) (mcus : List Mcu) (pad : Bool) (behind k total : ℕ) → IsShape shape → IsMcu shape.slots mcu
+    → (s.count + 1 == shape.mcus) ≡ false → ends_interval shape.interval (s.count + 1) ≡ ends → Agrees s.pad pad → RestOf shape pad bytes behind s.count s.before s.cursor k (mcu ∷ next ∷ mcus) total
+    → ((t : Standing) (j all : ℕ) → t.count ≡ s.count + 1 → Agrees t.pad pad → RestOf shape pad bytes behind t.count t.before t.cursor j (next ∷ mcus) all
+    → McusAgain n shape bytes t (zigzag_of (next ∷ mcus)) behind pad all)
+    → McusAgain (suc n) shape bytes s (zigzag_of (mcu ∷ next ∷ mcus)) behind pad total
+more_again true n shape bytes s mcu next mcus pad behind k total is one on closes a r later =
+    let intervals = intervals_behind shape.interval (s.count + 1) (next ∷ mcus) in
+    let some = intervals_some shape.interval (s.count + 1) next mcus in
+    let c = closed_parts shape pad bytes behind s.count s.before s.cursor k mcu (next ∷ mcus) intervals total r
+    (ap (λ (b : Bool). if b then (mcu ∷ []) ∷ intervals else onto_first mcu intervals) closes) in
+    let read = read_of shape.slots s.before mcu c.to in
+    let blocks = blocks_again shape.slots s.before mcu bytes c.bits s.cursor c.to is.slots one.1 one.0 c.text c.takes in
+    let t = some_text intervals shape.slots pad bytes behind (interval_number shape s.count) c.to.next some c.later in
+    let marker = restart_again bytes (t.0 ++ drop behind bytes) (interval_number shape s.count) c.to.next t.2 in
+    let known = pad_behind s.pad k pad in
+    let place = c.to.next + 2 in
+    let st = place_standing place s.count known in
+    let number : interval_number shape (s.count + 1) ≡ interval_number shape s.count + 1 = number_next_of (shape.interval == 0) shape.interval s.count refl closes in
+    let long = t.3 in
+    let goes : Goes bytes place t.0 behind = record { there = marker.1; long = omega (arith, long) } in
+    let text : TextOf shape.slots pad bytes behind (interval_number shape (s.count + 1)) place intervals =
+    (t.0, ap (λ (m : ℕ). all_bytes shape.slots pad m intervals) number ∙ t.1, goes) in
+    let f = list_split intervals some in
+    let rest = rest_of_text shape pad bytes behind (s.count + 1) place (next ∷ mcus) f.0 f.1 f.2 text in
+    let l = later st (pads_behind (mcus_bits shape.slots f.0)) (pads_in shape.slots intervals) refl (agrees_behind s.pad k pad a) rest in
+    record {
+      end = l.end;
+      is =
+          mcus_more n shape bytes s st l.end (map in_zigzag mcu) (zigzag_of (next ∷ mcus))
+          (mcu_again shape bytes s st read blocks (ap (λ (b : Bool). end_by b (ends_interval shape.interval (s.count + 1)) shape bytes s read) on ∙ ap (λ (b : Bool). end_by false b shape bytes s read) closes
+          ∙ marker_again shape bytes (t.0 ++ drop behind bytes) s read pad k a c.left t.2)) l.is;
+      next = l.next;
+      padded = l.padded ∙ pad_behind_more s.pad k (pads_in shape.slots intervals) pad ∙ ap (λ (m : ℕ). pad_behind s.pad m pad) (sym c.sum);
+    }
+more_again false n shape bytes s mcu next mcus pad behind k total is one on goes_on a r later =
+    let intervals = intervals_behind shape.interval (s.count + 1) (next ∷ mcus) in
+    let f = list_split intervals (intervals_some shape.interval (s.count + 1) next mcus) in
+    let c = on_parts shape pad bytes behind s.count s.before s.cursor k mcu (next ∷ mcus) f.0 f.1 total (sym one.0) goes_on f.2 r in
+    let read = read_of shape.slots s.before mcu c.mid in
+    let blocks = blocks_again shape.slots s.before mcu bytes c.bits s.cursor c.mid is.slots one.1 one.0 c.text c.takes in
+    let st = on_standing c.mid (behind_blocks shape.slots s.before mcu) s.count s.pad in
+    let l = later st k total refl a c.rest in
+    record {
+      end = l.end;
+      is =
+          mcus_more n shape bytes s st l.end (map in_zigzag mcu) (zigzag_of (next ∷ mcus))
+          (mcu_again shape bytes s st read blocks (ap (λ (b : Bool). end_by b (ends_interval shape.interval (s.count + 1)) shape bytes s read) on ∙ ap (λ (b : Bool). end_by false b shape bytes s read) goes_on)) l.is;
+      next = l.next;
+      padded = l.padded;
+    }
+
+mcus_again : (mcus : List Mcu) (mcu : Mcu) (shape : Shape) (bytes : List ℕ) (s : Standing) (pad : Bool) (behind k total : ℕ) → IsShape shape → AllByRecursion (IsMcu shape.slots) (mcu ∷ mcus)
+    → s.count + suc (length mcus) ≡ shape.mcus → Agrees s.pad pad → RestOf shape pad bytes behind s.count s.before s.cursor k (mcu ∷ mcus) total
+    → McusAgain (suc (length mcus)) shape bytes s (zigzag_of (mcu ∷ mcus)) behind pad total
+mcus_again [] mcu shape bytes s pad behind k total is each count a r = last_again shape bytes s mcu pad behind k total is each.0 count a r
+mcus_again (next ∷ mcus) mcu shape bytes s pad behind k total is each count a r =
+    let on : (s.count + 1 == shape.mcus) ≡ false = false_from_ne_true (s.count + 1 == shape.mcus) (λ z. let h = eqb-true (s.count + 1) shape.mcus z in omega (arith, h, count)) in
+    more_again (ends_interval shape.interval (s.count + 1)) (suc (length mcus)) shape bytes s mcu next mcus pad behind k total is each.0 on refl a r
+    (λ t j all c b rest. mcus_again mcus next shape bytes t pad behind j all is each.1 (omega (arith, c, count)) b rest)
+
+pad_told : (n : ℕ) (known : Option Bool) (pad : Bool) → known ≡ pad_behind None n pad → (n ≡ 0 → pad ≡ true) → unwrap_or known true ≡ pad
+pad_told zero known pad e told = ap (λ (o : Option Bool). unwrap_or o true) e ∙ sym (told refl)
+pad_told (suc n) known pad e told = ap (λ (o : Option Bool). unwrap_or o true) e
+
+again_by : (mcus : List Mcu) (shape : Shape) (bytes : List ℕ) (place behind : ℕ) (pad : Bool) → IsShape shape → Begins shape mcus pad bytes place behind
+    → (end : Standing) × (scan_at shape bytes place ≡ Ok (zigzag_of mcus, end)) × (end.cursor.next ≡ behind) × (unwrap_or end.pad true ≡ pad)
+unfolding scan_bytes
+again_by [] shape bytes place behind pad is b = absurd (let h = b.is.grid.count in let m = is.mcus in omega (arith, h, m))
+again_by (mcu ∷ mcus) shape bytes place behind pad is b =
+    let all = mcu ∷ mcus in
+    let w = b.is in
+    let count = w.grid.count in
+    let intervals = intervals_behind shape.interval 0 all in
+    let f = list_split intervals (intervals_some shape.interval 0 mcu mcus) in
+    let goes : Goes bytes place b.scan behind = record { there = b.text; long = b.long } in
+    let text : TextOf shape.slots pad bytes behind (interval_number shape 0) place intervals = (b.scan, ap (λ (n : ℕ). all_bytes shape.slots pad n intervals) (first_number shape) ∙ w.text, goes) in
+    let rest = rest_of_text shape pad bytes behind 0 place all f.0 f.1 f.2 text in
+    let r = mcus_again mcus mcu shape bytes (standing_at place) pad behind (pads_behind (mcus_bits shape.slots f.0)) (pads_in shape.slots intervals) is w.grid.each (omega (arith, count)) tt rest in
+    (r.end, ap (λ (n : ℕ). mcus_at n shape bytes (standing_at place)) (sym count) ∙ r.is, r.next, pad_told (pads_in shape.slots intervals) r.end.pad pad r.padded w.told)
+
+pub read_again : IsReadAgain
+read_again shape bytes place behind mcus pad is b = again_by mcus shape bytes place behind pad is b
+
+-- ---- bytes tell the scan
+
+zigzags_tell : (a b : List (List ℤ)) → AllByRecursion IsBlock a → AllByRecursion IsBlock b → map in_zigzag a ≡ map in_zigzag b → a ≡ b
+zigzags_tell [] [] x y e = refl
+zigzags_tell [] (d ∷ b) x y e = absurd (let h = ap length e in omega (arith, h))
+zigzags_tell (c ∷ a) [] x y e = absurd (let h = ap length e in omega (arith, h))
+zigzags_tell (c ∷ a) (d ∷ b) x y e =
+    let p = both_lists (in_zigzag c) (in_zigzag d) (map in_zigzag a) (map in_zigzag b) e in
+    ap₂ (λ (l : List ℤ) (ls : List (List ℤ)). l ∷ ls) (zigzag_tells c d x.0.count y.0.count p.0) (zigzags_tell a b x.1 y.1 p.1) where
+      both_lists : (a b : List ℤ) (xs ys : List (List ℤ)) → a ∷ xs ≡ b ∷ ys → (a ≡ b) × (xs ≡ ys)
+      both_lists a b xs ys e = (cc, cc)
+
+mcus_same : (a b : Mcu) (xs ys : List Mcu) → a ∷ xs ≡ b ∷ ys → (a ≡ b) × (xs ≡ ys)
+mcus_same a b xs ys e = (cc, cc)
+
+mcus_tell : (a b : List Mcu) (slots : List Slot) → AllByRecursion (IsMcu slots) a → AllByRecursion (IsMcu slots) b → zigzag_of a ≡ zigzag_of b → a ≡ b
+mcus_tell [] [] slots x y e = refl
+mcus_tell [] (d ∷ b) slots x y e = absurd (let h = ap length e in omega (arith, h))
+mcus_tell (c ∷ a) [] slots x y e = absurd (let h = ap length e in omega (arith, h))
+mcus_tell (c ∷ a) (d ∷ b) slots x y e =
+    let p = mcus_same (map in_zigzag c) (map in_zigzag d) (zigzag_of a) (zigzag_of b) e in
+    ap₂ (λ (l : Mcu) (ls : List Mcu). l ∷ ls) (zigzags_tell c d x.0.1 y.0.1 p.0) (mcus_tell a b slots x.1 y.1 p.1)
+
+same_length : (a b x y : List ℕ) → length a ≡ length b → a ++ x ≡ b ++ y → (a ≡ b) × (x ≡ y)
+same_length [] [] x y h e = (refl, e)
+same_length [] (d ∷ b) x y h e = absurd (omega (arith, h))
+same_length (c ∷ a) [] x y h e = absurd (omega (arith, h))
+same_length (c ∷ a) (d ∷ b) x y h e =
+    let same : c ≡ d = cc in
+    let tails : a ++ x ≡ b ++ y = cc in
+    let r = same_length a b x y (omega (arith, h)) tails in
+    (ap₂ (λ (n : ℕ) (l : List ℕ). n ∷ l) same r.0, r.1)
+
+-- a scan at the head of bytes
+head_begins : (shape : Shape) (mcus : List Mcu) (pad : Bool) (a x bytes : List ℕ) → IsScan shape mcus pad a → bytes ≡ a ++ x → Begins shape mcus pad bytes 0 (length a)
+head_begins shape mcus pad a x bytes is e =
+    let behind : drop (length a) bytes ≡ x = ap (drop (length a)) e ∙ drop_at a x (length a) refl in
+    let long = ap length e in
+    let sum = length-append a x in
+    record {
+      scan = a;
+      is = is;
+      text = e ∙ ap (λ (l : List ℕ). a ++ l) (sym behind);
+      within = omega (arith, long, sum);
+      long = omega arith;
+    }
+
+pub one_scan : OneScan
+one_scan shape mcus others pad other a b x y is fst snd e =
+    let f = read_again shape (a ++ x) 0 (length a) mcus pad is (head_begins shape mcus pad a x (a ++ x) fst refl) in
+    let s = read_again shape (a ++ x) 0 (length b) others other is (head_begins shape others other b y (a ++ x) snd e) in
+    let p = both_fine (zigzag_of mcus, f.0) (zigzag_of others, s.0) (sym f.1 ∙ s.1) in
+    let place : length a ≡ length b = sym f.2 ∙ ap (λ (t : Standing). t.cursor.next) p.1 ∙ s.2 in
+    let parts = same_length a b x y place e in
+    (mcus_tell mcus others shape.slots fst.grid.each snd.grid.each p.0, sym f.3 ∙ ap (λ (t : Standing). unwrap_or t.pad true) p.1 ∙ s.3, parts.0, parts.1)

@@ -1,0 +1,99 @@
+-- The bytes of a scan (ITU-T T.81, A.2, B.1.1.5, B.2.1, E.1.4, F.1.2.3): restart intervals with markers between them.
+use Rattle.std.specs.Prelude.{ℕ, ◌≡◌, ◌+◌, ◌%◌, Bool, true, not, ◌&&◌, ◌==◌, if◌then◌else◌, List, [], ◌∷◌, ◌++◌, length, replicate, flat_map, sum_by, ℤ, pos, Result, Ok, Err}
+use Rattle.std.specs.List.{AllByRecursion, onto_first}
+use Rattle.bit_list.specs.Bits.{bytes_after, begun_after, padding, stuffed}
+use Rattle.coef_block.specs.Block.{IsBlock}
+use Rattle.scan_text.specs.BlockBits.{Text}
+use Rattle.scan_text.specs.Blocks.{blocks_text}
+use Rattle.scan_text.specs.Slots.{Shape}
+use Rattle.scan_text.specs.declared.slot.Slot.{Slot}
+use Rattle.scan_text.specs.declared.stop.WriteStop.{WriteStop}
+
+-- the blocks of an MCU in their order, each by its coefficients (A.2.3)
+abbrev pub Mcu : Type 0
+Mcu = List (List ℤ)
+
+-- the DCs before the first blocks of an interval, by place in the frame (F.1.1.5.1)
+abbrev pub no_dcs : List ℤ
+no_dcs = replicate 4 (pos 0)
+
+-- the bits of an interval's MCUs (A.2, F.1.1.5.1)
+unfoldable pub mcus_bits : List Slot → List Mcu → Text
+mcus_bits slots mcus = blocks_text (flat_map (λ mcu. slots) mcus) no_dcs (flat_map (λ mcu. mcu) mcus)
+
+-- bits with pad bits behind them, up to a whole byte (F.1.2.3; a pad bit of 0: own)
+abbrev pub padded : List Bool → Bool → List Bool
+padded bits pad = bits ++ padding (begun_after [] bits) pad
+
+-- the bytes of an interval's bits (B.1.1.5, F.1.2.3)
+abbrev pub interval_bytes : Bool → List Bool → List ℕ
+interval_bytes pad bits = stuffed (bytes_after [] (padded bits pad))
+
+-- RSTm: m runs from 0 to 7 and round again (B.2.1, E.1.4)
+abbrev pub restart_marker : ℕ → List ℕ
+restart_marker n = 0xff ∷ (0xd0 + n % 8) ∷ []
+
+-- whether the last of so many MCUs ends an interval that isn't the last (B.2.4.4)
+abbrev pub ends_interval : ℕ → ℕ → Bool
+ends_interval interval count = not (interval == 0) && count % interval == 0
+
+-- MCUs in restart intervals, behind so many others (B.2.4.4)
+abbrev pub intervals_behind : ℕ → ℕ → List Mcu → List (List Mcu)
+intervals_behind interval before [] = []
+intervals_behind interval before (mcu ∷ mcus) =
+    if ends_interval interval (before + 1) then (mcu ∷ []) ∷ intervals_behind interval (before + 1) mcus
+    else onto_first mcu (intervals_behind interval (before + 1) mcus)
+
+abbrev pub intervals_of : Shape → List Mcu → List (List Mcu)
+intervals_of shape mcus = intervals_behind shape.interval 0 mcus
+
+-- bytes, or why there are none
+abbrev pub Bytes : Type 0
+Bytes = Result (List ℕ) WriteStop
+
+abbrev pub bytes_of : (List Bool → List ℕ) → Text → Bytes
+bytes_of bytes (Ok bits) = Ok (bytes bits)
+bytes_of bytes (Err stop) = Err stop
+
+-- bytes behind bytes
+abbrev pub behind_bytes : List ℕ → Bytes → Bytes
+behind_bytes front (Ok bytes) = Ok (front ++ bytes)
+behind_bytes front (Err stop) = Err stop
+
+abbrev pub then_bytes : Bytes → Bytes → Bytes
+then_bytes (Ok front) bytes = behind_bytes front bytes
+then_bytes (Err stop) bytes = Err stop
+
+-- intervals by number, each with its pad bit, and behind each but the last its marker
+unfoldable pub intervals_bytes : List Slot → (ℕ → Bool) → ℕ → List (List Mcu) → Bytes
+intervals_bytes slots pads n [] = Ok []
+intervals_bytes slots pads n (mcus ∷ []) = bytes_of (interval_bytes (pads n)) (mcus_bits slots mcus)
+intervals_bytes slots pads n (mcus ∷ next ∷ more) =
+    then_bytes (bytes_of (λ bits. interval_bytes (pads n) bits ++ restart_marker n) (mcus_bits slots mcus)) (intervals_bytes slots pads (n + 1) (next ∷ more))
+
+-- the bytes of a scan with these MCUs, and a pad bit for each interval
+unfoldable pub scan_bytes : Shape → (ℕ → Bool) → List Mcu → Bytes
+scan_bytes shape pads mcus = intervals_bytes shape.slots pads 0 (intervals_of shape mcus)
+
+-- as many blocks as an MCU has, each within its ranges
+abbrev pub IsMcu : List Slot → Mcu → Type 0
+IsMcu slots mcu = (length mcu ≡ length slots) × AllByRecursion IsBlock mcu
+
+-- as many MCUs as the grid has
+pub record AreMcus (shape : Shape) (mcus : List Mcu) : Type 0 where
+  pub count : length mcus ≡ shape.mcus
+  pub each : AllByRecursion (IsMcu shape.slots) mcus
+
+-- how many pad bits there are in all (own)
+abbrev pub pads_behind : Text → ℕ
+pads_behind (Ok bits) = length (padding (begun_after [] bits) true)
+pads_behind (Err stop) = 0
+
+abbrev pub pad_count : Shape → List Mcu → ℕ
+pad_count shape mcus = sum_by (λ interval. pads_behind (mcus_bits shape.slots interval)) (intervals_of shape mcus)
+
+-- MCUs and one pad bit, which is 1 where no bit is padded, as a scan of these bytes (own)
+pub record IsScan (shape : Shape) (mcus : List Mcu) (pad : Bool) (scan : List ℕ) : Type 0 where
+  pub grid : AreMcus shape mcus
+  pub told : pad_count shape mcus ≡ 0 → pad ≡ true
+  pub text : scan_bytes shape (λ n. pad) mcus ≡ Ok scan
