@@ -1,3 +1,3 @@
 pub mod Calls
-pub mod Fronts
 pub mod Moves
+pub mod SharedPrefix

@@ -1,11 +1,10 @@
 -- What a source gave and a sink took, over one call more.
-use Rattle.std.proofs.Common.{◌≡◌, ℕ, ◌+◌, ◌-◌, ◌<◌, ◌≤◌, List, ◌++◌, Option, length, length-take-le, take, drop, subst, sym, ap, ◌∙◌, arith}
+use Rattle.std.proofs.Common.{◌≡◌, ℕ, ◌+◌, ◌<◌, ◌≤◌, List, ◌++◌, Option, length, length-take-le, take, drop, subst, sym, ap, ◌∙◌, arith}
 use Rattle.std.proofs.Math.Seq.{take-add}
-use Rattle.std.proofs.lemmas.List.{take_rest}
 use Rattle.std.proofs.KnownBytes.{Appends-trans, Consumes-trans}
 use Rattle.std.specs.Io.KnownBytes.{Appends, Consumes}
 
--- `old` was filled up to `filled`, and `new` has the next `n` behind that
+-- `old` was filled up to `filled`, and `new` has the next `n` after that
 pub Consumes-filled : (a b c : Option (List ℕ)) (old new : List ℕ) (filled n : ℕ) → Consumes a b (take filled old) → take filled new ≡ take filled old
     → Consumes b c (take n (drop filled new)) → Consumes a c (take (filled + n) new)
 Consumes-filled a b c old new filled n before kept more =
@@ -14,11 +13,9 @@ Consumes-filled a b c old new filled n before kept more =
 
 -- the first `written` of the bytes were taken, and then `n` of the rest
 pub Appends-written : (a b c : Option (List ℕ)) (bytes : List ℕ) (written n : ℕ) → Appends a b (take written bytes)
-    → Appends b c (take n (take (length bytes - written) (drop written bytes))) → Appends a c (take (written + n) bytes)
+    → Appends b c (take n (drop written bytes)) → Appends a c (take (written + n) bytes)
 Appends-written a b c bytes written n before more =
-    let joined : take (written + n) bytes ≡ take written bytes ++ take n (take (length bytes - written) (drop written bytes)) =
-    take-add written n bytes ∙ ap (λ l. take written bytes ++ take n l) (sym (take_rest bytes written)) in
-    subst (Appends a c) (sym joined) (Appends-trans a b c _ _ before more)
+    subst (Appends a c) (sym (take-add written n bytes)) (Appends-trans a b c _ _ before more)
 
 -- the same where the buffer ends one past the limit, and is filled past the limit
 pub Consumes-past : (a b c : Option (List ℕ)) (old new : List ℕ) (filled n limit : ℕ) → Consumes a b (take filled old) → take filled new ≡ take filled old

@@ -60,12 +60,12 @@ given source room = min source.piece (min room (length source.left))
 abbrev pub accepted : Store → List ℕ → ℕ
 accepted sink bytes = min sink.piece (min (length bytes) (sink.room - length sink.held))
 
--- how many bytes at the front of two lists are the same
-abbrev pub common_front : List ℕ → List ℕ → ℕ
-common_front xs ys = common_prefix_len (λ x y. x == y) xs ys
+-- the length of the longest prefix that two lists share
+abbrev pub shared_prefix : List ℕ → List ℕ → ℕ
+shared_prefix xs ys = common_prefix_len (λ x y. x == y) xs ys
 
 -- once these bytes came too: after the first that differs none agrees
 abbrev pub after_bytes : Match → List ℕ → Match
 after_bytes old bytes =
-    let same = common_front old.rest bytes in
+    let same = shared_prefix old.rest bytes in
     record { rest = if same == length bytes then drop same old.rest else []; agreed = old.agreed + same }

@@ -12,13 +12,13 @@ pub trait Source {
     /// The bytes left, where the source tells them.
     ghost left: { Self → Option (List ℕ) };
 
-    /// How often it has failed. It never falls.
+    /// How often it has failed: it rises at a failure alone, and never falls.
     ghost faults: { Self → ℕ };
 
     /// The count stands at its last value. Never, where it has none.
     ghost full: { Self → Type 0 };
 
-    /// Moves the first `n` bytes left into the front of `buf` and answers `n`, which is 0 only where `buf` is empty
+    /// Moves the first `n` bytes left to the start of `buf` and answers `n`, which is 0 only where `buf` is empty
     /// or nothing is left.
     fn read(&mut self, buf: &mut [u8]) -> Result<usize, Failed>
         ensures count { IfOk result (λ n. n ≤ length buf.old) }
@@ -27,6 +27,7 @@ pub trait Source {
         ensures end { IfOk result (λ n. n ≡ 0 → 0 < length buf.old → IsAtEnd (left self.new)) }
         ensures stays { OnErr result (Keeps (left self.old) (left self.new)) }
         ensures failed { OnErr result (Rose faults full self.old self.new) }
+        ensures unfailed { OnOk result (faults self.new ≡ faults self.old) }
         ensures lasting { faults self.old ≤ faults self.new };
 }
 
@@ -35,7 +36,7 @@ pub trait Sink {
     /// The bytes held, where the sink tells them.
     ghost held: { Self → Option (List ℕ) };
 
-    /// How often it has failed. It never falls.
+    /// How often it has failed: it rises at a failure alone, and never falls.
     ghost faults: { Self → ℕ };
 
     /// The count stands at its last value. Never, where it has none.
@@ -48,6 +49,7 @@ pub trait Sink {
         ensures appended { IfOk result (λ n. Appends (held self.old) (held self.new) (take n bytes.now)) }
         ensures stays { OnErr result (Keeps (held self.old) (held self.new)) }
         ensures failed { OnErr result (Rose faults full self.old self.new) }
+        ensures unfailed { OnOk result (faults self.new ≡ faults self.old) }
         ensures lasting { faults self.old ≤ faults self.new };
 }
 

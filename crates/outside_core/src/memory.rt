@@ -1,5 +1,5 @@
 // A source and a sink in memory, whose calls fail where a test wants them to.
-ghost use Rattle.std.specs.Prelude.{◌≡◌, ◌<◌, ◌≤◌, ◌↔◌, Some, [], ◌++◌, length, take, drop, IsErr, IfOk, OnErr, IsTrue, ◌⊎◌};
+ghost use Rattle.std.specs.Prelude.{◌≡◌, ◌<◌, ◌≤◌, ◌↔◌, Some, [], ◌++◌, length, take, drop, IsErr, IfOk, OnOk, OnErr, IsTrue, ◌⊎◌};
 ghost use Rattle.std.specs.Io.KnownBytes.{Appends, Consumes, IsAtEnd, Keeps};
 ghost use Rattle.outside_core.specs.Faults.{Rose, Never};
 ghost use Rattle.outside_core.specs.Memory.{past_calls, supply_faults, store_faults, StoreFull, counted, FailsNext, Refuses, given, accepted};
@@ -57,6 +57,7 @@ impl<'a> Source for MemSource<'a> {
         ensures end { IfOk result (λ n. n ≡ 0 → 0 < length buf.old → IsAtEnd (Some self.new.left)) }
         ensures stays { OnErr result (Keeps (Some self.old.left) (Some self.new.left)) }
         ensures failed { OnErr result (Rose supply_faults Never self.old self.new) }
+        ensures unfailed { OnOk result (supply_faults self.new ≡ supply_faults self.old) }
         ensures lasting { supply_faults self.old ≤ supply_faults self.new }
 
         // It fails at the numbered calls, and at no other.
@@ -71,8 +72,8 @@ impl<'a> Source for MemSource<'a> {
             return Err(Failed);
         }
         let taken = self.piece.min(buf.len()).min(self.bytes.len());
-        let (front, rest) = self.bytes.split_at(taken);
-        buf[..taken].copy_from_slice(front);
+        let (first, rest) = self.bytes.split_at(taken);
+        buf[..taken].copy_from_slice(first);
         self.bytes = rest;
         Ok(taken)
     }
@@ -143,6 +144,7 @@ impl<'a> Sink for MemSink<'a> {
         ensures appended { IfOk result (λ n. Appends (Some self.old.held) (Some self.new.held) (take n bytes.now)) }
         ensures stays { OnErr result (Keeps (Some self.old.held) (Some self.new.held)) }
         ensures failed { OnErr result (Rose store_faults StoreFull self.old self.new) }
+        ensures unfailed { OnOk result (store_faults self.new ≡ store_faults self.old) }
         ensures lasting { store_faults self.old ≤ store_faults self.new }
 
         // It fails at the numbered calls and for want of room, and else never.
@@ -174,6 +176,7 @@ fn count_call(calls: &mut u64, fails: &[u64]) -> bool
     ensures counts { calls.new ≡ counted calls.old }
     ensures fails { IsTrue result ↔ FailsNext fails.now calls.old }
     ensures risen { IsTrue result → past_calls fails.now calls.old < past_calls fails.now calls.new }
+    ensures unrisen { ¬ IsTrue result → past_calls fails.now calls.new ≡ past_calls fails.now calls.old }
     ensures lasting { past_calls fails.now calls.old ≤ past_calls fails.now calls.new }
 {
     if *calls == u64::MAX {

@@ -45,8 +45,11 @@ pub fn read_all<S: Source>(alloc: Global, source: &mut S, limit: u64) -> Result<
 
     ensures read_fault { IsErrOf result ReadAll.ReadFault → Rose S.faults S.full source.old source.new }
 
-    // Whatever comes, no more than a front is gone.
-    ensures front { (taken : List ℕ) × (length taken ≤ limit + 1) × Consumes (S.left source.old) (S.left source.new) taken }
+    // But for that answer no read failed.
+    ensures unfailed { ¬ IsErrOf result ReadAll.ReadFault → S.faults source.new ≡ S.faults source.old }
+
+    // Whatever comes, no more than a prefix is gone, at most one byte past the limit.
+    ensures prefix { (taken : List ℕ) × (length taken ≤ limit + 1) × Consumes (S.left source.old) (S.left source.new) taken }
     ensures lasting { S.faults source.old ≤ S.faults source.new }
 {
     let mut bytes = Vec::new(alloc);
@@ -71,20 +74,36 @@ pub fn write_all<K: Sink>(sink: &mut K, bytes: &[u8]) -> Result<(), WriteFault>
     ensures part { IfErr result (λ fault. Appends (K.held sink.old) (K.held sink.new) (take fault.written bytes.now)) }
     ensures short { IfErr result (λ fault. fault.written < length bytes.now) }
     ensures failed { OnErr result (Rose K.faults K.full sink.old sink.new) }
+    ensures unfailed { OnOk result (K.faults sink.new ≡ K.faults sink.old) }
     ensures lasting { K.faults sink.old ≤ K.faults sink.new }
 {
     let mut written = 0;
     while written < bytes.len() {
-        match sink.write(&bytes[written..]) {
-            Ok(taken) => written += taken,
-            Err(Failed) => {
-                return Err(WriteFault {
-                    written: written as u64,
-                });
-            }
-        }
+        written += put(sink, bytes, written)?;
     }
     Ok(())
+}
+
+// One write of the bytes from the first that isn't written.
+fn put<K: Sink>(sink: &mut K, bytes: &[u8], written: usize) -> Result<usize, WriteFault>
+    requires { written < length bytes.now }
+    ensures count { IfOk result (λ n. written + n ≤ length bytes.now) }
+    ensures some { IfOk result (λ n. 0 < n) }
+    ensures appended { IfOk result (λ n.
+        Appends (K.held sink.old) (K.held sink.new) (take n (drop written bytes.now))) }
+    ensures stays { OnErr result (Keeps (K.held sink.old) (K.held sink.new)) }
+    ensures fault { IfErr result (λ fault. fault.written ≡ written) }
+    ensures failed { OnErr result (Rose K.faults K.full sink.old sink.new) }
+    ensures unfailed { OnOk result (K.faults sink.new ≡ K.faults sink.old) }
+    ensures lasting { K.faults sink.old ≤ K.faults sink.new }
+{
+    let (_, rest) = bytes.split_at(written);
+    match sink.write(rest) {
+        Ok(taken) => Ok(taken),
+        Err(Failed) => Err(WriteFault {
+            written: written as u64,
+        }),
+    }
 }
 
 // Makes the buffer longer where all of it is filled, at most to one byte past the limit.
@@ -122,7 +141,7 @@ fn grow(bytes: &mut Vec<u8>, left: u64) -> Result<(), ReadAll>
 fn fill<S: Source>(source: &mut S, bytes: &mut Vec<u8>, filled: usize) -> Result<usize, ReadAll>
     requires { filled < length bytes.old.items }
     ensures len { length bytes.new.items ≡ length bytes.old.items }
-    ensures front { take filled bytes.new.items ≡ take filled bytes.old.items }
+    ensures kept { take filled bytes.new.items ≡ take filled bytes.old.items }
     ensures count { IfOk result (λ n. filled + n ≤ length bytes.old.items) }
     ensures moved { IfOk result (λ n. Consumes (S.left source.old) (S.left source.new)
         (take n (drop filled bytes.new.items))) }
@@ -130,9 +149,11 @@ fn fill<S: Source>(source: &mut S, bytes: &mut Vec<u8>, filled: usize) -> Result
     ensures stays { OnErr result (Keeps (S.left source.old) (S.left source.new)) }
     ensures fault { IfErr result (λ error. error ≡ ReadAll.ReadFault) }
     ensures failed { OnErr result (Rose S.faults S.full source.old source.new) }
+    ensures unfailed { OnOk result (S.faults source.new ≡ S.faults source.old) }
     ensures lasting { S.faults source.old ≤ S.faults source.new }
 {
-    source
-        .read(&mut bytes[filled..])
-        .map_err(|_| ReadAll::ReadFault)
+    match source.read(&mut bytes[filled..]) {
+        Ok(taken) => Ok(taken),
+        Err(Failed) => Err(ReadAll::ReadFault),
+    }
 }

@@ -1,8 +1,8 @@
 // Ends that never fail: a source over a slice, and a sink that compares what comes with a slice.
-ghost use Rattle.std.specs.Prelude.{◌≡◌, ◌<◌, ◌≤◌, Some, None, length, take, drop, min, IfOk, OnErr};
+ghost use Rattle.std.specs.Prelude.{◌≡◌, ◌<◌, ◌≤◌, Some, None, length, take, drop, min, IfOk, OnOk, OnErr};
 ghost use Rattle.std.specs.Io.KnownBytes.{Appends, Consumes, IsAtEnd, Keeps};
 ghost use Rattle.outside_core.specs.Faults.{Rose, Never, no_faults};
-ghost use Rattle.outside_core.specs.Memory.{common_front, after_bytes};
+ghost use Rattle.outside_core.specs.Memory.{shared_prefix, after_bytes};
 
 use crate::{Failed, Sink, Source};
 use std::marker::Model;
@@ -43,6 +43,7 @@ impl<'a> Source for NeverSource<'a> {
         ensures end { IfOk result (λ n. n ≡ 0 → 0 < length buf.old → IsAtEnd (Some self.new)) }
         ensures stays { OnErr result (Keeps (Some self.old) (Some self.new)) }
         ensures failed { OnErr result (Rose no_faults Never self.old self.new) }
+        ensures unfailed { OnOk result (no_faults self.new ≡ no_faults self.old) }
         ensures lasting { no_faults self.old ≤ no_faults self.new }
 
         // It gives all that there is room for.
@@ -50,8 +51,8 @@ impl<'a> Source for NeverSource<'a> {
         ensures after { IfOk result (λ n. self.new ≡ drop n self.old) }
     {
         let taken = buf.len().min(self.bytes.len());
-        let (front, rest) = self.bytes.split_at(taken);
-        buf[..taken].copy_from_slice(front);
+        let (first, rest) = self.bytes.split_at(taken);
+        buf[..taken].copy_from_slice(first);
         self.bytes = rest;
         Ok(taken)
     }
@@ -106,13 +107,14 @@ impl<'a> Sink for Compare<'a> {
         ensures appended { IfOk result (λ n. Appends None None (take n bytes.now)) }
         ensures stays { OnErr result (Keeps None None) }
         ensures failed { OnErr result (Rose no_faults Never self.old self.new) }
+        ensures unfailed { OnOk result (no_faults self.new ≡ no_faults self.old) }
         ensures lasting { no_faults self.old ≤ no_faults self.new }
 
         // It takes all, and counts what agrees.
         ensures takes { result ≡ Ok (length bytes.now) }
         ensures after { self.new ≡ after_bytes self.old bytes.now }
     {
-        let same = front_length(self.rest, bytes);
+        let same = prefix_length(self.rest, bytes);
         self.agreed += same as u64;
         self.rest = if same == bytes.len() {
             &self.rest[same..]
@@ -123,9 +125,9 @@ impl<'a> Sink for Compare<'a> {
     }
 }
 
-// How many bytes at the front of both are the same.
-fn front_length(a: &[u8], b: &[u8]) -> usize
-    ensures front { result ≡ common_front a.now b.now }
+// The length of the longest prefix that both have.
+fn prefix_length(a: &[u8], b: &[u8]) -> usize
+    ensures longest { result ≡ shared_prefix a.now b.now }
     ensures in_a { result ≤ length a.now }
     ensures in_b { result ≤ length b.now }
 {

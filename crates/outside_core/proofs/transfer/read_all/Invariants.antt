@@ -1,4 +1,4 @@
-use Rattle.std.proofs.Common.{◌-◌, ◌+◌, ◌≤◌, length, take}
+use Rattle.std.proofs.Common.{◌≡◌, ◌-◌, ◌+◌, ◌≤◌, length, take}
 use Rattle.std.specs.Io.KnownBytes.{Consumes}
 use Rattle.outside_core.proofs.transfer.read_all.Given as goal
 
@@ -9,7 +9,7 @@ invariant-loop-bytes g l =
       in_range : l.filled ≤ length l.bytes.items;
       bounded : length l.bytes.items ≤ l.limit + 1;
       so_far : Consumes (g.S.Source.left l.initial.source) (g.S.Source.left l.source) (take l.filled l.bytes.items);
-      lasting : g.S.Source.faults l.initial.source ≤ g.S.Source.faults l.source;
+      unfailed : g.S.Source.faults l.source ≡ g.S.Source.faults l.initial.source;
     }
 
 abbrev pub decreases-loop-bytes : goal.decreases-loop-bytes

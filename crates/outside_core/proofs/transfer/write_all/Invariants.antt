@@ -1,4 +1,4 @@
-use Rattle.std.proofs.Common.{◌-◌, ◌≤◌, length, take}
+use Rattle.std.proofs.Common.{◌≡◌, ◌-◌, ◌≤◌, length, take}
 use Rattle.std.specs.Io.KnownBytes.{Appends}
 use Rattle.outside_core.proofs.transfer.write_all.Given as goal
 
@@ -7,7 +7,7 @@ invariant-loop-written g l =
     record {
       in_range : l.written ≤ length l.bytes;
       so_far : Appends (g.K.Sink.held l.initial.sink) (g.K.Sink.held l.sink) (take l.written l.bytes);
-      lasting : g.K.Sink.faults l.initial.sink ≤ g.K.Sink.faults l.sink;
+      unfailed : g.K.Sink.faults l.sink ≡ g.K.Sink.faults l.initial.sink;
     }
 
 abbrev pub decreases-loop-written : goal.decreases-loop-written
