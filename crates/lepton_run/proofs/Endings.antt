@@ -18,8 +18,8 @@ use Rattle.lepton_run.proofs.Sources.{all_taken, taken_within}
 pub notes_of : {N : Type 0} (held : N → Option (List ℕ)) (faults : N → ℕ) (full : N → Type 0) (old new : N) (line : List ℕ) (result : Result (Unit {0}) WriteFault)
     → OnOk result (Appends (held old) (held new) line) → IfErr result (λ fault. Appends (held old) (held new) (take fault.written line)) → OnErr result (Rose faults full old new)
     → Notes held faults full old new line
-notes_of held faults full old new line (Ok x) whole part failed = record { front = (length line, subst (Appends (held old) (held new)) (sym (take_all (length line) line (omega arith))) whole); whole = λ _. whole }
-notes_of held faults full old new line (Err fault) whole part failed = record { front = (fault.written, part); whole = λ calm. absurd (calm failed) }
+notes_of held faults full old new line (Ok x) whole part failed = record { prefix = (length line, subst (Appends (held old) (held new)) (sym (take_all (length line) line (omega arith))) whole); whole = λ _. whole }
+notes_of held faults full old new line (Err fault) whole part failed = record { prefix = (fault.written, part); whole = λ calm. absurd (calm failed) }
 
 -- what was refused of a source are the bytes that it had
 had_refused : (command : Command) (refusal : Refusal) (had : List ℕ) (new : Option (List ℕ)) → Refuses command refusal (Some had) new → IsRefused command refusal had
@@ -56,17 +56,17 @@ nothing_made : (command : Command) (refusal : Refusal) (had bytes made : List �
 nothing_made command refusal had bytes made new why short took gives =
     refused_apart command refusal bytes made short (subst (λ (l : List ℕ). IsRefused command refusal l) (all_taken had new bytes took) why) gives
 
-pub outside_of : (command : Command) (old new : Option (List ℕ)) (P : List ℕ → Type 0) (Q : List ℕ → ℕ → Type 0) (ending : Ending) (status : ℕ) → status ≡ status_of ending
+pub outside_of : (command : Command) (old new : Option (List ℕ)) (P : List ℕ → Type 0) (Q : List ℕ → Type 0) (ending : Ending) (status : ℕ) → status ≡ status_of ending
     → ending ≢ WordsRefused → ending ≢ ReadFailed
     → (ending ≡ Done → (bytes : List ℕ) × (made : List ℕ) × (length bytes ≤ limit_of command) × TookAll old new bytes × Gives command bytes made × P made)
-    → (ending ≡ WriteFailed → (bytes : List ℕ) × (made : List ℕ) × (n : ℕ) × (length bytes ≤ limit_of command) × TookAll old new bytes × Gives command bytes made × Q made n)
+    → (ending ≡ WriteFailed → (bytes : List ℕ) × (made : List ℕ) × (length bytes ≤ limit_of command) × TookAll old new bytes × Gives command bytes made × Q made)
     → IfSome old (λ bytes. ((made : List ℕ) → length bytes ≤ limit_of command → Gives command bytes made → ⊥) → (status ≡ 1) ⊎ (status ≡ 5))
 outside_of command None new P Q ending status is words read done cut = tt
 outside_of command (Some had) new P Q Done status is words read done cut = λ other. let d = done refl in absurd (not_taken command had d.0 d.1 new other d.2 d.3 d.4)
 outside_of command (Some had) new P Q (Refused refusal) status is words read done cut = λ _. inl is
 outside_of command (Some had) new P Q WordsRefused status is words read done cut = absurd (words refl)
 outside_of command (Some had) new P Q ReadFailed status is words read done cut = absurd (read refl)
-outside_of command (Some had) new P Q WriteFailed status is words read done cut = λ other. let d = cut refl in absurd (not_taken command had d.0 d.1 new other d.3 d.4 d.5)
+outside_of command (Some had) new P Q WriteFailed status is words read done cut = λ other. let d = cut refl in absurd (not_taken command had d.0 d.1 new other d.2 d.3 d.4)
 outside_of command (Some had) new P Q NoMemory status is words read done cut = λ _. inr is
 
 pub same_refusal : (one other : Refusal) → Refused one ≡ Refused other → one ≡ other
@@ -81,10 +81,10 @@ refuses_of command Outside old new bytes short took why = (bytes, took, why)
 refuses_of command (Header refusal) old new bytes short took why = (bytes, took, why)
 
 -- bytes with a cause have that cause's line
-pub caused_of : (command : Command) (refusal : Refusal) (old new : Option (List ℕ)) (P : List ℕ → Type 0) (Q : List ℕ → ℕ → Type 0) (Note : Refusal → Type 0) (ending : Ending) (status : ℕ)
+pub caused_of : (command : Command) (refusal : Refusal) (old new : Option (List ℕ)) (P : List ℕ → Type 0) (Q : List ℕ → Type 0) (Note : Refusal → Type 0) (ending : Ending) (status : ℕ)
     → status ≡ status_of ending → ending ≢ WordsRefused → ending ≢ ReadFailed
     → (ending ≡ Done → (bytes : List ℕ) × (made : List ℕ) × (length bytes ≤ limit_of command) × TookAll old new bytes × Gives command bytes made × P made)
-    → (ending ≡ WriteFailed → (bytes : List ℕ) × (made : List ℕ) × (n : ℕ) × (length bytes ≤ limit_of command) × TookAll old new bytes × Gives command bytes made × Q made n)
+    → (ending ≡ WriteFailed → (bytes : List ℕ) × (made : List ℕ) × (length bytes ≤ limit_of command) × TookAll old new bytes × Gives command bytes made × Q made)
     → ((other : Refusal) → ending ≡ Refused other → Refuses command other old new × Note other)
     → IfSome old (λ bytes. IsRefused command refusal bytes → ((status ≡ 1) × Note refusal) ⊎ (status ≡ 5))
 caused_of command refusal None new P Q Note ending status is words read done cut refused = tt
@@ -94,7 +94,7 @@ caused_of command refusal (Some had) new P Q Note (Refused other) status is word
     inl (is, subst Note (one_cause command other refusal had (had_refused command other had new one.0) why) one.1)
 caused_of command refusal (Some had) new P Q Note WordsRefused status is words read done cut refused = absurd (words refl)
 caused_of command refusal (Some had) new P Q Note ReadFailed status is words read done cut refused = absurd (read refl)
-caused_of command refusal (Some had) new P Q Note WriteFailed status is words read done cut refused = λ why. let d = cut refl in absurd (nothing_made command refusal had d.0 d.1 new why d.3 d.4 d.5)
+caused_of command refusal (Some had) new P Q Note WriteFailed status is words read done cut refused = λ why. let d = cut refl in absurd (nothing_made command refusal had d.0 d.1 new why d.2 d.3 d.4)
 caused_of command refusal (Some had) new P Q Note NoMemory status is words read done cut refused = λ _. inr is
 
 -- the one ending of status 0
@@ -144,10 +144,3 @@ pub done_for : (words : List (List ℕ)) (command : Command) (old new : Option (
 done_for words command old new P means d =
     let same = one_meaning words d.0 command d.3 means in
     (d.1, d.2, subst (λ (k : Command). length d.1 ≤ limit_of k) same d.4, d.5, subst (λ (k : Command). Gives k d.1 d.2) same d.6, d.7)
-
-pub cut_for : (words : List (List ℕ)) (command : Command) (old new : Option (List ℕ)) (Q : List ℕ → ℕ → Type 0) → Means words command
-    → ((other : Command) × (bytes : List ℕ) × (made : List ℕ) × (n : ℕ) × Means words other × (length bytes ≤ limit_of other) × TookAll old new bytes × Gives other bytes made × Q made n)
-    → (bytes : List ℕ) × (made : List ℕ) × (n : ℕ) × (length bytes ≤ limit_of command) × TookAll old new bytes × Gives command bytes made × Q made n
-cut_for words command old new Q means d =
-    let same = one_meaning words d.0 command d.4 means in
-    (d.1, d.2, d.3, subst (λ (k : Command). length d.1 ≤ limit_of k) same d.5, d.6, subst (λ (k : Command). Gives k d.1 d.2) same d.7, d.8)

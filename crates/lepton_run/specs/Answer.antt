@@ -52,6 +52,11 @@ abbrev pub Refuses : Command → Refusal → Option (List ℕ) → Option (List 
 Refuses command TooLong old new = (taken : List ℕ) × (length taken ≡ limit_of command + 1) × Consumes old new taken
 Refuses command refusal old new = (bytes : List ℕ) × TookAll old new bytes × IsRefused command refusal bytes
 
+-- a proper prefix of these bytes was appended
+abbrev pub AppendsPart : Option (List ℕ) → Option (List ℕ) → List ℕ → Type 0
+AppendsPart old new bytes = (n : ℕ) × (n < length bytes) × Appends old new (take n bytes)
+
+-- the status of an ending
 abbrev pub status_of : Ending → ℕ
 status_of Done = 0
 status_of (Refused refusal) = 1
@@ -64,6 +69,7 @@ status_of NoMemory = 5
 abbrev pub line_at : ℕ → List ℕ
 line_at status = if status == 2 then line (codes "words refused") else (if status == 3 then line (codes "read failed") else (if status == 4 then line (codes "write failed") else (if status == 5 then line (codes "no memory") else [])))
 
+-- the line of an ending
 abbrev pub line_of : Ending → List ℕ
 line_of Done = line_at 0
 line_of (Refused refusal) = refusal_line refusal
@@ -72,7 +78,7 @@ line_of ReadFailed = line_at 3
 line_of WriteFailed = line_at 4
 line_of NoMemory = line_at 5
 
--- a note got a front of this line, and all of it where its count of faults didn't rise
+-- a note got a prefix of this line, and all of it where its count of faults didn't rise
 pub record Notes {Note : Type 0} (held : Note → Option (List ℕ)) (faults : Note → ℕ) (full : Note → Type 0) (old new : Note) (line : List ℕ) : Type 0 where
-  pub front : (n : ℕ) × Appends (held old) (held new) (take n line)
+  pub prefix : (n : ℕ) × Appends (held old) (held new) (take n line)
   pub whole : ¬ Rose faults full old new → Appends (held old) (held new) line

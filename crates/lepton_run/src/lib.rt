@@ -33,4 +33,4 @@ pub use laws::{
     one_spelling_a_file,
 };
 pub use refusal::Refusal;
-pub use top::run;
+pub use top::{no_memory_for_words, run};

@@ -1,8 +1,8 @@
 // The top call.
-ghost use Rattle.std.specs.Prelude.{◌≡◌, ◌≢◌, ◌⊎◌, ◌↔◌, ◌<◌, ◌≤◌, ℕ, List, String, string_bytes, map, length, take, IfSome};
+ghost use Rattle.std.specs.Prelude.{◌≡◌, ◌≢◌, ◌⊎◌, ◌↔◌, ◌<◌, ◌≤◌, ℕ, List, String, string_bytes, map, length, IfSome};
 ghost use Rattle.std.specs.Io.KnownBytes.{Appends};
 ghost use Rattle.outside_core.specs.Faults.{Rose};
-ghost use Rattle.lepton_run.specs.Answer.{Gives, IsRefused, Means, Notes, Refuses, TookAll, limit_of, line_at, line_of, status_of};
+ghost use Rattle.lepton_run.specs.Answer.{AppendsPart, Gives, IsRefused, Means, Notes, Refuses, TookAll, limit_of, line_at, line_of, status_of};
 ghost use Rattle.lepton_run.specs.Lines.{refusal_line};
 ghost use Rattle.lepton_run.specs.declared.command.Command.{Command};
 ghost use Rattle.lepton_run.specs.declared.command.Command.TheVariants.{Encode, Decode};
@@ -59,11 +59,15 @@ pub fn run<R: Threads + Wait + Sync, S: Source, K: Sink + Send, N: Sink + Send, 
     ensures read_failed { result ≡ 3 → Rose S.faults S.full source.old source.new }
     ensures write_failed { result ≡ 4 → Rose K.faults K.full sink.old sink.new }
 
-    // 4: a front of what the command makes of the bytes is appended.
-    ensures cut { result ≡ 4 → ((command : Command) × (bytes : List ℕ) × (made : List ℕ) × (n : ℕ)
+    // On every other status that end didn't fail.
+    ensures source_unfailed { result ≢ 3 → S.faults source.new ≡ S.faults source.old }
+    ensures sink_unfailed { result ≢ 4 → K.faults sink.new ≡ K.faults sink.old }
+
+    // 4: a proper prefix of what the command makes of the bytes is appended.
+    ensures cut { result ≡ 4 → ((command : Command) × (bytes : List ℕ) × (made : List ℕ)
         × Means (map string_bytes words.now) command × (length bytes ≤ limit_of command)
         × TookAll (S.left source.old) (S.left source.new) bytes × Gives command bytes made
-        × Appends (K.held sink.old) (K.held sink.new) (take n made)) }
+        × AppendsPart (K.held sink.old) (K.held sink.new) made) }
 
     // Nothing is written but by 0 and 4.
     ensures untouched { result ≢ 0 → result ≢ 4 → sink.new ≡ sink.old }
@@ -104,6 +108,17 @@ pub fn run<R: Threads + Wait + Sync, S: Source, K: Sink + Send, N: Sink + Send, 
     ending.status()
 }
 
+/// What a program answers that has no memory for its words, and so can't call `run`: nothing is read or written, and
+/// the note is the line of want of memory.
+pub fn no_memory_for_words<N: Sink>(note: &mut N) -> u8
+    ensures status { result ≡ 5 }
+    ensures said { Notes N.held N.faults N.full note.old note.new (line_at 5) }
+    ensures note_lasting { N.faults note.old ≤ N.faults note.new }
+{
+    tell(note, Ending::NoMemory);
+    Ending::NoMemory.status()
+}
+
 // What the words ask for, done.
 fn answer<S: Source, K: Sink>(
     alloc: Global,
@@ -122,10 +137,12 @@ fn answer<S: Source, K: Sink>(
     ensures unread { result ≡ Ending.WordsRefused → source.new ≡ source.old }
     ensures read_failed { result ≡ Ending.ReadFailed → Rose S.faults S.full source.old source.new }
     ensures write_failed { result ≡ Ending.WriteFailed → Rose K.faults K.full sink.old sink.new }
-    ensures cut { result ≡ Ending.WriteFailed → ((command : Command) × (bytes : List ℕ) × (made : List ℕ) × (n : ℕ)
+    ensures source_unfailed { result ≢ Ending.ReadFailed → S.faults source.new ≡ S.faults source.old }
+    ensures sink_unfailed { result ≢ Ending.WriteFailed → K.faults sink.new ≡ K.faults sink.old }
+    ensures cut { result ≡ Ending.WriteFailed → ((command : Command) × (bytes : List ℕ) × (made : List ℕ)
         × Means (map string_bytes words.now) command × (length bytes ≤ limit_of command)
         × TookAll (S.left source.old) (S.left source.new) bytes × Gives command bytes made
-        × Appends (K.held sink.old) (K.held sink.new) (take n made)) }
+        × AppendsPart (K.held sink.old) (K.held sink.new) made) }
     ensures untouched { result ≢ Ending.Done → result ≢ Ending.WriteFailed → sink.new ≡ sink.old }
     ensures source_lasting { S.faults source.old ≤ S.faults source.new }
     ensures sink_lasting { K.faults sink.old ≤ K.faults sink.new }
@@ -151,9 +168,11 @@ fn transfer<S: Source, K: Sink>(
     ensures words { result ≢ Ending.WordsRefused }
     ensures read_failed { result ≡ Ending.ReadFailed → Rose S.faults S.full source.old source.new }
     ensures write_failed { result ≡ Ending.WriteFailed → Rose K.faults K.full sink.old sink.new }
-    ensures cut { result ≡ Ending.WriteFailed → ((bytes : List ℕ) × (made : List ℕ) × (n : ℕ)
+    ensures source_unfailed { result ≢ Ending.ReadFailed → S.faults source.new ≡ S.faults source.old }
+    ensures sink_unfailed { result ≢ Ending.WriteFailed → K.faults sink.new ≡ K.faults sink.old }
+    ensures cut { result ≡ Ending.WriteFailed → ((bytes : List ℕ) × (made : List ℕ)
         × (length bytes ≤ limit_of command) × TookAll (S.left source.old) (S.left source.new) bytes
-        × Gives command bytes made × Appends (K.held sink.old) (K.held sink.new) (take n made)) }
+        × Gives command bytes made × AppendsPart (K.held sink.old) (K.held sink.new) made) }
     ensures untouched { result ≢ Ending.Done → result ≢ Ending.WriteFailed → sink.new ≡ sink.old }
     ensures source_lasting { S.faults source.old ≤ S.faults source.new }
     ensures sink_lasting { K.faults sink.old ≤ K.faults sink.new }

@@ -1,12 +1,12 @@
-use Rattle.std.proofs.Common.{ℕ, List, subst, take}
+use Rattle.std.proofs.Common.{ℕ, List, subst}
 use Rattle.std.specs.Io.KnownBytes.{Appends}
-use Rattle.lepton_run.specs.Answer.{line_of, Notes}
+use Rattle.lepton_run.specs.Answer.{AppendsPart, line_of, Notes}
 use Rattle.lepton_run.specs.Lines.{refusal_line}
 use Rattle.lepton_run.specs.declared.command.Command.TheVariants.{Decode}
 use Rattle.lepton_run.specs.declared.ending.Ending.{Ending}
 use Rattle.lepton_run.specs.declared.refusal.Refusal.{Refusal}
 use Rattle.lepton_run.proofs.Both.{back_of}
-use Rattle.lepton_run.proofs.Endings.{complete_of, outside_of, caused_of, done_of, refused_of, refused_for, done_for, cut_for}
+use Rattle.lepton_run.proofs.Endings.{complete_of, outside_of, caused_of, done_of, refused_of, refused_for, done_for}
 use Rattle.lepton_run.proofs.top.run.Goals as goal
 
 pub returns-clause-refused : goal.returns-clause-refused
@@ -24,22 +24,22 @@ returns-clause-complete g c = λ command means calm still.
 pub returns-clause-outside : goal.returns-clause-outside
 returns-clause-outside g c = λ command means calm.
     let held = λ (made : List ℕ). Appends (g.K.Sink.held c.args.sink.now) (g.K.Sink.held c.answer-ending.new.sink) made in
-    let cut = λ (made : List ℕ) (n : ℕ). Appends (g.K.Sink.held c.args.sink.now) (g.K.Sink.held c.answer-ending.new.sink) (take n made) in
+    let cut = λ (made : List ℕ). AppendsPart (g.K.Sink.held c.args.sink.now) (g.K.Sink.held c.answer-ending.new.sink) made in
     outside_of command _ _ held cut c.answer-ending.result c.status.result c.status.ensures (λ e. c.answer-ending.ensures.words.0 e command means)
     (λ e. calm (c.answer-ending.ensures.read_failed e))
     (λ e. done_for _ command _ _ held means (c.answer-ending.ensures.done e))
-    (λ e. cut_for _ command _ _ cut means (c.answer-ending.ensures.cut e))
+    (λ e. done_for _ command _ _ cut means (c.answer-ending.ensures.cut e))
 
 -- each refusal comes where the bytes have its cause
 pub returns-clause-caused : goal.returns-clause-caused
 returns-clause-caused g c = λ command refusal means calm.
     let held = λ (made : List ℕ). Appends (g.K.Sink.held c.args.sink.now) (g.K.Sink.held c.answer-ending.new.sink) made in
-    let cut = λ (made : List ℕ) (n : ℕ). Appends (g.K.Sink.held c.args.sink.now) (g.K.Sink.held c.answer-ending.new.sink) (take n made) in
+    let cut = λ (made : List ℕ). AppendsPart (g.K.Sink.held c.args.sink.now) (g.K.Sink.held c.answer-ending.new.sink) made in
     let noted = λ (other : Refusal). Notes g.N.Sink.held g.N.Sink.faults g.N.Sink.full c.args.note.now c.tell.new.note (refusal_line other) in
     caused_of command refusal _ _ held cut noted c.answer-ending.result c.status.result c.status.ensures (λ e. c.answer-ending.ensures.words.0 e command means)
     (λ e. calm (c.answer-ending.ensures.read_failed e))
     (λ e. done_for _ command _ _ held means (c.answer-ending.ensures.done e))
-    (λ e. cut_for _ command _ _ cut means (c.answer-ending.ensures.cut e))
+    (λ e. done_for _ command _ _ cut means (c.answer-ending.ensures.cut e))
     (λ other e. (
       refused_for _ command other _ _ means (c.answer-ending.ensures.refused other e),
       subst (λ (ending : Ending). Notes g.N.Sink.held g.N.Sink.faults g.N.Sink.full c.args.note.now c.tell.new.note (line_of ending)) e c.tell.ensures.notes,

@@ -1,22 +1,20 @@
-use Rattle.std.proofs.Common.{◌≡◌, Err, ap, ◌∙◌, subst, List, ℕ, ◌≤◌, length, take}
-use Rattle.std.specs.Io.KnownBytes.{Appends}
-use Rattle.lepton_run.specs.Answer.{Gives, IsRefused}
+use Rattle.std.proofs.Common.{◌≡◌, Err, ap, ◌∙◌, subst, List, ℕ, ◌≤◌, length}
+use Rattle.lepton_run.specs.Answer.{AppendsPart, Gives, IsRefused}
 use Rattle.lepton_run.specs.declared.command.Stop.{Stop}
 use Rattle.lepton_run.specs.declared.command.Stop.TheVariants.{Refused}
 use Rattle.lepton_run.specs.declared.refusal.Refusal.{Refusal}
 use Rattle.lepton_run.proofs.Endings.{refuses_of, same_refusal}
 use Rattle.lepton_run.proofs.top.transfer.Goals as goal
 
--- the sink took a front of what is made of the bytes that were read
+-- the sink took a proper prefix of what is made of the bytes that were read
 pub returns-clause-cut : goal.returns-clause-cut
 returns-clause-cut g c = λ _. (
   c.in-Ok.bytes.items,
   c.in-Ok-carry_out.made.items,
-  c.in-Err.field-0.written,
   subst (λ n. length c.in-Ok.bytes.items ≤ n) c.limit.ensures c.in-Ok.ensures.within,
   (c.in-Ok.ensures.whole, c.in-Ok.ensures.end),
   subst (λ (bytes : List ℕ). Gives c.args.command bytes c.in-Ok-carry_out.made.items) c.as_slice.ensures.value c.in-Ok-carry_out.ensures.made,
-  subst (λ (l : List ℕ). Appends (g.K.Sink.held c.args.sink.now) (g.K.Sink.held c.write_all.new.sink) (take c.in-Err.field-0.written l)) c.as_slice-2.ensures.value c.in-Err.ensures.part,
+  subst (λ (made : List ℕ). AppendsPart (g.K.Sink.held c.args.sink.now) (g.K.Sink.held c.write_all.new.sink) made) c.as_slice-2.ensures.value (c.in-Err.field-0.written, c.in-Err.ensures.short, c.in-Err.ensures.part),
 )
 
 -- the command refused the bytes that were read
