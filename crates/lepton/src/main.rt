@@ -2,24 +2,25 @@
 //! `lepton_run::run`, which does everything else.
 #![tactic(auto)]
 
+mod command_line;
 mod ends;
+#[cfg(test)]
+mod tests;
 
+use command_line::given_words;
 use ends::{ReaderSource, WriterSink};
-use lepton_run::run;
+use lepton_run::{no_memory_for_words, run};
 use outside_core::OpenGate;
-use std::env;
 use std::process::ExitCode;
 
 fn main(rt: HostRuntime) -> ExitCode {
     let alloc = rt.alloc();
-    // Words that can't be read are no words, and so refused.
-    let words = match env::args(&rt) {
-        Ok(args) => args.collect(alloc).unwrap_or(Vec::new(alloc)),
-        Err(_) => Vec::new(alloc),
+    let mut note = WriterSink::new(rt.stderr());
+    let Ok(words) = given_words(&rt, alloc) else {
+        return ExitCode::from(no_memory_for_words(&mut note));
     };
     let mut source = ReaderSource::new(rt.stdin());
     let mut sink = WriterSink::new(rt.stdout());
-    let mut note = WriterSink::new(rt.stderr());
     ExitCode::from(run(
         &rt,
         alloc,
