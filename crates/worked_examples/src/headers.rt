@@ -27,7 +27,7 @@ fn refused_headers(rt: HostRuntime) -> Result<(), Fail> {
     Ok(())
 }
 
-// Behind segments of zeros: the code of each, how many there are, their length, what is wrong behind them, the line.
+// After segments of zeros: the code of each, how many there are, their length, what is wrong after them, the line.
 type Far<'a> = (u8, u32, u16, &'a [u8], &'a str);
 
 const FAR: &[Far<'static>] = &[
@@ -80,7 +80,7 @@ fn far_places(rt: HostRuntime) -> Result<(), Fail> {
     Ok(())
 }
 
-// With a few bytes of a scan behind it, and without its last byte.
+// With a few bytes of a scan after it, and without its last byte.
 #[test]
 fn taken_headers(rt: HostRuntime) -> Result<(), Fail> {
     let alloc = rt.alloc();
@@ -98,15 +98,15 @@ fn taken_headers(rt: HostRuntime) -> Result<(), Fail> {
     Ok(())
 }
 
-// The least file's header, cut anywhere, and whole with no scan behind it.
+// The least file's header, cut anywhere, and whole with no scan after it.
 #[test]
-fn fronts_of_the_least_header(rt: HostRuntime) -> Result<(), Fail> {
+fn prefixes_of_the_least_header(rt: HostRuntime) -> Result<(), Fail> {
     let alloc = rt.alloc();
     let header = ROWS[0].header(alloc)?;
     assert!(rt; header.len() == 69);
     for length in 0..69 {
-        let (front, _) = header.as_slice().split_at(length);
-        let tried = run_over(&rt, alloc, &["encode"], front, NONE)?;
+        let (prefix, _) = header.as_slice().split_at(length);
+        let tried = run_over(&rt, alloc, &["encode"], prefix, NONE)?;
         let line = if length < 2 { NOT_JPEG } else { HEADER_CUT };
         assert!(rt; tried.is_refused(line), "cut to {length}");
     }

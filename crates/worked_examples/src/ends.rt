@@ -108,24 +108,6 @@ fn a_write_that_fails_on_the_way_back(rt: HostRuntime) -> Result<(), Fail> {
     Ok(())
 }
 
-// A note that fails changes no status, and holds a front of its line.
-#[test]
-fn a_note_that_fails(rt: HostRuntime) -> Result<(), Fail> {
-    let tried = run_over(
-        &rt,
-        rt.alloc(),
-        &["encode"],
-        &[],
-        Faults {
-            notes: &[3],
-            ..NONE
-        },
-    )?;
-    assert_eq!(rt; tried.status, 1);
-    assert!(rt; tried.noted.as_slice() == b"lepton: refuse".as_slice());
-    Ok(())
-}
-
 #[test]
 fn limits(rt: HostRuntime) -> Result<(), Fail> {
     let alloc = rt.alloc();

@@ -4,7 +4,7 @@ use std::alloc::{AllocError, Global};
 /// From the start of the image up to the height.
 pub const START: [u8; 7] = [0xff, 0xd8, 0xff, 0xc0, 0, 11, 8];
 
-/// Behind the width: code words for the DC category 0 and the end of a block, each `0`.
+/// After the width: code words for the DC category 0 and the end of a block, each `0`.
 pub const LEVEL: [u8; 58] = [
     1, 1, 0x11, 0, //
     0xff, 0xc4, 0, 20, 0x00, 1, 0, 0, 0, 0, 0, 0, 0, 0, 0, 0, 0, 0, 0, 0, 0, 0, //
@@ -12,7 +12,7 @@ pub const LEVEL: [u8; 58] = [
     0xff, 0xda, 0, 8, 1, 1, 0x00, 0, 63, 0,
 ];
 
-/// Behind the width: code words for the DC categories 0 and 1, `0` and `1`, and the end of a block.
+/// After the width: code words for the DC categories 0 and 1, `0` and `1`, and the end of a block.
 pub const STEPS: [u8; 59] = [
     1, 1, 0x11, 0, //
     0xff, 0xc4, 0, 21, 0x00, 2, 0, 0, 0, 0, 0, 0, 0, 0, 0, 0, 0, 0, 0, 0, 0, 0, 1, //

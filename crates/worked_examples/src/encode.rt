@@ -23,7 +23,7 @@ fn containers_of_files(rt: HostRuntime) -> Result<(), Fail> {
     Ok(())
 }
 
-// A file with a header of the profile that is refused: what was changed, the size, what stands behind it, and the rest.
+// A file with a header of the profile that is refused: what was changed, the size, what stands after it, and the rest.
 type Outside<'a> = (&'a str, [u8; 4], &'a [u8], &'a [u8]);
 
 const OUTSIDE: [Outside<'static>; 6] = [

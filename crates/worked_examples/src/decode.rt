@@ -39,8 +39,8 @@ fn another_length(rt: HostRuntime) -> Result<(), Fail> {
     for row in &ROWS {
         let container = row.container(alloc)?;
         for length in 0..container.len() {
-            let (front, _) = container.as_slice().split_at(length);
-            let tried = run_over(&rt, alloc, &["decode"], front, NONE)?;
+            let (prefix, _) = container.as_slice().split_at(length);
+            let tried = run_over(&rt, alloc, &["decode"], prefix, NONE)?;
             assert!(rt; tried.is_outside(), "{} cut to {length}", row.name);
         }
         for byte in [0, 1, 0xff] {
@@ -88,7 +88,7 @@ fn changed_bytes(rt: HostRuntime) -> Result<(), Fail> {
     Ok(())
 }
 
-// A stream that isn't the one of a block: what is wrong with it, what stands behind the size, and the stream.
+// A stream that isn't the one of a block: what is wrong with it, what stands after the size, and the stream.
 type Wrong<'a> = (&'a str, &'a [u8], &'a [u8]);
 
 const WRONG: [Wrong<'static>; 12] = [
@@ -96,7 +96,7 @@ const WRONG: [Wrong<'static>; 12] = [
     ("a first byte that no stream has", &STEPS, &[255, 0, 0]),
     ("a byte less", &LEVEL, &[0, 0]),
     ("a byte more", &LEVEL, &[0, 0, 0, 0]),
-    ("a bit behind the last bool", &LEVEL, &[0, 0, 1]),
+    ("a bit after the last bool", &LEVEL, &[0, 0, 1]),
     ("an inner coefficient", &STEPS, &[4, 0, 0]),
     ("a coefficient of the first row", &STEPS, &[0, 128, 0]),
     ("a coefficient of the first column", &STEPS, &[0, 16, 0]),

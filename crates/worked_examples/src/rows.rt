@@ -2,7 +2,7 @@
 use crate::files::{END, LEVEL, START, STEPS};
 use std::alloc::{AllocError, Global};
 
-/// A file by its height and width, what stands behind them, its scan and its trailer; and its stream.
+/// A file by its height and width, what stands after them, its scan and its trailer; and its stream.
 #[derive(Clone, Copy)]
 pub struct Row<'a> {
     pub name: &'a str,

@@ -14,6 +14,8 @@ mod headers;
 #[cfg(test)]
 mod lines;
 #[cfg(test)]
+mod notes;
+#[cfg(test)]
 mod refused;
 #[cfg(test)]
 mod refused_scans;

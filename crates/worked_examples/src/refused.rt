@@ -44,8 +44,8 @@ pub const MARKERS: &[Refused<'static>] = &[
     ("a byte before the start", &[b"\0", IMAGE], NOT_JPEG),
     ("another kind of picture", &[b"\x89PNG\r\n\x1a\n"], NOT_JPEG),
     ("no segment", &[IMAGE], HEADER_CUT),
-    ("nothing behind an FF", &[IMAGE, b"\xff"], HEADER_CUT),
-    ("nothing behind fill", &[IMAGE, b"\xff\xff\xff"], HEADER_CUT),
+    ("nothing after an FF", &[IMAGE, b"\xff"], HEADER_CUT),
+    ("nothing after fill", &[IMAGE, b"\xff\xff\xff"], HEADER_CUT),
     ("no length", &[IMAGE, b"\xff\xdb"], HEADER_CUT),
     ("half a length", &[IMAGE, b"\xff\xdb\0"], HEADER_CUT),
     (
@@ -80,7 +80,7 @@ pub const MARKERS: &[Refused<'static>] = &[
         "lepton: refused 3 MarkerBad at 3",
     ),
     (
-        "a stuffed FF behind fill",
+        "a stuffed FF after fill",
         &[IMAGE, b"\xff\xff\xff\0"],
         "lepton: refused 3 MarkerBad at 5",
     ),
@@ -112,7 +112,7 @@ pub const MARKERS: &[Refused<'static>] = &[
         "lepton: refused 5 LengthBad at 4",
     ),
     (
-        "a length of 1 behind fill",
+        "a length of 1 after fill",
         &[IMAGE, b"\xff\xff\xdb\0\x01"],
         "lepton: refused 5 LengthBad at 5",
     ),
