@@ -5,7 +5,7 @@ use Rattle.std.proofs.Math.Pow.{mod-mod-pow}
 use Rattle.std.proofs.lemmas.List.{take_at, drop_at}
 use Rattle.std.proofs.lemmas.Nat.{shr-shr, field_of, shr_high, mod_low, mul-add-lt}
 use Rattle.bit_list.specs.Bits.{low_bits, number_of}
-use Rattle.bit_list.specs.Again.{length-low_bits, mod_small}
+use Rattle.bit_list.specs.NumbersOfBits.{length-low_bits, mod_small}
 
 -- the upper ones, and then the lower
 pub low_bits-append : (a b n : ℕ) → low_bits (a + b) n ≡ low_bits a (n / 2 ^ b) ++ low_bits b n
@@ -36,23 +36,23 @@ low_bits-join a b v w h =
 pub take-low_bits : (a b n : ℕ) → take a (low_bits (a + b) n) ≡ low_bits a (n / 2 ^ b)
 take-low_bits a b n = ap (take a) (low_bits-append a b n) ∙ take_at (low_bits a (n / 2 ^ b)) (low_bits b n) a (length-low_bits a (n / 2 ^ b))
 
--- those behind them
+-- those after them
 pub drop-low_bits : (a b n : ℕ) → drop a (low_bits (a + b) n) ≡ low_bits b n
 drop-low_bits a b n = ap (drop a) (low_bits-append a b n) ∙ drop_at (low_bits a (n / 2 ^ b)) (low_bits b n) a (length-low_bits a (n / 2 ^ b))
 
--- bits behind a number
-behind_is : (before : ℕ) (bits : List Bool)
+-- bits after a number
+after_is : (before : ℕ) (bits : List Bool)
     → fold (λ (n : ℕ) (bit : Bool). 2 * n + (if bit then 1 else 0)) before bits ≡ before * 2 ^ length bits + number_of bits
-behind_is before [] = omega arith
-behind_is before (bit ∷ bits) =
+after_is before [] = omega arith
+after_is before (bit ∷ bits) =
     let b = if bit then 1 else 0 in
-    let here = behind_is (2 * before + b) bits in
-    let alone = behind_is (2 * 0 + b) bits in
+    let here = after_is (2 * before + b) bits in
+    let alone = after_is (2 * 0 + b) bits in
     rw pow-suc (omega (arith, here, alone))
 
--- the first bit, and those behind it
+-- the first bit, and those after it
 number_first : (bit : Bool) (bits : List Bool) → number_of (bit ∷ bits) ≡ (if bit then 1 else 0) * 2 ^ length bits + number_of bits
-number_first bit bits = let h = behind_is (2 * 0 + (if bit then 1 else 0)) bits in omega (arith, h)
+number_first bit bits = let h = after_is (2 * 0 + (if bit then 1 else 0)) bits in omega (arith, h)
 
 -- a bit is below two
 bit_below : (bit : Bool) → (if bit then 1 else 0) < 2

@@ -5,7 +5,7 @@ use Rattle.std.proofs.lemmas.Nat.{pow-add, and_mask, one_shl, shl_whole, shl_bel
 use Rattle.std.proofs.lemmas.Nat.Bits.{bit_at_ones, bit_at-zero}
 use Rattle.std.proofs.Math.Pow.{pow_mono}
 use Rattle.bit_list.specs.Bits.{low_bits, bytes_after, padding}
-use Rattle.bit_list.specs.Again.{length-low_bits, mod_small}
+use Rattle.bit_list.specs.NumbersOfBits.{length-low_bits, mod_small}
 use Rattle.bit_list.specs.Units.{Cursor, and_then, unit_at, filled, bit_at, bits_at}
 use Rattle.bit_list.specs.declared.fault.BitFault.{BitFault}
 use Rattle.bit_list.proofs.LowBits.{low_bits-append, low_bits-same, low_bits-join, take-low_bits, drop-low_bits}
@@ -20,9 +20,9 @@ masked n k w h = ap (λ (p : ℕ). bit_and n (p - 1)) (one_shl k w h) ∙ and_ma
 pub mask_some : (k w : ℕ) → k < w → 1 ≤ 1 * 2 ^ k % 2 ^ w
 mask_some k w h = rw (one_shl k w h) (omega (arith, pow_pos k))
 
--- bits behind a number's bits fit
-pub joined_below : (m k number front : ℕ) → number < 2 ^ m → front < 2 ^ k → number * 2 ^ k + front < 2 ^ (m + k)
-joined_below m k number front a b = rw (pow-add 2 m k) (omega (arith, mul-add-lt number (2 ^ k) front (2 ^ m) a b))
+-- bits after a number's bits fit
+pub joined_below : (m k number prefix : ℕ) → number < 2 ^ m → prefix < 2 ^ k → number * 2 ^ k + prefix < 2 ^ (m + k)
+joined_below m k number prefix a b = rw (pow-add 2 m k) (omega (arith, mul-add-lt number (2 ^ k) prefix (2 ^ m) a b))
 
 -- so many zeros, and so many ones
 pub zeros_are : (k : ℕ) → low_bits k 0 ≡ replicate k false
@@ -105,32 +105,32 @@ fill_fault bytes cursor fault none unit =
     ∙ ap (λ (r : Result (ℕ × ℕ) BitFault). and_then {A = ℕ × ℕ} {B = Cursor} r (λ u. Ok (record { left = drop cursor.skip (low_bits 8 u.0); skip = 0; last = cursor.next; next = u.1 }))) unit
 
 -- a bit as a number
-bit_is : (front : ℕ) → front < 2 → (digit_at front 0 == 1) ≡ nat_eq front 1
+bit_is : (prefix : ℕ) → prefix < 2 → (digit_at prefix 0 == 1) ≡ nat_eq prefix 1
 bit_is zero h = refl
 bit_is (suc zero) h = refl
 bit_is (suc (suc n)) h = absurd (omega arith)
 
 -- the first bit that is left, as a number
-bit_of_left : (bytes : List ℕ) (full : Cursor) (front : ℕ) (ys : List Bool) → front < 2 → full.left ≡ low_bits 1 front ++ ys
-    → bit_at bytes full ≡ Ok (nat_eq front 1, record full { left = ys })
-bit_of_left bytes full front ys below split =
-    ap (λ (l : List Bool). bit_at bytes (record full { left = l })) split ∙ bit_left (digit_at front 0 == 1) ys bytes full.skip full.last full.next
-    ∙ ap (λ (b : Bool). let r : Result (Bool × Cursor) BitFault = Ok (b, record full { left = ys }) in r) (bit_is front below)
+bit_of_left : (bytes : List ℕ) (full : Cursor) (prefix : ℕ) (ys : List Bool) → prefix < 2 → full.left ≡ low_bits 1 prefix ++ ys
+    → bit_at bytes full ≡ Ok (nat_eq prefix 1, record full { left = ys })
+bit_of_left bytes full prefix ys below split =
+    ap (λ (l : List Bool). bit_at bytes (record full { left = l })) split ∙ bit_left (digit_at prefix 0 == 1) ys bytes full.skip full.last full.next
+    ∙ ap (λ (b : Bool). let r : Result (Bool × Cursor) BitFault = Ok (b, record full { left = ys }) in r) (bit_is prefix below)
 
 -- the first bit of a unit
-pub bit_taken : (bytes : List ℕ) (at full next : Cursor) (front : ℕ) (ys : List Bool) → filled bytes at ≡ Ok full → front < 2
-    → full.left ≡ low_bits 1 front ++ ys → next ≡ record full { left = ys } → bit_at bytes at ≡ Ok (nat_eq front 1, next)
-bit_taken bytes at full next front ys unit below split e =
+pub bit_taken : (bytes : List ℕ) (at full next : Cursor) (prefix : ℕ) (ys : List Bool) → filled bytes at ≡ Ok full → prefix < 2
+    → full.left ≡ low_bits 1 prefix ++ ys → next ≡ record full { left = ys } → bit_at bytes at ≡ Ok (nat_eq prefix 1, next)
+bit_taken bytes at full next prefix ys unit below split e =
     let some : 0 < length full.left = rw split (omega arith) in
-    bit_filled bytes at full unit some ∙ bit_of_left bytes full front ys below split ∙ ap (λ (c : Cursor). let r : Result (Bool × Cursor) BitFault = Ok (nat_eq front 1, c) in r) (sym e)
+    bit_filled bytes at full unit some ∙ bit_of_left bytes full prefix ys below split ∙ ap (λ (c : Cursor). let r : Result (Bool × Cursor) BitFault = Ok (nat_eq prefix 1, c) in r) (sym e)
 
--- the first bits of a unit behind bits that were taken
-pub number_taken : (bytes : List ℕ) (from at full next : Cursor) (m k number front : ℕ) (ys : List Bool) → bits_at m bytes from ≡ Ok (low_bits m number, at)
-    → filled bytes at ≡ Ok full → 0 < k → front < 2 ^ k → full.left ≡ low_bits k front ++ ys → next ≡ record full { left = ys }
-    → bits_at (m + k) bytes from ≡ Ok (low_bits (m + k) (number * 2 ^ k + front), next)
-number_taken bytes from at full next m k number front ys taken unit some below split e =
-    more_taken m k bytes from at full (low_bits k front) ys (low_bits m number) taken unit some (length-low_bits k front) split
-    ∙ ap₂ (λ (bits : List Bool) (c : Cursor). let r : Result (List Bool × Cursor) BitFault = Ok (bits, c) in r) (sym (low_bits-join m k number front below)) (sym e)
+-- the first bits of a unit after bits that were taken
+pub number_taken : (bytes : List ℕ) (from at full next : Cursor) (m k number prefix : ℕ) (ys : List Bool) → bits_at m bytes from ≡ Ok (low_bits m number, at)
+    → filled bytes at ≡ Ok full → 0 < k → prefix < 2 ^ k → full.left ≡ low_bits k prefix ++ ys → next ≡ record full { left = ys }
+    → bits_at (m + k) bytes from ≡ Ok (low_bits (m + k) (number * 2 ^ k + prefix), next)
+number_taken bytes from at full next m k number prefix ys taken unit some below split e =
+    more_taken m k bytes from at full (low_bits k prefix) ys (low_bits m number) taken unit some (length-low_bits k prefix) split
+    ∙ ap₂ (λ (bits : List Bool) (c : Cursor). let r : Result (List Bool × Cursor) BitFault = Ok (bits, c) in r) (sym (low_bits-join m k number prefix below)) (sym e)
 
 -- before the first bit
 pub none_yet : (bytes : List ℕ) (cursor : Cursor) → bits_at 0 bytes cursor ≡ Ok (low_bits 0 0, cursor)
@@ -138,23 +138,23 @@ unfolding bits_at
 none_yet bytes cursor = refl
 
 -- a number that grew by some bits
-pub record Grown (m k number front grown : ℕ) : Type 0 where
-  pub is : grown ≡ number * 2 ^ k + front
+pub record Grown (m k number prefix grown : ℕ) : Type 0 where
+  pub is : grown ≡ number * 2 ^ k + prefix
   pub below : grown < 2 ^ (m + k)
   pub word : grown < 2 ^ 32
 
-pub grown : (m k number front from next : ℕ) → m + k ≤ 31 → number < 2 ^ m → front < 2 ^ k → from ≡ front → next ≡ number * 2 ^ k % 2 ^ 32 + from
-    → Grown m k number front next
-grown m k number front from next few a b e f =
-    let is : next ≡ number * 2 ^ k + front = f ∙ ap₂ (λ (x y : ℕ). x + y) (shl_whole number m k 32 a (omega arith)) e in
-    let below : next < 2 ^ (m + k) = rw is (joined_below m k number front a b) in
+pub grown : (m k number prefix from next : ℕ) → m + k ≤ 31 → number < 2 ^ m → prefix < 2 ^ k → from ≡ prefix → next ≡ number * 2 ^ k % 2 ^ 32 + from
+    → Grown m k number prefix next
+grown m k number prefix from next few a b e f =
+    let is : next ≡ number * 2 ^ k + prefix = f ∙ ap₂ (λ (x y : ℕ). x + y) (shl_whole number m k 32 a (omega arith)) e in
+    let below : next < 2 ^ (m + k) = rw is (joined_below m k number prefix a b) in
     let most : 2 ^ (m + k) ≤ 2 ^ 31 = pow_mono few in
     record { is = is; below = below; word = omega arith }
 
 -- a byte made of two numbers
-pub joined_word : (number count free front word : ℕ) → count + free ≡ 8 → number < 2 ^ count → front < 2 ^ free → word ≡ number * 2 ^ free % 2 ^ 16 + front
-    → (word ≡ number * 2 ^ free + front) × (word < 256)
-joined_word number count free front word e a b f =
-    let is : word ≡ number * 2 ^ free + front = f ∙ ap (λ (x : ℕ). x + front) (shl_whole number count free 16 a (omega arith)) in
-    let below : number * 2 ^ free + front < 2 ^ (count + free) = joined_below count free number front a b in
+pub joined_word : (number count free prefix word : ℕ) → count + free ≡ 8 → number < 2 ^ count → prefix < 2 ^ free → word ≡ number * 2 ^ free % 2 ^ 16 + prefix
+    → (word ≡ number * 2 ^ free + prefix) × (word < 256)
+joined_word number count free prefix word e a b f =
+    let is : word ≡ number * 2 ^ free + prefix = f ∙ ap (λ (x : ℕ). x + prefix) (shl_whole number count free 16 a (omega arith)) in
+    let below : number * 2 ^ free + prefix < 2 ^ (count + free) = joined_below count free number prefix a b in
     (is, rw is (rw e at below))

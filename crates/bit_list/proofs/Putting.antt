@@ -2,7 +2,7 @@
 use Rattle.std.proofs.Common.{◌≡◌, ℕ, ◌+◌, ◌-◌, ◌*◌, ◌/◌, ◌^◌, ◌<◌, ◌≤◌, Bool, List, [], ◌++◌, sym, ap, ◌∙◌, arith}
 use Rattle.std.proofs.lemmas.List.{append-nil}
 use Rattle.bit_list.specs.Bits.{low_bits, bytes_after, begun_after, stuffed}
-use Rattle.bit_list.specs.Again.{length-low_bits}
+use Rattle.bit_list.specs.NumbersOfBits.{length-low_bits}
 use Rattle.bit_list.proofs.LowBits.{low_bits-join}
 use Rattle.bit_list.proofs.Wholes.{Split, no_byte, all_begun, bytes_joined, begun_joined}
 use Rattle.bit_list.proofs.Stuffing.{unit_bytes, one_unit_more}

@@ -5,12 +5,12 @@ use Rattle.std.proofs.lemmas.Bool.{eqb-true}
 use Rattle.std.proofs.lemmas.List.{drop-drop, drop_at, take-append-drop, length-take-le, length-drop}
 use Rattle.bit_list.specs.Bits.{IsByte, low_bits, bits_of, stuffed}
 use Rattle.bit_list.specs.Units.{Cursor, and_then, starting, unit_of, unit_at, filled, bit_at, bits_at}
-use Rattle.bit_list.specs.Taken.{IsWithin, Spans, TakenStand, StandingAreTaken, TakenFromWithin, StuffedAreFew}
-use Rattle.bit_list.specs.Again.{length-low_bits}
+use Rattle.bit_list.specs.BitSpans.{IsWithin, Spans, TakenStand, StandingAreTaken, TakenFromWithin, StuffedAreFew}
+use Rattle.bit_list.specs.NumbersOfBits.{length-low_bits}
 use Rattle.bit_list.specs.declared.fault.BitFault.{BitFault}
 use Rattle.bit_list.specs.declared.fault.BitFault.TheVariants.{Cut, MarkerInScan}
 use Rattle.bit_list.proofs.Stuffing.{unit_bytes, unit_again, stuffed_first, stuffed-append, length-unit_bytes}
-use Rattle.bit_list.proofs.Cursors.{behind_bit, behind_bits, then_bits, in_parts, filled_now, bit_left, bits_left, bits_filled, bits_fault}
+use Rattle.bit_list.proofs.Cursors.{after_bit, after_bits, then_bits, in_parts, filled_now, bit_left, bits_left, bits_filled, bits_fault}
 
 abbrev done : {A : Type 0} → A → Result A BitFault
 done x = Ok x
@@ -47,7 +47,7 @@ never fault c d e = cc
 record Head (end place : ℕ) (bytes : List ℕ) (unit next : ℕ) : Type 0 where
   more : List ℕ
   text : bytes ≡ unit_bytes unit ++ more
-  place_behind : next ≡ place + length (unit_bytes unit)
+  place_after : next ≡ place + length (unit_bytes unit)
 
 abbrev bytes_by : Bool → ℕ → List ℕ
 bytes_by t byte = byte ∷ (if t then 0 ∷ [] else [])
@@ -56,7 +56,7 @@ plain_head : (end place byte unit next : ℕ) (more : List ℕ) → (byte == 255
 plain_head end place byte unit next more other e =
     let v = both_numbers byte (place + 1) unit next e in
     let one : unit_bytes unit ≡ unit ∷ [] = ap (λ (t : Bool). bytes_by t unit) (ap (λ (b : ℕ). b == 255) (sym v.0) ∙ other) in
-    record { more = more; text = ap (λ (b : ℕ). b ∷ more) v.0 ∙ ap (λ (l : List ℕ). l ++ more) (sym one); place_behind = sym v.1 ∙ ap (λ (l : List ℕ). place + length l) (sym one) }
+    record { more = more; text = ap (λ (b : ℕ). b ∷ more) v.0 ∙ ap (λ (l : List ℕ). l ++ more) (sym one); place_after = sym v.1 ∙ ap (λ (l : List ℕ). place + length l) (sym one) }
 
 last_head : (t : Bool) (end place byte unit next : ℕ) → (byte == 255) ≡ t → (if t then no_unit (Cut end) else unit_is byte (place + 1)) ≡ unit_is unit next → Head end place (byte ∷ []) unit next
 last_head true end place byte unit next is e = absurd (never (Cut end) unit next e)
@@ -68,7 +68,7 @@ full_head true end place second unit next rest is e =
     let v = both_numbers 255 (place + 2) unit next e in
     let none : second ≡ 0 = eqb-true second 0 is in
     let two : unit_bytes unit ≡ 255 ∷ 0 ∷ [] = ap unit_bytes (sym v.0) in
-    record { more = rest; text = ap (λ (b : ℕ). 255 ∷ b ∷ rest) none ∙ ap (λ (l : List ℕ). l ++ rest) (sym two); place_behind = sym v.1 ∙ ap (λ (l : List ℕ). place + length l) (sym two) }
+    record { more = rest; text = ap (λ (b : ℕ). 255 ∷ b ∷ rest) none ∙ ap (λ (l : List ℕ). l ++ rest) (sym two); place_after = sym v.1 ∙ ap (λ (l : List ℕ). place + length l) (sym two) }
 full_head false end place second unit next rest is e = absurd (never (MarkerInScan place) unit next e)
 
 two_head : (t : Bool) (end place byte second unit next : ℕ) (rest : List ℕ) → (byte == 255) ≡ t
@@ -76,7 +76,7 @@ two_head : (t : Bool) (end place byte second unit next : ℕ) (rest : List ℕ) 
 two_head true end place byte second unit next rest is e =
     let full : byte ≡ 255 = eqb-true byte 255 is in
     let h = full_head (second == 0) end place second unit next rest refl e in
-    record { more = h.more; text = ap (λ (b : ℕ). b ∷ second ∷ rest) full ∙ h.text; place_behind = h.place_behind }
+    record { more = h.more; text = ap (λ (b : ℕ). b ∷ second ∷ rest) full ∙ h.text; place_after = h.place_after }
 two_head false end place byte second unit next rest is e = plain_head end place byte unit next (second ∷ rest) is e
 
 head : (end place unit next : ℕ) (bytes : List ℕ) → unit_of end place bytes ≡ Ok (unit, next) → Head end place bytes unit next
@@ -103,12 +103,12 @@ unit_there : (bytes : List ℕ) (place unit next : ℕ) → AllByRecursion IsByt
 unfolding unit_at
 unit_there bytes place unit next all e =
     let h = head (length bytes) place unit next (drop place bytes) e in
-    let behind : drop next bytes ≡ h.more =
-    ap (λ (k : ℕ). drop k bytes) (h.place_behind ∙ omega arith) ∙ sym (drop-drop (length (unit_bytes unit)) place bytes) ∙ ap (drop (length (unit_bytes unit))) h.text
+    let after : drop next bytes ≡ h.more =
+    ap (λ (k : ℕ). drop k bytes) (h.place_after ∙ omega arith) ∙ sym (drop-drop (length (unit_bytes unit)) place bytes) ∙ ap (drop (length (unit_bytes unit))) h.text
     ∙ drop_at (unit_bytes unit) h.more (length (unit_bytes unit)) refl in
     record {
-      text = h.text ∙ ap (λ (l : List ℕ). unit_bytes unit ++ l) (sym behind);
-      next_is = h.place_behind;
+      text = h.text ∙ ap (λ (l : List ℕ). unit_bytes unit ++ l) (sym after);
+      next_is = h.place_after;
       small = first_byte unit h.more (drop place bytes) h.text (bytes_drop place bytes all);
     }
 
@@ -162,8 +162,8 @@ abbrev rest_cursor : ℕ → ℕ → ℕ → Cursor
 rest_cursor unit last next = record { left = low_bits 7 unit; skip = 0; last = last; next = next }
 
 -- a fetched unit, where no bit is left
-fetched_is : (bytes : List ℕ) (last next unit behind : ℕ) → unit_at bytes next ≡ Ok (unit, behind) → filled bytes (record { left = []; skip = 0; last = last; next = next }) ≡ Ok (unit_cursor unit next behind)
-fetched_is bytes last next unit behind e =
+fetched_is : (bytes : List ℕ) (last next unit after : ℕ) → unit_at bytes next ≡ Ok (unit, after) → filled bytes (record { left = []; skip = 0; last = last; next = next }) ≡ Ok (unit_cursor unit next after)
+fetched_is bytes last next unit after e =
     let c : Cursor = record { left = []; skip = 0; last = last; next = next } in
     filled_now bytes c refl ∙ ap (λ (r : Result (ℕ × ℕ) BitFault). and_then r (λ u. Ok (record { left = drop 0 (low_bits 8 u.0); skip = 0; last = next; next = u.1 }))) e
 
@@ -209,7 +209,7 @@ Taken n bytes from to bits = Spans bytes from bits to × (length bits ≡ n)
 
 -- a bit and then some
 then_some : (n : ℕ) (bytes : List ℕ) (from mid to : Cursor) (bit : Bool) (bits : List Bool) (r : Result (List Bool × Cursor) BitFault)
-    → ((end : Cursor) (more : List Bool) → r ≡ Ok (more, end) → Taken n bytes mid end more) → Spans bytes from (bit ∷ []) mid → behind_bit bit r ≡ Ok (bits, to) → Taken (suc n) bytes from to bits
+    → ((end : Cursor) (more : List Bool) → r ≡ Ok (more, end) → Taken n bytes mid end more) → Spans bytes from (bit ∷ []) mid → after_bit bit r ≡ Ok (bits, to) → Taken (suc n) bytes from to bits
 then_some n bytes from mid to bit bits (Err fault) more one h = absurd (apart fault (bits, to) h)
 then_some n bytes from mid to bit bits (Ok x) more one h =
     let v = is_both (bit ∷ x.0, x.1) (bits, to) h in
@@ -219,7 +219,7 @@ then_some n bytes from mid to bit bits (Ok x) more one h =
 
 first_some : (n : ℕ) (bytes : List ℕ) (from to : Cursor) (bits : List Bool) (first : Result (Bool × Cursor) BitFault) → AllByRecursion IsByte bytes → IsWithin from → bit_at bytes from ≡ first
     → ((mid end : Cursor) (more : List Bool) → IsWithin mid → bits_at n bytes mid ≡ Ok (more, end) → Taken n bytes mid end more)
-    → and_then first (λ one. behind_bit one.0 (bits_at n bytes one.1)) ≡ Ok (bits, to) → Taken (suc n) bytes from to bits
+    → and_then first (λ one. after_bit one.0 (bits_at n bytes one.1)) ≡ Ok (bits, to) → Taken (suc n) bytes from to bits
 first_some n bytes from to bits (Err fault) all within is more h = absurd (apart fault (bits, to) h)
 first_some n bytes from to bits (Ok x) all within is more h =
     let a = step bytes x.0 from x.1 all within is in
@@ -235,14 +235,14 @@ stand (suc n) bytes from to bits all within e =
 
 -- ---- and back
 
--- a longer front
-front_of : (xs ys zs ws : List Bool) → xs ++ ys ≡ zs ++ ws → length xs ≤ length zs → (m : List Bool) × (zs ≡ xs ++ m) × (ys ≡ m ++ ws)
-front_of [] ys zs ws e h = (zs, refl, e)
-front_of (x ∷ xs) ys [] ws e h = absurd (omega arith)
-front_of (x ∷ xs) ys (z ∷ zs) ws e h =
+-- a longer prefix
+prefix_of : (xs ys zs ws : List Bool) → xs ++ ys ≡ zs ++ ws → length xs ≤ length zs → (m : List Bool) × (zs ≡ xs ++ m) × (ys ≡ m ++ ws)
+prefix_of [] ys zs ws e h = (zs, refl, e)
+prefix_of (x ∷ xs) ys [] ws e h = absurd (omega arith)
+prefix_of (x ∷ xs) ys (z ∷ zs) ws e h =
     let same : x ≡ z = cc in
     let tails : xs ++ ys ≡ zs ++ ws = cc in
-    let r = front_of xs ys zs ws tails (omega arith) in
+    let r = prefix_of xs ys zs ws tails (omega arith) in
     (r.0, ap₂ (λ (b : Bool) (l : List Bool). b ∷ l) (sym same) r.1, r.2)
 
 -- what is taken of bits that stand
@@ -254,7 +254,7 @@ unit_stands : (bytes : List ℕ) (place unit : ℕ) (more : List ℕ) → drop p
 unfolding unit_at
 unit_stands bytes place unit more e = ap (unit_of (length bytes) place) e ∙ unit_again (length bytes) place unit more (unit == 255) refl
 
--- behind the bits that are left
+-- after the bits that are left
 left_then : (bytes : List ℕ) (left m : List Bool) (skip last next : ℕ) (to : Cursor) → bits_at (length m) bytes (record { left = []; skip = skip; last = last; next = next }) ≡ Ok (m, to)
     → bits_at (length (left ++ m)) bytes (record { left = left; skip = skip; last = last; next = next }) ≡ Ok (left ++ m, to)
 left_then bytes left m skip last next to e =
@@ -264,7 +264,7 @@ left_then bytes left m skip last next to e =
     ap (λ (l : List Bool). bits_at (length left) bytes (record { left = l; skip = skip; last = last; next = next })) (sym (append-nil left)) ∙ bits_left left [] bytes skip last next in
     ap (λ (n : ℕ). bits_at n bytes from) (length-append left m) ∙ in_parts (length left) (length m) bytes from
     ∙ ap (λ (r : Result (List Bool × Cursor) BitFault). and_then r (then_bits (length m) bytes)) all
-    ∙ ap (behind_bits left) e
+    ∙ ap (after_bits left) e
 
 pub standing : StandingAreTaken
 standing [] rest bytes from bits more none text spelled few =
@@ -281,22 +281,22 @@ standing (unit ∷ units) rest bytes from bits more none text spelled few =
     let a = length-append from.left (bits_of (unit ∷ units)) in
     let b = length-append bits more in
     let c = ap length spelled in
-    let f = front_of from.left (bits_of (unit ∷ units)) bits more spelled (omega (arith, n, eight, a, b, c, few)) in
+    let f = prefix_of from.left (bits_of (unit ∷ units)) bits more spelled (omega (arith, n, eight, a, b, c, few)) in
     let m = f.0 in
     let d = ap length f.2 in
     let g = length-append m more in
     let some : 0 < length m = omega (arith, d, g, n, eight, few) in
     let tail : drop from.next bytes ≡ unit_bytes unit ++ (stuffed units ++ rest) =
     text ∙ ap (λ (l : List ℕ). l ++ rest) (stuffed_first unit units) ∙ append_assoc (unit_bytes unit) (stuffed units) rest in
-    let behind = from.next + length (unit_bytes unit) in
+    let after = from.next + length (unit_bytes unit) in
     let there = unit_stands bytes from.next unit (stuffed units ++ rest) tail in
-    let later : drop behind bytes ≡ stuffed units ++ rest =
+    let later : drop after bytes ≡ stuffed units ++ rest =
     sym (drop-drop (length (unit_bytes unit)) from.next bytes) ∙ ap (drop (length (unit_bytes unit))) tail ∙ drop_at (unit_bytes unit) (stuffed units ++ rest) (length (unit_bytes unit)) refl in
-    let full = unit_cursor unit from.next behind in
+    let full = unit_cursor unit from.next after in
     let r = standing units rest bytes full m more refl later f.2 few in
     let empty : Cursor = record { left = []; skip = 0; last = from.last; next = from.next } in
     let got : bits_at (length m) bytes empty ≡ Ok (m, r.0) =
-    bits_filled (length m) bytes empty full some (fetched_is bytes from.last from.next unit behind there) (omega (arith, eight)) ∙ r.1 in
+    bits_filled (length m) bytes empty full some (fetched_is bytes from.last from.next unit after there) (omega (arith, eight)) ∙ r.1 in
     let whole : bits_at (length (from.left ++ m)) bytes (record { left = from.left; skip = 0; last = from.last; next = from.next }) ≡ Ok (from.left ++ m, r.0) =
     left_then bytes from.left m 0 from.last from.next r.0 got in
     let skipped : bits_at (length (from.left ++ m)) bytes from ≡ Ok (from.left ++ m, r.0) = ap (λ (k : ℕ). bits_at (length (from.left ++ m)) bytes (record from { skip = k })) none ∙ whole in
@@ -310,20 +310,20 @@ standing (unit ∷ units) rest bytes from bits more none text spelled few =
     )
 
 -- from within a unit
-skipped_is : (bytes : List ℕ) (place skip unit behind : ℕ) → unit_at bytes place ≡ Ok (unit, behind)
-    → filled bytes (starting place skip) ≡ Ok (record { left = drop skip (low_bits 8 unit); skip = 0; last = place; next = behind })
-skipped_is bytes place skip unit behind e =
+skipped_is : (bytes : List ℕ) (place skip unit after : ℕ) → unit_at bytes place ≡ Ok (unit, after)
+    → filled bytes (starting place skip) ≡ Ok (record { left = drop skip (low_bits 8 unit); skip = 0; last = place; next = after })
+skipped_is bytes place skip unit after e =
     filled_now bytes (starting place skip) refl ∙ ap (λ (r : Result (ℕ × ℕ) BitFault). and_then r (λ u. Ok (record { left = drop skip (low_bits 8 u.0); skip = 0; last = place; next = u.1 }))) e
 
 unit_fault : (bytes : List ℕ) (place : ℕ) (fault : BitFault) → unit_at bytes place ≡ Err fault → filled bytes (starting place 0) ≡ Err fault
 unit_fault bytes place fault e =
     filled_now bytes (starting place 0) refl ∙ ap (λ (r : Result (ℕ × ℕ) BitFault). and_then r (λ u. Ok (record { left = drop 0 (low_bits 8 u.0); skip = 0; last = place; next = u.1 }))) e
 
-within_of : (r : Result (ℕ × ℕ) BitFault) (n skip place : ℕ) (bytes : List ℕ) (front : List Bool) (at : Cursor) → unit_at bytes place ≡ r → 0 < n → 0 < skip → skip < 8
-    → bits_at skip bytes (starting place 0) ≡ Ok (front, at) → bits_at n bytes (starting place skip) ≡ bits_at n bytes at
-within_of (Err fault) n skip place bytes front at u some begun few e =
-    absurd (apart fault (front, at) (sym (bits_fault skip bytes (starting place 0) fault begun (unit_fault bytes place fault u)) ∙ e))
-within_of (Ok x) n skip place bytes front at u some begun few e =
+within_of : (r : Result (ℕ × ℕ) BitFault) (n skip place : ℕ) (bytes : List ℕ) (prefix : List Bool) (at : Cursor) → unit_at bytes place ≡ r → 0 < n → 0 < skip → skip < 8
+    → bits_at skip bytes (starting place 0) ≡ Ok (prefix, at) → bits_at n bytes (starting place skip) ≡ bits_at n bytes at
+within_of (Err fault) n skip place bytes prefix at u some begun few e =
+    absurd (apart fault (prefix, at) (sym (bits_fault skip bytes (starting place 0) fault begun (unit_fault bytes place fault u)) ∙ e))
+within_of (Ok x) n skip place bytes prefix at u some begun few e =
     let bits = low_bits 8 x.0 in
     let eight = length-low_bits 8 x.0 in
     let full = unit_cursor x.0 place x.1 in
@@ -332,9 +332,9 @@ within_of (Ok x) n skip place bytes front at u some begun few e =
     let first : bits_at skip bytes full ≡ Ok (take skip bits, later) =
     ap₂ (λ (k : ℕ) (l : List Bool). bits_at k bytes (record { left = l; skip = 0; last = place; next = x.1 })) (sym size) (sym (take-append-drop skip bits))
     ∙ bits_left (take skip bits) (drop skip bits) bytes 0 place x.1 in
-    let v = is_both (take skip bits, later) (front, at) (sym first ∙ sym (bits_filled skip bytes (starting place 0) full begun (fetched_is bytes place place x.0 x.1 u) (omega (arith, eight))) ∙ e) in
+    let v = is_both (take skip bits, later) (prefix, at) (sym first ∙ sym (bits_filled skip bytes (starting place 0) full begun (fetched_is bytes place place x.0 x.1 u) (omega (arith, eight))) ∙ e) in
     let left : 0 < length (drop skip bits) = let d = length-drop skip bits in omega (arith, d, eight) in
     bits_filled n bytes (starting place skip) later some (skipped_is bytes place skip x.0 x.1 u) left ∙ ap (λ (c : Cursor). bits_at n bytes c) v.1
 
 pub from_within : TakenFromWithin
-from_within n skip place bytes front at some begun few e = within_of (unit_at bytes place) n skip place bytes front at refl some begun few e
+from_within n skip place bytes prefix at some begun few e = within_of (unit_at bytes place) n skip place bytes prefix at refl some begun few e

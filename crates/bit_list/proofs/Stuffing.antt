@@ -7,7 +7,7 @@ use Rattle.bit_list.specs.Units.{unit_of, unit_at}
 use Rattle.bit_list.specs.declared.fault.BitFault.{BitFault}
 use Rattle.bit_list.specs.declared.fault.BitFault.TheVariants.{Cut, MarkerInScan}
 
--- a coded byte, and a zero behind 0xff
+-- a coded byte, and a zero after 0xff
 abbrev pub unit_bytes : ℕ → List ℕ
 unit_bytes byte = stuffed (byte ∷ [])
 
@@ -26,7 +26,7 @@ stuffed-append (x ∷ xs) ys =
     stuffed_first x (xs ++ ys) ∙ ap (λ (bs : List ℕ). unit_bytes x ++ bs) (stuffed-append xs ys) ∙ sym (append_assoc (unit_bytes x) (stuffed xs) (stuffed ys))
     ∙ ap (λ (bs : List ℕ). bs ++ stuffed ys) (sym (stuffed_first x xs))
 
--- what was written with one byte more in front
+-- what was written with one byte more in prefix
 pub one_unit_more : (out : List ℕ) (byte : ℕ) (bytes : List ℕ) → (out ++ unit_bytes byte) ++ stuffed bytes ≡ out ++ stuffed (byte ∷ bytes)
 one_unit_more out byte bytes = append_assoc out (unit_bytes byte) (stuffed bytes) ∙ ap (λ (bs : List ℕ). out ++ bs) (sym (stuffed_first byte bytes))
 
@@ -42,15 +42,15 @@ unit_again end place byte rest true full = rw (eqb-true byte 255 full) refl
 unit_again end place byte rest false other = plain_unit end place byte rest other
 
 -- the unit at a place where a coded byte stands
-pub unit_read : (front : List ℕ) (byte : ℕ) (rest : List ℕ)
-    → unit_at (front ++ (unit_bytes byte ++ rest)) (length front) ≡ Ok (byte, length front + length (unit_bytes byte))
+pub unit_read : (prefix : List ℕ) (byte : ℕ) (rest : List ℕ)
+    → unit_at (prefix ++ (unit_bytes byte ++ rest)) (length prefix) ≡ Ok (byte, length prefix + length (unit_bytes byte))
 unfolding unit_at
-unit_read front byte rest =
-    let bytes = front ++ (unit_bytes byte ++ rest) in
-    ap (unit_of (length bytes) (length front)) (drop_at front (unit_bytes byte ++ rest) (length front) refl)
-    ∙ unit_again (length bytes) (length front) byte rest (byte == 255) refl
+unit_read prefix byte rest =
+    let bytes = prefix ++ (unit_bytes byte ++ rest) in
+    ap (unit_of (length bytes) (length prefix)) (drop_at prefix (unit_bytes byte ++ rest) (length prefix) refl)
+    ∙ unit_again (length bytes) (length prefix) byte rest (byte == 255) refl
 
--- two ways to go on behind one byte
+-- two ways to go on after one byte
 go_on : (t : Bool) (a b x y : List ℕ) → (if t then 0 ∷ a else a) ++ x ≡ (if t then 0 ∷ b else b) ++ y → a ++ x ≡ b ++ y
 go_on true a b x y e = cc
 go_on false a b x y e = e

@@ -5,7 +5,7 @@ use Rattle.std.proofs.lemmas.Bool.{eqb-true, false_from_ne_true}
 use Rattle.std.proofs.lemmas.List.{append-nil, length-replicate}
 use Rattle.std.proofs.lemmas.Nat.{shr_below, mod_below, pow_pos}
 use Rattle.bit_list.specs.Bits.{IsByte, low_bits, number_of, bits_of, bytes_after, begun_after, padding}
-use Rattle.bit_list.specs.Again.{number_again, mod_small}
+use Rattle.bit_list.specs.NumbersOfBits.{number_again, mod_small}
 use Rattle.bit_list.proofs.LowBits.{low_bits-append, low_bits-same, bits_again}
 
 -- bits complete the same bytes in two parts
@@ -46,7 +46,7 @@ all_begun begun (x ∷ xs) h =
     rw (not_full (length begun) (omega arith))
     (all_begun (begun ++ x ∷ []) xs (omega (arith, length-append begun (x ∷ []))) ∙ append_assoc begun (x ∷ []) xs)
 
--- bits behind a byte begun are bits behind its bits
+-- bits after a byte begun are bits after its bits
 pub bytes_joined : (begun xs : List Bool) → length begun < 8 → bytes_after begun xs ≡ bytes_after [] (begun ++ xs)
 bytes_joined begun xs h =
     sym (bytes_cut [] begun xs ∙ ap₂ (λ (bs : List ℕ) (rest : List Bool). bs ++ bytes_after rest xs) (no_byte [] begun (omega arith)) (all_begun [] begun (omega arith)))
@@ -57,10 +57,6 @@ begun_joined begun xs h = sym (begun_cut [] begun xs ∙ ap (λ (rest : List Boo
 -- the bits of a byte complete it
 pub byte_first : (byte : ℕ) (xs : List Bool) → byte < 256 → bytes_after [] (low_bits 8 byte ++ xs) ≡ byte ∷ bytes_after [] xs
 byte_first byte xs h = ap (λ (n : ℕ). n ∷ bytes_after [] xs) (number_again 8 byte h)
-
--- and leave nothing
-pub begun_behind : (byte : ℕ) (xs : List Bool) → begun_after [] (low_bits 8 byte ++ xs) ≡ begun_after [] xs
-begun_behind byte xs = refl
 
 -- a number's highest byte, and the bits below it
 pub record Split (left number byte rest low : ℕ) : Type 0 where
@@ -111,9 +107,9 @@ pub none_begun : (bits : List Bool) → length bits % 8 ≡ 0 → begun_after []
 none_begun bits whole = (whole_bytes (length bits / 8) bits (omega arith)).1
 
 -- how many bytes, and how many bits of the next
-record Counts (front bits : List Bool) : Type 0 where
-  pub whole : length (bytes_after front bits) ≡ (length front + length bits) / 8
-  pub left : length (begun_after front bits) ≡ (length front + length bits) % 8
+record Counts (prefix bits : List Bool) : Type 0 where
+  pub whole : length (bytes_after prefix bits) ≡ (length prefix + length bits) / 8
+  pub left : length (begun_after prefix bits) ≡ (length prefix + length bits) % 8
 
 -- a test that fails
 not_seven : (n : ℕ) → (n == 7) ≡ false → n ≡ 7 → ⊥

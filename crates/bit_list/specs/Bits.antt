@@ -2,7 +2,7 @@
 use Rattle.std.specs.Prelude.{ℕ, zero, suc, ◌+◌, ◌-◌, ◌*◌, ◌%◌, ◌<◌, Bool, List, [], ◌∷◌, ◌++◌, length, flat_map, fold, replicate, ◌==◌, if◌then◌else◌}
 use Rattle.std.specs.Int.{bit_at}
 
--- the lowest bits of a number, so many of them, the highest of them first (F.1.2.3)
+-- the k lowest bits of a number, the highest of them first (F.1.2.3)
 abbrev pub low_bits : ℕ → ℕ → List Bool
 low_bits zero n = []
 low_bits (suc k) n = (bit_at n k == 1) ∷ low_bits k n
@@ -22,12 +22,15 @@ number_of bits = fold (λ n bit. 2 * n + (if bit then 1 else 0)) 0 bits
 -- the bytes that bits complete, after the bits of a byte begun (F.1.2.3)
 abbrev pub bytes_after : List Bool → List Bool → List ℕ
 bytes_after begun [] = []
-bytes_after begun (bit ∷ bits) = if length begun == 7 then number_of (begun ++ bit ∷ []) ∷ bytes_after [] bits else bytes_after (begun ++ bit ∷ []) bits
+bytes_after begun (bit ∷ bits) =
+    if length begun == 7 then number_of (begun ++ bit ∷ []) ∷ bytes_after [] bits
+    else bytes_after (begun ++ bit ∷ []) bits
 
 -- the bits that are left of them, of the next byte (own)
 abbrev pub begun_after : List Bool → List Bool → List Bool
 begun_after begun [] = begun
-begun_after begun (bit ∷ bits) = if length begun == 7 then begun_after [] bits else begun_after (begun ++ bit ∷ []) bits
+begun_after begun (bit ∷ bits) =
+    if length begun == 7 then begun_after [] bits else begun_after (begun ++ bit ∷ []) bits
 
 -- one bit again and again, up to the end of a byte begun (B.1.1.5 and F.1.2.3: ones; own: either)
 abbrev pub padding : List Bool → Bool → List Bool

@@ -1,6 +1,7 @@
 pub mod Bits
-pub mod Again
+pub mod NumbersOfBits
+pub mod Pieces
 pub mod Units
-pub mod Kept
-pub mod Laws
-pub mod Taken
+pub mod BitsInside
+pub mod BitLaws
+pub mod BitSpans

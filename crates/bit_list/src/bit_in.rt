@@ -2,7 +2,7 @@
 ghost use Rattle.std.specs.Prelude.{◌≡◌, ℕ, ◌+◌, ◌-◌, ◌*◌, ◌/◌, ◌%◌, ◌^◌, ◌<◌, ◌≤◌, Ok, Err, [], ◌∷◌, ◌++◌, length, Result, IfOk, IfErr, OnErr};
 ghost use Rattle.bit_list.specs.Bits.{low_bits, number_of};
 ghost use Rattle.bit_list.specs.Units.{unit_at, starting, filled, bit_at, bits_at};
-ghost use Rattle.bit_list.specs.Kept.{cursor_of, IsWindow};
+ghost use Rattle.bit_list.specs.BitsInside.{cursor_of, IsWindow};
 
 use crate::fault::BitFault;
 use std::marker::Model;
@@ -36,7 +36,7 @@ impl<'a> Model for BitIn<'a> {
 
     ghost Value = { Reading };
 
-    ghost use Rattle.bit_list.specs.Kept.{cursor_of, IsWindow};
+    ghost use Rattle.bit_list.specs.BitsInside.{cursor_of, IsWindow};
 
     ghost view = { λ b. record { bytes = b.bytes.now; cursor = cursor_of b.at } };
 
@@ -71,7 +71,7 @@ impl<'a> BitIn<'a> {
         ensures stays { OnErr result (self.new ≡ self.old) }
         ensures bytes { self.new.bytes ≡ self.old.bytes }
     {
-        let (number, at) = front(self.bytes, self.at, n)?;
+        let (number, at) = first_bits(self.bytes, self.at, n)?;
         self.at = at;
         Ok(number)
     }
@@ -79,14 +79,15 @@ impl<'a> BitIn<'a> {
     /// Takes one bit. After a fault it stands where it stood.
     #[inline]
     pub fn bit(&mut self) -> Result<bool, BitFault>
-        ensures ok { IfOk result (λ bit. bit_at self.old.bytes self.old.cursor ≡ Ok (bit, self.new.cursor)) }
+        ensures ok { IfOk result
+            (λ bit. bit_at self.old.bytes self.old.cursor ≡ Ok (bit, self.new.cursor)) }
         ensures err { IfErr result (λ e. bit_at self.old.bytes self.old.cursor ≡ Err e) }
         ensures stays { OnErr result (self.new ≡ self.old) }
         ensures bytes { self.new.bytes ≡ self.old.bytes }
     {
-        let (front, rest) = split(fill(self.bytes, self.at)?, 1);
+        let (prefix, rest) = split(fill(self.bytes, self.at)?, 1);
         self.at = rest;
-        Ok(front == 1)
+        Ok(prefix == 1)
     }
 
     /// Takes the bits that are left of a unit begun, and answers their number and how many they are.
@@ -104,7 +105,7 @@ impl<'a> BitIn<'a> {
         rest
     }
 
-    /// The place of the next unit: behind the bits that are left, if there are any.
+    /// The place of the next unit, which follows the bits that are left of this one.
     #[inline]
     pub fn next_place(&self) -> usize
         ensures { result ≡ self.now.cursor.next }
@@ -112,7 +113,7 @@ impl<'a> BitIn<'a> {
         self.at.next
     }
 
-    /// The bits that are left of a unit begun, as a number, and how many they are.
+    /// The bits that are left of a unit begun, at most 8: as a number, and their count.
     #[inline]
     pub fn left(&self) -> (u8, u8)
         ensures count { result.1 ≡ length self.now.cursor.left }
@@ -176,13 +177,14 @@ fn fill(bytes: &[u8], at: Window) -> Result<Window, BitFault>
     })
 }
 
-// The next bits as a number, and the window behind them.
+// The next bits as a number, and the window after them.
 #[inline(always)]
-fn front(bytes: &[u8], begin: Window, n: u8) -> Result<(u16, Window), BitFault>
+fn first_bits(bytes: &[u8], begin: Window, n: u8) -> Result<(u16, Window), BitFault>
     requires window { IsWindow begin }
     requires few { n ≤ 16 }
     ensures below { IfOk result (λ r. r.0 < 2 ^ n) }
-    ensures bits { IfOk result (λ r. bits_at n bytes.now (cursor_of begin) ≡ Ok (low_bits n r.0, cursor_of r.1)) }
+    ensures bits { IfOk result
+        (λ r. bits_at n bytes.now (cursor_of begin) ≡ Ok (low_bits n r.0, cursor_of r.1)) }
     ensures kept { IfOk result (λ r. IsWindow r.1) }
     ensures err { IfErr result (λ e. bits_at n bytes.now (cursor_of begin) ≡ Err e) }
 {
@@ -200,24 +202,26 @@ fn front(bytes: &[u8], begin: Window, n: u8) -> Result<(u16, Window), BitFault>
     Ok((number as u16, at))
 }
 
-// The first bits of a window as a number, and the window behind them.
+// The first bits of a window as a number, and the window after them.
 #[inline(always)]
 fn split(at: Window, count: u8) -> (u8, Window)
     requires window { IsWindow at }
     requires some { 0 < count }
     requires within { count ≤ at.count }
     ensures below { result.0 < 2 ^ count }
-    ensures bits { low_bits at.count at.number ≡ low_bits count result.0 ++ low_bits result.1.count result.1.number }
-    ensures rest { cursor_of result.1 ≡ record (cursor_of at) { left = low_bits result.1.count result.1.number } }
+    ensures bits { low_bits at.count at.number
+        ≡ low_bits count result.0 ++ low_bits result.1.count result.1.number }
+    ensures rest { cursor_of result.1
+        ≡ record (cursor_of at) { left = low_bits result.1.count result.1.number } }
     ensures fewer { result.1.count + count ≡ at.count }
     ensures kept { IsWindow result.1 }
 {
     let left = at.count - count;
-    let front = at.number >> left;
+    let prefix = at.number >> left;
     let rest = Window {
         number: at.number & ((1 << left) - 1),
         count: left,
         ..at
     };
-    (front, rest)
+    (prefix, rest)
 }

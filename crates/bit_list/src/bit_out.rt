@@ -1,6 +1,7 @@
 // From bits to stuffed bytes.
 ghost use Rattle.std.specs.Prelude.{◌≡◌, ◌+◌, ◌-◌, ◌*◌, ◌/◌, ◌%◌, ◌^◌, ◌<◌, ◌≤◌, ◌↔◌, [], ◌∷◌, ◌++◌, length, take, replicate, IsTrue};
 ghost use Rattle.bit_list.specs.Bits.{low_bits, bytes_after, begun_after, padding, stuffed};
+ghost use Rattle.bit_list.specs.Pieces.{piece_room};
 
 use crate::piece::Piece;
 use std::marker::Model;
@@ -19,8 +20,8 @@ pub struct BitOut {
 impl Model for BitOut {
     ghost use Rattle.std.specs.Prelude.{ℕ, List, Bool, length};
     ghost use Rattle.bit_list.specs.Bits.{low_bits, number_of};
-    ghost use Rattle.bit_list.specs.Kept.{IsKept};
-    ghost use Rattle.bit_list.specs.Again.{kept_again};
+    ghost use Rattle.bit_list.specs.BitsInside.{IsKept};
+    ghost use Rattle.bit_list.specs.NumbersOfBits.{kept_again};
 
     ghost Value = { List Bool };
 
@@ -30,7 +31,10 @@ impl Model for BitOut {
 
     ghost inverse = { λ bits. record { number = number_of bits; count = length bits } };
 
-    ghost inverse_ok = { λ b h. kept_again (λ (n c : ℕ). record { number = n; count = c }) b.number b.count h.below };
+    ghost inverse_ok = { λ b h. kept_again (λ (n c : ℕ). record {
+      number = n;
+      count = c;
+    }) b.number b.count h.below };
 }
 
 impl BitOut {
@@ -51,7 +55,7 @@ impl BitOut {
     pub fn put(&mut self, code: u16, count: u8, out: &mut Piece)
         requires count { count ≤ 16 }
         requires code { code < 2 ^ count }
-        requires room { length out.old + 4 ≤ 8192 }
+        requires room { length out.old + 4 ≤ piece_room }
         ensures bytes { out.new ≡ out.old ++ stuffed (bytes_after self.old (low_bits count code)) }
         ensures begun { self.new ≡ begun_after self.old (low_bits count code) }
         ensures few { length out.new ≤ length out.old + 4 }
@@ -69,7 +73,7 @@ impl BitOut {
 
     /// Puts the same bit up to the end of the byte, and answers whether there was a byte begun.
     pub fn pad(&mut self, bit: bool, out: &mut Piece) -> bool
-        requires { length out.old + 2 ≤ 8192 }
+        requires { length out.old + 2 ≤ piece_room }
         ensures bytes { out.new ≡ out.old ++ stuffed (bytes_after self.old (padding self.old bit)) }
         ensures none { self.new ≡ [] }
         ensures few { length out.new ≤ length out.old + 2 }
@@ -91,7 +95,7 @@ impl BitOut {
     /// Puts a marker (ITU-T T.81, B.1.1.2), where no byte is begun.
     pub fn mark(&mut self, code: u8, out: &mut Piece)
         requires whole { self.old ≡ [] }
-        requires room { length out.old + 2 ≤ 8192 }
+        requires room { length out.old + 2 ≤ piece_room }
         ensures bytes { out.new ≡ out.old ++ 255 ∷ code ∷ [] }
         ensures none { self.new ≡ [] }
     {
@@ -123,10 +127,10 @@ fn repeated(bit: bool, count: u8) -> u16
     if bit { (1 << count) - 1 } else { 0 }
 }
 
-// Puts a coded byte, and a zero behind 0xff.
+// Puts a coded byte, and a zero after 0xff.
 #[inline(always)]
 fn put_byte(byte: u8, out: &mut Piece)
-    requires { length out.old + 2 ≤ 8192 }
+    requires { length out.old + 2 ≤ piece_room }
     ensures bytes { out.new ≡ out.old ++ stuffed (byte ∷ []) }
     ensures few { length out.new ≤ length out.old + 2 }
 {

@@ -3,13 +3,14 @@ ghost use Rattle.std.specs.Prelude.{◌≡◌, ℕ, ◌+◌, ◌/◌, ◌%◌, �
 ghost use Rattle.std.specs.List.{AllByRecursion};
 ghost use Rattle.bit_list.specs.Bits.{IsByte, low_bits, number_of, bits_of, bytes_after, begun_after, padding, stuffed};
 ghost use Rattle.bit_list.specs.Units.{Cursor};
-ghost use Rattle.bit_list.specs.Laws.{IsTakenAgain, IsTakenInParts};
-ghost use Rattle.bit_list.specs.Taken.{TakenStand, StandingAreTaken, TakenFromWithin, StuffedAreFew};
+ghost use Rattle.bit_list.specs.BitLaws.{IsTakenAgain, IsTakenInParts};
+ghost use Rattle.bit_list.specs.BitSpans.{TakenStand, StandingAreTaken, TakenFromWithin, StuffedAreFew};
 
 /// Bits that were put as whole bytes, stuffed, among other bytes, are taken again, and the next unit is the one
-/// behind them.
+/// after them.
 pub fn put_is_taken_again()
-    ensures { (bits : List Bool) (front rest : List ℕ) → length bits % 8 ≡ 0 → IsTakenAgain bits front rest }
+    ensures { (bits : List Bool) (prefix rest : List ℕ) → length bits % 8 ≡ 0
+        → IsTakenAgain bits prefix rest }
 {}
 
 /// Bits complete the same bytes, put at once or in two parts.
@@ -20,7 +21,8 @@ pub fn bytes_of_parts()
 
 /// Bits leave the same byte begun, put at once or in two parts.
 pub fn begun_of_parts()
-    ensures { (begun xs ys : List Bool) → begun_after begun (xs ++ ys) ≡ begun_after (begun_after begun xs) ys }
+    ensures { (begun xs ys : List Bool)
+        → begun_after begun (xs ++ ys) ≡ begun_after (begun_after begun xs) ys }
 {}
 
 /// Eight bits complete a byte, and padding does.
@@ -40,7 +42,8 @@ pub fn taken_in_parts()
 
 /// As many bytes were stuffed in one way only.
 pub fn stuffed_has_one_reading()
-    ensures { (a b x y : List ℕ) → stuffed a ++ x ≡ stuffed b ++ y → length a ≡ length b → (a ≡ b) × (x ≡ y) }
+    ensures { (a b x y : List ℕ) → stuffed a ++ x ≡ stuffed b ++ y → length a ≡ length b → (a ≡ b)
+        × (x ≡ y) }
 {}
 
 /// Bytes that stand end to end are stuffed each for itself.
@@ -57,13 +60,14 @@ pub fn bits_are_numbers()
 
 /// Bytes and their bits are one.
 pub fn bits_are_bytes()
-    ensures bytes { (bytes : List ℕ) → AllByRecursion IsByte bytes → bytes_after [] (bits_of bytes) ≡ bytes }
+    ensures bytes { (bytes : List ℕ) → AllByRecursion IsByte bytes
+        → bytes_after [] (bits_of bytes) ≡ bytes }
     ensures bits { (bits : List Bool) → length bits % 8 ≡ 0 → bits_of (bytes_after [] bits) ≡ bits }
     ensures begun { (bits : List Bool) → length bits % 8 ≡ 0 → begun_after [] bits ≡ [] }
 {}
 
-/// Bits that are taken are those of the units between, those of the units between are taken, also from within a unit,
-/// and stuffed bytes are at most twice as many.
+/// Bits that are taken stand in the units between the two cursors, bits that stand there are taken, also from within a
+/// unit, and stuffed bytes are at most twice as many.
 pub fn bits_stand_in_units()
     ensures stand { TakenStand }
     ensures taken { StandingAreTaken }

@@ -4,7 +4,7 @@
 //!     10111111  11111101              the bytes that they complete
 //!
 //!     bf    ff        d8    3f        coded bytes
-//!     bf    ff 00     d8    3f        stuffed: behind 0xff stands a zero, so that no marker shows
+//!     bf    ff 00     d8    3f        stuffed: after 0xff stands a zero, so that no marker shows
 //!     ^     ^         ^     ^         the places of the units: what each coded byte became
 //!
 //! A byte begun waits in `BitOut`, whole bytes go to a `Piece`. `BitIn` reads units, from any bit on, and stops at

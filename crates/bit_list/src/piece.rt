@@ -1,13 +1,14 @@
-// Bytes on their way out, in a room that is taken once.
+// Bytes on their way out, in memory that is taken once.
 ghost use Rattle.std.specs.Prelude.{◌≡◌, ◌+◌, ◌-◌, ◌<◌, ◌≤◌, [], ◌∷◌, ◌++◌, length, take, IfOk};
+ghost use Rattle.bit_list.specs.Pieces.{piece_room};
 
 use std::alloc::{AllocError, Global};
 use std::marker::Model;
 
-/// How many bytes a piece has room for.
+/// How many bytes a piece has room for: `piece_room` in clauses.
 pub const ROOM: usize = 8_192;
 
-/// Up to 8,192 bytes, in a room that is taken once.
+/// Up to `ROOM` bytes, in memory that is taken once.
 ///
 /// Clauses see the list of the bytes.
 #[derive(Drop)]
@@ -19,12 +20,13 @@ pub struct Piece {
 
 impl Model for Piece {
     ghost use Rattle.std.specs.Prelude.{◌≡◌, ℕ, ◌≤◌, List, length, take};
+    ghost use Rattle.bit_list.specs.Pieces.{piece_room};
 
     ghost Value = { List ℕ };
 
     ghost view = { λ p. take p.used p.room.items };
 
-    ghost invariant = { λ p. (length p.room.items ≡ 8192) × (p.used ≤ 8192) };
+    ghost invariant = { λ p. (length p.room.items ≡ piece_room) × (p.used ≤ piece_room) };
 }
 
 impl Piece {
@@ -42,7 +44,7 @@ impl Piece {
     #[inline]
     pub fn len(&self) -> usize
         ensures count { result ≡ length self.now }
-        ensures within { length self.now ≤ 8192 }
+        ensures within { length self.now ≤ piece_room }
     {
         self.used
     }
@@ -50,8 +52,8 @@ impl Piece {
     /// How many more bytes there is room for.
     #[inline]
     pub fn free(&self) -> usize
-        ensures count { result ≡ 8192 - length self.now }
-        ensures within { length self.now ≤ 8192 }
+        ensures count { result ≡ piece_room - length self.now }
+        ensures within { length self.now ≤ piece_room }
     {
         ROOM - self.used
     }
@@ -60,7 +62,7 @@ impl Piece {
     #[inline]
     pub fn bytes(&self) -> &[u8]
         ensures bytes { result.now ≡ self.now }
-        ensures within { length self.now ≤ 8192 }
+        ensures within { length self.now ≤ piece_room }
     {
         &self.room[..self.used]
     }
@@ -83,7 +85,7 @@ impl Piece {
     /// One byte more.
     #[inline(always)]
     pub(crate) fn push(&mut self, byte: u8)
-        requires { length self.old < 8192 }
+        requires { length self.old < piece_room }
         ensures { self.new ≡ self.old ++ byte ∷ [] }
     {
         self.room[self.used] = byte;

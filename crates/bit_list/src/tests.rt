@@ -3,7 +3,7 @@ use super::*;
 use std::process::Abort;
 use std::test::Fail;
 
-// The bits of a byte begun, codes that are put behind them, the bytes that were written, and the byte begun then.
+// The bits of a byte begun, codes that are put after them, the bytes that were written, and the byte begun then.
 #[test]
 fn codes(rt: HostRuntime) -> Result<(), Fail> {
     let rows: [((u8, u8), [(u16, u8); 2], &[u8], (u8, u8)); 6] = [
@@ -40,7 +40,7 @@ fn begun_at(rt: &impl Abort, partial: u8, bits: u8) -> BitOut {
     BitOut::at(partial, bits)
 }
 
-// The bits of a byte begun, the bit behind them, the bytes, and whether there was a byte begun.
+// The bits of a byte begun, the bit after them, the bytes, and whether there was a byte begun.
 #[test]
 fn pads(rt: HostRuntime) -> Result<(), Fail> {
     let rows: [((u8, u8), bool, &[u8], bool); 5] = [

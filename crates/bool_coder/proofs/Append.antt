@@ -20,7 +20,7 @@ last_bytes w n count bytes few e =
 
 -- a list, and what it is once the bytes are appended
 pub record Appends (xs ys : List ℕ) (n count : ℕ) : Type 0 where
-  pub front : take (length xs) ys ≡ xs
+  pub prefix : take (length xs) ys ≡ xs
   pub back : length (drop (length xs) ys) ≡ count
   pub number : number_from_digits 256 ys ≡ number_from_digits 256 xs * 256 ^ count + n % 256 ^ count
 
@@ -30,7 +30,7 @@ Appends-from xs ys bytes n count few e f =
     let whole : ys ≡ xs ++ bytes_high_first count n = f ∙ ap (λ bs. xs ++ bs) (last_bytes 8 n count bytes few e) in
     let l = length-bytes count n in
     record {
-      front = rw whole (take_at xs (bytes_high_first count n) (length xs) refl);
+      prefix = rw whole (take_at xs (bytes_high_first count n) (length xs) refl);
       back = rw (whole, length-drop, length-append, l) (omega arith);
       number = rw (whole, number_append, l, number_bytes) refl;
     }
@@ -58,7 +58,7 @@ one_carry n count carries most =
     let whole = rw one at split in
     rw byte_power (omega (arith, whole))
 
--- a carry into the front counts as much as the bytes behind it hold
+-- a carry into the prefix counts as much as the bytes after it hold
 number_split : (k : ℕ) (xs : List ℕ) → number_from_digits 256 xs ≡ number_from_digits 256 (take k xs) * 256 ^ length (drop k xs) + number_from_digits 256 (drop k xs)
 number_split k xs = ap (λ ys. number_from_digits 256 ys) (sym (take-append-drop k xs)) ∙ number_append (take k xs) (drop k xs)
 

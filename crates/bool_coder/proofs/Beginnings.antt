@@ -4,11 +4,11 @@ use Rattle.std.specs.List.{AllByRecursion}
 use Rattle.std.specs.Int.Digits.{AllBelowBase}
 use Rattle.std.proofs.lemmas.Nat.{div_below, pow_pos}
 use Rattle.bool_coder.specs.BoolStream.{IsBool, opening, coded, stream}
-use Rattle.bool_coder.specs.Reading.{Seen, Reads, front, next_bit, seen_bit}
-use Rattle.bool_coder.proofs.Front.{front_shr, front_start}
+use Rattle.bool_coder.specs.BoolReading.{Seen, Reads, first_bits, next_bit, seen_bit}
+use Rattle.bool_coder.proofs.FirstBits.{first_bits_shr, prefix_start}
 use Rattle.bool_coder.proofs.Line.{coded-kept, opening-kept}
-use Rattle.bool_coder.proofs.ReadBack.{length-stream, front_stream, read_in_turn}
-use Rattle.bool_coder.proofs.Taking.{Reads-next}
+use Rattle.bool_coder.proofs.ReadBack.{length-stream, prefix_stream, read_in_turn}
+use Rattle.bool_coder.proofs.BoolsTaken.{Reads-next}
 
 -- no list has the empty stream, or one whose first byte is 255
 pub no_stream : (bytes : List ℕ) (bools : List (ℕ × Bool)) → AllBelowBase 256 bytes → (length bytes ≡ 0) ⊎ (get_or bytes 0 0 ≡ 255) → AllByRecursion IsBool bools → bytes ≡ stream (coded bools) → ⊥
@@ -16,10 +16,10 @@ no_stream bytes bools small start all e =
     let i = coded bools in
     let kept = coded-kept opening bools all opening-kept in
     let bottom : i.bottom < 255 * 2 ^ i.shifts = omega (arith, kept.on_line, kept.wide) in
-    let first : front bytes 8 ≡ i.bottom / 2 ^ i.shifts = sym (front_shr bytes 8 i.shifts) ∙ ap (λ n. n / 2 ^ i.shifts) (ap (λ l. front l (8 + i.shifts)) e ∙ front_stream i kept) in
+    let first : first_bits bytes 8 ≡ i.bottom / 2 ^ i.shifts = sym (first_bits_shr bytes 8 i.shifts) ∙ ap (λ n. n / 2 ^ i.shifts) (ap (λ l. first_bits l (8 + i.shifts)) e ∙ prefix_stream i kept) in
     elim start [
       | inl none ↦ omega (arith, none, ap length e, length-stream i)
-      | inr high ↦ omega (arith, high, first, front_start bytes small, div_below i.bottom (2 ^ i.shifts) 255 (pow_pos i.shifts) bottom)
+      | inr high ↦ omega (arith, high, first, prefix_start bytes small, div_below i.bottom (2 ^ i.shifts) 255 (pow_pos i.shifts) bottom)
     ]
 
 -- the bool of a stream that comes next

@@ -1,12 +1,12 @@
 pub mod Append
 pub mod Bytes
 pub mod Carry
-pub mod Front
+pub mod FirstBits
 pub mod Line
 pub mod PlainSteps
 pub mod ReadBack
-pub mod Taking
+pub mod BoolsTaken
 pub mod Whole
-pub mod Window
-pub mod Word
+pub mod DecoderWindow
+pub mod EncoderWord
 pub mod Beginnings

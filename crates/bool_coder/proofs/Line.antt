@@ -6,7 +6,7 @@ use Rattle.std.proofs.lemmas.Nat.{pow_pos, pow-add, leading_top, div_below}
 use Rattle.std.proofs.lemmas.Bool.{lt-ltb, le-ltb, cases_lt}
 use Rattle.std.proofs.Common.{lit≤}
 use Rattle.bool_coder.specs.BoolStream.{Interval, opening, split, chosen, doubled, widened, after, IsBool, IsOnLine}
-use Rattle.bool_coder.specs.Plain.{IsKept}
+use Rattle.bool_coder.specs.PlainLine.{IsKept}
 use lib.Count.{count_leading_zeros}
 
 -- an interval that was shifted k times

@@ -8,7 +8,7 @@ use Rattle.std.proofs.lemmas.List.{take_more, take-append-drop}
 use Rattle.std.proofs.lemmas.List.Sums.{fold-append}
 use Rattle.std.proofs.lemmas.Nat.{pow_pos, pow-add}
 use Rattle.bool_coder.specs.BoolStream.{Interval, opening, split, chosen, doubled, widened, after, coded, stream, stream_length, IsBool, IsOnLine}
-use Rattle.bool_coder.specs.Plain.{IsKept}
+use Rattle.bool_coder.specs.PlainLine.{IsKept}
 use Rattle.bool_coder.proofs.Append.{last_bytes}
 use Rattle.bool_coder.proofs.Line.{widened-wide, split_less, coded-kept, opening-kept}
 
@@ -74,24 +74,24 @@ pub coded-grows : (i : Interval) (bools : List (ℕ × Bool)) → i.shifts ≤ (
 coded-grows i [] = omega arith
 coded-grows i (b ∷ bools) = omega (arith, after-grows i b, coded-grows (after i b) bools)
 
-pub front-short : (bools : List (ℕ × Bool)) (n k : ℕ) → (coded bools).shifts ≤ k → (coded (take n bools)).shifts ≤ k
-front-short bools n k short =
+pub prefix-short : (bools : List (ℕ × Bool)) (n k : ℕ) → (coded bools).shifts ≤ k → (coded (take n bools)).shifts ≤ k
+prefix-short bools n k short =
     let e = fold-append after opening (take n bools) (drop n bools) in
     let f = take-append-drop n bools in
     let grows = coded-grows (coded (take n bools)) (drop n bools) in
     let all : fold after (coded (take n bools)) (drop n bools) ≡ coded bools = sym e ∙ ap coded f in
     omega (arith, short, grows, ap (λ (i : Interval). i.shifts) all)
 
-all-front : (bools : List (ℕ × Bool)) (n : ℕ) → AllByRecursion IsBool bools → AllByRecursion IsBool (take n bools)
-all-front bools zero all = tt
-all-front [] (suc n) all = tt
-all-front (b ∷ bools) (suc n) all = (all.0, all-front bools n all.1)
+all-prefix : (bools : List (ℕ × Bool)) (n : ℕ) → AllByRecursion IsBool bools → AllByRecursion IsBool (take n bools)
+all-prefix bools zero all = tt
+all-prefix [] (suc n) all = tt
+all-prefix (b ∷ bools) (suc n) all = (all.0, all-prefix bools n all.1)
 
-pub front-kept : (bools : List (ℕ × Bool)) (n : ℕ) → AllByRecursion IsBool bools → IsKept (coded (take n bools))
-front-kept bools n all = coded-kept opening (take n bools) (all-front bools n all) opening-kept
+pub prefix-kept : (bools : List (ℕ × Bool)) (n : ℕ) → AllByRecursion IsBool bools → IsKept (coded (take n bools))
+prefix-kept bools n all = coded-kept opening (take n bools) (all-prefix bools n all) opening-kept
 
-pub front-more : (bools : List (ℕ × Bool)) (n : ℕ) (d : ℕ × Bool) → n < length bools → coded (take (n + 1) bools) ≡ after (coded (take n bools)) (get_or bools n d)
-front-more bools n d less = ap coded (take_more bools n d less) ∙ fold-append after opening (take n bools) (get_or bools n d ∷ [])
+pub prefix-more : (bools : List (ℕ × Bool)) (n : ℕ) (d : ℕ × Bool) → n < length bools → coded (take (n + 1) bools) ≡ after (coded (take n bools)) (get_or bools n d)
+prefix-more bools n d less = ap coded (take_more bools n d less) ∙ fold-append after opening (take n bools) (get_or bools n d ∷ [])
 
 pub plain-fits : (i : Interval) (count : ℕ) → IsKept i → i.shifts ≤ 112 → count ≡ 1 + div_ceil i.shifts 8
     → i.bottom * 2 ^ (8 * count - (8 + i.shifts)) < 2 ^ 128

@@ -7,24 +7,24 @@ use Rattle.std.proofs.lemmas.Bool.{le-leb, lt-leb}
 use Rattle.std.proofs.lemmas.List.Sums.{fold-append}
 use Rattle.std.proofs.lemmas.Nat.{pow_pos, pow-add, shl-shr, mod_below}
 use Rattle.bool_coder.specs.BoolStream.{Interval, opening, split, chosen, after, coded, stream, stream_length, IsBool}
-use Rattle.bool_coder.specs.Plain.{IsKept}
-use Rattle.bool_coder.specs.Reading.{front, next_bit, reading, IsReading}
+use Rattle.bool_coder.specs.PlainLine.{IsKept}
+use Rattle.bool_coder.specs.BoolReading.{first_bits, next_bit, reading, IsReading}
 use Rattle.bool_coder.proofs.Append.{below_by_product}
 use Rattle.bool_coder.proofs.Bytes.{byte_power, length-bytes, number_bytes}
-use Rattle.bool_coder.proofs.Front.{front_shr, front_more, front_whole}
+use Rattle.bool_coder.proofs.FirstBits.{first_bits_shr, prefix_more, prefix_whole}
 use Rattle.bool_coder.proofs.Line.{shifted, split_less, doublings_are, chosen-part, after_is, after-kept, coded-kept, opening-kept}
 
 -- the first bits lie in the interval
 pub record Holds (bytes : List ℕ) (i : Interval) : Type 0 where
-  pub low : i.bottom ≤ front bytes (8 + i.shifts)
-  pub high : front bytes (8 + i.shifts) < i.bottom + i.range
+  pub low : i.bottom ≤ first_bits bytes (8 + i.shifts)
+  pub high : first_bits bytes (8 + i.shifts) < i.bottom + i.range
 
 unshifted : (bytes : List ℕ) (i : Interval) (k : ℕ) → Holds bytes (shifted k i) → Holds bytes i
 unshifted bytes i k h =
-    let now = front bytes (8 + i.shifts) in
+    let now = first_bits bytes (8 + i.shifts) in
     let e : 8 + (i.shifts + k) ≡ 8 + i.shifts + k = omega arith in
-    let more = ap (λ m. front bytes m) e ∙ front_more bytes (8 + i.shifts) k in
-    let rest = mod_below (front bytes (8 + i.shifts + k)) (2 ^ k) (pow_pos k) in
+    let more = ap (λ m. first_bits bytes m) e ∙ prefix_more bytes (8 + i.shifts) k in
+    let rest = mod_below (first_bits bytes (8 + i.shifts + k)) (2 ^ k) (pow_pos k) in
     let low : i.bottom < now + 1 = below_by_product i.bottom (now + 1) (2 ^ k) (omega (arith, h.low, more, rest)) in
     record { low = omega arith; high = below_by_product now (i.bottom + i.range) (2 ^ k) (omega (arith, h.high, more, rest)) }
 
@@ -32,9 +32,9 @@ unshifted bytes i k h =
 pub unchosen : (bytes : List ℕ) (i : Interval) (prob : ℕ) (bit : Bool) → split i.range prob ≤ i.range → Holds bytes (chosen i prob bit)
     → Holds bytes i × (next_bit bytes i prob ≡ bit)
 unchosen bytes i prob false part h =
-    (record { low = h.low; high = omega (arith, h.high) }, lt-leb (split i.range prob) (front bytes (8 + i.shifts) - i.bottom) (omega (arith, h.low, h.high)))
+    (record { low = h.low; high = omega (arith, h.high) }, lt-leb (split i.range prob) (first_bits bytes (8 + i.shifts) - i.bottom) (omega (arith, h.low, h.high)))
 unchosen bytes i prob true part h =
-    (record { low = omega (arith, h.low); high = omega (arith, h.high) }, le-leb (split i.range prob) (front bytes (8 + i.shifts) - i.bottom) (omega (arith, h.low)))
+    (record { low = omega (arith, h.low); high = omega (arith, h.high) }, le-leb (split i.range prob) (first_bits bytes (8 + i.shifts) - i.bottom) (omega (arith, h.low)))
 
 one_back : (bytes : List ℕ) (i : Interval) (prob : ℕ) (bit : Bool) → prob < 256 → IsKept i → Holds bytes (after i (prob, bit))
     → Holds bytes i × (next_bit bytes i prob ≡ bit)
@@ -74,33 +74,33 @@ number_stream i kept =
     number_bytes n value ∙ rw (byte_power n) (mod-eq_of_lt small)
 
 -- the stream of an interval begins with its bottom
-pub front_stream : (i : Interval) → IsKept i → front (stream i) (8 + i.shifts) ≡ i.bottom
-front_stream i kept =
+pub prefix_stream : (i : Interval) → IsKept i → first_bits (stream i) (8 + i.shifts) ≡ i.bottom
+prefix_stream i kept =
     let pad = 8 * stream_length i.shifts - (8 + i.shifts) in
     let whole : 8 + i.shifts + pad ≡ 0 + 8 * length (stream i) = omega (arith, length-stream i) in
-    let all : front (stream i) (8 + i.shifts + pad) ≡ i.bottom * 2 ^ pad =
-    ap (λ m. front (stream i) m) whole ∙ front_whole (stream i) 0 ∙ omega (arith, number_stream i kept) in
-    sym (front_shr (stream i) (8 + i.shifts) pad) ∙ ap (λ m. m / 2 ^ pad) all ∙ shl-shr i.bottom pad
+    let all : first_bits (stream i) (8 + i.shifts + pad) ≡ i.bottom * 2 ^ pad =
+    ap (λ m. first_bits (stream i) m) whole ∙ prefix_whole (stream i) 0 ∙ omega (arith, number_stream i kept) in
+    sym (first_bits_shr (stream i) (8 + i.shifts) pad) ∙ ap (λ m. m / 2 ^ pad) all ∙ shl-shr i.bottom pad
 
 stream_holds : (bools : List (ℕ × Bool)) → AllByRecursion IsBool bools → Holds (stream (coded bools)) (coded bools)
 stream_holds bools all =
     let kept = coded-kept opening bools all opening-kept in
-    let e = front_stream (coded bools) kept in
+    let e = prefix_stream (coded bools) kept in
     record { low = omega (arith, e); high = omega (arith, e, kept.wide) }
 
 pub read_again : (bools : List (ℕ × Bool)) → AllByRecursion IsBool bools → IsReading (stream (coded bools)) bools
 read_again bools all = (reads_back (stream (coded bools)) opening bools all opening-kept (stream_holds bools all)).1
 
-all_front : (xs ys : List (ℕ × Bool)) → AllByRecursion IsBool (xs ++ ys) → AllByRecursion IsBool xs × AllByRecursion IsBool ys
-all_front [] ys all = (tt, all)
-all_front (x ∷ xs) ys all = let rest = all_front xs ys all.1 in ((all.0, rest.0), rest.1)
+all_prefix : (xs ys : List (ℕ × Bool)) → AllByRecursion IsBool (xs ++ ys) → AllByRecursion IsBool xs × AllByRecursion IsBool ys
+all_prefix [] ys all = (tt, all)
+all_prefix (x ∷ xs) ys all = let rest = all_prefix xs ys all.1 in ((all.0, rest.0), rest.1)
 
 -- a bool in the middle of a stream
 pub read_in_turn : (bools rest : List (ℕ × Bool)) (prob : ℕ) (bit : Bool) → AllByRecursion IsBool (bools ++ (prob, bit) ∷ rest)
     → next_bit (stream (coded (bools ++ (prob, bit) ∷ rest))) (coded bools) prob ≡ bit
 read_in_turn bools rest prob bit all =
     let whole = bools ++ (prob, bit) ∷ rest in
-    let parts = all_front bools ((prob, bit) ∷ rest) all in
+    let parts = all_prefix bools ((prob, bit) ∷ rest) all in
     let begun = coded-kept opening bools parts.0 opening-kept in
     let next = after-kept (coded bools) prob bit parts.1.0.1 begun in
     let at_end = stream_holds whole all in

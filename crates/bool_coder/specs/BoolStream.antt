@@ -20,13 +20,14 @@ split range prob = 1 + (range - 1) * prob / 256
 -- a zero keeps the part below the split, a one what is above it (7.3)
 abbrev pub chosen : Interval → ℕ → Bool → Interval
 chosen i prob false = record i { range = split i.range prob }
-chosen i prob true = record i { bottom = i.bottom + split i.range prob; range = i.range - split i.range prob }
+chosen i prob true =
+    record i { bottom = i.bottom + split i.range prob; range = i.range - split i.range prob }
 
 -- twice as long, and one shift more
 abbrev pub doubled : Interval → Interval
 doubled i = record { bottom = 2 * i.bottom; range = 2 * i.range; shifts = i.shifts + 1 }
 
--- doubled until the range is at least 128 (7.3), at most so many times
+-- doubled until the range is at least 128 (7.3), or that many times
 abbrev pub widened : ℕ → Interval → Interval
 widened zero i = i
 widened (suc times) i = if nat_lt i.range 128 then widened times (doubled i) else i
@@ -45,7 +46,9 @@ stream_length shifts = 1 + (shifts + 7) / 8
 
 -- the bottom in 8 + shifts bits, highest first, and then zero bits up to a whole byte (own)
 unfoldable pub stream : Interval → List ℕ
-stream i = let bytes = stream_length i.shifts in bytes_high_first bytes (i.bottom * 2 ^ (8 * bytes - (8 + i.shifts)))
+stream i =
+    let bytes =
+    stream_length i.shifts in bytes_high_first bytes (i.bottom * 2 ^ (8 * bytes - (8 + i.shifts)))
 
 -- a prob that a bool can have
 abbrev pub IsBool : ℕ × Bool → Type 0

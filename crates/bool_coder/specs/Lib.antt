@@ -1,5 +1,5 @@
 pub mod BoolStream
-pub mod Plain
-pub mod Reading
-pub mod Window
-pub mod Word
+pub mod PlainLine
+pub mod BoolReading
+pub mod DecoderInside
+pub mod EncoderInside

@@ -11,8 +11,8 @@
 ghost use Rattle.std.specs.Prelude.{◌≡◌, ◌↔◌, ◌⊎◌, ℕ, Bool, ◌+◌, ◌-◌, ◌*◌, ◌/◌, ◌%◌, ◌^◌, ◌<◌, ◌≤◌, List, [], ◌∷◌, ◌++◌, length, nat_le, slice_index, IsSome, IsNone, IfSome, IfNone, IsTrue};
 ghost use Rattle.std.specs.List.{AllByRecursion};
 ghost use Rattle.bool_coder.specs.BoolStream.{IsBool, chosen, coded, split, stream};
-ghost use Rattle.bool_coder.specs.Reading.{front, next_bit, Starts, Reads, seen_bit, seen_after};
-ghost use Rattle.bool_coder.specs.Window.{seen_in, IsWindow};
+ghost use Rattle.bool_coder.specs.BoolReading.{first_bits, next_bit, Starts, Reads, seen_bit, seen_after};
+ghost use Rattle.bool_coder.specs.DecoderInside.{seen_in, IsWindow};
 
 use crate::encoder::{doublings, split_of};
 use std::marker::Model;
@@ -34,11 +34,11 @@ pub struct Decoder<'a> {
 }
 
 impl<'a> Model for Decoder<'a> {
-    ghost use Rattle.bool_coder.specs.Reading.{Seen};
+    ghost use Rattle.bool_coder.specs.BoolReading.{Seen};
 
     ghost Value = { Seen };
 
-    ghost use Rattle.bool_coder.specs.Window.{seen_of, IsDecoder};
+    ghost use Rattle.bool_coder.specs.DecoderInside.{seen_of, IsDecoder};
 
     ghost view = { seen_of };
 
@@ -74,8 +74,10 @@ impl<'a> Decoder<'a> {
     pub fn take(&mut self, prob: u8) -> bool
         requires { 0 < prob }
         ensures bytes { self.new.bytes ≡ self.old.bytes }
-        ensures next { (bools : List (ℕ × Bool)) → Reads bools self.old → result ≡ next_bit self.old.bytes (coded bools) prob }
-        ensures taken { (bools : List (ℕ × Bool)) → Reads bools self.old → Reads (bools ++ (prob, result) ∷ []) self.new }
+        ensures next { (bools : List (ℕ × Bool)) → Reads bools self.old
+            → result ≡ next_bit self.old.bytes (coded bools) prob }
+        ensures taken { (bools : List (ℕ × Bool)) → Reads bools self.old
+            → Reads (bools ++ (prob, result) ∷ []) self.new }
         ensures in_turn { (bools rest : List (ℕ × Bool)) (bit : Bool) → Reads bools self.old
             → AllByRecursion IsBool (bools ++ (prob, bit) ∷ rest)
             → self.old.bytes ≡ stream (coded (bools ++ (prob, bit) ∷ rest)) → result ≡ bit }
@@ -94,7 +96,8 @@ impl<'a> Decoder<'a> {
     /// Whether the bytes are the stream of the bools that were taken, no byte and no bit more or less: the offset and
     /// all next bits are zero, and the byte with the last bit that was looked at is the last byte.
     pub fn exact(&self) -> bool
-        ensures { (bools : List (ℕ × Bool)) → Reads bools self.now → (IsTrue result ↔ (self.now.bytes ≡ stream (coded bools))) }
+        ensures { (bools : List (ℕ × Bool)) → Reads bools self.now
+            → (IsTrue result ↔ (self.now.bytes ≡ stream (coded bools))) }
     {
         self.value == 0 && self.fetched - (self.bits / 8) as usize == self.bytes.len()
     }
@@ -106,9 +109,11 @@ fn fill(bytes: &[u8], fetched: usize, value: u64, bits: u32) -> (usize, u64, u32
     requires within { fetched ≤ length bytes.now + 11 }
     requires small { bits < 7 → value < 2 ^ 15 }
     ensures enough { 7 ≤ result.2 }
-    ensures window { (range : ℕ) → IsWindow bytes.now fetched value bits range → IsWindow bytes.now result.0 result.1 result.2 range }
+    ensures window { (range : ℕ) → IsWindow bytes.now fetched value bits range
+        → IsWindow bytes.now result.0 result.1 result.2 range }
     ensures same { (range : ℕ) → IsWindow bytes.now fetched value bits range
-        → seen_in bytes.now result.0 result.1 result.2 range ≡ seen_in bytes.now fetched value bits range }
+        → seen_in bytes.now result.0 result.1 result.2 range
+        ≡ seen_in bytes.now fetched value bits range }
 {
     if bits < MOST {
         let four = next_four(bytes, fetched);
@@ -123,7 +128,7 @@ fn fill(bytes: &[u8], fetched: usize, value: u64, bits: u32) -> (usize, u64, u32
 #[inline(always)]
 fn next_four(bytes: &[u8], fetched: usize) -> u32
     requires within { fetched ≤ length bytes.now + 11 }
-    ensures { result ≡ front bytes.now (8 * fetched + 32) % 2 ^ 32 }
+    ensures { result ≡ first_bits bytes.now (8 * fetched + 32) % 2 ^ 32 }
 {
     if fetched + 4 <= bytes.len() {
         let four = &bytes[fetched..fetched + 4];
@@ -136,7 +141,7 @@ fn next_four(bytes: &[u8], fetched: usize) -> u32
 // The next four bytes one by one, near the end and past it.
 fn last_four(bytes: &[u8], fetched: usize) -> u32
     requires within { fetched ≤ length bytes.now + 11 }
-    ensures { result ≡ front bytes.now (8 * fetched + 32) % 2 ^ 32 }
+    ensures { result ≡ first_bits bytes.now (8 * fetched + 32) % 2 ^ 32 }
 {
     u32::from_be_bytes([
         byte_or_zero(bytes, fetched),
@@ -176,9 +181,11 @@ fn step(value: u64, bits: u32, range: u32, prob: u8) -> (bool, u64, u32, u32)
     requires short { bits < 40 }
     requires prob { 0 < prob }
     ensures bit { result.0 ≡ nat_le (split range prob) (value / 2 ^ bits) }
-    ensures window { (bytes : List ℕ) (fetched : ℕ) → IsWindow bytes fetched value bits range → IsWindow bytes fetched result.1 result.2 result.3 }
+    ensures window { (bytes : List ℕ) (fetched : ℕ) → IsWindow bytes fetched value bits range
+        → IsWindow bytes fetched result.1 result.2 result.3 }
     ensures step { (bytes : List ℕ) (fetched : ℕ) → IsWindow bytes fetched value bits range
-        → seen_in bytes fetched result.1 result.2 result.3 ≡ seen_after (seen_in bytes fetched value bits range) prob }
+        → seen_in bytes fetched result.1 result.2 result.3
+        ≡ seen_after (seen_in bytes fetched value bits range) prob }
 {
     let (bit, value, range) = choose(value, bits, range, prob);
     let shift = doublings(range);
@@ -193,10 +200,16 @@ fn choose(value: u64, bits: u32, range: u32, prob: u8) -> (bool, u64, u32)
     requires short { bits < 40 }
     requires prob { 0 < prob }
     ensures bit { result.0 ≡ nat_le (split range prob) (value / 2 ^ bits) }
-    ensures value { result.1 + (chosen (record { bottom = 0; range = range; shifts = 0 }) prob result.0).bottom * 2 ^ bits ≡ value }
+    ensures value { result.1
+        + (chosen (record {
+          bottom = 0;
+          range = range;
+          shifts = 0;
+        }) prob result.0).bottom * 2 ^ bits ≡ value }
     ensures some { 0 < result.2 }
     ensures part { result.2 < range }
-    ensures range { result.2 ≡ (chosen (record { bottom = 0; range = range; shifts = 0 }) prob result.0).range }
+    ensures range { result.2
+        ≡ (chosen (record { bottom = 0; range = range; shifts = 0 }) prob result.0).range }
 {
     let split = split_of(range, prob);
     let start = u64::from(split) << bits;

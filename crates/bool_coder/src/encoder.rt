@@ -2,7 +2,7 @@
 ghost use Rattle.std.specs.Prelude.{◌≡◌, ℕ, ◌+◌, ◌-◌, ◌*◌, ◌^◌, ◌<◌, ◌≤◌, Some, None, List, length, take, drop, IsSome, IfSome, IfOk, OnOk, OnErr, option_map};
 ghost use Rattle.std.specs.Int.Digits.{number_from_digits, AllBelowBase};
 ghost use Rattle.bool_coder.specs.BoolStream.{opening, after, split, chosen, stream};
-ghost use Rattle.bool_coder.specs.Word.{kept};
+ghost use Rattle.bool_coder.specs.EncoderInside.{kept};
 
 use std::alloc::{AllocError, Global};
 use std::marker::Model;
@@ -32,7 +32,7 @@ impl Model for Encoder {
 
     ghost Value = { Option Interval };
 
-    ghost use Rattle.bool_coder.specs.Word.{interval_of, IsSound};
+    ghost use Rattle.bool_coder.specs.EncoderInside.{interval_of, IsSound};
 
     ghost view = { interval_of };
 
@@ -113,7 +113,9 @@ fn step(low: u64, bits: u32, range: u32, prob: u8, bit: bool) -> (u64, u32, u32)
     requires short { bits < 40 }
     requires one_carry { low + range ≤ 2 ^ (bits + 1) }
     requires prob { 0 < prob }
-    ensures coded { (written : List ℕ) → kept written result.0 result.1 result.2 ≡ after (kept written low bits range) (prob, bit) }
+    ensures coded { (written : List ℕ)
+        → kept written result.0 result.1 result.2
+        ≡ after (kept written low bits range) (prob, bit) }
     ensures no_fewer { bits ≤ result.1 }
     ensures few_more { result.1 ≤ bits + 7 }
     ensures one_carry { result.0 + result.2 ≤ 2 ^ (result.1 + 1) }
@@ -130,8 +132,10 @@ fn choose(low: u64, range: u32, prob: u8, bit: bool) -> (u64, u32)
     requires byte { range ≤ 255 }
     requires prob { 0 < prob }
     requires room { low < 2 ^ 63 }
-    ensures low { result.0 ≡ (chosen (record { bottom = low; range = range; shifts = 0 }) prob bit).bottom }
-    ensures range { result.1 ≡ (chosen (record { bottom = low; range = range; shifts = 0 }) prob bit).range }
+    ensures low { result.0 ≡ (chosen
+        (record { bottom = low; range = range; shifts = 0 }) prob bit).bottom }
+    ensures range { result.1
+        ≡ (chosen (record { bottom = low; range = range; shifts = 0 }) prob bit).range }
 {
     let split = split_of(range, prob);
     if bit {

@@ -5,7 +5,7 @@
 //!
 //! The bottom is one long number, highest bits first. The encoder keeps its last bits in a machine word and the bytes
 //! before them in a buffer; a carry out of the word goes back through written bytes of 0xff. The decoder keeps how far
-//! the stream lies above the bottom, and tells at the end whether the bytes are the stream of its bools and nothing
+//! the stream lies above the bottom, and knows at the end whether the bytes are the stream of its bools and nothing
 //! else. What was written is read again, and a stream has one list of bools under its probs: `laws.rt`. Adapting the
 //! probabilities is left to others.
 #![tactic(auto)]

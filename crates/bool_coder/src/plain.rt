@@ -2,7 +2,7 @@
 ghost use Rattle.std.specs.Prelude.{◌≡◌, ◌<◌, ◌≤◌, IfOk};
 ghost use Rattle.std.specs.List.{AllByRecursion};
 ghost use Rattle.bool_coder.specs.BoolStream.{IsBool, IsOnLine, after, coded, stream, widened};
-ghost use Rattle.bool_coder.specs.Plain.{IsKept, interval};
+ghost use Rattle.bool_coder.specs.PlainLine.{IsKept, interval};
 
 use std::alloc::{AllocError, Global};
 
@@ -56,7 +56,8 @@ fn widen(mut bottom: u128, mut range: u32, mut shifts: u32) -> Line
     requires byte { range ≤ 255 }
     requires short { shifts ≤ 112 }
     requires on_line { IsOnLine (record { bottom = bottom; range = range; shifts = shifts }) }
-    ensures { interval result ≡ widened 7 (record { bottom = bottom; range = range; shifts = shifts }) }
+    ensures { interval result
+        ≡ widened 7 (record { bottom = bottom; range = range; shifts = shifts }) }
 {
     while range < 128 {
         bottom *= 2;

@@ -1,4 +1,5 @@
-mod Bits
-mod Places
+mod BitCounts
+pub mod CategoryLemmas
+mod Positions
 mod Shuffle
 mod Zeros

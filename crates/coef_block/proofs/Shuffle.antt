@@ -6,9 +6,9 @@ use Rattle.std.proofs.lemmas.Bool.{and_parts, eqb-true, ltb-true}
 use Rattle.std.proofs.lemmas.Grind.{get_or_default_zero}
 use Rattle.std.proofs.lemmas.List.Sorted.{IsPermutation-refl, IsPermutation-cons, IsPermutation-remove, IsPermutation-trans}
 
--- whether y stands at this place of xs, and the rest, without it, passes
+-- whether y stands at this position of xs, and the rest, without it, passes
 abbrev takes : List ℕ → ℕ → ℕ → (List ℕ → Bool) → Bool
-takes xs place y rest = nat_lt place (length xs) && (slice_index xs place == y) && rest (remove xs place)
+takes xs position y rest = nat_lt position (length xs) && (slice_index xs position == y) && rest (remove xs position)
 
 -- whether each of ys in turn can be taken from xs, and nothing is left
 abbrev pub is_shuffle : List ℕ → List ℕ → Bool
@@ -20,10 +20,10 @@ pub IsPermutation-is_shuffle : (xs ys : List ℕ) → is_shuffle xs ys ≡ true 
 IsPermutation-is_shuffle [] [] h = IsPermutation-refl []
 IsPermutation-is_shuffle (x ∷ xs) [] h = cc
 IsPermutation-is_shuffle xs (y ∷ ys) h =
-    let place = position_or_len (λ x. x == y) xs in
+    let position = position_or_len (λ x. x == y) xs in
     let outer = and_parts _ _ h in
     let inner = and_parts _ _ outer.0 in
     let within = ltb-true _ _ inner.0 in
-    let here : y ≡ slice_index_or xs place y = sym (get_or_default_zero xs place y within ∙ eqb-true _ _ inner.1) in
-    let left = IsPermutation-is_shuffle (remove xs place) ys outer.1 in
-    IsPermutation-trans _ _ _ (IsPermutation-remove xs place y within here) (IsPermutation-cons y _ _ left)
+    let here : y ≡ slice_index_or xs position y = sym (get_or_default_zero xs position y within ∙ eqb-true _ _ inner.1) in
+    let left = IsPermutation-is_shuffle (remove xs position) ys outer.1 in
+    IsPermutation-trans _ _ _ (IsPermutation-remove xs position y within here) (IsPermutation-cons y _ _ left)

@@ -1,8 +1,8 @@
--- The zigzag order of a block's 64 coefficients (ITU-T T.81, A.3.6, Figure A.6). A natural place is 8 times the row
--- plus the column, both from 0; a zigzag index counts the places along the figure's walk.
+-- The zigzag order of a block's 64 coefficients (ITU-T T.81, A.3.6, Figure A.6). A natural position is 8 times the row
+-- plus the column, both from 0; a zigzag index counts the positions along the figure's walk.
 use Rattle.std.specs.Prelude.{ℕ, ◌+◌, ◌-◌, ◌*◌, ◌/◌, ◌%◌, Bool, true, ◌&&◌, ◌==◌, List, [], ◌∷◌, length, if◌then◌else◌}
 
--- the natural place at each zigzag index (Figure A.6), a diagonal a line
+-- the natural position at each zigzag index (Figure A.6), a diagonal a line
 abbrev pub zigzag : List ℕ
 zigzag =
     0 ∷
@@ -21,33 +21,35 @@ zigzag =
     55 ∷ 62 ∷
     63 ∷ []
 
--- a row and a column, as a natural place
-abbrev pub place_at : ℕ → ℕ → ℕ
-place_at row column = 8 * row + column
+-- a row and a column, as a natural position (A.3.6)
+abbrev pub position_at : ℕ → ℕ → ℕ
+position_at row column = 8 * row + column
 
--- up and to the right, along the right edge down, along the top edge to the right
-abbrev pub place_upward : ℕ → ℕ → ℕ
-place_upward row column =
-    if column == 7 then place_at (row + 1) column
-    else if row == 0 then place_at row (column + 1)
-    else place_at (row - 1) (column + 1)
+-- up and to the right, along the right edge down, along the top edge to the right (Figure A.6)
+abbrev pub position_upward : ℕ → ℕ → ℕ
+position_upward row column =
+    if column == 7 then position_at (row + 1) column
+    else if row == 0 then position_at row (column + 1)
+    else position_at (row - 1) (column + 1)
 
--- down and to the left, along the bottom edge to the right, along the left edge down
-abbrev pub place_downward : ℕ → ℕ → ℕ
-place_downward row column =
-    if row == 7 then place_at row (column + 1)
-    else if column == 0 then place_at (row + 1) column
-    else place_at (row + 1) (column - 1)
+-- down and to the left, along the bottom edge to the right, along the left edge down (Figure A.6)
+abbrev pub position_downward : ℕ → ℕ → ℕ
+position_downward row column =
+    if row == 7 then position_at row (column + 1)
+    else if column == 0 then position_at (row + 1) column
+    else position_at (row + 1) (column - 1)
 
 -- where the walk goes from a row and a column: upward on the diagonals whose row plus column is even
-abbrev pub place_after : ℕ → ℕ → ℕ
-place_after row column = if (row + column) % 2 == 0 then place_upward row column else place_downward row column
+abbrev pub position_after : ℕ → ℕ → ℕ
+position_after row column =
+    if (row + column) % 2 == 0 then position_upward row column else position_downward row column
 
--- whether the walk, once it has come to a place, goes over these places
+-- whether the walk, once it has come to a position, goes over these positions (Figure A.6)
 abbrev pub walks_from : ℕ → List ℕ → Bool
-walks_from place [] = true
-walks_from place (p ∷ ps) = p == place && walks_from (place_after (place / 8) (place % 8)) ps
+walks_from position [] = true
+walks_from position (p ∷ ps) =
+    p == position && walks_from (position_after (position / 8) (position % 8)) ps
 
--- whether these are the 64 places of the figure's walk, which begins at place 0
+-- whether these are the 64 positions of the figure's walk, which begins at position 0
 abbrev pub is_zigzag : List ℕ → Bool
-is_zigzag places = length places == 64 && walks_from 0 places
+is_zigzag positions = length positions == 64 && walks_from 0 positions

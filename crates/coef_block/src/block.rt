@@ -4,7 +4,7 @@ ghost use Rattle.coef_block.specs.Block.{IsCoefficient, IsBlock};
 
 use std::marker::Model;
 
-/// 64 quantized DCT coefficients, by natural place: 8 times the row plus the column (ITU-T T.81, A.3.4). The first,
+/// 64 quantized DCT coefficients, by natural position: 8 times the row plus the column (ITU-T T.81, A.3.4). The first,
 /// the DC coefficient, is within 32767 of 0, and each other, an AC coefficient, within 1023.
 ///
 /// Clauses see the list of the coefficients.
@@ -32,24 +32,24 @@ impl Block {
         Block { values: [0; 64] }
     }
 
-    /// The coefficient at a natural place, from 0 to 63.
+    /// The coefficient at a natural position, from 0 to 63.
     #[inline]
-    pub fn get(&self, place: usize) -> i16
-        requires { place < 64 }
-        ensures value { slice_get self.now place ≡ Some result }
-        ensures coefficient { IsCoefficient place result }
+    pub fn get(&self, position: usize) -> i16
+        requires { position < 64 }
+        ensures value { slice_get self.now position ≡ Some result }
+        ensures coefficient { IsCoefficient position result }
         ensures block { IsBlock self.now }
     {
-        self.values[place]
+        self.values[position]
     }
 
-    /// Puts a coefficient at a natural place, from 0 to 63.
+    /// Puts a coefficient at a natural position, from 0 to 63.
     #[inline]
-    pub fn set(&mut self, place: usize, value: i16)
-        requires place { place < 64 }
-        requires coefficient { IsCoefficient place value }
-        ensures { self.new ≡ slice_set self.old place value }
+    pub fn set(&mut self, position: usize, value: i16)
+        requires position { position < 64 }
+        requires coefficient { IsCoefficient position value }
+        ensures { self.new ≡ slice_set self.old position value }
     {
-        self.values[place] = value;
+        self.values[position] = value;
     }
 }

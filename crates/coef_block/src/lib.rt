@@ -10,7 +10,7 @@
 //!      ↓  ↗
 //!     10 ..
 //!
-//! A natural place is 8 times the row plus the column. The number of bits of a coefficient or of a difference
+//! A natural position is 8 times the row plus the column. The number of bits of a coefficient or of a difference
 //! is its category (Table F.1). Coding those bits is left to others.
 #![tactic(auto)]
 
@@ -21,7 +21,7 @@ mod zigzag;
 pub use block::Block;
 pub use category::size;
 pub use zigzag::{
-    ZIGZAG, natural_places, zigzag_is_a_permutation, zigzag_is_the_figures, zigzag_place,
+    ZIGZAG, natural_position, natural_positions, zigzag_is_a_permutation, zigzag_is_the_figures,
 };
 
 #[cfg(test)]

@@ -14,13 +14,13 @@ fn figure(rt: HostRuntime) {
         [21, 34, 37, 47, 50, 56, 59, 61],
         [35, 36, 48, 49, 57, 58, 62, 63],
     ];
-    let places = natural_places();
+    let positions = natural_positions();
     for (row, indexes) in rows.iter().enumerate() {
         for (column, &index) in indexes.iter().enumerate() {
-            let place = 8 * row + column;
+            let position = 8 * row + column;
             assert!(rt; index < 64);
-            assert_eq!(rt; zigzag_place(index), place, "at {index}");
-            assert_eq!(rt; usize::from(places[index]), place, "at {index}");
+            assert_eq!(rt; natural_position(index), position, "at {index}");
+            assert_eq!(rt; usize::from(positions[index]), position, "at {index}");
         }
     }
 }
@@ -49,9 +49,9 @@ fn first_and_last(rt: HostRuntime) {
     let mut block = Block::zero();
     block.set(0, -32767);
     block.set(63, 1023);
-    for (place, value) in [(0, -32767), (1, 0), (62, 0), (63, 1023)] {
-        assert!(rt; place < 64);
-        assert_eq!(rt; block.get(place), value, "at {place}");
+    for (position, value) in [(0, -32767), (1, 0), (62, 0), (63, 1023)] {
+        assert!(rt; position < 64);
+        assert_eq!(rt; block.get(position), value, "at {position}");
     }
     let kept = block;
     block.set(63, -1023);

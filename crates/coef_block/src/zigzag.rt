@@ -1,28 +1,28 @@
-// From zigzag indexes to natural places.
+// From zigzag indexes to natural positions.
 ghost use Rattle.std.specs.Prelude.{◌≡◌, ◌<◌, IsTrue, IsPermutation, slice_index};
 ghost use Rattle.std.specs.List.{range_with_len};
 ghost use Rattle.coef_block.specs.Zigzag.{zigzag, is_zigzag};
 
-/// The natural place, from 0 to 63, at each zigzag index (ITU-T T.81, Figure A.6). A proof
-/// takes it from `natural_places`.
+/// The natural position, from 0 to 63, at each zigzag index (ITU-T T.81, Figure A.6). A proof
+/// takes it from `natural_positions`.
 pub const ZIGZAG: [u8; 64] = [
     0, 1, 8, 16, 9, 2, 3, 10, 17, 24, 32, 25, 18, 11, 4, 5, 12, 19, 26, 33, 40, 48, 41, 34, 27, 20,
     13, 6, 7, 14, 21, 28, 35, 42, 49, 56, 57, 50, 43, 36, 29, 22, 15, 23, 30, 37, 44, 51, 58, 59,
     52, 45, 38, 31, 39, 46, 53, 60, 61, 54, 47, 55, 62, 63,
 ];
 
-/// The table `ZIGZAG`: the natural place at each zigzag index (ITU-T T.81, Figure A.6).
-pub fn natural_places() -> [u8; 64]
+/// The table `ZIGZAG`: the natural position at each zigzag index (ITU-T T.81, Figure A.6).
+pub fn natural_positions() -> [u8; 64]
     ensures { result ≡ zigzag }
 {
     ZIGZAG
 }
 
-/// The natural place, from 0 to 63, at a zigzag index (ITU-T T.81, Figure A.6).
+/// The natural position, from 0 to 63, at a zigzag index (ITU-T T.81, Figure A.6).
 #[inline]
-pub fn zigzag_place(index: usize) -> usize
+pub fn natural_position(index: usize) -> usize
     requires { index < 64 }
-    ensures place { result ≡ slice_index zigzag index }
+    ensures position { result ≡ slice_index zigzag index }
     ensures within { result < 64 }
     ensures later { 0 < index → 0 < result }
 {
@@ -34,7 +34,7 @@ pub fn zigzag_is_the_figures()
     ensures { IsTrue (is_zigzag zigzag) }
 {}
 
-/// The table has each natural place once.
+/// The table has each natural position once.
 pub fn zigzag_is_a_permutation()
     ensures { IsPermutation zigzag (range_with_len 0 64) }
 {}

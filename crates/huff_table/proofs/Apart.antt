@@ -1,14 +1,14 @@
 -- The code words of a table stand apart: what begins with one of them, among all words of sixteen bits, comes before what
--- begins with those behind it.
+-- begins with those after it.
 use Rattle.std.proofs.Common.{◌≡◌, ℕ, ◌+◌, ◌-◌, ◌*◌, ◌^◌, ◌<◌, ◌≤◌, List, [], ◌∷◌, length, take, drop, sym, ap, ◌∙◌, arith, append-nil, subst}
 use Rattle.std.specs.List.{AllByRecursion}
 use Rattle.std.proofs.Math.Nat.{mul-le-mul_right}
 use Rattle.std.proofs.lemmas.List.{length-take}
 use Rattle.std.proofs.lemmas.Grind.{pow_more}
-use Rattle.jpeg_marker.specs.Tables.{TableFields, IsTable}
+use Rattle.jpeg_marker.specs.HuffmanTables.{TableFields, IsTable}
 use Rattle.huff_table.specs.CodeWords.{CodeWord, words_of}
 use Rattle.huff_table.specs.Levels.{level, levels}
-use Rattle.huff_table.proofs.Sizes.{words_are_levels}
+use Rattle.huff_table.proofs.WordSizes.{words_are_levels}
 use Rattle.huff_table.proofs.Pairs.{Pairs, all-append, all_weaker, pairs-append}
 
 -- where the words of sixteen bits begin that begin with a code word, and where they end

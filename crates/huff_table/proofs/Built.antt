@@ -3,12 +3,12 @@ use Rattle.std.proofs.Common.{◌≡◌, ℕ, ◌+◌, ◌*◌, ◌≤◌, List,
 use Rattle.std.specs.Prelude.{slice_set}
 use Rattle.std.proofs.lemmas.List.{length-take}
 use Rattle.std.proofs.lemmas.List.Sums.{fold-append}
-use Rattle.jpeg_marker.specs.Tables.{TableFields, IsTable}
+use Rattle.jpeg_marker.specs.HuffmanTables.{TableFields, IsTable}
 use Rattle.huff_table.specs.CodeWords.{CodeWord}
 use Rattle.huff_table.specs.Levels.{level, levels}
-use Rattle.huff_table.specs.Kept.{placed, by_value, no_word}
+use Rattle.huff_table.specs.CodesInside.{placed, by_value, no_word}
 use Rattle.huff_table.specs.declared.word.Word.{Word}
-use Rattle.huff_table.proofs.Sizes.{words_are_levels}
+use Rattle.huff_table.proofs.WordSizes.{words_are_levels}
 use Rattle.huff_table.proofs.Fits.{HasRoom, room_of_size, room_next, small_power}
 use Rattle.huff_table.proofs.Decoded.{Turn, counts_left}
 
@@ -30,7 +30,7 @@ pub these_fit : {words start : List Word} {index first count : ℕ} {counts valu
     → Turn index count counts values these longer → Builds words start (index + 1) first (drop index counts) values all → first + length these ≤ 65536
 these_fit {words} {start} {index} {first} {count} {counts} {values} {these} {longer} {all} turn at =
     let now = turn_builds turn at in
-    let most : length these ≤ count = omega (arith, ap length turn.front, length-take count values) in
+    let most : length these ≤ count = omega (arith, ap length turn.prefix, length-take count values) in
     let power = small_power (index + 1) (omega (arith, now.room.sizes)) in
     omega (arith, most, power, room_of_size (index + 1) first count (drop (index + 1) counts) now.room)
 
@@ -43,7 +43,7 @@ builds_more {words} {start} {index} {first} {count} {counts} {values} {these} {l
     let rest = drop (index + 1) counts in
     record {
       room = room_next (index + 1) first count rest now.room;
-      rest = ap₂ (λ a b. placed (placed words (level size first a)) (levels (index + 1 + 1) (2 * (first + count)) rest b)) turn.front turn.back
+      rest = ap₂ (λ a b. placed (placed words (level size first a)) (levels (index + 1 + 1) (2 * (first + count)) rest b)) turn.prefix turn.back
           ∙ ap (λ n. placed (placed words (level n first (take count values))) (levels (index + 1 + 1) (2 * (first + count)) rest (drop count values))) is
           ∙ sym (placed-append words (level (index + 1) first (take count values)) (levels (index + 1 + 1) (2 * (first + count)) rest (drop count values)))
           ∙ now.rest;

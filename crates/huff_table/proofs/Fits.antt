@@ -6,7 +6,7 @@ use Rattle.std.proofs.Math.Nat.{mul-le-mul_right, pow-le-pow_right}
 use Rattle.std.proofs.lemmas.Nat.{pow-add}
 use Rattle.std.proofs.lemmas.List.{length-take}
 use Rattle.std.proofs.lemmas.Grind.{pow_more}
-use Rattle.jpeg_marker.specs.Tables.{TableFields, IsTable, code_space}
+use Rattle.jpeg_marker.specs.HuffmanTables.{TableFields, IsTable, code_space}
 use Rattle.huff_table.specs.CodeWords.{CodeWord}
 use Rattle.huff_table.specs.Levels.{level, levels}
 use Rattle.huff_table.proofs.Pairs.{all-append}
@@ -43,7 +43,7 @@ room_then first count p q cs most twice room =
     let e : first * q ≡ first * (p * 2) = ap (λ n. first * n) twice in
     omega arith
 
--- The words behind the first of a size, in words of seventeen bits: those of the sizes from this one on.
+-- The words after the first of a size, in words of seventeen bits: those of the sizes from this one on.
 pub record HasRoom (size first : ℕ) (counts : List ℕ) : Type 0 where
   pub sizes : size + length counts ≡ 17
   pub room : first * 2 ^ length counts + 2 * code_space counts ≤ 2 ^ 17

@@ -6,10 +6,10 @@ use Rattle.std.specs.List.{find}
 use Rattle.std.proofs.lemmas.Bool.{eqb-true, false_from_ne_true}
 use Rattle.std.proofs.lemmas.Bool.Decides.{nat_tests}
 use Rattle.bit_list.specs.Bits.{number_of}
-use Rattle.jpeg_marker.specs.Tables.{TableFields, IsTable}
+use Rattle.jpeg_marker.specs.HuffmanTables.{TableFields, IsTable}
 use Rattle.huff_table.specs.CodeWords.{CodeWord, value_in, value_of}
 use Rattle.huff_table.specs.Levels.{level, levels, value_among}
-use Rattle.huff_table.proofs.Sizes.{words_are_levels}
+use Rattle.huff_table.proofs.WordSizes.{words_are_levels}
 
 -- whether a word is the one of so many bits with this number
 abbrev pub is_word : ℕ → ℕ → CodeWord → Bool
@@ -19,7 +19,7 @@ is_word size code word = eqb word.size size && eqb word.code code
 abbrev pub value_by : ℕ → ℕ → List CodeWord → Option ℕ
 value_by size code words = option_map (λ word. word.value) (find (is_word size code) words)
 
--- the value of a first word, or of one behind
+-- the value of a first word, or of one after
 abbrev first_or : Bool → ℕ → Option ℕ → Option ℕ
 first_or test value later = cond test (Some value) later
 
@@ -100,7 +100,7 @@ found_now size code first count counts values =
     ∙ ap (option_or (value_by size code (level size first (take count values)))) (levels_longer size (size + 1) code (2 * (first + count)) counts (drop count values) (omega arith))
     ∙ or_none (value_by size code (level size first (take count values))) ∙ level_found size code first (take count values)
 
--- and those of longer ones stand behind it
+-- and those of longer ones stand after it
 pub found_later : (size other code first count : ℕ) (counts values : List ℕ) → other < size
     → value_by size code (levels other first (count ∷ counts) values) ≡ value_by size code (levels (other + 1) (2 * (first + count)) counts (drop count values))
 found_later size other code first count counts values h =

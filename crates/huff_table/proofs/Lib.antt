@@ -1,11 +1,11 @@
-pub mod Sizes
+pub mod WordSizes
 pub mod Pairs
 pub mod Fits
-pub mod Places
+pub mod WordIndexes
 pub mod Found
 pub mod Apart
 pub mod Decoded
 pub mod Lookup
-pub mod Reading
+pub mod WordReading
 pub mod Built
-pub mod Components
+pub mod PlanComponents

@@ -10,16 +10,16 @@ use Rattle.std.proofs.lemmas.Nat.{pow-add}
 use Rattle.std.proofs.lemmas.Option.{same_Some}
 use Rattle.std.proofs.lemmas.Map.Keys.{IsDistinct-head, IsDistinct-tail}
 use Rattle.bit_list.specs.Bits.{low_bits, number_of}
-use Rattle.bit_list.specs.Again.{length-low_bits, number_again}
+use Rattle.bit_list.specs.NumbersOfBits.{length-low_bits, number_again}
 use Rattle.bit_list.proofs.LowBits.{number_below, bits_again}
-use Rattle.jpeg_marker.specs.Tables.{TableFields, IsTable}
+use Rattle.jpeg_marker.specs.HuffmanTables.{TableFields, IsTable}
 use Rattle.huff_table.specs.CodeWords.{CodeWord, bits_of, word_in, words_of, word_of, value_of}
-use Rattle.huff_table.specs.Kept.{by_value, no_word}
+use Rattle.huff_table.specs.CodesInside.{by_value, no_word}
 use Rattle.huff_table.specs.declared.word.Word.{Word}
-use Rattle.huff_table.proofs.Sizes.{words_are_levels}
+use Rattle.huff_table.proofs.WordSizes.{words_are_levels}
 use Rattle.huff_table.proofs.Fits.{Fits, levels_fit, room_of_table, doubled}
 use Rattle.huff_table.proofs.Decoded.{number, number_push}
-use Rattle.huff_table.proofs.Places.{values_in, values_are, kept, kept_or, placed_at}
+use Rattle.huff_table.proofs.WordIndexes.{values_in, values_are, kept, kept_or, placed_at}
 use Rattle.huff_table.proofs.Pairs.{Pairs, found_cases, found_passes, found_holds, found_too, two_found}
 use Rattle.huff_table.proofs.Found.{is_word, eqb_same}
 use Rattle.huff_table.proofs.Apart.{Before, words_apart}
@@ -128,17 +128,17 @@ values_of_words table value bits is e =
     word_is table value other.0 other.1 ∙ ap (λ (x : CodeWord). Some (bits_of x)) (sym one)
     ∙ ap Some (ap₂ low_bits (eqb-true _ _ tests.0) (eqb-true _ _ tests.1) ∙ bits_again bits)
 
--- bits behind bits
+-- bits after bits
 join_step : (x f b p s n w : ℕ) → s ≡ p * 2 → x ≡ (2 * f + b) * p + n → w ≡ b * p + n → x ≡ f * s + w
 join_step x f b p s n w twice all rest = let e : f * s ≡ f * (p * 2) = ap (λ k. f * k) twice in omega arith
 
-number_join : (front more : List Bool) → number_of (front ++ more) ≡ number_of front * 2 ^ length more + number_of more
-number_join front [] = ap number_of (append-nil front) ∙ omega arith
-number_join front (bit ∷ more) =
-    let all = ap number_of (sym (append_assoc front (bit ∷ []) more)) ∙ number_join (front ++ bit ∷ []) more ∙ ap (λ n. n * 2 ^ length more + number_of more) (number_push front bit) in
+number_join : (prefix more : List Bool) → number_of (prefix ++ more) ≡ number_of prefix * 2 ^ length more + number_of more
+number_join prefix [] = ap number_of (append-nil prefix) ∙ omega arith
+number_join prefix (bit ∷ more) =
+    let all = ap number_of (sym (append_assoc prefix (bit ∷ []) more)) ∙ number_join (prefix ++ bit ∷ []) more ∙ ap (λ n. n * 2 ^ length more + number_of more) (number_push prefix bit) in
     let rest = number_join (bit ∷ []) more ∙ ap (λ n. n * 2 ^ length more + number_of more) (number_push [] bit) in
     let alone : number_of (bit ∷ more) ≡ number bit * 2 ^ length more + number_of more = omega (arith, rest) in
-    join_step (number_of (front ++ bit ∷ more)) (number_of front) (number bit) (2 ^ length more) (2 ^ suc (length more)) (number_of more) (number_of (bit ∷ more)) (doubled (length more)) all alone
+    join_step (number_of (prefix ++ bit ∷ more)) (number_of prefix) (number bit) (2 ^ length more) (2 ^ suc (length more)) (number_of more) (number_of (bit ∷ more)) (doubled (length more)) all alone
 
 -- of two words, neither begins the other
 never_before : (a b m r p q : ℕ) → q ≡ m * p → b ≡ a * m + r → r < m → 0 < p → (a + 1) * q ≤ b * p → ⊥
@@ -148,8 +148,8 @@ never_before a b m r p q wide is low some before =
     let f : b * p ≡ (a * m + r) * p = ap (λ n. n * p) is in
     omega arith
 
-never_behind : (a b m r p q : ℕ) → 0 < p → q ≡ m * p → b ≡ a * m + r → (b + 1) * p ≤ a * q → ⊥
-never_behind a b m r p q some wide is before =
+never_after : (a b m r p q : ℕ) → 0 < p → q ≡ m * p → b ≡ a * m + r → (b + 1) * p ≤ a * q → ⊥
+never_after a b m r p q some wide is before =
     let e : a * q ≡ a * (m * p) = ap (λ n. a * n) wide in
     let f : (b + 1) * p ≡ (a * m + r + 1) * p = ap (λ n. (n + 1) * p) is in
     omega arith
@@ -176,7 +176,7 @@ one_begins table value other bits more is e f =
       | inl same ↦ sym its ∙ ap (λ (x : CodeWord). x.value) same ∙ others
       | inr order ↦ elim order [
         | inl before ↦ absurd (never_before one.code two.code (2 ^ length more) (number_of more) (2 ^ (16 - two.size)) (2 ^ (16 - one.size)) unit joined (number_below more) (pow_pos (16 - two.size)) before)
-        | inr behind ↦ absurd (never_behind one.code two.code (2 ^ length more) (number_of more) (2 ^ (16 - two.size)) (2 ^ (16 - one.size)) (pow_pos (16 - two.size)) unit joined behind)
+        | inr after ↦ absurd (never_after one.code two.code (2 ^ length more) (number_of more) (2 ^ (16 - two.size)) (2 ^ (16 - one.size)) (pow_pos (16 - two.size)) unit joined after)
       ]
     ]
 

@@ -2,5 +2,5 @@ pub mod CodeWords
 pub mod StandardTable
 pub mod Decoding
 pub mod Levels
-pub mod Kept
+pub mod CodesInside
 pub mod PlanWords

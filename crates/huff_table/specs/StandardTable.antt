@@ -1,6 +1,6 @@
 -- A table of the standard with its code words (ITU-T T.81, Table K.3): categories of DC differences of luminance.
 use Rattle.std.specs.Prelude.{ℕ, List, [], ◌∷◌}
-use Rattle.jpeg_marker.specs.Tables.{TableFields}
+use Rattle.jpeg_marker.specs.HuffmanTables.{TableFields}
 use Rattle.huff_table.specs.CodeWords.{CodeWord}
 
 abbrev pub table_k3 : TableFields
@@ -9,10 +9,12 @@ table_k3 = record {
   values = 0 ∷ 1 ∷ 2 ∷ 3 ∷ 4 ∷ 5 ∷ 6 ∷ 7 ∷ 8 ∷ 9 ∷ 10 ∷ 11 ∷ [];
 }
 
+-- a code word by its value, size in bits and number
 abbrev word : ℕ → ℕ → ℕ → CodeWord
 word value size code = record { value = value; size = size; code = code }
 
 -- 00, 010, 011, 100, 101, 110, 1110 and so on
 abbrev pub words_k3 : List CodeWord
 words_k3 =
-    word 0 2 0 ∷ word 1 3 2 ∷ word 2 3 3 ∷ word 3 3 4 ∷ word 4 3 5 ∷ word 5 3 6 ∷ word 6 4 14 ∷ word 7 5 30 ∷ word 8 6 62 ∷ word 9 7 126 ∷ word 10 8 254 ∷ word 11 9 510 ∷ []
+    word 0 2 0 ∷ word 1 3 2 ∷ word 2 3 3 ∷ word 3 3 4 ∷ word 4 3 5 ∷ word 5 3 6 ∷ word 6 4 14
+    ∷ word 7 5 30 ∷ word 8 6 62 ∷ word 9 7 126 ∷ word 10 8 254 ∷ word 11 9 510 ∷ []

@@ -2,10 +2,10 @@
 ghost use Rattle.std.specs.Prelude.{◌≡◌, ℕ, ◌+◌, ◌*◌, ◌-◌, ◌^◌, ◌<◌, ◌≤◌, ◌↔◌, Bool, List, length, Ok, Err, Some, None, IsSome, IfSome, IfNone, IfOk, IfErr, OnErr, Contains};
 ghost use Rattle.bit_list.specs.Bits.{low_bits};
 ghost use Rattle.bit_list.specs.Units.{bits_at};
-ghost use Rattle.jpeg_marker.specs.Tables.{IsTable};
+ghost use Rattle.jpeg_marker.specs.HuffmanTables.{IsTable};
 ghost use Rattle.huff_table.specs.CodeWords.{word_of};
 ghost use Rattle.huff_table.specs.Decoding.{value_at};
-ghost use Rattle.huff_table.specs.Kept.{placed};
+ghost use Rattle.huff_table.specs.CodesInside.{placed};
 ghost use Rattle.huff_table.specs.Levels.{level, value_among};
 
 use crate::fault::CodeFault;
@@ -23,11 +23,11 @@ pub struct Codes {
 }
 
 impl Model for Codes {
-    ghost use Rattle.jpeg_marker.specs.Tables.{TableFields};
+    ghost use Rattle.jpeg_marker.specs.HuffmanTables.{TableFields};
 
     ghost Value = { TableFields };
 
-    ghost use Rattle.huff_table.specs.Kept.{IsKept, inside_of};
+    ghost use Rattle.huff_table.specs.CodesInside.{IsKept, inside_of};
     ghost use Rattle.std.specs.Prelude.{refl};
 
     ghost view = { λ c. c.table };
@@ -63,7 +63,8 @@ impl Codes {
     /// The code word of a value as a number, and how many bits it has, from 1 to 16.
     #[inline]
     pub fn word(&self, symbol: u8) -> Option<(u16, u8)>
-        ensures some { IfSome result (λ word. word_of self.now symbol ≡ Some (low_bits word.1 word.0)) }
+        ensures some { IfSome result
+            (λ word. word_of self.now symbol ≡ Some (low_bits word.1 word.0)) }
         ensures below { IfSome result (λ word. word.0 < 2 ^ word.1) }
         ensures size { IfSome result (λ word. (1 ≤ word.1) × (word.1 ≤ 16)) }
         ensures none { IfNone result (word_of self.now symbol ≡ None) }
@@ -77,12 +78,16 @@ impl Codes {
         Some((word.code, word.size))
     }
 
-    /// Takes the value whose code word stands next. A fault leaves the input behind the bits that were looked at.
+    /// Takes the value whose code word stands next. A fault leaves the input after the bits that were looked at, 16 at most.
     pub fn next(&self, input: &mut BitIn) -> Result<u8, CodeFault>
-        ensures ok { IfOk result (λ value. value_at self.now input.old.bytes input.old.cursor ≡ Ok (value, input.new.cursor)) }
-        ensures err { IfErr result (λ fault. value_at self.now input.old.bytes input.old.cursor ≡ Err fault) }
+        ensures ok { IfOk result
+            (λ value. value_at self.now input.old.bytes input.old.cursor
+            ≡ Ok (value, input.new.cursor)) }
+        ensures err { IfErr result
+            (λ fault. value_at self.now input.old.bytes input.old.cursor ≡ Err fault) }
         ensures stopped { OnErr result ((bits : List Bool) × (length bits ≤ 16)
-            × (bits_at (length bits) input.old.bytes input.old.cursor ≡ Ok (bits, input.new.cursor))) }
+            × (bits_at (length bits) input.old.bytes input.old.cursor
+            ≡ Ok (bits, input.new.cursor))) }
         ensures bytes { input.new.bytes ≡ input.old.bytes }
         ensures kept { IsTable self.now }
     {

@@ -1,7 +1,7 @@
 // What holds of all code words.
 ghost use Rattle.std.specs.Prelude.{◌≡◌, ℕ, ◌<◌, ◌↔◌, Bool, List, ◌++◌, length, Ok, Err, Some};
 ghost use Rattle.bit_list.specs.Units.{Cursor, bits_at};
-ghost use Rattle.jpeg_marker.specs.Tables.{TableFields, IsTable};
+ghost use Rattle.jpeg_marker.specs.HuffmanTables.{TableFields, IsTable};
 ghost use Rattle.huff_table.specs.CodeWords.{words_of, word_of, value_of};
 ghost use Rattle.huff_table.specs.StandardTable.{table_k3, words_k3};
 ghost use Rattle.huff_table.specs.Decoding.{value_at, IsFaultAt};
@@ -10,7 +10,8 @@ ghost use Rattle.huff_table.specs.declared.fault.CodeFault.{CodeFault};
 /// No code word of a table is the beginning of another one.
 pub fn no_word_begins_another()
     ensures { (table : TableFields) (value other : ℕ) (word more : List Bool) → IsTable table
-        → word_of table value ≡ Some word → word_of table other ≡ Some (word ++ more) → value ≡ other }
+        → word_of table value ≡ Some word → word_of table other ≡ Some (word ++ more)
+        → value ≡ other }
 {}
 
 /// The code word of a value is the word that stands for it.
@@ -23,12 +24,14 @@ pub fn words_are_values()
 pub fn a_word_is_read()
     ensures { (table : TableFields) (bytes : List ℕ) (from to : Cursor) (value : ℕ) → IsTable table
         → ((value_at table bytes from ≡ Ok (value, to))
-        ↔ ((word : List Bool) × (word_of table value ≡ Some word) × (bits_at (length word) bytes from ≡ Ok (word, to)))) }
+        ↔ ((word : List Bool) × (word_of table value ≡ Some word)
+        × (bits_at (length word) bytes from ≡ Ok (word, to)))) }
 {}
 
 /// A fault comes exactly where sixteen bits are due that are no code word, or fewer and then one that isn't there.
 pub fn a_fault_is_no_word()
-    ensures { (table : TableFields) (bytes : List ℕ) (from : Cursor) (fault : CodeFault) → IsTable table
+    ensures { (table : TableFields) (bytes : List ℕ) (from : Cursor) (fault : CodeFault)
+        → IsTable table
         → ((value_at table bytes from ≡ Err fault) ↔ IsFaultAt table bytes from fault) }
 {}
 

@@ -4,7 +4,7 @@
 //!
 //!     e      a      t       s             values by rising length
 //!     0      10     110     111           their code words: the next of a length is one more, and a longer one has
-//!                                         zeros behind
+//!                                         zeros appended
 //!     |-------------|------|---|---|      what begins with each of them, among all words of one length
 //!
 //! `Codes` gives a value's code word, and takes the value whose word stands next in a scan's bits. It takes no memory.

@@ -1,20 +1,20 @@
 -- Components with their tables, one after the other.
 use Rattle.std.proofs.Common.{◌≡◌, ℕ, ◌+◌, ◌-◌, ◌<◌, List, [], ◌∷◌, ◌++◌, length, get_or, take, drop, set, replicate, drop-cons, add-one, refl, ap, sym, ◌∙◌, arith, append_assoc, Option, Some, None, option_map, map}
 use Rattle.std.proofs.lemmas.List.{take-append-drop, take_more_set, take-set, drop-set, drop_at, drop-drop, drop-replicate, length-take, map-append, take_more}
-use Rattle.jpeg_marker.specs.Tables.{TableFields}
-use Rattle.jpeg_marker.specs.Plans.{component_with, component_of, components_of, with_front, part_of}
-use Rattle.jpeg_marker.specs.declared.part.Part.{Part}
-use Rattle.jpeg_marker.specs.declared.part.Selector.{Selector}
+use Rattle.jpeg_marker.specs.HuffmanTables.{TableFields}
+use Rattle.jpeg_marker.specs.Plans.{component_with, component_of, components_of, with_prefix, part_of}
+use Rattle.jpeg_marker.specs.declared.parameters.FrameComponent.{FrameComponent}
+use Rattle.jpeg_marker.specs.declared.parameters.ScanComponent.{ScanComponent}
 use Rattle.jpeg_marker.specs.declared.component.Component.{Component}
 
 -- the first of the rest, and what is after it
-pub components_of-drop : (table : ℕ → ℕ → Option TableFields) (parts : List Part) (selectors : List Selector) (i : ℕ) (p : Part) (s : Selector) → i < length parts → i < length selectors → components_of table (drop i parts) (drop i selectors) ≡ with_front (component_of table (get_or parts i p) (get_or selectors i s)) (components_of table (drop (i + 1) parts) (drop (i + 1) selectors))
+pub components_of-drop : (table : ℕ → ℕ → Option TableFields) (parts : List FrameComponent) (selectors : List ScanComponent) (i : ℕ) (p : FrameComponent) (s : ScanComponent) → i < length parts → i < length selectors → components_of table (drop i parts) (drop i selectors) ≡ with_prefix (component_of table (get_or parts i p) (get_or selectors i s)) (components_of table (drop (i + 1) parts) (drop (i + 1) selectors))
 components_of-drop table parts selectors i p s below same = rw (drop-cons parts i p below, drop-cons selectors i s same, add-one) refl
 
--- one more in front
-pub front_moves : (front : List Component) (c : Component) (others : Option (List Component)) → option_map (λ xs. front ++ xs) (with_front (Some c) others) ≡ option_map (λ xs. (front ++ c ∷ []) ++ xs) others
-front_moves front c None = refl
-front_moves front c (Some xs) = ap Some (sym (append_assoc front (c ∷ []) xs))
+-- one more in prefix
+pub prefix_moves : (prefix : List Component) (c : Component) (others : Option (List Component)) → option_map (λ xs. prefix ++ xs) (with_prefix (Some c) others) ≡ option_map (λ xs. (prefix ++ c ∷ []) ++ xs) others
+prefix_moves prefix c None = refl
+prefix_moves prefix c (Some xs) = ap Some (sym (append_assoc prefix (c ∷ []) xs))
 
 -- what follows the last stays as it was
 pub blank_more : {X : Type 0} (xs : List X) (i : ℕ) (y b : X) → length xs ≡ 4 → i < 4 → xs ≡ take i xs ++ replicate (4 - i) b → set xs i y ≡ take (i + 1) (set xs i y) ++ replicate (4 - (i + 1)) b
@@ -24,35 +24,35 @@ blank_more {X = X} xs i y b size below blank =
     let rest : drop (i + 1) xs ≡ replicate (4 - (i + 1)) b =
     sym (drop-drop 1 i xs) ∙ ap (drop 1) after ∙ drop-replicate 1 (4 - i) b ∙ ap (λ n. replicate n b) (omega arith) in
     let split : set xs i y ≡ (take i xs ++ y ∷ []) ++ drop (i + 1) xs =
-    sym (take-append-drop i (set xs i y)) ∙ ap (λ front. front ++ drop i (set xs i y)) (take-set xs i y) ∙ ap (λ back. take i xs ++ back) (drop-set xs i y room) ∙ sym (append_assoc (take i xs) (y ∷ []) (drop (i + 1) xs)) in
-    split ∙ ap (λ front. front ++ drop (i + 1) xs) (sym (take_more_set xs i y room)) ∙ ap (λ back. take (i + 1) (set xs i y) ++ back) rest
+    sym (take-append-drop i (set xs i y)) ∙ ap (λ prefix. prefix ++ drop i (set xs i y)) (take-set xs i y) ∙ ap (λ back. take i xs ++ back) (drop-set xs i y room) ∙ sym (append_assoc (take i xs) (y ∷ []) (drop (i + 1) xs)) in
+    split ∙ ap (λ prefix. prefix ++ drop (i + 1) xs) (sym (take_more_set xs i y room)) ∙ ap (λ back. take (i + 1) (set xs i y) ++ back) rest
 
 -- a step of the loop over components: one that has its tables
-pub components_more : (table : ℕ → ℕ → Option TableFields) (parts : List Part) (selectors : List Selector) (found : List Component) (i : ℕ) (p : Part) (s : Selector) (c : Component) → i < length parts → i < length selectors → i < length found → components_of table parts selectors ≡ option_map (λ others. take i found ++ others) (components_of table (drop i parts) (drop i selectors)) → component_of table (get_or parts i p) (get_or selectors i s) ≡ Some c → components_of table parts selectors ≡ option_map (λ others. take (i + 1) (set found i c) ++ others) (components_of table (drop (i + 1) parts) (drop (i + 1) selectors))
+pub components_more : (table : ℕ → ℕ → Option TableFields) (parts : List FrameComponent) (selectors : List ScanComponent) (found : List Component) (i : ℕ) (p : FrameComponent) (s : ScanComponent) (c : Component) → i < length parts → i < length selectors → i < length found → components_of table parts selectors ≡ option_map (λ others. take i found ++ others) (components_of table (drop i parts) (drop i selectors)) → component_of table (get_or parts i p) (get_or selectors i s) ≡ Some c → components_of table parts selectors ≡ option_map (λ others. take (i + 1) (set found i c) ++ others) (components_of table (drop (i + 1) parts) (drop (i + 1) selectors))
 components_more table parts selectors found i p s c below same room so_far here =
     so_far
-    ∙ ap (option_map (λ others. take i found ++ others)) (components_of-drop table parts selectors i p s below same ∙ ap (λ first. with_front first (components_of table (drop (i + 1) parts) (drop (i + 1) selectors))) here)
-    ∙ front_moves (take i found) c (components_of table (drop (i + 1) parts) (drop (i + 1) selectors))
-    ∙ ap (λ front. option_map (λ others. front ++ others) (components_of table (drop (i + 1) parts) (drop (i + 1) selectors))) (sym (take_more_set found i c room))
+    ∙ ap (option_map (λ others. take i found ++ others)) (components_of-drop table parts selectors i p s below same ∙ ap (λ first. with_prefix first (components_of table (drop (i + 1) parts) (drop (i + 1) selectors))) here)
+    ∙ prefix_moves (take i found) c (components_of table (drop (i + 1) parts) (drop (i + 1) selectors))
+    ∙ ap (λ prefix. option_map (λ others. prefix ++ others) (components_of table (drop (i + 1) parts) (drop (i + 1) selectors))) (sym (take_more_set found i c room))
 
 -- and one that hasn't
-pub components_none : (table : ℕ → ℕ → Option TableFields) (parts : List Part) (selectors : List Selector) (found : List Component) (i : ℕ) (p : Part) (s : Selector) → i < length parts → i < length selectors → components_of table parts selectors ≡ option_map (λ others. take i found ++ others) (components_of table (drop i parts) (drop i selectors)) → component_of table (get_or parts i p) (get_or selectors i s) ≡ None → components_of table parts selectors ≡ None
+pub components_none : (table : ℕ → ℕ → Option TableFields) (parts : List FrameComponent) (selectors : List ScanComponent) (found : List Component) (i : ℕ) (p : FrameComponent) (s : ScanComponent) → i < length parts → i < length selectors → components_of table parts selectors ≡ option_map (λ others. take i found ++ others) (components_of table (drop i parts) (drop i selectors)) → component_of table (get_or parts i p) (get_or selectors i s) ≡ None → components_of table parts selectors ≡ None
 components_none table parts selectors found i p s below same so_far here =
-    so_far ∙ ap (option_map (λ others. take i found ++ others)) (components_of-drop table parts selectors i p s below same ∙ ap (λ first. with_front first (components_of table (drop (i + 1) parts) (drop (i + 1) selectors))) here)
+    so_far ∙ ap (option_map (λ others. take i found ++ others)) (components_of-drop table parts selectors i p s below same ∙ ap (λ first. with_prefix first (components_of table (drop (i + 1) parts) (drop (i + 1) selectors))) here)
 
 some_is_one : {A : Type 0} (x y : A) → Some x ≡ Some y → x ≡ y
 some_is_one x y e = cc
 
 -- a component says what its part does
-part_of-with : (p : Part) (dc ac : Option TableFields) (c : Component) → component_with p dc ac ≡ Some c → part_of c ≡ p
+part_of-with : (p : FrameComponent) (dc ac : Option TableFields) (c : Component) → component_with p dc ac ≡ Some c → part_of c ≡ p
 part_of-with p (Some dc) (Some ac) c is = ap part_of (sym (some_is_one _ c is))
 part_of-with p (Some dc) None c is = cc
 part_of-with p None ac c is = cc
 
-pub parts_more : (parts : List Part) (found : List Component) (i : ℕ) (p : Part) (c : Component) (dc ac : Option TableFields) → i < length parts → i < length found → map part_of (take i found) ≡ take i parts → component_with (get_or parts i p) dc ac ≡ Some c → map part_of (take (i + 1) (set found i c)) ≡ take (i + 1) parts
+pub parts_more : (parts : List FrameComponent) (found : List Component) (i : ℕ) (p : FrameComponent) (c : Component) (dc ac : Option TableFields) → i < length parts → i < length found → map part_of (take i found) ≡ take i parts → component_with (get_or parts i p) dc ac ≡ Some c → map part_of (take (i + 1) (set found i c)) ≡ take (i + 1) parts
 parts_more parts found i p c dc ac below room so_far here =
     ap (map part_of) (take_more_set found i c room)
     ∙ map-append part_of (take i found) (c ∷ [])
-    ∙ ap (λ front. front ++ part_of c ∷ []) so_far
+    ∙ ap (λ prefix. prefix ++ part_of c ∷ []) so_far
     ∙ ap (λ q. take i parts ++ q ∷ []) (part_of-with (get_or parts i p) dc ac c here)
     ∙ sym (take_more parts i p below)

@@ -3,14 +3,14 @@ use Rattle.std.proofs.Common.{◌≡◌, ℕ, not, List, [], ◌∷◌, ◌++◌
 use Rattle.std.proofs.lemmas.List.{append-nil}
 use Rattle.std.proofs.lemmas.Bool.{false≢true}
 use Rattle.jpeg_marker.specs.declared.refusal.HeaderRefusal.{HeaderRefusal}
-use Rattle.jpeg_marker.specs.Segments.{Segment, segment_text, header_text}
-use Rattle.jpeg_marker.specs.Good.{IsGood, AreGoodAfter, HaveNoScan, ArePassed, fault_of, length_place, stuck_at}
+use Rattle.jpeg_marker.specs.MarkerSegments.{Segment, segment_text, header_text}
+use Rattle.jpeg_marker.specs.GoodSegments.{IsGood, AreGoodAfter, HaveNoScan, ArePassed, fault_of, length_place, stuck_at}
 use Rattle.jpeg_marker.specs.HeaderPlan.{IsHeader, Stops, IsStuck, plan_of}
 use Rattle.jpeg_marker.specs.OneHeader.{OneList, OnePlan, OneRefusal, NeverBoth}
 use Rattle.jpeg_marker.proofs.OneSegment.{one_segment, whole_not_stuck}
 use Rattle.jpeg_marker.proofs.Walking.{header_text-push}
 
--- behind these segments no other good one stands but a scan's
+-- after these segments no other good one stands but a scan's
 record Ends (before : List Segment) (rest : List ℕ) : Type 0 where
   pub none : (s : Segment) (after : List ℕ) → IsGood before s → IsTrue (not (eqb s.code 218)) → rest ≡ segment_text s ++ after → ⊥
 
@@ -58,7 +58,7 @@ stuck_ends before rest r (inr found) = record {
 }
 
 header_split : (bytes rest : List ℕ) (before : List Segment) (scan : Segment) → bytes ≡ header_text (before ++ scan ∷ []) ++ rest → bytes ≡ header_text before ++ (segment_text scan ++ rest)
-header_split bytes rest before scan text = text ∙ ap (λ front. front ++ rest) (header_text-push before scan) ∙ append_assoc (header_text before) (segment_text scan) rest
+header_split bytes rest before scan text = text ∙ ap (λ prefix. prefix ++ rest) (header_text-push before scan) ∙ append_assoc (header_text before) (segment_text scan) rest
 
 pub one_list : OneList
 one_list bytes rest more before others scan end p q e f =

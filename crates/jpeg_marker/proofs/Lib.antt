@@ -1,9 +1,10 @@
 pub mod Chosen
 pub mod HeaderLaws
-pub mod Kept
+pub mod KeptPlans
 pub mod OneSegment
 pub mod Repeats
 pub mod SegmentTexts
 pub mod Spaces
 pub mod TableLists
 pub mod Walking
+pub mod PlanGrids

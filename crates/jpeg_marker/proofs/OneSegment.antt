@@ -3,9 +3,9 @@ use Rattle.std.proofs.Common.{◌≡◌, ◌≢◌, ℕ, zero, suc, ◌+◌, ◌
 use Rattle.std.proofs.lemmas.List.{take_at, drop_at}
 use Rattle.std.proofs.lemmas.Bool.{false≢true}
 use Rattle.std.proofs.lemmas.Bool.Decides.{nat_tests}
-use Rattle.jpeg_marker.specs.Refusals.{or_else}
-use Rattle.jpeg_marker.specs.Segments.{Segment, IsWhole, segment_text, is_known}
-use Rattle.jpeg_marker.specs.Good.{stuck_at, stuck_after, code_fault, length_fault}
+use Rattle.jpeg_marker.specs.HeaderRefusals.{or_else}
+use Rattle.jpeg_marker.specs.MarkerSegments.{Segment, IsWhole, segment_text, is_known}
+use Rattle.jpeg_marker.specs.GoodSegments.{stuck_at, stuck_after, code_fault, length_fault}
 
 not_fill : (code : ℕ) → IsTrue (is_known code) → code ≢ 255
 not_fill code known is = false≢true (subst (λ (n : ℕ). is_known n ≡ true) is known)

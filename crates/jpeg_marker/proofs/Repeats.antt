@@ -8,7 +8,7 @@ use Rattle.std.proofs.lemmas.List.Folds.{list_any-append, list_any_more}
 use Rattle.std.proofs.lemmas.Map.Steps.{length-le_from_distinct_below}
 use Rattle.std.proofs.lemmas.Bool.Decides.{nat_tests}
 use Rattle.std.proofs.lemmas.Grind.{common_steps}
-use Rattle.jpeg_marker.specs.Tables.{distinct}
+use Rattle.jpeg_marker.specs.HuffmanTables.{distinct}
 
 pub distinct-push : (xs : List ℕ) (y : ℕ) → distinct xs ≡ true → list_any (eqb y) xs ≡ false → distinct (xs ++ y ∷ []) ≡ true
 distinct-push [] y d f = refl

@@ -1,13 +1,13 @@
--- A segment's bytes, from the front of what is read.
+-- A segment's bytes, from the prefix of what is read.
 use Rattle.std.proofs.Common.{◌≡◌, ℕ, suc, ◌+◌, ◌-◌, ◌/◌, ◌%◌, ◌<◌, ◌≤◌, List, [], ◌∷◌, ◌++◌, length, get_or, take, drop, replicate, add-one, refl, ap, sym, ◌∙◌, arith, append_assoc}
 use Rattle.std.proofs.lemmas.List.{take-append-drop, length-take-le, replicate_more, take_all, length-drop}
-use Rattle.jpeg_marker.specs.Segments.{two_bytes, number_at}
-use Rattle.jpeg_marker.specs.Good.{stuck_after}
+use Rattle.jpeg_marker.specs.MarkerSegments.{two_bytes, number_at}
+use Rattle.jpeg_marker.specs.GoodSegments.{stuck_after}
 
 -- a first element, and what follows it
-pub front_is : (bytes : List ℕ) → 1 ≤ length bytes → bytes ≡ get_or bytes 0 0 ∷ take (length bytes - 1) (drop 1 bytes)
-front_is [] some = absurd (omega arith)
-front_is (byte ∷ bytes) some = ap (λ rest. byte ∷ rest) (sym (take_all (suc (length bytes) - 1) bytes (omega arith)))
+pub prefix_is : (bytes : List ℕ) → 1 ≤ length bytes → bytes ≡ get_or bytes 0 0 ∷ take (length bytes - 1) (drop 1 bytes)
+prefix_is [] some = absurd (omega arith)
+prefix_is (byte ∷ bytes) some = ap (λ rest. byte ∷ rest) (sym (take_all (suc (length bytes) - 1) bytes (omega arith)))
 
 -- two first elements, and what follows them
 pub two_are : (bytes : List ℕ) (first second : ℕ) → 2 ≤ length bytes → get_or bytes 0 0 ≡ first → get_or bytes 1 0 ≡ second → bytes ≡ first ∷ second ∷ take (length bytes - 2) (drop 2 bytes)
@@ -17,8 +17,8 @@ two_are (x ∷ y ∷ bytes) first second some a b = rw (a, b, take_all (suc (suc
 
 -- one more byte of 0xff
 pub fill_more : (bytes rest tail : List ℕ) (place here : ℕ) → place ≤ here → rest ≡ 255 ∷ tail → bytes ≡ replicate (here - place) 255 ++ rest → bytes ≡ replicate (here + 1 - place) 255 ++ tail
-fill_more bytes rest tail place here behind is filled =
-    filled ∙ ap (λ back. replicate (here - place) 255 ++ back) is ∙ sym (append_assoc (replicate (here - place) 255) (255 ∷ []) tail) ∙ ap (λ front. front ++ tail) (replicate_more (here - place) 255) ∙ ap (λ n. replicate n 255 ++ tail) (omega arith)
+fill_more bytes rest tail place here after is filled =
+    filled ∙ ap (λ back. replicate (here - place) 255 ++ back) is ∙ sym (append_assoc (replicate (here - place) 255) (255 ∷ []) tail) ∙ ap (λ prefix. prefix ++ tail) (replicate_more (here - place) 255) ∙ ap (λ n. replicate n 255 ++ tail) (omega arith)
 
 pub stuck_more : (rest tail : List ℕ) (here : ℕ) → rest ≡ 255 ∷ tail → stuck_after (here + 1) tail ≡ stuck_after here rest
 stuck_more rest tail here is = sym (ap (stuck_after here) is)

@@ -3,7 +3,7 @@ use Rattle.std.proofs.Common.{◌≡◌, ℕ, suc, ◌+◌, ◌-◌, ◌*◌, �
 use Rattle.std.proofs.Math.Nat.{mod-eq_of_lt, mul-le-mul_right}
 use Rattle.std.proofs.lemmas.List.{length-drop}
 use Rattle.std.proofs.lemmas.Grind.{pow_more}
-use Rattle.jpeg_marker.specs.Tables.{code_space}
+use Rattle.jpeg_marker.specs.HuffmanTables.{code_space}
 
 -- the first of the rest, and what is after it
 code_space-drop : (counts : List ℕ) (i k : ℕ) → length counts ≡ k + (i + 1) → code_space (drop i counts) ≡ get_or counts i 0 * 2 ^ k + code_space (drop (i + 1) counts)

@@ -4,11 +4,11 @@ use Rattle.std.proofs.lemmas.List.{get_or-set_other, length-set, append-nil}
 use Rattle.std.proofs.lemmas.List.Elements.{filter-append}
 use Rattle.std.proofs.lemmas.Bool.Decides.{nat_tests}
 use Rattle.std.proofs.lemmas.Grind.{get_or-set_at, fold-append}
-use Rattle.jpeg_marker.specs.Refusals.{or_else}
-use Rattle.jpeg_marker.specs.Segments.{last_of}
-use Rattle.jpeg_marker.specs.Tables.{Table, TableFields, fields_at, tables_after, is_of, latest}
+use Rattle.jpeg_marker.specs.HeaderRefusals.{or_else}
+use Rattle.jpeg_marker.specs.MarkerSegments.{last_of}
+use Rattle.jpeg_marker.specs.HuffmanTables.{Table, TableFields, fields_at, tables_after, is_of, latest}
 use Rattle.jpeg_marker.specs.TableFaults.{table_fault, tables_fault}
-use Rattle.jpeg_marker.specs.Holds.{Holds, table_in}
+use Rattle.jpeg_marker.specs.HeldTables.{Holds, table_in}
 
 -- bytes that are skipped first
 tables_after-drop : (skipped : ℕ) (bytes : List ℕ) → tables_after skipped bytes ≡ tables_after 0 (drop skipped bytes)
@@ -55,7 +55,7 @@ Holds-push kept tables t class number holds = record {
   each = λ c n cs ns. place_push kept t (latest c n tables) c n class number cs ns holds.size (holds.each c n cs ns) ∙ sym (latest-push c n tables t);
 }
 
--- Tables that were kept, from the front of a segment up to a rest.
+-- Tables that were kept, from the prefix of a segment up to a rest.
 pub record Held (first kept : List (Option TableFields)) (body rest : List ℕ) : Type 0 where
   pub done : List Table
   pub come : tables_after 0 body ≡ done ++ tables_after 0 rest
@@ -65,11 +65,11 @@ pub Held-start : (first : List (Option TableFields)) (body : List ℕ) → Held 
 Held-start first body = record { done = []; come = refl; holds = λ before h. subst (Holds first) (sym (append-nil before)) h }
 
 pub Held-more : (first kept : List (Option TableFields)) (body rest bytes after : List ℕ) (byte n class number : ℕ) (fields : TableFields) → rest ≡ byte ∷ bytes → after ≡ drop n bytes → n ≡ 16 + sum (take 16 bytes) → class ≡ byte / 16 → class < 2 → number ≡ byte % 16 → number < 4 → fields ≡ fields_at bytes → Held first kept body rest → Held first (set kept (4 * class + number) (Some fields)) body after
-Held-more first kept body rest bytes after byte n class number fields front back size of_class two of_number four table held =
+Held-more first kept body rest bytes after byte n class number fields prefix back size of_class two of_number four table held =
     let t : Table = record { class = class; number = number; fields = fields } in
     let same : t ≡ record { class = byte / 16; number = byte % 16; fields = fields_at bytes } = rw (of_class, of_number, table) refl in
     let split : tables_after 0 rest ≡ t ∷ tables_after 0 after =
-    ap (tables_after 0) front ∙ tables_after-more byte n bytes size ∙ ap (λ u. u ∷ tables_after 0 (drop n bytes)) (sym same) ∙ ap (λ b. t ∷ tables_after 0 b) (sym back) in
+    ap (tables_after 0) prefix ∙ tables_after-more byte n bytes size ∙ ap (λ u. u ∷ tables_after 0 (drop n bytes)) (sym same) ∙ ap (λ b. t ∷ tables_after 0 b) (sym back) in
     record {
       done = held.done ++ t ∷ [];
       come = held.come ∙ ap (λ others. held.done ++ others) split ∙ sym (append_assoc held.done (t ∷ []) (tables_after 0 after));

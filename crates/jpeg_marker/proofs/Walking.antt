@@ -6,19 +6,19 @@ use Rattle.std.proofs.lemmas.List.Concat.{flat_map-append}
 use Rattle.std.proofs.lemmas.Bool.Decides.{nat_tests}
 use Rattle.jpeg_marker.specs.declared.refusal.HeaderRefusal.{HeaderRefusal}
 use Rattle.jpeg_marker.specs.declared.refusal.HeaderRefusal.TheVariants.{ScanParams}
-use Rattle.jpeg_marker.specs.declared.part.Part.{Part}
-use Rattle.jpeg_marker.specs.declared.part.Selector.{Selector}
-use Rattle.jpeg_marker.specs.declared.found.Found.{Found}
-use Rattle.jpeg_marker.specs.Refusals.{fault_in, or_else}
-use Rattle.jpeg_marker.specs.Segments.{Segment, segment_text, header_text, last_of}
-use Rattle.jpeg_marker.specs.Tables.{TableFields, table_of, tables_in, tables_of, tables_after}
+use Rattle.jpeg_marker.specs.declared.parameters.FrameComponent.{FrameComponent}
+use Rattle.jpeg_marker.specs.declared.parameters.ScanComponent.{ScanComponent}
+use Rattle.jpeg_marker.specs.declared.definitions.Definitions.{Definitions}
+use Rattle.jpeg_marker.specs.HeaderRefusals.{fault_in, or_else}
+use Rattle.jpeg_marker.specs.MarkerSegments.{Segment, segment_text, header_text, last_of}
+use Rattle.jpeg_marker.specs.HuffmanTables.{TableFields, table_of, tables_in, tables_of, tables_after}
 use Rattle.jpeg_marker.specs.Frames.{FrameFields, frame_fault, frame_of, frames_in}
 use Rattle.jpeg_marker.specs.Plans.{PlanFields, components_of, is_in_range, is_sequential, scan_selectors, scan_count, order_fault, scan_fault, plan_fault, plan_after, plan_with}
 use Rattle.jpeg_marker.specs.TableFaults.{tables_fault}
-use Rattle.jpeg_marker.specs.Good.{IsGood, interval_fault, AreGoodAfter, HaveNoScan, body_fault, fault_of, length_place, interval_of, intervals_in, stuck_at}
-use Rattle.jpeg_marker.specs.Holds.{Holds, table_in}
-use Rattle.jpeg_marker.specs.Stands.{Stands}
-use Rattle.jpeg_marker.specs.Walks.{Knows, Walked}
+use Rattle.jpeg_marker.specs.GoodSegments.{IsGood, interval_fault, AreGoodAfter, HaveNoScan, body_fault, fault_of, length_place, interval_of, intervals_in, stuck_at}
+use Rattle.jpeg_marker.specs.HeldTables.{Holds, table_in}
+use Rattle.jpeg_marker.specs.StandingSegments.{Stands}
+use Rattle.jpeg_marker.specs.HeaderWalks.{Knows, Walked}
 use Rattle.jpeg_marker.specs.HeaderPlan.{Accepts, Refuses}
 use Rattle.jpeg_marker.proofs.Repeats.{both_hold}
 
@@ -26,10 +26,10 @@ use Rattle.jpeg_marker.proofs.Repeats.{both_hold}
 pub record Agree (one other : ℕ → ℕ → Option TableFields) : Type 0 where
   pub each : (class number : ℕ) → class < 2 → number < 4 → one class number ≡ other class number
 
-is_in_range-parts : (s : Selector) → is_in_range s ≡ true → (s.dc < 4) × (s.ac < 4)
+is_in_range-parts : (s : ScanComponent) → is_in_range s ≡ true → (s.dc < 4) × (s.ac < 4)
 is_in_range-parts s h = (grind (arith, nat_tests), grind (arith, nat_tests))
 
-components_of-same : (one other : ℕ → ℕ → Option TableFields) → Agree one other → (parts : List Part) (selectors : List Selector) → list_all is_in_range selectors ≡ true → components_of one parts selectors ≡ components_of other parts selectors
+components_of-same : (one other : ℕ → ℕ → Option TableFields) → Agree one other → (parts : List FrameComponent) (selectors : List ScanComponent) → list_all is_in_range selectors ≡ true → components_of one parts selectors ≡ components_of other parts selectors
 components_of-same one other agree [] selectors h = refl
 components_of-same one other agree (p ∷ parts) [] h = refl
 components_of-same one other agree (p ∷ parts) (s ∷ selectors) h =
@@ -37,14 +37,14 @@ components_of-same one other agree (p ∷ parts) (s ∷ selectors) h =
     let range = is_in_range-parts s both.0 in
     rw (agree.each 0 s.dc (omega arith) range.0, agree.each 1 s.ac (omega arith) range.1, components_of-same one other agree parts selectors both.1) refl
 
-same_behind : (b : Bool) (x y : Option HeaderRefusal) → (b ≡ true → x ≡ y) → or_else (cond b None (Some ScanParams)) x ≡ or_else (cond b None (Some ScanParams)) y
-same_behind true x y h = h refl
-same_behind false x y h = refl
+same_after : (b : Bool) (x y : Option HeaderRefusal) → (b ≡ true → x ≡ y) → or_else (cond b None (Some ScanParams)) x ≡ or_else (cond b None (Some ScanParams)) y
+same_after true x y h = h refl
+same_after false x y h = refl
 
 scan_fault-same : (one other : ℕ → ℕ → Option TableFields) → Agree one other → (frame : Option FrameFields) (at : ℕ) (body : List ℕ) → scan_fault frame one at body ≡ scan_fault frame other at body
 scan_fault-same one other agree None at body = refl
 scan_fault-same one other agree (Some f) at body =
-    ap (or_else (order_fault f.parts at body)) (same_behind (list_all is_in_range (scan_selectors body) && is_sequential (drop (1 + 2 * scan_count body) body)) _ _ (λ h. ap (plan_fault f) (components_of-same one other agree f.parts (scan_selectors body) (both_hold _ _ h).0)))
+    ap (or_else (order_fault f.parts at body)) (same_after (list_all is_in_range (scan_selectors body) && is_sequential (drop (1 + 2 * scan_count body) body)) _ _ (λ h. ap (plan_fault f) (components_of-same one other agree f.parts (scan_selectors body) (both_hold _ _ h).0)))
 
 body_fault-same : (one other : ℕ → ℕ → Option TableFields) → Agree one other → (frame : Option FrameFields) (at code : ℕ) (body : List ℕ) → body_fault frame one at code body ≡ body_fault frame other at code body
 body_fault-same one other agree frame at code body =
@@ -61,8 +61,8 @@ no_range_fault false h = cc
 plan_after-same : (one other : ℕ → ℕ → Option TableFields) → Agree one other → (frame : Option FrameFields) (at interval end : ℕ) (body : List ℕ) → scan_fault frame one at body ≡ None → plan_after frame one interval end body ≡ plan_after frame other interval end body
 plan_after-same one other agree None at interval end body h = refl
 plan_after-same one other agree (Some f) at interval end body h =
-    let behind = (no_fault (order_fault f.parts at body) _ h).1 in
-    let range = no_range_fault (list_all is_in_range (scan_selectors body) && is_sequential (drop (1 + 2 * scan_count body) body)) (no_fault _ (plan_fault f (components_of one f.parts (scan_selectors body))) behind).0 in
+    let after = (no_fault (order_fault f.parts at body) _ h).1 in
+    let range = no_range_fault (list_all is_in_range (scan_selectors body) && is_sequential (drop (1 + 2 * scan_count body) body)) (no_fault _ (plan_fault f (components_of one f.parts (scan_selectors body))) after).0 in
     ap (option_map (plan_with f interval end)) (components_of-same one other agree f.parts (scan_selectors body) (both_hold (list_all is_in_range (scan_selectors body)) _ range).0)
 
 not_equal : (a b : ℕ) → a ≢ b → IsTrue (not (eqb a b))
@@ -85,22 +85,22 @@ abbrev pub stood : (rest : List ℕ) (place code at : ℕ) (body after : List �
 stood rest place code at body after s = record { fill = s.fill; code = code; body = body }
 
 -- what the walk finds of it is what is to be found after the segments before it
-fault_here : (bytes rest after body : List ℕ) (place code at : ℕ) (found : Found) (w : Walked bytes rest place found) (s : Stands rest place code at body after) → body_fault found.frame (table_in found.tables) at code body ≡ fault_of w.segments (length_place w.segments (stood rest place code at body after s)) (stood rest place code at body after s)
+fault_here : (bytes rest after body : List ℕ) (place code at : ℕ) (found : Definitions) (w : Walked bytes rest place found) (s : Stands rest place code at body after) → body_fault found.frame (table_in found.tables) at code body ≡ fault_of w.segments (length_place w.segments (stood rest place code at body after s)) (stood rest place code at body after s)
 fault_here bytes rest after body place code at found w s =
     let agree : Agree (table_in found.tables) (table_of w.segments) = record { each = w.knows.tables.each } in
     body_fault-same (table_in found.tables) (table_of w.segments) agree found.frame at code body
     ∙ ap (λ frame. body_fault frame (table_of w.segments) at code body) w.knows.frame
     ∙ ap (λ p. body_fault (frame_of w.segments) (table_of w.segments) p code body) (s.length_at ∙ ap (λ p. p + s.fill + 2) w.here)
 
-text_here : (bytes rest after body : List ℕ) (place code at : ℕ) (found : Found) (w : Walked bytes rest place found) (s : Stands rest place code at body after) → bytes ≡ header_text (w.segments ++ stood rest place code at body after s ∷ []) ++ after
+text_here : (bytes rest after body : List ℕ) (place code at : ℕ) (found : Definitions) (w : Walked bytes rest place found) (s : Stands rest place code at body after) → bytes ≡ header_text (w.segments ++ stood rest place code at body after s ∷ []) ++ after
 text_here bytes rest after body place code at found w s =
     let t = stood rest place code at body after s in
-    w.text ∙ ap (λ back. header_text w.segments ++ back) s.text ∙ sym (append_assoc (header_text w.segments) (segment_text t) after) ∙ ap (λ front. front ++ after) (sym (header_text-push w.segments t))
+    w.text ∙ ap (λ back. header_text w.segments ++ back) s.text ∙ sym (append_assoc (header_text w.segments) (segment_text t) after) ∙ ap (λ prefix. prefix ++ after) (sym (header_text-push w.segments t))
 
-end_here : (bytes front after : List ℕ) → bytes ≡ front ++ after → length bytes - length after ≡ length front
-end_here bytes front after text = omega (arith, ap length text, length-append front after)
+end_here : (bytes prefix after : List ℕ) → bytes ≡ prefix ++ after → length bytes - length after ≡ length prefix
+end_here bytes prefix after text = omega (arith, ap length text, length-append prefix after)
 
-pub Walked-more : (bytes rest after body : List ℕ) (place code at : ℕ) (found new : Found) (w : Walked bytes rest place found) → Stands rest place code at body after → code ≢ 218 → body_fault found.frame (table_in found.tables) at code body ≡ None → ((before : List Segment) (fill : ℕ) → Knows found before → Knows new (before ++ record { fill = fill; code = code; body = body } ∷ [])) → Walked bytes after (length bytes - length after) new
+pub Walked-more : (bytes rest after body : List ℕ) (place code at : ℕ) (found new : Definitions) (w : Walked bytes rest place found) → Stands rest place code at body after → code ≢ 218 → body_fault found.frame (table_in found.tables) at code body ≡ None → ((before : List Segment) (fill : ℕ) → Knows found before → Knows new (before ++ record { fill = fill; code = code; body = body } ∷ [])) → Walked bytes after (length bytes - length after) new
 Walked-more bytes rest after body place code at found new w s other checked kept =
     let t = stood rest place code at body after s in
     let text = text_here bytes rest after body place code at found w s in
@@ -113,15 +113,15 @@ Walked-more bytes rest after body place code at found new w s other checked kept
       knows = kept w.segments s.fill w.knows;
     }
 
-pub stops_stuck : (bytes rest : List ℕ) (place : ℕ) (found : Found) (r : HeaderRefusal) → Walked bytes rest place found → stuck_at place rest ≡ Some r → Refuses bytes r
+pub stops_stuck : (bytes rest : List ℕ) (place : ℕ) (found : Definitions) (r : HeaderRefusal) → Walked bytes rest place found → stuck_at place rest ≡ Some r → Refuses bytes r
 stops_stuck bytes rest place found r w stuck =
     inr (record { before = w.segments; rest = rest; passed = w.passed; text = w.text; stuck = inl (ap (λ p. stuck_at p rest) (sym w.here) ∙ stuck) })
 
-pub stops_checked : (bytes rest after body : List ℕ) (place code at : ℕ) (found : Found) (r : HeaderRefusal) → Walked bytes rest place found → Stands rest place code at body after → body_fault found.frame (table_in found.tables) at code body ≡ Some r → Refuses bytes r
+pub stops_checked : (bytes rest after body : List ℕ) (place code at : ℕ) (found : Definitions) (r : HeaderRefusal) → Walked bytes rest place found → Stands rest place code at body after → body_fault found.frame (table_in found.tables) at code body ≡ Some r → Refuses bytes r
 stops_checked bytes rest after body place code at found r w s fault =
     inr (record { before = w.segments; rest = rest; passed = w.passed; text = w.text; stuck = inr (stood rest place code at body after s, after, s.whole, s.text, sym (fault_here bytes rest after body place code at found w s) ∙ fault) })
 
-pub accepts_here : (bytes rest after body : List ℕ) (place code at : ℕ) (found : Found) (plan : PlanFields) → Walked bytes rest place found → Stands rest place code at body after → code ≡ 218 → scan_fault found.frame (table_in found.tables) at body ≡ None → plan_after found.frame (table_in found.tables) found.interval (length bytes - length after) body ≡ Some plan → Accepts bytes plan
+pub accepts_here : (bytes rest after body : List ℕ) (place code at : ℕ) (found : Definitions) (plan : PlanFields) → Walked bytes rest place found → Stands rest place code at body after → code ≡ 218 → scan_fault found.frame (table_in found.tables) at body ≡ None → plan_after found.frame (table_in found.tables) found.interval (length bytes - length after) body ≡ Some plan → Accepts bytes plan
 accepts_here bytes rest after body place code at found plan w s scan checked says =
     let t = stood rest place code at body after s in
     let text = text_here bytes rest after body place code at found w s in
@@ -142,7 +142,7 @@ accepts_here bytes rest after body place code at found plan w s scan checked say
     }
 
 -- what a segment of tables adds to what is known
-pub Knows-tables : (found : Found) (tables : List (Option TableFields)) (before : List Segment) (fill code : ℕ) (body : List ℕ) → code ≡ 196 → Knows found before → Holds tables (tables_of before ++ tables_after 0 body) → Knows (record { frame = found.frame; tables = tables; interval = found.interval }) (before ++ record { fill = fill; code = code; body = body } ∷ [])
+pub Knows-tables : (found : Definitions) (tables : List (Option TableFields)) (before : List Segment) (fill code : ℕ) (body : List ℕ) → code ≡ 196 → Knows found before → Holds tables (tables_of before ++ tables_after 0 body) → Knows (record { frame = found.frame; tables = tables; interval = found.interval }) (before ++ record { fill = fill; code = code; body = body } ∷ [])
 Knows-tables found tables before fill code body is known holds =
     subst (λ (n : ℕ). Knows (record { frame = found.frame; tables = tables; interval = found.interval }) (before ++ record { fill = fill; code = n; body = body } ∷ [])) (sym is) (record {
       frame = known.frame ∙ ap last_of (sym (flat_map-append frames_in before (record { fill = fill; code = 196; body = body } ∷ []) ∙ append-nil (flat_map frames_in before)));
@@ -159,8 +159,8 @@ pub err_checked : {A : Type 0} (r : Result A HeaderRefusal) (fault : Option Head
 err_checked (Ok x) fault Q same f = tt
 err_checked (Err e) fault Q same f = f e (sym same)
 
--- the start of the walk, behind the start of an image
-pub Walked-start : (bytes rest : List ℕ) (found : Found) → bytes ≡ 255 ∷ 216 ∷ rest → Knows found [] → Walked bytes rest 2 found
+-- the start of the walk, after the start of an image
+pub Walked-start : (bytes rest : List ℕ) (found : Definitions) → bytes ≡ 255 ∷ 216 ∷ rest → Knows found [] → Walked bytes rest 2 found
 Walked-start bytes rest found text known = record { segments = []; passed = record { good = tt; no_scan = tt }; text = text; here = refl; knows = known }
 
 -- what follows a segment is shorter

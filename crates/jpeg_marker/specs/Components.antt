@@ -1,5 +1,5 @@
 -- What stands where there is no component.
-use Rattle.jpeg_marker.specs.Tables.{no_table}
+use Rattle.jpeg_marker.specs.HuffmanTables.{no_table}
 use Rattle.jpeg_marker.specs.declared.component.Component.{Component}
 
 abbrev pub no_component : Component

@@ -2,11 +2,11 @@
 use Rattle.std.specs.Prelude.{ℕ, ◌≡◌, ◌≢◌, ◌⊎◌, List, [], ◌∷◌, ◌++◌, length, take, Option, Some}
 use Rattle.jpeg_marker.specs.declared.refusal.HeaderRefusal.{HeaderRefusal}
 use Rattle.jpeg_marker.specs.declared.refusal.HeaderRefusal.TheVariants.{NotJpeg}
-use Rattle.jpeg_marker.specs.Segments.{Segment, IsWhole, segment_text, header_text}
-use Rattle.jpeg_marker.specs.Tables.{table_of}
+use Rattle.jpeg_marker.specs.MarkerSegments.{Segment, IsWhole, segment_text, header_text}
+use Rattle.jpeg_marker.specs.HuffmanTables.{table_of}
 use Rattle.jpeg_marker.specs.Frames.{frame_of}
 use Rattle.jpeg_marker.specs.Plans.{PlanFields, plan_after}
-use Rattle.jpeg_marker.specs.Good.{ArePassed, IsGood, interval_of, fault_of, length_place, stuck_at}
+use Rattle.jpeg_marker.specs.GoodSegments.{ArePassed, IsGood, interval_of, fault_of, length_place, stuck_at}
 
 -- segments, of which the last and no other is a scan's, each good after those before it
 pub record IsHeader (before : List Segment) (scan : Segment) : Type 0 where
@@ -16,7 +16,9 @@ pub record IsHeader (before : List Segment) (scan : Segment) : Type 0 where
 
 -- what a header says
 abbrev pub plan_of : List Segment → Segment → Option PlanFields
-plan_of before scan = plan_after (frame_of before) (table_of before) (interval_of before) (length (header_text (before ++ scan ∷ []))) scan.body
+plan_of before scan =
+    plan_after (frame_of before) (table_of before) (interval_of before)
+    (length (header_text (before ++ scan ∷ []))) scan.body
 
 -- the bytes begin with a header that says this
 pub record Accepts (bytes : List ℕ) (plan : PlanFields) : Type 0 where
@@ -32,7 +34,8 @@ pub record Accepts (bytes : List ℕ) (plan : PlanFields) : Type 0 where
 abbrev pub IsStuck : List Segment → List ℕ → HeaderRefusal → Type 0
 IsStuck before rest refusal =
     (stuck_at (length (header_text before)) rest ≡ Some refusal)
-    ⊎ ((s : Segment) × (after : List ℕ) × IsWhole s × (rest ≡ segment_text s ++ after) × (fault_of before (length_place before s) s ≡ Some refusal))
+    ⊎ ((s : Segment) × (after : List ℕ) × IsWhole s × (rest ≡ segment_text s ++ after)
+    × (fault_of before (length_place before s) s ≡ Some refusal))
 
 pub record Stops (bytes : List ℕ) (refusal : HeaderRefusal) : Type 0 where
   pub before : List Segment
@@ -43,4 +46,5 @@ pub record Stops (bytes : List ℕ) (refusal : HeaderRefusal) : Type 0 where
 
 -- the bytes begin with no header, and the first check that fails gives this refusal
 abbrev pub Refuses : List ℕ → HeaderRefusal → Type 0
-Refuses bytes refusal = ((take 2 bytes ≢ 0xff ∷ 0xd8 ∷ []) × (refusal ≡ NotJpeg)) ⊎ Stops bytes refusal
+Refuses bytes refusal =
+    ((take 2 bytes ≢ 0xff ∷ 0xd8 ∷ []) × (refusal ≡ NotJpeg)) ⊎ Stops bytes refusal

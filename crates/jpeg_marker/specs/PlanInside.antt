@@ -5,13 +5,28 @@ use Rattle.jpeg_marker.specs.Components.{no_component}
 use Rattle.jpeg_marker.specs.declared.plan.Plan.TheInside.{Inside}
 
 abbrev pub plan_fields : Inside → PlanFields
-plan_fields p = record { components = take p.count p.components; across = p.across; down = p.down; interval = p.interval; header_length = p.header_length; blocks = p.blocks }
+plan_fields p = record {
+  components = take p.count p.components;
+  across = p.across;
+  down = p.down;
+  interval = p.interval;
+  header_length = p.header_length;
+  blocks = p.blocks;
+}
 
--- no component stands after the last one, so that the components tell all
+-- no component stands after the last one, so that the components determine what is kept
 pub record IsPlanInside (p : Inside) : Type 0 where
   pub plan : IsPlan (plan_fields p)
   pub long : length (take p.count p.components) ≡ p.count
   pub blank : p.components ≡ take p.count p.components ++ replicate (4 - p.count) no_component
 
 abbrev pub plan_inside : PlanFields → Inside
-plan_inside p = record { components = p.components ++ replicate (4 - length p.components) no_component; count = length p.components; across = p.across; down = p.down; interval = p.interval; header_length = p.header_length; blocks = p.blocks }
+plan_inside p = record {
+  components = p.components ++ replicate (4 - length p.components) no_component;
+  count = length p.components;
+  across = p.across;
+  down = p.down;
+  interval = p.interval;
+  header_length = p.header_length;
+  blocks = p.blocks;
+}

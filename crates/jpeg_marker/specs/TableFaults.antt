@@ -2,8 +2,8 @@
 use Rattle.std.specs.Prelude.{ℕ, Bool, zero, suc, ◌+◌, ◌/◌, ◌%◌, ◌^◌, List, [], ◌∷◌, length, take, sum, Option, Some, None, nat_lt, nat_le, ◌&&◌, ◌||◌, if◌then◌else◌}
 use Rattle.jpeg_marker.specs.declared.refusal.HeaderRefusal.{HeaderRefusal}
 use Rattle.jpeg_marker.specs.declared.refusal.HeaderRefusal.TheVariants.{LengthBad, TableBad}
-use Rattle.jpeg_marker.specs.Refusals.{or_else}
-use Rattle.jpeg_marker.specs.Tables.{TableFields, fields_at, distinct, code_space}
+use Rattle.jpeg_marker.specs.HeaderRefusals.{or_else}
+use Rattle.jpeg_marker.specs.HuffmanTables.{TableFields, fields_at, distinct, code_space}
 
 -- the values of a table may stand for its code words: none twice, and the words fit into 16 bits (Annex C)
 abbrev pub is_table : TableFields → Bool
@@ -25,4 +25,5 @@ abbrev pub tables_fault : ℕ → ℕ → ℕ → List ℕ → Option HeaderRefu
 tables_fault at place skipped [] = None
 tables_fault at place (suc skipped) (byte ∷ bytes) = tables_fault at (place + 1) skipped bytes
 tables_fault at place zero (byte ∷ bytes) =
-    or_else (table_fault at place byte bytes) (tables_fault at (place + 1) (16 + sum (take 16 bytes)) bytes)
+    or_else (table_fault at place byte bytes)
+    (tables_fault at (place + 1) (16 + sum (take 16 bytes)) bytes)

@@ -1,6 +1,6 @@
 // The frame of a header (ITU-T T.81, B.2.2).
-use crate::cursor::number_at;
-use crate::part::Part;
+use crate::number::number_at;
+use crate::parameters::FrameComponent;
 use crate::refusal::HeaderRefusal;
 use crate::table::distinct;
 use std::marker::Model;
@@ -10,7 +10,7 @@ use std::marker::Model;
 pub(crate) struct Frame {
     height: u16,
     width: u16,
-    parts: [Part; 4],
+    parts: [FrameComponent; 4],
     count: usize,
 }
 
@@ -42,7 +42,7 @@ impl Frame {
         self.width
     }
 
-    pub(crate) fn parts(&self) -> &[Part]
+    pub(crate) fn parts(&self) -> &[FrameComponent]
         ensures value { result.now ≡ self.now.parts }
         ensures kept { IsFrame self.now }
     {
@@ -52,8 +52,8 @@ impl Frame {
 
 ghost use Rattle.std.specs.Prelude.{ℕ, ◌≡◌, ◌≤◌, ◌+◌, ◌*◌, ◌∷◌, [], length, take, map, sum_by, slice_index, drop, IfOk, OnOk, Option, None};
 ghost use Rattle.std.specs.List.{list_all};
-ghost use Rattle.jpeg_marker.specs.Segments.{number_at};
-ghost use Rattle.jpeg_marker.specs.Refusals.{fault_in};
+ghost use Rattle.jpeg_marker.specs.MarkerSegments.{number_at};
+ghost use Rattle.jpeg_marker.specs.HeaderRefusals.{fault_in};
 ghost use Rattle.jpeg_marker.specs.Frames.{frame_at, frame_fault, numbers_fault, parts_of, is_sampled, area, fit_an_mcu, are_components};
 
 /// The first frame, from what its length counts, with its length at a place.
@@ -101,7 +101,7 @@ fn check_numbers(body: &[u8], at: usize) -> Result<(), HeaderRefusal>
 // Components, and their identifiers once more.
 #[derive(Drop)]
 struct Listed {
-    parts: [Part; 4],
+    parts: [FrameComponent; 4],
     ids: [u8; 4],
     count: usize,
 }
@@ -114,12 +114,12 @@ fn list_parts(fields: &[u8]) -> Listed
     ensures few { 3 * result.count ≤ length fields.now }
     ensures all { length fields.now ≤ 3 * result.count + 2 }
 {
-    let mut parts = [Part { id: 0, h: 0, v: 0 }; 4];
+    let mut parts = [FrameComponent { id: 0, h: 0, v: 0 }; 4];
     let mut ids = [0; 4];
     let mut count = 0;
     let mut rest = fields;
     while let [id, sampling, _, tail @ ..] = rest {
-        parts[count] = Part {
+        parts[count] = FrameComponent {
             id: *id,
             h: *sampling / 16,
             v: *sampling % 16,
@@ -132,7 +132,7 @@ fn list_parts(fields: &[u8]) -> Listed
 }
 
 // Whether these can be a frame's components, where the identifiers are theirs.
-fn are_components(parts: &[Part], ids: &[u8]) -> bool
+fn are_components(parts: &[FrameComponent], ids: &[u8]) -> bool
     requires few { length parts.now ≤ 4 }
     requires theirs { ids.now ≡ map (λ p. p.id) parts.now }
     ensures { result ≡ are_components parts.now }
@@ -140,27 +140,27 @@ fn are_components(parts: &[Part], ids: &[u8]) -> bool
     distinct(ids) && are_sampled(parts) && fit_an_mcu(parts)
 }
 
-fn fit_an_mcu(parts: &[Part]) -> bool
+fn fit_an_mcu(parts: &[FrameComponent]) -> bool
     requires { length parts.now ≤ 4 }
     ensures { result ≡ fit_an_mcu parts.now }
 {
     parts.len() == 1 || blocks_in(parts) <= 10
 }
 
-fn are_sampled(parts: &[Part]) -> bool
+fn are_sampled(parts: &[FrameComponent]) -> bool
     ensures { result ≡ list_all is_sampled parts.now }
 {
     parts.iter().all(is_sampled)
 }
 
-fn is_sampled(part: &Part) -> bool
+fn is_sampled(part: &FrameComponent) -> bool
     ensures { result ≡ is_sampled part.now }
 {
     1 <= part.h && part.h <= 4 && 1 <= part.v && part.v <= 4
 }
 
 /// How many blocks an MCU has that holds them all.
-pub(crate) fn blocks_in(parts: &[Part]) -> u32
+pub(crate) fn blocks_in(parts: &[FrameComponent]) -> u32
     requires { length parts.now ≤ 4 }
     ensures { result ≡ sum_by area parts.now }
 {

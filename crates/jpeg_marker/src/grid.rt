@@ -4,7 +4,7 @@ ghost use Rattle.jpeg_marker.specs.Frames.{IsFrame};
 ghost use Rattle.jpeg_marker.specs.Plans.{largest, cover, across_of, down_of, blocks_in_mcu, blocks_of};
 
 use crate::frame::{Frame, blocks_in};
-use crate::part::Part;
+use crate::parameters::FrameComponent;
 
 /// MCUs in a row.
 pub(crate) fn across(frame: &Frame) -> u32
@@ -51,7 +51,7 @@ pub(crate) fn blocks_in_mcu(frame: &Frame) -> u32
     }
 }
 
-// MCUs that cover so many samples, each of some blocks of eight.
+// MCUs that cover these samples, each as wide, or as high, as that many blocks of eight samples.
 fn cover(samples: u16, blocks: u8) -> u32
     requires blocks { 1 ≤ blocks }
     requires samples { 1 ≤ samples }
@@ -64,7 +64,7 @@ fn cover(samples: u16, blocks: u8) -> u32
 }
 
 // The largest horizontal sampling factor.
-fn largest_h(parts: &[Part]) -> u8
+fn largest_h(parts: &[FrameComponent]) -> u8
     ensures value { result ≡ largest (λ p. p.h) parts.now }
     ensures positive { 1 ≤ result }
 {
@@ -76,7 +76,7 @@ fn largest_h(parts: &[Part]) -> u8
 }
 
 // The largest vertical sampling factor.
-fn largest_v(parts: &[Part]) -> u8
+fn largest_v(parts: &[FrameComponent]) -> u8
     ensures value { result ≡ largest (λ p. p.v) parts.now }
     ensures positive { 1 ≤ result }
 {

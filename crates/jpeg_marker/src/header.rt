@@ -3,7 +3,7 @@ ghost use Rattle.std.specs.Prelude.{◌≡◌, IfOk, IfErr};
 ghost use Rattle.jpeg_marker.specs.HeaderPlan.{Accepts, Refuses};
 ghost use Rattle.jpeg_marker.specs.OneHeader.{OneList, OnePlan, OneRefusal, NeverBoth};
 
-use crate::found::Found;
+use crate::definitions::Definitions;
 use crate::plan::Plan;
 use crate::refusal::HeaderRefusal;
 use crate::scan::read_scan;
@@ -18,7 +18,7 @@ pub fn read_header(bytes: &[u8]) -> Result<Plan, HeaderRefusal>
     let [0xff, 0xd8, segments @ ..] = bytes else {
         return Err(HeaderRefusal::NotJpeg);
     };
-    let mut found = Found::new();
+    let mut found = Definitions::new();
     let mut place = 2;
     let mut rest = segments;
     'segments: loop {
@@ -40,7 +40,7 @@ pub fn read_header(bytes: &[u8]) -> Result<Plan, HeaderRefusal>
     }
 }
 
-/// Bytes that begin with a header tell its segments and so its plan, others tell the first check that
+/// Bytes that begin with a header determine its segments and so its plan, others determine the first check that
 /// fails, and no bytes do both.
 pub fn header_has_one_plan()
     ensures segments { OneList }

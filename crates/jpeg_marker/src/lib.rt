@@ -8,12 +8,12 @@
 #![tactic(auto)]
 
 mod component;
-mod cursor;
-mod found;
+mod definitions;
 mod frame;
 mod grid;
 mod header;
-mod part;
+mod number;
+mod parameters;
 mod plan;
 mod refusal;
 mod scan;

@@ -38,7 +38,7 @@ impl Model for Plan {
 }
 
 impl Plan {
-    ghost use Rattle.std.specs.Prelude.{◌≡◌, ◌↔◌, ◌≤◌, ◌-◌, ◌++◌, length, take, map, replicate, IsSome, IfSome};
+    ghost use Rattle.std.specs.Prelude.{◌≡◌, ◌↔◌, ◌≤◌, ◌-◌, ◌*◌, ◌++◌, length, take, map, replicate, IsSome, IfSome};
     ghost use Rattle.jpeg_marker.specs.Plans.{IsPlan, part_of, plan_with, most_blocks, blocks_of};
     ghost use Rattle.jpeg_marker.specs.Components.{no_component};
 
@@ -51,10 +51,13 @@ impl Plan {
         header_length: usize,
     ) -> Option<Plan>
         requires theirs { map part_of (take (length frame.now.parts) components) ≡ frame.now.parts }
-        requires blank { components ≡ take (length frame.now.parts) components ++ replicate (4 - length frame.now.parts) no_component }
+        requires blank { components
+            ≡ take (length frame.now.parts) components
+            ++ replicate (4 - length frame.now.parts) no_component }
         ensures some { IsSome result ↔ (blocks_of frame.now ≤ most_blocks) }
         ensures value { IfSome result (λ plan. plan
-            ≡ plan_with frame.now interval header_length (take (length frame.now.parts) components)) }
+            ≡ plan_with frame.now interval header_length
+            (take (length frame.now.parts) components)) }
     {
         let count = frame.parts().len();
         let across = across(frame);
@@ -94,6 +97,15 @@ impl Plan {
         ensures { result ≡ self.now.down }
     {
         self.down
+    }
+
+    /// MCUs of the whole grid.
+    pub fn mcus(&self) -> u32
+        ensures value { result ≡ self.now.across * self.now.down }
+        ensures some { 1 ≤ result }
+        ensures few { result ≤ most_blocks }
+    {
+        self.across * self.down
     }
 
     /// MCUs between two restart markers, and 0 where there are none.

@@ -37,7 +37,7 @@ pub enum HeaderRefusal {
 }
 
 impl HeaderRefusal {
-    ghost use Rattle.jpeg_marker.specs.Refusals.{number_of};
+    ghost use Rattle.jpeg_marker.specs.HeaderRefusals.{number_of};
 
     /// The number that stands for the refusal, from 1 to 15.
     pub fn number(&self) -> u8

@@ -36,7 +36,7 @@ const REFUSED: &[(&[&[u8]], HeaderRefusal, u8)] = &[
     (&[START, FRAME, b"\0"], MarkerBad { place: 15 }, 3),
     // A stuffed byte.
     (&[START, b"\xff\0"], MarkerBad { place: 3 }, 3),
-    // A stuffed byte behind fill.
+    // A stuffed byte after fill.
     (&[START, b"\xff\xff\xff\0"], MarkerBad { place: 5 }, 3),
     // A second start.
     (&[START, b"\xff\xd8"], MarkerBad { place: 3 }, 3),
@@ -62,7 +62,7 @@ const REFUSED: &[(&[&[u8]], HeaderRefusal, u8)] = &[
     (&[START, b"\xff\xdf"], NotBaseline { code: 0xdf }, 4),
     // A length of 1.
     (&[START, b"\xff\xdb\0\x01"], LengthBad { place: 4 }, 5),
-    // A length of 1 behind fill.
+    // A length of 1 after fill.
     (&[START, b"\xff\xff\xdb\0\x01"], LengthBad { place: 5 }, 5),
     // An interval of three bytes.
     (&[START, b"\xff\xdd\0\x05\0\0\0"], LengthBad { place: 4 }, 5),

@@ -1,14 +1,14 @@
 // The scan of a header (ITU-T T.81, B.2.3).
 ghost use Rattle.std.specs.Prelude.{ℕ, ◌≡◌, ◌≤◌, ◌+◌, ◌-◌, ◌*◌, ◌++◌, ◌∷◌, [], length, take, drop, map, replicate, slice_index, IfOk, IfSome, OnOk, IsTrue, Option, Some, None, option_map};
 ghost use Rattle.std.specs.List.{list_all};
-ghost use Rattle.jpeg_marker.specs.Refusals.{fault_in};
-ghost use Rattle.jpeg_marker.specs.Holds.{table_in};
+ghost use Rattle.jpeg_marker.specs.HeaderRefusals.{fault_in};
+ghost use Rattle.jpeg_marker.specs.HeldTables.{table_in};
 ghost use Rattle.jpeg_marker.specs.Components.{no_component};
 ghost use Rattle.jpeg_marker.specs.Plans.{selectors_of, scan_selectors, scan_count, names_all, is_in_range, is_sequential, part_of, component_of, components_of, order_fault, range_fault, scan_fault, plan_after};
 
 use crate::component::Component;
 use crate::frame::Frame;
-use crate::part::{Part, Selector};
+use crate::parameters::{FrameComponent, ScanComponent};
 use crate::plan::Plan;
 use crate::refusal::HeaderRefusal;
 use crate::table::RawTable;
@@ -24,7 +24,8 @@ pub(crate) fn read_scan(
     end: usize,
 ) -> Result<Plan, HeaderRefusal>
     ensures fault { fault_in result ≡ scan_fault frame.now (table_in tables.now) at body.now }
-    ensures found { IfOk result (λ plan. plan_after frame.now (table_in tables.now) interval end body.now ≡ Some plan) }
+    ensures found { IfOk result
+        (λ plan. plan_after frame.now (table_in tables.now) interval end body.now ≡ Some plan) }
 {
     let Some(frame) = frame else {
         return Err(HeaderRefusal::NoFrame);
@@ -40,7 +41,7 @@ pub(crate) fn read_scan(
 }
 
 // Checks that the scan has the frame's components in the frame's order.
-fn check_order(parts: &[Part], body: &[u8], at: usize) -> Result<(), HeaderRefusal>
+fn check_order(parts: &[FrameComponent], body: &[u8], at: usize) -> Result<(), HeaderRefusal>
     requires { length parts.now ≤ 4 }
     ensures fault { fault_in result ≡ order_fault parts.now at body.now }
     ensures count { OnOk result (slice_index body.now 0 ≡ length parts.now) }
@@ -80,11 +81,12 @@ fn check_ranges(body: &[u8]) -> Result<(), HeaderRefusal>
 }
 
 // The components in these bytes.
-fn list_selectors(fields: &[u8]) -> [Selector; 4]
+fn list_selectors(fields: &[u8]) -> [ScanComponent; 4]
     requires { length fields.now ≤ 8 }
-    ensures value { (count : ℕ) → length fields.now ≡ 2 * count → take count result ≡ selectors_of fields.now }
+    ensures value { (count : ℕ) → length fields.now ≡ 2 * count
+        → take count result ≡ selectors_of fields.now }
 {
-    let mut selectors = [Selector {
+    let mut selectors = [ScanComponent {
         id: 0,
         dc: 0,
         ac: 0,
@@ -92,7 +94,7 @@ fn list_selectors(fields: &[u8]) -> [Selector; 4]
     let mut count = 0;
     let mut rest = fields;
     while let [id, tables, tail @ ..] = rest {
-        selectors[count] = Selector {
+        selectors[count] = ScanComponent {
             id: *id,
             dc: *tables / 16,
             ac: *tables % 16,
@@ -104,7 +106,7 @@ fn list_selectors(fields: &[u8]) -> [Selector; 4]
 }
 
 // Whether the scan names the frame's components in the frame's order.
-fn names_all(parts: &[Part], selectors: &[Selector]) -> bool
+fn names_all(parts: &[FrameComponent], selectors: &[ScanComponent]) -> bool
     requires { length parts.now ≡ length selectors.now }
     ensures { result ≡ names_all parts.now selectors.now }
 {
@@ -116,13 +118,13 @@ fn names_all(parts: &[Part], selectors: &[Selector]) -> bool
     true
 }
 
-fn are_in_range(selectors: &[Selector]) -> bool
+fn are_in_range(selectors: &[ScanComponent]) -> bool
     ensures { result ≡ list_all is_in_range selectors.now }
 {
     selectors.iter().all(is_in_range)
 }
 
-fn is_in_range(selector: &Selector) -> bool
+fn is_in_range(selector: &ScanComponent) -> bool
     ensures { result ≡ is_in_range selector.now }
 {
     selector.dc <= 3 && selector.ac <= 3
@@ -137,8 +139,8 @@ fn is_sequential(bytes: &[u8]) -> bool
 
 // The components with the tables that the scan names, if all are there.
 fn components(
-    parts: &[Part],
-    selectors: &[Selector],
+    parts: &[FrameComponent],
+    selectors: &[ScanComponent],
     tables: &[Option<RawTable>; 8],
 ) -> Option<[Component; 4]>
     requires few { length parts.now ≤ 4 }
@@ -146,7 +148,8 @@ fn components(
     requires range { IsTrue (list_all is_in_range selectors.now) }
     ensures value { components_of (table_in tables.now) parts.now selectors.now
         ≡ option_map (λ found. take (length parts.now) found) result }
-    ensures theirs { IfSome result (λ found. map part_of (take (length parts.now) found) ≡ parts.now) }
+    ensures theirs { IfSome result
+        (λ found. map part_of (take (length parts.now) found) ≡ parts.now) }
     ensures blank { IfSome result (λ found. found
         ≡ take (length parts.now) found ++ replicate (4 - length parts.now) no_component) }
 {
@@ -158,12 +161,16 @@ fn components(
 }
 
 // A component with the tables that the scan names, if both are there.
-fn component(part: Part, selector: Selector, tables: &[Option<RawTable>; 8]) -> Option<Component>
+fn component(
+    part: FrameComponent,
+    selector: ScanComponent,
+    tables: &[Option<RawTable>; 8],
+) -> Option<Component>
     requires { IsTrue (is_in_range selector) }
     ensures { result ≡ component_of (table_in tables.now) part selector }
 {
     let dc = tables[usize::from(selector.dc)]?;
     let ac = tables[4 + usize::from(selector.ac)]?;
-    let Part { id, h, v } = part;
+    let FrameComponent { id, h, v } = part;
     Some(Component { id, h, v, dc, ac })
 }

@@ -1,16 +1,16 @@
 // Marker segments (ITU-T T.81, B.1.1).
 ghost use Rattle.std.specs.Prelude.{ℕ, ◌≡◌, ◌≢◌, ◌≤◌, ◌<◌, ◌+◌, ◌-◌, ◌^◌, ◌++◌, IsTrue, replicate, length, slice_index, IfOk, OnOk};
-ghost use Rattle.jpeg_marker.specs.Refusals.{fault_in};
-ghost use Rattle.jpeg_marker.specs.Segments.{two_bytes, is_known};
-ghost use Rattle.jpeg_marker.specs.Good.{stuck_at, stuck_after, code_fault, length_fault};
-ghost use Rattle.jpeg_marker.specs.Stands.{Stands};
+ghost use Rattle.jpeg_marker.specs.HeaderRefusals.{fault_in};
+ghost use Rattle.jpeg_marker.specs.MarkerSegments.{two_bytes, is_known};
+ghost use Rattle.jpeg_marker.specs.GoodSegments.{stuck_at, stuck_after, code_fault, length_fault};
+ghost use Rattle.jpeg_marker.specs.StandingSegments.{Stands};
 
-use crate::cursor::number_at;
+use crate::number::number_at;
 use crate::refusal::HeaderRefusal;
 
 /// A whole segment: its code, the place of its length, what the length counts, and what follows.
 #[derive(Drop)]
-pub(crate) struct Whole<'a> {
+pub(crate) struct MarkerSegment<'a> {
     pub(crate) code: u8,
     pub(crate) at: usize,
     pub(crate) body: &'a [u8],
@@ -18,7 +18,7 @@ pub(crate) struct Whole<'a> {
 }
 
 /// The segment at a place, from its first byte on.
-pub(crate) fn segment_at(bytes: &[u8], place: usize) -> Result<Whole<'_>, HeaderRefusal>
+pub(crate) fn segment_at(bytes: &[u8], place: usize) -> Result<MarkerSegment<'_>, HeaderRefusal>
     requires { place + length bytes.now < 2 ^ 64 }
     ensures fault { fault_in result ≡ stuck_at place bytes.now }
     ensures whole { IfOk result (λ w. Stands bytes.now place w.code w.at w.body.now w.rest.now) }
@@ -35,7 +35,7 @@ pub(crate) fn segment_at(bytes: &[u8], place: usize) -> Result<Whole<'_>, Header
     };
     check_code(*code, place)?;
     let (body, rest) = body_at(bytes, place + 1)?;
-    Ok(Whole {
+    Ok(MarkerSegment {
         code: *code,
         at: place + 1,
         body,
@@ -43,12 +43,12 @@ pub(crate) fn segment_at(bytes: &[u8], place: usize) -> Result<Whole<'_>, Header
     })
 }
 
-// The bytes behind those of 0xff, and their place.
+// The bytes after the fill bytes of 0xff, and their place.
 fn skip_fill(bytes: &[u8], place: usize) -> (&[u8], usize)
     requires { place + length bytes.now < 2 ^ 64 }
     ensures stuck { stuck_after result.1 result.0.now ≡ stuck_after place bytes.now }
     ensures fill { bytes.now ≡ replicate (result.1 - place) 255 ++ result.0.now }
-    ensures behind { place ≤ result.1 }
+    ensures after { place ≤ result.1 }
     ensures room { result.1 + length result.0.now ≡ place + length bytes.now }
     ensures ended { slice_index result.0.now 0 ≢ 255 }
 {
@@ -73,10 +73,11 @@ fn check_code(code: u8, place: usize) -> Result<(), HeaderRefusal>
     }
 }
 
-// What the length at the front counts, and what follows, the length at a place.
+// What the length in the first two bytes counts, and what follows; the length stands at place `at`.
 fn body_at(bytes: &[u8], at: usize) -> Result<(&[u8], &[u8]), HeaderRefusal>
     ensures fault { fault_in result ≡ length_fault at bytes.now }
-    ensures text { IfOk result (λ r. bytes.now ≡ two_bytes (length r.0.now + 2) ++ r.0.now ++ r.1.now) }
+    ensures text { IfOk result
+        (λ r. bytes.now ≡ two_bytes (length r.0.now + 2) ++ r.0.now ++ r.1.now) }
     ensures fits { IfOk result (λ r. length r.0.now + 2 < 2 ^ 16) }
 {
     if bytes.len() < 2 {

@@ -12,11 +12,11 @@ pub struct RawTable {
 }
 
 impl Model for RawTable {
-    ghost use Rattle.jpeg_marker.specs.Tables.{TableFields};
+    ghost use Rattle.jpeg_marker.specs.HuffmanTables.{TableFields};
 
     ghost Value = { TableFields };
 
-    ghost use Rattle.jpeg_marker.specs.TableFields.{fields_of, AreFields, inside_of};
+    ghost use Rattle.jpeg_marker.specs.TableInside.{fields_of, AreFields, inside_of};
     ghost use Rattle.std.specs.Prelude.{refl};
 
     ghost view = { fields_of };
@@ -30,8 +30,8 @@ impl Model for RawTable {
 
 impl RawTable {
     ghost use Rattle.std.specs.Prelude.{◌≡◌, IsSome, IfSome, ◌↔◌, IsTrue, sum, length, ◌≤◌};
-    ghost use Rattle.jpeg_marker.specs.Tables.{TableFields, IsTable};
-    ghost use Rattle.jpeg_marker.specs.Tables.{no_table};
+    ghost use Rattle.jpeg_marker.specs.HuffmanTables.{TableFields, IsTable};
+    ghost use Rattle.jpeg_marker.specs.HuffmanTables.{no_table};
     ghost use Rattle.jpeg_marker.specs.TableFaults.{is_table};
 
     /// How many code words there are of each length.
@@ -64,8 +64,10 @@ impl RawTable {
     /// The table with these counts and values, if it is one.
     pub(crate) fn new(counts: &[u8; 16], values: &[u8]) -> Option<RawTable>
         requires { length values.now ≡ sum counts.now }
-        ensures some { IsSome result ↔ IsTrue (is_table (record { counts = counts.now; values = values.now })) }
-        ensures value { IfSome result (λ t. t ≡ record { counts = counts.now; values = values.now }) }
+        ensures some { IsSome result
+            ↔ IsTrue (is_table (record { counts = counts.now; values = values.now })) }
+        ensures value { IfSome result
+            (λ t. t ≡ record { counts = counts.now; values = values.now }) }
     {
         if !distinct(values) || code_space(counts) > 1 << 16 {
             return None;
@@ -79,7 +81,7 @@ impl RawTable {
 }
 
 ghost use Rattle.std.specs.Prelude.{◌≡◌, ◌≤◌, ◌<◌, ◌++◌, ◌-◌, replicate, length, IsTrue};
-ghost use Rattle.jpeg_marker.specs.Tables.{distinct, code_space};
+ghost use Rattle.jpeg_marker.specs.HuffmanTables.{distinct, code_space};
 
 /// Whether no value stands twice.
 pub(crate) fn distinct(values: &[u8]) -> bool

@@ -1,9 +1,9 @@
 // A segment of tables (ITU-T T.81, B.2.4.2).
 ghost use Rattle.std.specs.Prelude.{ℕ, ◌≡◌, ◌≤◌, ◌<◌, ◌+◌, ◌*◌, ◌/◌, ◌%◌, ◌^◌, ◌++◌, List, length, take, sum, IfOk, OnOk};
-ghost use Rattle.jpeg_marker.specs.Refusals.{fault_in};
-ghost use Rattle.jpeg_marker.specs.Tables.{Table, fields_at, tables_after};
+ghost use Rattle.jpeg_marker.specs.HeaderRefusals.{fault_in};
+ghost use Rattle.jpeg_marker.specs.HuffmanTables.{Table, fields_at, tables_after};
 ghost use Rattle.jpeg_marker.specs.TableFaults.{table_fault, tables_fault};
-ghost use Rattle.jpeg_marker.specs.Holds.{Holds};
+ghost use Rattle.jpeg_marker.specs.HeldTables.{Holds};
 
 use crate::refusal::HeaderRefusal;
 use crate::table::RawTable;
@@ -46,7 +46,8 @@ fn read_table(byte: u8, bytes: &[u8], at: usize, place: usize) -> Result<Entry, 
     ensures class { IfOk result (λ e. (e.class ≡ byte / 16) × (e.class < 2)) }
     ensures number { IfOk result (λ e. (e.number ≡ byte % 16) × (e.number < 4)) }
     ensures table { IfOk result (λ e. e.table ≡ fields_at bytes.now) }
-    ensures length { IfOk result (λ e. (e.length ≡ 16 + sum (take 16 bytes.now)) × (e.length ≤ length bytes.now)) }
+    ensures length { IfOk result
+        (λ e. (e.length ≡ 16 + sum (take 16 bytes.now)) × (e.length ≤ length bytes.now)) }
 {
     if bytes.len() < 16 {
         return Err(HeaderRefusal::LengthBad { place: at });

@@ -4,11 +4,11 @@ use Rattle.std.proofs.lemmas.Bool.{eqb-true, false_from_ne_true}
 use Rattle.std.proofs.lemmas.List.{length-replicate}
 use Rattle.std.proofs.lemmas.Option.{same_Some}
 use Rattle.bit_list.specs.Bits.{low_bits, number_of, bytes_after, stuffed}
-use Rattle.lepton_run.specs.Bits.{padded}
+use Rattle.lepton_run.specs.NarrowBits.{padded}
 use Rattle.lepton_run.specs.Scan.{scan_bits}
 use Rattle.lepton_run.specs.declared.header.DcTable.{DcTable}
 use Rattle.lepton_run.proofs.WholeBytes.{eight_bits}
-use Rattle.lepton_run.proofs.Blocks.{IsBlock, IsBlock.no_step, IsBlock.step_up, IsBlock.step_down, scan_parts}
+use Rattle.lepton_run.proofs.NarrowBlocks.{IsBlock, IsBlock.no_step, IsBlock.step_up, IsBlock.step_down, scan_parts}
 
 -- after so many ones, no run of ones reaches eight
 abbrev Calm : ℕ → List Bool → Type 0

@@ -5,8 +5,8 @@ use Rattle.std.specs.Prelude.{bit_and}
 use Rattle.std.proofs.lemmas.Nat.Bits.{shr_and_one}
 use Rattle.bool_coder.specs.BoolStream.{Interval, after, opening, coded}
 use Rattle.bit_list.specs.Bits.{low_bits}
-use Rattle.scan_text.specs.Values.{size}
-use Rattle.scan_text.proofs.Values.{small_size as size_fits}
+use Rattle.coef_block.specs.Categories.{category as size}
+use Rattle.scan_text.proofs.ValueLemmas.{small_size as size_fits}
 use Rattle.lepton_run.specs.Events.{coded_from, priced, value_bits}
 
 pub coded_from-nil : (encoder : Option Interval) → coded_from encoder [] ≡ encoder

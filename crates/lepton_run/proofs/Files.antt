@@ -3,11 +3,12 @@ use Rattle.std.proofs.Common.{◌≡◌, ℕ, ◌*◌, ◌/◌, ◌%◌, ◌^◌
 use Rattle.std.proofs.lemmas.List.{take_at}
 use Rattle.lepton_run.specs.Container.{layout, first_segment}
 use Rattle.lepton_run.specs.Scan.{scan_bytes}
-use Rattle.lepton_run.specs.Jpeg.{Jpeg, IsFile, header_bytes, header_of, blocks_across, most_blocks}
+use Rattle.jpeg_marker.specs.Plans.{most_blocks}
+use Rattle.lepton_run.specs.Jpeg.{Jpeg, IsFile, header_bytes, header_of, blocks_across}
 use Rattle.lepton_run.specs.Reading.{IsScanOf}
 use Rattle.lepton_run.specs.declared.header.DcTable.{DcTable}
 use Rattle.lepton_run.specs.declared.header.DcTable.TheVariants.{Level, Steps}
-use Rattle.lepton_run.proofs.Blocks.{option_map_some}
+use Rattle.lepton_run.proofs.NarrowBlocks.{option_map_some}
 
 -- two headers that begin the same bytes are one
 pub record SameHeader (table other : DcTable) (height width height' width' : ℕ) (rest more : List ℕ) : Type 0 where

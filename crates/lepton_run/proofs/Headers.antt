@@ -2,14 +2,15 @@
 use Rattle.std.proofs.Common.{◌≡◌, ℕ, ◌+◌, ◌*◌, ◌/◌, ◌%◌, ◌^◌, ◌<◌, ◌≤◌, Bool, true, false, ltb, eqb, ◌||◌, if◌then◌else◌, is_some, List, [], ◌∷◌, ◌++◌, Option, Some, None, refl, ap, ap₂, ◌∙◌, arith}
 use Rattle.std.proofs.lemmas.Bool.{false≢true}
 use Rattle.std.proofs.lemmas.Bool.Decides.{nat_tests}
-use Rattle.jpeg_marker.specs.Refusals.{or_else}
-use Rattle.jpeg_marker.specs.Segments.{Segment, header_text}
-use Rattle.jpeg_marker.specs.Good.{IsGood, HaveNoScan}
+use Rattle.jpeg_marker.specs.HeaderRefusals.{or_else}
+use Rattle.jpeg_marker.specs.MarkerSegments.{Segment, header_text}
+use Rattle.jpeg_marker.specs.GoodSegments.{IsGood, HaveNoScan}
 use Rattle.jpeg_marker.specs.HeaderPlan.{IsHeader, Accepts, plan_of}
 use Rattle.jpeg_marker.specs.Plans.{PlanFields}
 use Rattle.jpeg_marker.specs.declared.refusal.HeaderRefusal.{HeaderRefusal}
 use Rattle.jpeg_marker.specs.declared.refusal.HeaderRefusal.TheVariants.{SizeZero, TooManyBlocks}
-use Rattle.lepton_run.specs.Jpeg.{Jpeg, IsFile, header_bytes, counts, blocks_across, most_blocks}
+use Rattle.jpeg_marker.specs.Plans.{most_blocks}
+use Rattle.lepton_run.specs.Jpeg.{Jpeg, IsFile, header_bytes, counts, blocks_across}
 use Rattle.lepton_run.specs.declared.header.DcTable.{DcTable}
 use Rattle.lepton_run.specs.declared.header.DcTable.TheVariants.{Level, Steps}
 use Rattle.lepton_run.proofs.Files.{file_parts}

@@ -2,7 +2,7 @@ pub mod Coded
 pub mod Places
 pub mod Lists
 pub mod WholeBytes
-pub mod Blocks
+pub mod NarrowBlocks
 pub mod Calm
 pub mod ScanText
 pub mod Reader

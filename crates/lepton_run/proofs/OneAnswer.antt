@@ -6,7 +6,8 @@ use Rattle.std.proofs.lemmas.Option.{same_Some}
 use Rattle.jpeg_marker.proofs.HeaderLaws.{one_refusal, never_both}
 use Rattle.lepton_run.specs.Answer.{Gives, IsRefused, limit_of}
 use Rattle.lepton_run.specs.Container.{container_of}
-use Rattle.lepton_run.specs.Jpeg.{Jpeg, IsFile, IsDc, blocks_across}
+use Rattle.coef_block.specs.Block.{IsDc}
+use Rattle.lepton_run.specs.Jpeg.{Jpeg, IsFile, blocks_across}
 use Rattle.lepton_run.specs.Scan.{scan_bytes}
 use Rattle.lepton_run.specs.declared.command.Command.{Command}
 use Rattle.lepton_run.specs.declared.command.Command.TheVariants.{Encode, Decode}

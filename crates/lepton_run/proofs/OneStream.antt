@@ -7,12 +7,12 @@ use Rattle.std.proofs.lemmas.Bool.Decides.{nat_tests}
 use Rattle.std.proofs.lemmas.Nat.Bits.{bit_at-lt, same_from_bits_below}
 use Rattle.std.specs.List.{AllByRecursion}
 use Rattle.bool_coder.specs.BoolStream.{IsBool, coded, stream}
-use Rattle.bool_coder.specs.Reading.{next_bit}
+use Rattle.bool_coder.specs.BoolReading.{next_bit}
 use Rattle.bool_coder.proofs.ReadBack.{read_in_turn}
 use Rattle.bit_list.specs.Bits.{low_bits}
-use Rattle.scan_text.specs.Values.{size}
+use Rattle.coef_block.specs.Categories.{category as size}
 use Rattle.lepton_run.specs.Events.{priced, value_bits, block_events, segment_events}
-use Rattle.lepton_run.specs.Jpeg.{IsDc}
+use Rattle.coef_block.specs.Block.{IsDc}
 use Rattle.lepton_run.proofs.Coded.{spelled, small_size}
 use Rattle.lepton_run.proofs.Written.{length-low_bits}
 use Rattle.lepton_run.proofs.Taken.{priced-append, priced_are, byte_of_bit, differ, bounds, low_bits_under, same_signed, same_zero}

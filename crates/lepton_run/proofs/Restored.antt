@@ -4,15 +4,15 @@ use Rattle.std.specs.Prelude.{option_and_then}
 use Rattle.std.specs.List.{AllByRecursion}
 use Rattle.std.specs.Prelude.{IsTrue, ◌↔◌}
 use Rattle.bool_coder.specs.BoolStream.{coded, stream}
-use Rattle.bool_coder.specs.Reading.{Seen, Reads}
+use Rattle.bool_coder.specs.BoolReading.{Seen, Reads}
 use Rattle.bit_list.specs.Bits.{IsByte, bits_of, bytes_after, stuffed}
-use Rattle.lepton_run.specs.Bits.{padded}
-use Rattle.lepton_run.specs.Jpeg.{IsDc}
+use Rattle.lepton_run.specs.NarrowBits.{padded}
+use Rattle.coef_block.specs.Block.{IsDc}
 use Rattle.lepton_run.specs.Scan.{block_bits, scan_bits, scan_bytes}
 use Rattle.lepton_run.specs.Events.{priced, block_events, segment_events}
 use Rattle.lepton_run.specs.Reading.{Took, Ahead, IsScanOf}
 use Rattle.lepton_run.specs.declared.header.DcTable.{DcTable}
-use Rattle.lepton_run.proofs.Blocks.{option_map_some}
+use Rattle.lepton_run.proofs.NarrowBlocks.{option_map_some}
 use Rattle.lepton_run.proofs.Reader.{events_pushed}
 use Rattle.lepton_run.proofs.ScanText.{scan_made}
 use Rattle.lepton_run.proofs.Taken.{took_on, took_none, none_some}

@@ -3,14 +3,14 @@ use Rattle.std.proofs.Common.{◌≡◌, ℕ, suc, ◌+◌, ◌-◌, ◌*◌, �
 use Rattle.std.specs.List.{AllByRecursion}
 use Rattle.std.proofs.lemmas.List.{drop_at}
 use Rattle.bit_list.specs.Bits.{IsByte, bits_of, bytes_after, stuffed}
-use Rattle.lepton_run.specs.Bits.{padded}
+use Rattle.lepton_run.specs.NarrowBits.{padded}
 use Rattle.lepton_run.specs.Scan.{scan_bits, scan_bytes}
 use Rattle.lepton_run.specs.Reading.{blocks_at}
-use Rattle.lepton_run.specs.Jpeg.{IsDc}
+use Rattle.coef_block.specs.Block.{IsDc}
 use Rattle.lepton_run.specs.declared.header.DcTable.{DcTable}
 use Rattle.bit_list.proofs.Wholes.{bytes_after-bits_of, bits_of-bytes_after}
 use Rattle.lepton_run.proofs.WholeBytes.{bits_of-append, length-bits_of, drop-bits_of, bytes_after-append}
-use Rattle.lepton_run.proofs.Blocks.{option_map_some, blocks_take, blocks_again}
+use Rattle.lepton_run.proofs.NarrowBlocks.{option_map_some, blocks_take, blocks_again}
 use Rattle.lepton_run.proofs.Calm.{length-padded, not_stuffed}
 
 -- the place after a byte begun

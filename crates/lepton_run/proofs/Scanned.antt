@@ -6,7 +6,7 @@ use Rattle.lepton_run.specs.Scan.{scan_bytes}
 use Rattle.lepton_run.specs.Reading.{blocks_at, IsScanOf}
 use Rattle.lepton_run.specs.declared.header.DcTable.{DcTable}
 use Rattle.lepton_run.proofs.WholeBytes.{length-bits_of}
-use Rattle.lepton_run.proofs.Blocks.{option_map_some}
+use Rattle.lepton_run.proofs.NarrowBlocks.{option_map_some}
 use Rattle.lepton_run.proofs.ScanText.{end_of, scan_found, Again, scan_again}
 
 -- bytes by their places

@@ -7,9 +7,10 @@ use Rattle.bool_coder.specs.BoolStream.{Interval, opening, doubled, widened, cho
 use Rattle.bool_coder.proofs.ReadBack.{length-stream}
 use Rattle.lepton_run.specs.Answer.{Gives, limit_of}
 use Rattle.bit_list.specs.Bits.{low_bits}
-use Rattle.scan_text.specs.Values.{size}
+use Rattle.coef_block.specs.Categories.{category as size}
 use Rattle.lepton_run.specs.Events.{priced, value_bits, block_events, segment_events}
-use Rattle.lepton_run.specs.Jpeg.{Jpeg, IsDc, header_of, header_bytes}
+use Rattle.coef_block.specs.Block.{IsDc}
+use Rattle.lepton_run.specs.Jpeg.{Jpeg, header_of, header_bytes}
 use Rattle.lepton_run.specs.declared.command.Command.TheVariants.{Encode, Decode}
 use Rattle.lepton_run.specs.declared.header.DcTable.{DcTable}
 use Rattle.lepton_run.specs.declared.header.DcTable.TheVariants.{Level, Steps}

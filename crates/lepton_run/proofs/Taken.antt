@@ -8,12 +8,12 @@ use Rattle.std.proofs.lemmas.Nat.Bits.{bit_at_cat_low}
 use Rattle.std.proofs.lemmas.Bool.Decides.{nat_tests, leb_tells}
 use Rattle.std.specs.List.{AllByRecursion}
 use Rattle.bool_coder.specs.BoolStream.{IsBool, coded, stream}
-use Rattle.bool_coder.specs.Reading.{Seen, Reads}
+use Rattle.bool_coder.specs.BoolReading.{Seen, Reads}
 use Rattle.bit_list.specs.Bits.{low_bits}
-use Rattle.scan_text.specs.Values.{size}
+use Rattle.coef_block.specs.Categories.{category as size}
 use Rattle.lepton_run.specs.Events.{priced, value_bits}
 use Rattle.lepton_run.proofs.Coded.{spelled, small_size}
-use Rattle.scan_text.proofs.Values.{size_of_bound}
+use Rattle.coef_block.proofs.CategoryLemmas.{size_of_bound}
 use Rattle.lepton_run.specs.Reading.{Took, Ahead}
 
 pub priced-append : (xs ys : List Bool) → priced (xs ++ ys) ≡ priced xs ++ priced ys

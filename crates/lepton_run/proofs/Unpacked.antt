@@ -4,15 +4,17 @@ use Rattle.std.specs.List.{AllByRecursion}
 use Rattle.std.proofs.lemmas.List.{take_at, drop_at, drop_all}
 use Rattle.bool_coder.specs.BoolStream.{coded, stream}
 use Rattle.bit_list.specs.Bits.{IsByte, bits_of}
-use Rattle.lepton_run.specs.Bits.{padded}
+use Rattle.lepton_run.specs.NarrowBits.{padded}
 use Rattle.lepton_run.specs.Container.{layout, first_segment, IsContainer}
 use Rattle.lepton_run.specs.Events.{priced, segment_events}
-use Rattle.lepton_run.specs.Jpeg.{Jpeg, IsDc, header_bytes, header_of, text_of, blocks_across, most_blocks}
+use Rattle.coef_block.specs.Block.{IsDc}
+use Rattle.jpeg_marker.specs.Plans.{most_blocks}
+use Rattle.lepton_run.specs.Jpeg.{Jpeg, header_bytes, header_of, text_of, blocks_across}
 use Rattle.lepton_run.specs.Reading.{IsScanOf}
 use Rattle.lepton_run.specs.Scan.{scan_bits, scan_bytes}
 use Rattle.lepton_run.specs.declared.header.DcTable.{DcTable}
 use Rattle.lepton_run.specs.declared.header.DcTable.TheVariants.{Level, Steps}
-use Rattle.lepton_run.proofs.Blocks.{option_map_some}
+use Rattle.lepton_run.proofs.NarrowBlocks.{option_map_some}
 use Rattle.lepton_run.proofs.Files.{SameHeader, header_same, same_layout}
 use Rattle.lepton_run.proofs.Opening.{nested, layout_is, same_32}
 use Rattle.lepton_run.proofs.Restored.{scan_of_bits}

@@ -5,7 +5,7 @@ use Rattle.std.proofs.lemmas.Nat.{pow_pos, pow-add, row_fits}
 use mir.Val.{bool_byte}
 use Rattle.std.proofs.lemmas.Nat.Bits.{bit_at-suc, bit_at_lowest, bit_at_cat_low, bit_at_cat_high, bit_at_ones}
 use Rattle.bit_list.specs.Bits.{bits_of, low_bits}
-use Rattle.lepton_run.specs.Bits.{padded}
+use Rattle.lepton_run.specs.NarrowBits.{padded}
 use Rattle.lepton_run.proofs.WholeBytes.{bits_of-append, length-bits_of}
 
 pub length-low_bits : (k n : ℕ) → length (low_bits k n) ≡ k

@@ -2,7 +2,7 @@
 use Rattle.std.specs.Prelude.{ℕ, ◌-◌, Bool, true, false, List, [], ◌∷◌, ◌++◌, ℤ, unsigned_abs, replicate, map, flat_map, int_lt, pos, fold, Option, option_map, ◌==◌, if◌then◌else◌}
 use Rattle.bool_coder.specs.BoolStream.{Interval, after}
 use Rattle.bit_list.specs.Bits.{low_bits}
-use Rattle.scan_text.specs.Values.{size}
+use Rattle.coef_block.specs.Categories.{category as size}
 
 -- a value in so many steps: whether its size is above 0, above 1 and so on, to the first no or the last step; then its
 -- sign, a one for a negative value, and its bits below the top one

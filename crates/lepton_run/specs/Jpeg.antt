@@ -2,6 +2,8 @@
 use Rattle.std.specs.Prelude.{ℕ, ◌+◌, ◌*◌, ◌/◌, ◌^◌, ◌≡◌, ◌<◌, ◌≤◌, List, [], ◌∷◌, ◌++◌, ℤ, length, unsigned_abs, Option, Some, option_map}
 use Rattle.std.specs.List.{AllByRecursion}
 use Rattle.std.specs.Int.{w16, to_be_bytes}
+use Rattle.coef_block.specs.Block.{IsDc}
+use Rattle.jpeg_marker.specs.Plans.{most_blocks}
 use Rattle.lepton_run.specs.Scan.{scan_bytes}
 use Rattle.lepton_run.specs.declared.header.DcTable.{DcTable}
 use Rattle.lepton_run.specs.declared.header.DcTable.TheVariants.{Level, Steps}
@@ -43,9 +45,6 @@ header_bytes table height width = frame_start ++ to_be_bytes w16 height ++ to_be
 abbrev pub blocks_across : ℕ → ℕ
 blocks_across samples = (samples + 7) / 8
 
-abbrev pub most_blocks : ℕ
-most_blocks = 4194304
-
 -- a file by its parts: the DC of each block in the order of A.2.2, and every byte after the scan
 pub record Jpeg : Type 0 where
   pub table : DcTable
@@ -56,10 +55,6 @@ pub record Jpeg : Type 0 where
 
 abbrev pub header_of : Jpeg → List ℕ
 header_of jpeg = header_bytes jpeg.table jpeg.height jpeg.width
-
--- a DC that a block can have (own)
-abbrev pub IsDc : ℤ → Type 0
-IsDc dc = unsigned_abs dc ≤ 32767
 
 -- within the profile, whatever its length
 pub record IsWithinProfile (jpeg : Jpeg) : Type 0 where

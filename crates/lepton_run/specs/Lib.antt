@@ -1,4 +1,4 @@
-pub mod Bits
+pub mod NarrowBits
 pub mod Scan
 pub mod Jpeg
 pub mod Events

@@ -1,6 +1,6 @@
 -- The lines of the note (this project's own).
 use Rattle.std.specs.Prelude.{ℕ, List, [], ◌∷◌, ◌++◌, codes, decimal}
-use Rattle.jpeg_marker.specs.Refusals.{number_of}
+use Rattle.jpeg_marker.specs.HeaderRefusals.{number_of}
 use Rattle.jpeg_marker.specs.declared.refusal.HeaderRefusal.{HeaderRefusal}
 use Rattle.jpeg_marker.specs.declared.refusal.HeaderRefusal.TheVariants.{NotJpeg, HeaderCut, MarkerBad, NotBaseline, LengthBad, FrameTwice, PrecisionBad, SizeZero, ComponentsBad, TableBad, NoFrame, MultiScan, ScanParams, NoTable, TooManyBlocks}
 use Rattle.lepton_run.specs.declared.refusal.Refusal.{Refusal}

@@ -1,10 +1,10 @@
 -- What the private reader of a scan answers, on lists of bits. The laws that tie it to the text of a scan are lemmas.
 use Rattle.std.specs.Prelude.{ℕ, zero, suc, Bool, true, false, List, [], ◌∷◌, ◌++◌, ◌≡◌, length, ℤ, pos, negsuc, ◌+ℤ◌, unsigned_abs, Option, Some, None, option_and_then, option_map, nat_le, if◌then◌else◌}
 use Rattle.std.specs.List.{AllByRecursion}
-use Rattle.lepton_run.specs.Jpeg.{IsDc}
+use Rattle.coef_block.specs.Block.{IsDc}
 use Rattle.lepton_run.specs.Scan.{scan_bytes}
 use Rattle.bool_coder.specs.BoolStream.{coded, stream}
-use Rattle.bool_coder.specs.Reading.{Seen, Reads}
+use Rattle.bool_coder.specs.BoolReading.{Seen, Reads}
 use Rattle.lepton_run.specs.Events.{priced}
 use Rattle.lepton_run.specs.declared.header.DcTable.{DcTable}
 use Rattle.lepton_run.specs.declared.header.DcTable.TheVariants.{Level, Steps}

@@ -1,8 +1,9 @@
 -- The text of a scan of one component whose blocks have a DC alone (ITU-T T.81, F.1.2).
 use Rattle.std.specs.Prelude.{ℕ, Bool, true, false, List, [], ◌∷◌, ◌++◌, ℤ, pos, ◌-ℤ◌, unsigned_abs, Option, Some, None, option_and_then, option_map, ◌==◌, if◌then◌else◌}
 use Rattle.bit_list.specs.Bits.{bytes_after, stuffed}
-use Rattle.scan_text.specs.Values.{size, mag}
-use Rattle.lepton_run.specs.Bits.{padded}
+use Rattle.coef_block.specs.Categories.{category as size}
+use Rattle.scan_text.specs.ValueBits.{mag}
+use Rattle.lepton_run.specs.NarrowBits.{padded}
 use Rattle.lepton_run.specs.declared.header.DcTable.{DcTable}
 use Rattle.lepton_run.specs.declared.header.DcTable.TheVariants.{Level, Steps}
 

@@ -1,7 +1,7 @@
 // Bits written into bytes, the highest first.
 ghost use Rattle.std.specs.Prelude.{◌≡◌, ◌<◌, ◌+◌, ◌-◌, ◌*◌, ◌^◌, [], ◌∷◌, ◌++◌, IfOk, OnOk, OnErr};
 ghost use Rattle.bit_list.specs.Bits.{bits_of};
-ghost use Rattle.lepton_run.specs.Bits.{padded};
+ghost use Rattle.lepton_run.specs.NarrowBits.{padded};
 
 use std::alloc::{AllocError, Global};
 use std::marker::Model;

@@ -1,7 +1,7 @@
 // The bools of a block, each with even odds.
 ghost use Rattle.std.specs.Prelude.{◌≡◌, ◌^◌, ◌<◌, ◌≤◌, true, [], ◌∷◌, replicate, unsigned_abs, OnOk};
 ghost use Rattle.bit_list.specs.Bits.{low_bits};
-ghost use Rattle.scan_text.specs.Values.{size};
+ghost use Rattle.coef_block.specs.Categories.{category as size};
 ghost use Rattle.lepton_run.specs.Events.{coded_from, value_bits, block_events};
 
 use bool_coder::Encoder;

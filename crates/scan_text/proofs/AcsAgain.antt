@@ -6,18 +6,19 @@ use Rattle.std.proofs.lemmas.Bool.{eqb-true, false_from_ne_true, cases_eq}
 use Rattle.std.proofs.lemmas.Bool.Decides.{nat_tests}
 use Rattle.std.proofs.lemmas.List.{replicate-append-replicate}
 use Rattle.bit_list.specs.Units.{Cursor, bits_at}
-use Rattle.jpeg_marker.specs.Tables.{TableFields, IsTable}
+use Rattle.jpeg_marker.specs.HuffmanTables.{TableFields, IsTable}
 use Rattle.huff_table.specs.CodeWords.{word_of}
-use Rattle.huff_table.proofs.Reading.{word_is_read}
-use Rattle.scan_text.specs.Values.{size, mag, extend}
+use Rattle.huff_table.proofs.WordReading.{word_is_read}
+use Rattle.coef_block.specs.Categories.{category as size}
+use Rattle.scan_text.specs.ValueBits.{mag, extend}
 use Rattle.scan_text.specs.BlockBits.{Text, then_text, coded_word, word_text, value_text, zeros_text, coefficient_text, ac_text}
-use Rattle.scan_text.specs.ScanReading.{and_then, code_refusal, bits_refusal, refused_as, symbol_at, extended_at, Symbol, Value, Sixteen, End, Past, Unknown, symbol_of, symbol_of_none, behind_values, by_symbol, acs_at}
+use Rattle.scan_text.specs.ScanReading.{and_then, code_refusal, bits_refusal, refused_as, symbol_at, extended_at, Symbol, Value, Sixteen, End, Past, Unknown, symbol_of, symbol_of_none, prefixed_values, by_symbol, acs_at}
 use Rattle.scan_text.specs.declared.refusal.ScanRefusal.{ScanRefusal}
 use Rattle.scan_text.specs.declared.stop.WriteStop.{WriteStop}
 use Rattle.scan_text.specs.declared.stop.WriteStop.TheVariants.{NoCode}
-use Rattle.scan_text.proofs.Values.{value_again, length-mag, small_size, size_some}
+use Rattle.scan_text.proofs.ValueLemmas.{value_again, length-mag, small_size, size_some}
 use Rattle.scan_text.proofs.Words.{value_parts, zeros_none, ac_zero, ac_value, ac_full, ac_end}
-use Rattle.scan_text.proofs.Taking.{Takes, takes_none, takes_split, is_both, fine}
+use Rattle.scan_text.proofs.BitsTaken.{Takes, takes_none, takes_split, is_both, fine}
 use Rattle.scan_text.proofs.AcsRead.{IsAc}
 
 -- ---- texts in parts
@@ -66,11 +67,11 @@ extended_read n bytes from to value is t =
     let e : bits_at n bytes from ≡ Ok (mag value, to) = ap (λ (k : ℕ). bits_at k bytes from) (sym is ∙ sym (length-mag value)) ∙ t in
     ap (λ r. and_then {A = List Bool × Cursor} {B = ℤ × Cursor} (refused_as bits_refusal r) (λ bits. Ok (extend bits.0, bits.1))) e ∙ ap (λ (z : ℤ). fine (z, to)) (value_again value)
 
-pub kind_value : (left front n : ℕ) (loose : Bool) → front < left → front < 16 → 1 ≤ n → n ≤ 10 → symbol_of left loose (16 * front + n) ≡ Value front n
-kind_value left front n loose within few some most =
-    let s = 16 * front + n in
+pub kind_value : (left prefix n : ℕ) (loose : Bool) → prefix < left → prefix < 16 → 1 ≤ n → n ≤ 10 → symbol_of left loose (16 * prefix + n) ≡ Value prefix n
+kind_value left prefix n loose within few some most =
+    let s = 16 * prefix + n in
     let low : s % 16 ≡ n = omega arith in
-    let high : s / 16 ≡ front = omega arith in
+    let high : s / 16 ≡ prefix = omega arith in
     let a : (s % 16 == 0) ≡ false = false_from_ne_true (s % 16 == 0) (λ z. let h = eqb-true (s % 16) 0 z in omega (arith, h, low, some)) in
     let b : nat_lt 10 (s % 16) ≡ false = grind (arith, nat_tests, low, most) in
     let c : nat_le left (s / 16) ≡ false = grind (arith, nat_tests, high, within) in
@@ -104,7 +105,7 @@ no_acs (suc k) table loose bytes from = refl
 pub nothing_taken : (bytes : List ℕ) (from to : Cursor) → Takes bytes from [] to → from ≡ to
 nothing_taken bytes from to t = (is_both {A = List Bool} {B = Cursor} ([], from) ([], to) (sym (takes_none bytes from) ∙ t)).1
 
--- coefficients behind so many zeros, whose text stands from a cursor to another
+-- coefficients after so many zeros, whose text stands from a cursor to another
 abbrev pub Full : ℕ → TableFields → List ℕ → Type 0
 Full k table bytes =
     (values : List ℤ) (left before : ℕ) (bits : List Bool) (from to : Cursor) → left ≤ k → left ≡ before + length values → AllByRecursion IsAc values → ac_text table before values ≡ Ok bits
@@ -114,13 +115,13 @@ zeros_once : (q : ℕ) (table : TableFields) → zeros_text table (suc q) ≡ th
 unfolding zeros_text
 zeros_once q table = refl
 
--- a coefficient behind zeros
-sixteens : (q k : ℕ) (table : TableFields) (bytes : List ℕ) (left front : ℕ) (loose : Bool) (value : ℤ) (values : List ℤ) (zs word rest : List Bool) (from to : Cursor)
-    → IsTable table → left ≡ 16 * q + front + 1 + length values → front < 16 → left ≤ k → IsAc value → (unsigned_abs value ≡ 0 → ⊥) → AllByRecursion IsAc values
-    → zeros_text table q ≡ Ok zs → word_of table (16 * front + size (unsigned_abs value)) ≡ Some word → ac_text table 0 values ≡ Ok rest → Takes bytes from (zs ++ (word ++ (mag value ++ rest))) to
-    → ((j : ℕ) → j < k → Full j table bytes) → acs_at k table left loose bytes from ≡ Ok (replicate (16 * q + front) (pos 0) ++ (value ∷ values), to)
-sixteens q zero table bytes left front loose value values zs word rest from to is long few within small other all z w r t full = absurd (omega (arith, long, within))
-sixteens zero (suc k) table bytes left front loose value values zs word rest from to is long few within small other all z w r t full =
+-- a coefficient after zeros
+sixteens : (q k : ℕ) (table : TableFields) (bytes : List ℕ) (left prefix : ℕ) (loose : Bool) (value : ℤ) (values : List ℤ) (zs word rest : List Bool) (from to : Cursor)
+    → IsTable table → left ≡ 16 * q + prefix + 1 + length values → prefix < 16 → left ≤ k → IsAc value → (unsigned_abs value ≡ 0 → ⊥) → AllByRecursion IsAc values
+    → zeros_text table q ≡ Ok zs → word_of table (16 * prefix + size (unsigned_abs value)) ≡ Some word → ac_text table 0 values ≡ Ok rest → Takes bytes from (zs ++ (word ++ (mag value ++ rest))) to
+    → ((j : ℕ) → j < k → Full j table bytes) → acs_at k table left loose bytes from ≡ Ok (replicate (16 * q + prefix) (pos 0) ++ (value ∷ values), to)
+sixteens q zero table bytes left prefix loose value values zs word rest from to is long few within small other all z w r t full = absurd (omega (arith, long, within))
+sixteens zero (suc k) table bytes left prefix loose value values zs word rest from to is long few within small other all z w r t full =
     let nothing : [] ≡ zs = same_text [] zs (sym (zeros_none table) ∙ z) in
     let t2 : Takes bytes from (word ++ (mag value ++ rest)) to = subst (λ (l : List Bool). Takes bytes from (l ++ (word ++ (mag value ++ rest))) to) (sym nothing) t in
     let a = takes_split bytes from to word (mag value ++ rest) t2 in
@@ -129,27 +130,27 @@ sixteens zero (suc k) table bytes left front loose value values zs word rest fro
     let most : n ≤ 10 = small_size 10 (unsigned_abs value) (omega (arith, small)) in
     let some = size_some (unsigned_abs value) (omega (arith, other)) in
     let least : 1 ≤ n = let h = some.1 in omega (arith, h) in
-    let left_is : left - (front + 1) ≡ 0 + length values = omega (arith, long) in
-    let next = full k (omega arith) values (left - (front + 1)) 0 rest b.0 to (omega (arith, long, within)) left_is all r b.2 in
-    let zero_more : front ≡ 16 * 0 + front = omega arith in
-    let ahead : List ℤ = replicate front (pos 0) ++ value ∷ [] in
-    one_symbol k table left loose bytes from a.0 (16 * front + n) (Value front n) (omega (arith, long)) (symbol_read table bytes from a.0 (16 * front + n) word is w a.1)
-    (kind_value left front n loose (omega (arith, long)) few least most)
-    ∙ ap (λ r. and_then r (λ (v : ℤ × Cursor). behind_values (replicate front (pos 0) ++ v.0 ∷ []) (acs_at k table (left - (front + 1)) false bytes v.1))) (extended_read n bytes a.0 b.0 value refl b.1)
-    ∙ ap (behind_values ahead) next
-    ∙ ap (λ (l : List ℤ). fine (l, to)) (append_assoc (replicate front (pos 0)) (value ∷ []) values)
+    let left_is : left - (prefix + 1) ≡ 0 + length values = omega (arith, long) in
+    let next = full k (omega arith) values (left - (prefix + 1)) 0 rest b.0 to (omega (arith, long, within)) left_is all r b.2 in
+    let zero_more : prefix ≡ 16 * 0 + prefix = omega arith in
+    let ahead : List ℤ = replicate prefix (pos 0) ++ value ∷ [] in
+    one_symbol k table left loose bytes from a.0 (16 * prefix + n) (Value prefix n) (omega (arith, long)) (symbol_read table bytes from a.0 (16 * prefix + n) word is w a.1)
+    (kind_value left prefix n loose (omega (arith, long)) few least most)
+    ∙ ap (λ r. and_then r (λ (v : ℤ × Cursor). prefixed_values (replicate prefix (pos 0) ++ v.0 ∷ []) (acs_at k table (left - (prefix + 1)) false bytes v.1))) (extended_read n bytes a.0 b.0 value refl b.1)
+    ∙ ap (prefixed_values ahead) next
+    ∙ ap (λ (l : List ℤ). fine (l, to)) (append_assoc (replicate prefix (pos 0)) (value ∷ []) values)
     ∙ ap (λ (n : ℕ). fine (replicate n (pos 0) ++ (value ∷ values), to)) zero_more
-sixteens (suc q) (suc k) table bytes left front loose value values zs word rest from to is long few within small other all z w r t full =
+sixteens (suc q) (suc k) table bytes left prefix loose value values zs word rest from to is long few within small other all z w r t full =
     let p = text_parts (word_text table 240) (zeros_text table q) zs (sym (zeros_once q table) ∙ z) in
     let more = word ++ (mag value ++ rest) in
     let t2 : Takes bytes from (p.0 ++ (p.1 ++ more)) to = subst (λ (l : List Bool). Takes bytes from l to) (ap (λ (l : List Bool). l ++ more) p.4 ∙ append_assoc p.0 p.1 more) t in
     let a = takes_split bytes from to p.0 (p.1 ++ more) t2 in
-    let next = sixteens q k table bytes (left - 16) front true value values p.1 word rest a.0 to is (omega (arith, long)) few (omega (arith, long, within)) small other all p.3 w r a.2 (λ j h. full j (omega (arith, h))) in
-    let count : 16 + (16 * q + front) ≡ 16 * suc q + front = omega arith in
+    let next = sixteens q k table bytes (left - 16) prefix true value values p.1 word rest a.0 to is (omega (arith, long)) few (omega (arith, long, within)) small other all p.3 w r a.2 (λ j h. full j (omega (arith, h))) in
+    let count : 16 + (16 * q + prefix) ≡ 16 * suc q + prefix = omega arith in
     one_symbol k table left loose bytes from a.0 240 Sixteen (omega (arith, long)) (symbol_read table bytes from a.0 240 p.0 is (word_there table 240 p.0 p.2) a.1) (kind_sixteen left loose (omega (arith, long)))
-    ∙ ap (behind_values (replicate 16 (pos 0))) next
-    ∙ ap (λ (l : List ℤ). fine (l, to)) (sym (append_assoc (replicate 16 (pos 0)) (replicate (16 * q + front) (pos 0)) (value ∷ values))
-    ∙ ap (λ (l : List ℤ). l ++ (value ∷ values)) (replicate-append-replicate 16 (16 * q + front) (pos 0) ∙ ap (λ (n : ℕ). replicate n (pos 0)) count))
+    ∙ ap (prefixed_values (replicate 16 (pos 0))) next
+    ∙ ap (λ (l : List ℤ). fine (l, to)) (sym (append_assoc (replicate 16 (pos 0)) (replicate (16 * q + prefix) (pos 0)) (value ∷ values))
+    ∙ ap (λ (l : List ℤ). l ++ (value ∷ values)) (replicate-append-replicate 16 (16 * q + prefix) (pos 0) ∙ ap (λ (n : ℕ). replicate n (pos 0)) count))
 
 zero_value : (z : ℤ) → unsigned_abs z ≡ 0 → z ≡ pos 0
 zero_value (pos zero) e = refl
@@ -183,14 +184,14 @@ values_again k table bytes is full (value ∷ values) left before bits from to f
           ∙ ap (λ (l : List ℤ). fine (l, to)) one
       | inr some ↦
           let q = before / 16 in
-          let front = before % 16 in
+          let prefix = before % 16 in
           let p = text_parts (coefficient_text table before value) (ac_text table 0 values) bits (sym (ac_value table before value values some) ∙ e) in
-          let c = text_parts (zeros_text table q) (value_text table (16 * front + size (unsigned_abs value)) value) p.0 p.2 in
-          let v = value_there table (16 * front + size (unsigned_abs value)) value c.1 c.3 in
+          let c = text_parts (zeros_text table q) (value_text table (16 * prefix + size (unsigned_abs value)) value) p.0 p.2 in
+          let v = value_there table (16 * prefix + size (unsigned_abs value)) value c.1 c.3 in
           let whole : bits ≡ c.0 ++ (v.0 ++ (mag value ++ p.1)) =
           p.4 ∙ ap (λ (l : List Bool). l ++ p.1) (c.4 ∙ ap (λ (l : List Bool). c.0 ++ l) v.2) ∙ append_assoc c.0 (v.0 ++ mag value) p.1 ∙ ap (λ (l : List Bool). c.0 ++ l) (append_assoc v.0 (mag value) p.1) in
-          let same : 16 * q + front ≡ before = omega arith in
-          sixteens q k table bytes left front false value values c.0 v.0 p.1 from to is (omega (arith, long, same)) (omega arith) few all.0 some all.1 c.2 v.1 p.3
+          let same : 16 * q + prefix ≡ before = omega arith in
+          sixteens q k table bytes left prefix false value values c.0 v.0 p.1 from to is (omega (arith, long, same)) (omega arith) few all.0 some all.1 c.2 v.1 p.3
           (subst (λ (l : List Bool). Takes bytes from l to) whole t) full
           ∙ ap (λ (n : ℕ). fine (replicate n (pos 0) ++ (value ∷ values), to)) same
     ]

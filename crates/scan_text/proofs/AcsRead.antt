@@ -8,20 +8,21 @@ use Rattle.std.proofs.lemmas.List.{length-replicate}
 use Rattle.std.proofs.Math.Nat.{pow-le-pow_right}
 use Rattle.bit_list.specs.Bits.{IsByte}
 use Rattle.bit_list.specs.Units.{Cursor, bits_at}
-use Rattle.jpeg_marker.specs.Tables.{TableFields, IsTable}
+use Rattle.jpeg_marker.specs.HuffmanTables.{TableFields, IsTable}
 use Rattle.huff_table.specs.CodeWords.{word_of}
 use Rattle.huff_table.specs.Decoding.{value_at}
-use Rattle.huff_table.proofs.Reading.{value_is_read}
+use Rattle.huff_table.proofs.WordReading.{value_is_read}
 use Rattle.huff_table.proofs.Lookup.{value_there}
-use Rattle.scan_text.specs.Values.{size, mag, extend}
+use Rattle.coef_block.specs.Categories.{category as size}
+use Rattle.scan_text.specs.ValueBits.{mag, extend}
 use Rattle.scan_text.specs.BlockBits.{Text, then_text, word_text, value_text, zeros_text, ac_text}
-use Rattle.scan_text.specs.ScanReading.{and_then, code_refusal, bits_refusal, refused_as, symbol_at, extended_at, Symbol, Value, Sixteen, End, Past, Loose, Unknown, symbol_of, symbol_of_none, behind_values, by_symbol, acs_at}
+use Rattle.scan_text.specs.ScanReading.{and_then, code_refusal, bits_refusal, refused_as, symbol_at, extended_at, Symbol, Value, Sixteen, End, Past, Loose, Unknown, symbol_of, symbol_of_none, prefixed_values, by_symbol, acs_at}
 use Rattle.scan_text.specs.declared.refusal.ScanRefusal.{ScanRefusal}
 use Rattle.scan_text.specs.declared.refusal.ScanRefusal.TheVariants as refusals
-use Rattle.scan_text.proofs.Values.{bits_again_of_value, length-mag, size_below}
+use Rattle.scan_text.proofs.ValueLemmas.{bits_again_of_value, length-mag, size_below}
 use Rattle.scan_text.proofs.Words.{word_some, value_parts, zeros_none, ac_zero, ac_value, ac_full, ac_end}
 use Rattle.scan_text.proofs.Cuts.{then_twice}
-use Rattle.scan_text.proofs.Taking.{Takes, takes_none, takes_then, takes_of, fine, not_refused, both_fine, then_fine, as_fine}
+use Rattle.scan_text.proofs.BitsTaken.{Takes, takes_none, takes_then, takes_of, fine, not_refused, both_fine, then_fine, as_fine}
 
 -- ---- numbers of a symbol
 
@@ -36,7 +37,7 @@ symbol_small table symbol word is all e = all_contains table.values symbol all (
 
 -- what a symbol is, by what it says
 abbrev pub Means : ℕ → Bool → ℕ → Symbol → Type 0
-Means left loose symbol (Value front size) = (symbol ≡ 16 * front + size) × (1 ≤ size) × (size ≤ 10) × (front < left)
+Means left loose symbol (Value prefix size) = (symbol ≡ 16 * prefix + size) × (1 ≤ size) × (size ≤ 10) × (prefix < left)
 Means left loose symbol Sixteen = (symbol ≡ 240) × (16 < left)
 Means left loose symbol End = (symbol ≡ 0) × (loose ≡ false)
 Means left loose symbol Past = Unit {0}
@@ -80,14 +81,14 @@ means left symbol loose = means_by (symbol % 16 == 0) left symbol loose refl
 
 -- ---- the text of zeros
 
--- zeros in front of coefficients
-pub zeros_front : (n : ℕ) (table : TableFields) (before : ℕ) (values : List ℤ) → ac_text table before (replicate n (pos 0) ++ values) ≡ ac_text table (before + n) values
-zeros_front zero table before values = let e : before ≡ before + 0 = omega arith in ap (λ (k : ℕ). ac_text table k values) e
-zeros_front (suc n) table before values =
+-- zeros in prefix of coefficients
+pub zeros_prefix : (n : ℕ) (table : TableFields) (before : ℕ) (values : List ℤ) → ac_text table before (replicate n (pos 0) ++ values) ≡ ac_text table (before + n) values
+zeros_prefix zero table before values = let e : before ≡ before + 0 = omega arith in ap (λ (k : ℕ). ac_text table k values) e
+zeros_prefix (suc n) table before values =
     let e : before + 1 + n ≡ before + suc n = omega arith in
-    ac_zero table before (pos 0) (replicate n (pos 0) ++ values) refl ∙ zeros_front n table (before + 1) values ∙ ap (λ (k : ℕ). ac_text table k values) e
+    ac_zero table before (pos 0) (replicate n (pos 0) ++ values) refl ∙ zeros_prefix n table (before + 1) values ∙ ap (λ (k : ℕ). ac_text table k values) e
 
--- F0 once more, in front or behind
+-- F0 once more, in prefix or after
 pub zeros_last : (m : ℕ) (table : TableFields) (word : List Bool) → word_text table 240 ≡ Ok word → zeros_text table (suc m) ≡ then_text (zeros_text table m) (Ok word)
 unfolding zeros_text
 zeros_last zero table word e = ap (λ (t : Text). then_text t (Ok [])) e ∙ ap (λ (l : List Bool). Ok l) (append-nil word)
@@ -104,10 +105,10 @@ extended_fine n bytes at v e =
     let t = takes_of n bytes at bits.1 bits.0 (as_fine bits_refusal (bits_at n bytes at) bits b.1) in
     (bits.0, t.0, subst (λ (c : Cursor). Takes bytes at bits.0 c) p.1 t.1, sym p.0)
 
-pub behind_fine : (front : List ℤ) (r : Result (List ℤ × Cursor) ScanRefusal) (x : List ℤ × Cursor) → behind_values front r ≡ Ok x → (more : List ℤ) × (r ≡ Ok (more, x.1)) × (x.0 ≡ front ++ more)
-behind_fine front r x e =
-    let b = then_fine r (λ more. Ok (front ++ more.0, more.1)) x e in
-    let p = both_fine (front ++ b.0.0, b.0.1) x b.2 in
+pub after_fine : (prefix : List ℤ) (r : Result (List ℤ × Cursor) ScanRefusal) (x : List ℤ × Cursor) → prefixed_values prefix r ≡ Ok x → (more : List ℤ) × (r ≡ Ok (more, x.1)) × (x.0 ≡ prefix ++ more)
+after_fine prefix r x e =
+    let b = then_fine r (λ more. Ok (prefix ++ more.0, more.1)) x e in
+    let p = both_fine (prefix ++ b.0.0, b.0.1) x b.2 in
     (b.0.0, b.1 ∙ ap (λ (c : Cursor). fine (b.0.0, c)) p.1, sym p.0)
 
 pub symbol_fine : (table : TableFields) (bytes : List ℕ) (at : Cursor) (s : ℕ × Cursor) → IsTable table → symbol_at table bytes at ≡ Ok s → (word : List Bool) × (word_of table s.0 ≡ Some word) × Takes bytes at word s.1
@@ -133,7 +134,7 @@ zeros_small : (n : ℕ) (values : List ℤ) → AllByRecursion IsAc values → A
 zeros_small zero values all = all
 zeros_small (suc n) values all = (omega arith, zeros_small n values all)
 
--- behind so many F0, which are read before
+-- after so many F0, which are read before
 pub record AcsRead (table : TableFields) (m left : ℕ) (bytes : List ℕ) (from : Cursor) (values : List ℤ) (to : Cursor) : Type 0 where
   pub bits : List Bool
   pub takes : Takes bytes from bits to
@@ -173,51 +174,51 @@ pub value_whole : (table : TableFields) (a symbol : ℕ) (value : ℤ) (word bit
 value_whole table a symbol value word bits same is mag_is =
     value_parts table a value ∙ ap₂ (λ (t : Text) (l : List Bool). then_text t (Ok l)) (word_some table a word (ap (word_of table) same ∙ is)) mag_is
 
--- behind a symbol
+-- after a symbol
 kind_read : (kind : Symbol) (k : ℕ) (table : TableFields) (left m : ℕ) (loose : Bool) (symbol : ℕ) (word : List Bool) (bytes : List ℕ) (from at to : Cursor) (values : List ℤ)
     → Means left loose symbol kind → word_of table symbol ≡ Some word → symbol < 256 → Takes bytes from word at → left ≤ suc k → 0 < left → (loose ≡ false → m ≡ 0) → Later k table bytes
     → by_symbol (λ more last next. acs_at k table more last bytes next) left bytes at kind ≡ Ok (values, to) → AcsRead table m left bytes from values to
-kind_read (Value front n) k table left m loose symbol word bytes from at to values says is byte takes few some f later e =
-    let v = then_fine (extended_at n bytes at) (λ value. behind_values (replicate front (pos 0) ++ value.0 ∷ []) (acs_at k table (left - (front + 1)) false bytes value.1)) (values, to) e in
+kind_read (Value prefix n) k table left m loose symbol word bytes from at to values says is byte takes few some f later e =
+    let v = then_fine (extended_at n bytes at) (λ value. prefixed_values (replicate prefix (pos 0) ++ value.0 ∷ []) (acs_at k table (left - (prefix + 1)) false bytes value.1)) (values, to) e in
     let b = extended_fine n bytes at v.0 v.1 in
     let bits = b.0 in
     let value = v.0.0 in
-    let more = behind_fine (replicate front (pos 0) ++ value ∷ []) (acs_at k table (left - (front + 1)) false bytes v.0.1) (values, to) v.2 in
+    let more = after_fine (replicate prefix (pos 0) ++ value ∷ []) (acs_at k table (left - (prefix + 1)) false bytes v.0.1) (values, to) v.2 in
     let s = says.0 in
     let least = says.1 in
     let most = says.2 in
     let within = says.3 in
-    let r = later (left - (front + 1)) 0 false v.0.1 to more.0 (omega (arith, few)) (λ z. refl) (λ z. absurd (let h : false ≡ true = z in cc)) more.1 in
-    let whole : values ≡ replicate front (pos 0) ++ (value ∷ more.0) = more.2 ∙ append_assoc (replicate front (pos 0)) (value ∷ []) more.0 in
+    let r = later (left - (prefix + 1)) 0 false v.0.1 to more.0 (omega (arith, few)) (λ z. refl) (λ z. absurd (let h : false ≡ true = z in cc)) more.1 in
+    let whole : values ≡ replicate prefix (pos 0) ++ (value ∷ more.0) = more.2 ∙ append_assoc (replicate prefix (pos 0)) (value ∷ []) more.0 in
     let n_is : size (unsigned_abs value) ≡ n = ap (λ (z : ℤ). size (unsigned_abs z)) b.3 ∙ sized bits ∙ b.1 in
     let other : unsigned_abs value ≡ 0 → ⊥ = λ none. let z : 0 ≡ n = ap size (sym none) ∙ n_is in omega (arith, z, least) in
     let mag_is : mag value ≡ bits = ap mag b.3 ∙ bits_again_of_value bits in
-    let sixteens : (16 * m + front) / 16 ≡ m = omega (arith, s, byte) in
-    let rest : (16 * m + front) % 16 ≡ front = omega (arith, s, byte) in
-    let symbol_is : 16 * ((16 * m + front) % 16) + size (unsigned_abs value) ≡ symbol = omega (arith, rest, n_is, s) in
-    let one : value_text table (16 * ((16 * m + front) % 16) + size (unsigned_abs value)) value ≡ Ok (word ++ bits) = value_whole table (16 * ((16 * m + front) % 16) + size (unsigned_abs value)) symbol value word bits symbol_is is mag_is in
+    let sixteens : (16 * m + prefix) / 16 ≡ m = omega (arith, s, byte) in
+    let rest : (16 * m + prefix) % 16 ≡ prefix = omega (arith, s, byte) in
+    let symbol_is : 16 * ((16 * m + prefix) % 16) + size (unsigned_abs value) ≡ symbol = omega (arith, rest, n_is, s) in
+    let one : value_text table (16 * ((16 * m + prefix) % 16) + size (unsigned_abs value)) value ≡ Ok (word ++ bits) = value_whole table (16 * ((16 * m + prefix) % 16) + size (unsigned_abs value)) symbol value word bits symbol_is is mag_is in
     let first : ac_text table 0 more.0 ≡ Ok r.bits = r.text ∙ ap (λ (t : Text). then_text t (Ok r.bits)) (zeros_none table) in
     record {
       bits = word ++ (bits ++ r.bits);
       takes = takes_then bytes from at to word (bits ++ r.bits) takes (takes_then bytes at v.0.1 to bits r.bits b.2 r.takes);
       text =
-          ap (ac_text table (16 * m)) whole ∙ zeros_front front table (16 * m) (value ∷ more.0) ∙ ac_value table (16 * m + front) value more.0 other
+          ap (ac_text table (16 * m)) whole ∙ zeros_prefix prefix table (16 * m) (value ∷ more.0) ∙ ac_value table (16 * m + prefix) value more.0 other
           ∙ ap₂ (λ (a : ℕ) (t : Text). then_text (then_text (zeros_text table a) t) (ac_text table 0 more.0)) sixteens one
           ∙ ap (λ (t : Text). then_text (then_text (zeros_text table m) (Ok (word ++ bits))) t) first
           ∙ sym (then_twice (zeros_text table m) (Ok (word ++ bits)) (Ok r.bits))
           ∙ ap (λ (l : List Bool). then_text (zeros_text table m) (Ok l)) (append_assoc word bits r.bits);
       long =
           let a = ap length whole in
-          let c = length-append (replicate front (pos 0)) (value ∷ more.0) in
-          let d = length-replicate front (pos 0) in
+          let c = length-append (replicate prefix (pos 0)) (value ∷ more.0) in
+          let d = length-replicate prefix (pos 0) in
           omega (arith, a, c, d, r.long, within);
-      small = subst (λ (l : List ℤ). AllByRecursion IsAc l) (sym whole) (zeros_small front (value ∷ more.0) (
+      small = subst (λ (l : List ℤ). AllByRecursion IsAc l) (sym whole) (zeros_small prefix (value ∷ more.0) (
         (let p = below_power bits 10 (omega (arith, b.1, most)) in let q = ap unsigned_abs b.3 in omega (arith, p, q)),
         r.small,
       ));
     }
 kind_read Sixteen k table left m loose symbol word bytes from at to values says is byte takes few some f later e =
-    let more = behind_fine (replicate 16 (pos 0)) (acs_at k table (left - 16) true bytes at) (values, to) e in
+    let more = after_fine (replicate 16 (pos 0)) (acs_at k table (left - 16) true bytes at) (values, to) e in
     let s = says.0 in
     let within = says.1 in
     let r = later (left - 16) (suc m) true at to more.0 (omega (arith, few)) (λ z. absurd (let h : true ≡ false = z in cc)) (λ z. omega (arith, within)) more.1 in
@@ -227,7 +228,7 @@ kind_read Sixteen k table left m loose symbol word bytes from at to values says 
       bits = word ++ r.bits;
       takes = takes_then bytes from at to word r.bits takes r.takes;
       text =
-          ap (ac_text table (16 * m)) more.2 ∙ zeros_front 16 table (16 * m) more.0 ∙ ap (λ (n : ℕ). ac_text table n more.0) next ∙ r.text
+          ap (ac_text table (16 * m)) more.2 ∙ zeros_prefix 16 table (16 * m) more.0 ∙ ap (λ (n : ℕ). ac_text table n more.0) next ∙ r.text
           ∙ ap (λ (t : Text). then_text t (Ok r.bits)) (zeros_last m table word w) ∙ sym (then_twice (zeros_text table m) (Ok word) (Ok r.bits));
       long =
           let a = ap length more.2 in
@@ -246,7 +247,7 @@ kind_read End k table left m loose symbol word bytes from at to values says is b
       bits = word;
       takes = subst (λ (c : Cursor). Takes bytes from word c) p.1 takes;
       text =
-          ap (ac_text table (16 * m)) (sym whole) ∙ zeros_front left table (16 * m) [] ∙ ac_end table (16 * m + left) past ∙ w
+          ap (ac_text table (16 * m)) (sym whole) ∙ zeros_prefix left table (16 * m) [] ∙ ac_end table (16 * m + left) past ∙ w
           ∙ sym (ap (λ (t : Text). then_text t (Ok word)) (ap (zeros_text table) none ∙ zeros_none table));
       long = let a = ap length p.0 in let d = length-replicate left (pos 0) in omega (arith, a, d);
       small = subst (λ (l : List ℤ). AllByRecursion IsAc l) whole (zeros_small left [] tt);

@@ -9,20 +9,21 @@ use Rattle.std.proofs.lemmas.List.{get_or-map}
 use Rattle.coef_block.specs.Block.{IsBlock, IsCoefficient}
 use Rattle.coef_block.specs.Zigzag.{zigzag}
 use Rattle.bit_list.specs.Units.{Cursor}
-use Rattle.jpeg_marker.specs.Tables.{TableFields, IsTable}
-use Rattle.scan_text.specs.Values.{size, mag}
-use Rattle.scan_text.specs.BlockBits.{Text, then_text, value_at, ac_values, ac_text, dc_text, block_text}
-use Rattle.scan_text.specs.Blocks.{last_dc, behind_block, behind_blocks, blocks_text}
-use Rattle.scan_text.specs.ScanReading.{and_then, symbol_at, extended_at, within_dc, difference_at, dc_at, behind_values, acs_at, in_zigzag, block_at, BlocksRead, behind_read, blocks_at}
+use Rattle.jpeg_marker.specs.HuffmanTables.{TableFields, IsTable}
+use Rattle.coef_block.specs.Categories.{category as size}
+use Rattle.scan_text.specs.ValueBits.{mag}
+use Rattle.scan_text.specs.BlockBits.{Text, then_text, coefficient_at, ac_values, ac_text, dc_text, block_text}
+use Rattle.scan_text.specs.Blocks.{last_dc, dcs_after_block, dcs_after, blocks_text}
+use Rattle.scan_text.specs.ScanReading.{and_then, symbol_at, extended_at, within_dc, difference_at, dc_at, prefixed_values, acs_at, in_zigzag, block_at, BlocksRead, dcs_after_read, blocks_at}
 use Rattle.scan_text.specs.ScanLaws.{IsSlot, IsBlockSpelled, AreBlocksSpelled}
 use Rattle.scan_text.specs.declared.slot.Slot.{Slot}
 use Rattle.scan_text.specs.declared.refusal.ScanRefusal.{ScanRefusal}
 use Rattle.scan_text.specs.declared.refusal.ScanRefusal.TheVariants as refusals
 use Rattle.scan_text.specs.declared.stop.WriteStop.TheVariants.{DiffRange}
-use Rattle.scan_text.proofs.Values.{bits_again_of_value, small_size}
+use Rattle.scan_text.proofs.ValueLemmas.{bits_again_of_value, small_size}
 use Rattle.scan_text.proofs.Words.{zeros_none, dc_far, dc_near, block_is, length-ac_values}
-use Rattle.scan_text.proofs.Taking.{Takes, takes_none, takes_then, takes_split, fine, not_refused, is_fine, both_fine, then_fine}
-use Rattle.scan_text.proofs.AcsRead.{IsAc, acs_read, symbol_fine, extended_fine, behind_fine, sized, below_power, value_whole}
+use Rattle.scan_text.proofs.BitsTaken.{Takes, takes_none, takes_then, takes_split, fine, not_refused, is_fine, both_fine, then_fine}
+use Rattle.scan_text.proofs.AcsRead.{IsAc, acs_read, symbol_fine, extended_fine, after_fine, sized, below_power, value_whole}
 use Rattle.scan_text.proofs.AcsAgain.{same_text, stopped, text_parts, nothing_taken, value_there, symbol_read, extended_read, acs_again}
 use Rattle.scan_text.proofs.ZigzagLaws.{natural_of, indexes, zigzag_again}
 
@@ -119,13 +120,13 @@ small_ac (suc place) value some is =
     let other : (suc place == 0) ≡ false = false_from_ne_true (suc place == 0) (λ z. let h = eqb-true (suc place) 0 z in omega (arith, h)) in
     subst (λ (t : Bool). unsigned_abs value ≤ (if t then 32767 else 1023)) (sym other) is
 
-acs_small_at : (block : List ℤ) (l : List ℕ) → IsBlock block → acs_only l ≡ true → AllByRecursion IsAc (map (value_at block) l)
+acs_small_at : (block : List ℤ) (l : List ℕ) → IsBlock block → acs_only l ≡ true → AllByRecursion IsAc (map (coefficient_at block) l)
 acs_small_at block [] is e = tt
 acs_small_at block (i ∷ l) is e =
     let a = acs_first (i == 0) (nat_lt i 64) (acs_only l) e in
     let some : 0 < i = let z = a.0 in grind (arith, nat_tests, z) in
     let below : i < 64 = let z = a.1 in grind (arith, nat_tests, z) in
-    (ac_small i (value_at block i) some (is.coefficients i below), acs_small_at block l is a.2)
+    (ac_small i (coefficient_at block i) some (is.coefficients i below), acs_small_at block l is a.2)
 
 pub acs_small : (block : List ℤ) → IsBlock block → AllByRecursion IsAc (ac_values block)
 unfolding ac_values
@@ -165,10 +166,10 @@ pub record BlockTaken (slot : Slot) (before : List ℤ) (bytes : List ℕ) (from
 pub block_read : (slot : Slot) (before : List ℤ) (bytes : List ℕ) (from to : Cursor) (values : List ℤ) → IsSlot slot → block_at slot before bytes from ≡ Ok (values, to) → BlockTaken slot before bytes from values to
 unfolding block_at
 block_read slot before bytes from to values is e =
-    let d = then_fine (dc_at slot.codes.dc (last_dc before slot) bytes from) (λ dc. behind_values (dc.0 ∷ []) (acs_at 63 slot.codes.ac 63 false bytes dc.1)) (values, to) e in
+    let d = then_fine (dc_at slot.codes.dc (last_dc before slot) bytes from) (λ dc. prefixed_values (dc.0 ∷ []) (acs_at 63 slot.codes.ac 63 false bytes dc.1)) (values, to) e in
     let dc = d.0.0 in
     let a = dc_read slot.codes.dc (last_dc before slot) dc bytes from d.0.1 is.dc d.1 in
-    let m = behind_fine (dc ∷ []) (acs_at 63 slot.codes.ac 63 false bytes d.0.1) (values, to) d.2 in
+    let m = after_fine (dc ∷ []) (acs_at 63 slot.codes.ac 63 false bytes d.0.1) (values, to) d.2 in
     let r = acs_read 63 slot.codes.ac bytes is.ac is.bytes 63 0 false d.0.1 to m.0 (omega arith) (λ z. refl) (λ z. absurd (false≢true z)) m.1 in
     let whole : values ≡ dc ∷ m.0 = m.2 in
     let long : length (dc ∷ m.0) ≡ 64 = ap suc r.long in
@@ -192,13 +193,13 @@ pub block_again : (slot : Slot) (before block : List ℤ) (bytes : List ℕ) (bi
 unfolding block_at
 block_again slot before block bytes bits from to is fits e t =
     let table = slot.codes.ac in
-    let dc = value_at block 0 in
+    let dc = coefficient_at block 0 in
     let p = text_parts (dc_text slot.codes.dc (last_dc before slot) dc) (ac_text table 0 (ac_values block)) bits (sym (block_is slot.codes (last_dc before slot) block) ∙ e) in
     let a = takes_split bytes from to p.0 p.1 (subst (λ (l : List Bool). Takes bytes from l to) p.4 t) in
     let first = dc_again slot.codes.dc (last_dc before slot) dc bytes p.0 from a.0 is.dc (fits.coefficients 0 (omega arith)) p.2 a.1 in
     let more = acs_again 63 table bytes is.ac (ac_values block) 63 0 p.1 a.0 to (omega arith) (acs_long block) (acs_small block fits) p.3 a.2 in
-    ap (λ r. and_then {A = ℤ × Cursor} {B = List ℤ × Cursor} r (λ dc. behind_values (dc.0 ∷ []) (acs_at 63 slot.codes.ac 63 false bytes dc.1))) first
-    ∙ ap (behind_values (dc ∷ [])) more where
+    ap (λ r. and_then {A = ℤ × Cursor} {B = List ℤ × Cursor} r (λ dc. prefixed_values (dc.0 ∷ []) (acs_at 63 slot.codes.ac 63 false bytes dc.1))) first
+    ∙ ap (prefixed_values (dc ∷ [])) more where
       acs_long : (block : List ℤ) → 63 ≡ 0 + length (ac_values block)
       acs_long block = let h = length-ac_values block in omega (arith, h)
 
@@ -212,21 +213,21 @@ pub record McuTaken (slots : List Slot) (before : List ℤ) (bytes : List ℕ) (
   pub bits : List Bool
   pub takes : Takes bytes from bits read.cursor
   pub text : blocks_text slots before mcu ≡ Ok bits
-  pub last : read.before ≡ behind_blocks slots before mcu
+  pub last : read.before ≡ dcs_after slots before mcu
 
 pub blocks_read : (slots : List Slot) (before : List ℤ) (bytes : List ℕ) (from : Cursor) (read : BlocksRead) → AllByRecursion IsSlot slots → blocks_at slots before bytes from ≡ Ok read
     → McuTaken slots before bytes from read
-unfolding blocks_at blocks_text behind_blocks
+unfolding blocks_at blocks_text dcs_after
 blocks_read [] before bytes from read all e =
     let p = is_fine (record { blocks = []; before = before; cursor = from }) read e in
     subst (λ (r : BlocksRead). McuTaken [] before bytes from r) p
     (record { mcu = []; long = refl; each = tt; same = refl; bits = []; takes = takes_none bytes from; text = refl; last = refl })
 blocks_read (slot ∷ slots) before bytes from read all e =
-    let b = then_fine (block_at slot before bytes from) (λ block. and_then (blocks_at slots (behind_read before slot block.0) bytes block.1) (λ more. Ok (record more { blocks = block.0 ∷ more.blocks }))) read e in
+    let b = then_fine (block_at slot before bytes from) (λ block. and_then (blocks_at slots (dcs_after_read before slot block.0) bytes block.1) (λ more. Ok (record more { blocks = block.0 ∷ more.blocks }))) read e in
     let first = block_read slot before bytes from b.0.1 b.0.0 all.0 b.1 in
-    let m = then_fine (blocks_at slots (behind_read before slot b.0.0) bytes b.0.1) (λ more. Ok (record more { blocks = b.0.0 ∷ more.blocks })) read b.2 in
-    let behind : behind_read before slot b.0.0 ≡ behind_block before slot first.block = ap (behind_read before slot) first.same in
-    let rest = blocks_read slots (behind_block before slot first.block) bytes b.0.1 m.0 all.1 (ap (λ (d : List ℤ). blocks_at slots d bytes b.0.1) (sym behind) ∙ m.1) in
+    let m = then_fine (blocks_at slots (dcs_after_read before slot b.0.0) bytes b.0.1) (λ more. Ok (record more { blocks = b.0.0 ∷ more.blocks })) read b.2 in
+    let after : dcs_after_read before slot b.0.0 ≡ dcs_after_block before slot first.block = ap (dcs_after_read before slot) first.same in
+    let rest = blocks_read slots (dcs_after_block before slot first.block) bytes b.0.1 m.0 all.1 (ap (λ (d : List ℤ). blocks_at slots d bytes b.0.1) (sym after) ∙ m.1) in
     let p : record m.0 { blocks = b.0.0 ∷ m.0.blocks } ≡ read = is_fine (record m.0 { blocks = b.0.0 ∷ m.0.blocks }) read m.2 in
     subst (λ (r : BlocksRead). McuTaken (slot ∷ slots) before bytes from r) p (record {
       mcu = first.block ∷ rest.mcu;
@@ -241,8 +242,8 @@ blocks_read (slot ∷ slots) before bytes from read all e =
 
 pub blocks_again : (slots : List Slot) (before : List ℤ) (mcu : List (List ℤ)) (bytes : List ℕ) (bits : List Bool) (from to : Cursor) → AllByRecursion IsSlot slots → AllByRecursion IsBlock mcu → length mcu ≡ length slots
     → blocks_text slots before mcu ≡ Ok bits → Takes bytes from bits to
-    → blocks_at slots before bytes from ≡ Ok (record { blocks = map in_zigzag mcu; before = behind_blocks slots before mcu; cursor = to })
-unfolding blocks_at blocks_text behind_blocks
+    → blocks_at slots before bytes from ≡ Ok (record { blocks = map in_zigzag mcu; before = dcs_after slots before mcu; cursor = to })
+unfolding blocks_at blocks_text dcs_after
 blocks_again [] before [] bytes bits from to all each long e t =
     let none : [] ≡ bits = same_text [] bits e in
     let at : from ≡ to = nothing_taken bytes from to (subst (λ (l : List Bool). Takes bytes from l to) (sym none) t) in
@@ -250,12 +251,12 @@ blocks_again [] before [] bytes bits from to all each long e t =
 blocks_again [] before (block ∷ mcu) bytes bits from to all each long e t = absurd (omega (arith, long))
 blocks_again (slot ∷ slots) before [] bytes bits from to all each long e t = absurd (omega (arith, long))
 blocks_again (slot ∷ slots) before (block ∷ mcu) bytes bits from to all each long e t =
-    let next = behind_block before slot block in
+    let next = dcs_after_block before slot block in
     let p = text_parts (block_text slot.codes (last_dc before slot) block) (blocks_text slots next mcu) bits e in
     let a = takes_split bytes from to p.0 p.1 (subst (λ (l : List Bool). Takes bytes from l to) p.4 t) in
     let first = block_again slot before block bytes p.0 from a.0 all.0 each.0 p.2 a.1 in
     let rest = blocks_again slots next mcu bytes p.1 a.0 to all.1 each.1 (omega (arith, long)) p.3 a.2 in
-    ap (λ r. and_then {A = List ℤ × Cursor} {B = BlocksRead} r (λ block. and_then (blocks_at slots (behind_read before slot block.0) bytes block.1) (λ more. Ok (record more { blocks = block.0 ∷ more.blocks })))) first
+    ap (λ r. and_then {A = List ℤ × Cursor} {B = BlocksRead} r (λ block. and_then (blocks_at slots (dcs_after_read before slot block.0) bytes block.1) (λ more. Ok (record more { blocks = block.0 ∷ more.blocks })))) first
     ∙ ap (λ r. and_then {A = BlocksRead} {B = BlocksRead} r (λ more. Ok (record more { blocks = in_zigzag block ∷ more.blocks }))) rest
 
 -- ---- the laws

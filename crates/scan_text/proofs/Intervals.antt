@@ -1,4 +1,4 @@
--- An interval's bits with their pad bits and the marker behind them, from what was taken and back.
+-- An interval's bits with their pad bits and the marker after them, from what was taken and back.
 use Rattle.std.proofs.Common.{◌≡◌, ℕ, zero, suc, ◌+◌, ◌-◌, ◌*◌, ◌%◌, ◌<◌, Bool, true, false, ◌==◌, if◌then◌else◌, List, [], ◌∷◌, ◌++◌, length, drop, replicate, Option, Some, None, Ok, Err, refl, sym, ap, ap₂, ◌∙◌, subst, arith, length-append}
 use Rattle.std.specs.Prelude.{◌&&◌}
 use Rattle.std.specs.List.{AllByRecursion}
@@ -7,14 +7,14 @@ use Rattle.std.proofs.lemmas.List.{drop-drop, drop_at, length-replicate}
 use Rattle.std.proofs.lemmas.Option.{same_Some}
 use Rattle.bit_list.specs.Bits.{IsByte, low_bits, bits_of, bytes_after, begun_after, padding, stuffed}
 use Rattle.bit_list.specs.Units.{Cursor, starting}
-use Rattle.bit_list.specs.Again.{length-low_bits}
+use Rattle.bit_list.specs.NumbersOfBits.{length-low_bits}
 use Rattle.bit_list.proofs.Wholes.{bytes_after-bits_of, bits_of-bytes_after, begun_count}
 use Rattle.bit_list.proofs.Spanning.{stand, standing}
 use Rattle.scan_text.specs.Scans.{padded, interval_bytes, restart_marker}
 use Rattle.scan_text.specs.ScanReading.{pad_of, padded_or, pads_at, restart_of, restart_at}
 use Rattle.scan_text.specs.declared.refusal.ScanRefusal.{ScanRefusal}
 use Rattle.scan_text.specs.declared.refusal.ScanRefusal.TheVariants as refusals
-use Rattle.scan_text.proofs.Taking.{Takes, fine, not_refused, is_fine, both_fine}
+use Rattle.scan_text.proofs.BitsTaken.{Takes, fine, not_refused, is_fine, both_fine}
 
 -- ---- pad bits
 
@@ -23,25 +23,25 @@ abbrev pub Agrees : Option Bool → Bool → Type 0
 Agrees None pad = Unit {0}
 Agrees (Some known) pad = known ≡ pad
 
--- what is known of it behind so many
-abbrev pub pad_behind : Option Bool → ℕ → Bool → Option Bool
-pad_behind known zero pad = known
-pad_behind known (suc n) pad = Some pad
+-- what is known of it after so many
+abbrev pub pad_after : Option Bool → ℕ → Bool → Option Bool
+pad_after known zero pad = known
+pad_after known (suc n) pad = Some pad
 
-last_pad : (n : ℕ) (known pad : Bool) → known ≡ pad → pad_behind (Some known) n pad ≡ Some pad
+last_pad : (n : ℕ) (known pad : Bool) → known ≡ pad → pad_after (Some known) n pad ≡ Some pad
 last_pad zero known pad e = ap (λ (b : Bool). Some b) e
 last_pad (suc n) known pad e = refl
 
-pub pad_behind_more : (known : Option Bool) (k m : ℕ) (pad : Bool) → pad_behind (pad_behind known k pad) m pad ≡ pad_behind known (k + m) pad
-pad_behind_more known zero m pad = let e : m ≡ 0 + m = omega arith in ap (λ (n : ℕ). pad_behind known n pad) e
-pad_behind_more known (suc k) m pad = let e : suc (k + m) ≡ suc k + m = omega arith in last_pad m pad pad refl ∙ ap (λ (n : ℕ). pad_behind known n pad) e
+pub pad_after_more : (known : Option Bool) (k m : ℕ) (pad : Bool) → pad_after (pad_after known k pad) m pad ≡ pad_after known (k + m) pad
+pad_after_more known zero m pad = let e : m ≡ 0 + m = omega arith in ap (λ (n : ℕ). pad_after known n pad) e
+pad_after_more known (suc k) m pad = let e : suc (k + m) ≡ suc k + m = omega arith in last_pad m pad pad refl ∙ ap (λ (n : ℕ). pad_after known n pad) e
 
-pub agrees_behind : (known : Option Bool) (k : ℕ) (pad : Bool) → Agrees known pad → Agrees (pad_behind known k pad) pad
-agrees_behind known zero pad a = a
-agrees_behind known (suc k) pad a = refl
+pub agrees_after : (known : Option Bool) (k : ℕ) (pad : Bool) → Agrees known pad → Agrees (pad_after known k pad) pad
+agrees_after known zero pad a = a
+agrees_after known (suc k) pad a = refl
 
 abbrev PadsRead : Option Bool → List Bool → Option Bool → Bool → Type 0
-PadsRead known bits next pad = Agrees known pad × (bits ≡ replicate (length bits) pad) × (next ≡ pad_behind known (length bits) pad)
+PadsRead known bits next pad = Agrees known pad × (bits ≡ replicate (length bits) pad) × (next ≡ pad_after known (length bits) pad)
 
 no_pad : (next : Option Bool) (bits : List Bool) → pad_of None bits ≡ Some next → ⊥
 no_pad next bits e = let h : None ≡ Some next = e in cc
@@ -58,7 +58,7 @@ pads_read (false ∷ bits) (Some false) next pad e a = let r = pads_read bits (S
 pads_read (false ∷ bits) (Some true) next pad e a = absurd (no_pad next bits e)
 pads_read (true ∷ bits) (Some false) next pad e a = absurd (no_pad next bits e)
 
-pub pads_again : (k : ℕ) (known : Option Bool) (pad : Bool) → Agrees known pad → pad_of (Some known) (replicate k pad) ≡ Some (pad_behind known k pad)
+pub pads_again : (k : ℕ) (known : Option Bool) (pad : Bool) → Agrees known pad → pad_of (Some known) (replicate k pad) ≡ Some (pad_after known k pad)
 pads_again zero known pad a = refl
 pads_again (suc k) None pad a = pads_again k (Some pad) pad refl ∙ ap (λ (o : Option Bool). Some o) (last_pad k pad pad refl)
 pads_again (suc k) (Some true) true a = pads_again k (Some true) true refl ∙ ap (λ (o : Option Bool). Some o) (last_pad k true true refl)
@@ -76,7 +76,7 @@ padded_fine (Some known) cursor x e = let p = both_fine (known, no_left cursor) 
 pub pads_fine : (known : Option Bool) (cursor : Cursor) (x : Option Bool × Cursor) → pads_at known cursor ≡ Ok x → (pad_of (Some known) cursor.left ≡ Some x.0) × (x.1 ≡ no_left cursor)
 pads_fine known cursor x e = padded_fine (pad_of (Some known) cursor.left) cursor x e
 
-pub pads_are : (k : ℕ) (known : Option Bool) (cursor : Cursor) (pad : Bool) → Agrees known pad → cursor.left ≡ replicate k pad → pads_at known cursor ≡ Ok (pad_behind known k pad, no_left cursor)
+pub pads_are : (k : ℕ) (known : Option Bool) (cursor : Cursor) (pad : Bool) → Agrees known pad → cursor.left ≡ replicate k pad → pads_at known cursor ≡ Ok (pad_after known k pad, no_left cursor)
 pads_are k known cursor pad a e = ap (λ (o : Option (Option Bool)). padded_or o cursor) (ap (pad_of (Some known)) e ∙ pads_again k known pad a)
 
 -- ---- a marker
@@ -101,21 +101,21 @@ restart_head end from n place (byte ∷ code ∷ rest) e =
     let b = both_true (byte == 255) (code == 0xd0 + n % 8) t.0 in
     (rest, ap₂ (λ (x y : ℕ). x ∷ y ∷ rest) (eqb-true byte 255 b.0) (eqb-true code (0xd0 + n % 8) b.1), sym t.1)
 
-behind_two : (bytes more : List ℕ) (from n : ℕ) → drop from bytes ≡ restart_marker n ++ more → drop (from + 2) bytes ≡ more
-behind_two bytes more from n e = sym (drop-drop 2 from bytes) ∙ ap (drop 2) e
+after_two : (bytes more : List ℕ) (from n : ℕ) → drop from bytes ≡ restart_marker n ++ more → drop (from + 2) bytes ≡ more
+after_two bytes more from n e = sym (drop-drop 2 from bytes) ∙ ap (drop 2) e
 
 pub restart_fine : (bytes : List ℕ) (n from place : ℕ) → restart_at bytes n from ≡ Ok place → (drop from bytes ≡ restart_marker n ++ drop place bytes) × (place ≡ from + 2)
 unfolding restart_at
 restart_fine bytes n from place e =
     let h = restart_head (length bytes) from n place (drop from bytes) e in
-    let behind : drop place bytes ≡ h.0 = ap (λ (k : ℕ). drop k bytes) h.2 ∙ behind_two bytes h.0 from n h.1 in
-    (h.1 ∙ ap (λ (l : List ℕ). restart_marker n ++ l) (sym behind), h.2)
+    let after : drop place bytes ≡ h.0 = ap (λ (k : ℕ). drop k bytes) h.2 ∙ after_two bytes h.0 from n h.1 in
+    (h.1 ∙ ap (λ (l : List ℕ). restart_marker n ++ l) (sym after), h.2)
 
 pub restart_again : (bytes more : List ℕ) (n from : ℕ) → drop from bytes ≡ restart_marker n ++ more → (restart_at bytes n from ≡ Ok (from + 2)) × (drop (from + 2) bytes ≡ more)
 unfolding restart_at
 restart_again bytes more n from e =
     let same : (0xd0 + n % 8 == 0xd0 + n % 8) ≡ true = eq-eqb (0xd0 + n % 8) (0xd0 + n % 8) refl in
-    (ap (restart_of (length bytes) from n) e ∙ ap (λ (t : Bool). if t then fine (from + 2) else Err (refusals.RestartBad from)) same, behind_two bytes more from n e)
+    (ap (restart_of (length bytes) from n) e ∙ ap (λ (t : Bool). if t then fine (from + 2) else Err (refusals.RestartBad from)) same, after_two bytes more from n e)
 
 -- ---- an interval
 
@@ -123,7 +123,7 @@ pub length-bits_of : (bytes : List ℕ) → length (bits_of bytes) ≡ 8 * lengt
 length-bits_of [] = refl
 length-bits_of (byte ∷ bytes) = let a = length-append (low_bits 8 byte) (bits_of bytes) in let b = length-low_bits 8 byte in let c = length-bits_of bytes in omega (arith, a, b, c)
 
--- how many pad bits there are behind bits
+-- how many pad bits there are after bits
 abbrev pub pads_for : List Bool → ℕ
 pads_for bits = length (padding (begun_after [] bits) true)
 
@@ -149,7 +149,7 @@ pub record Opened (bytes : List ℕ) (place : ℕ) (bits : List Bool) (pad : Boo
   pub takes : Takes bytes (starting place 0) bits to
   pub left : to.left ≡ replicate (pads_for bits) pad
   pub next : to.next ≡ place + length (interval_bytes pad bits)
-  pub behind : drop to.next bytes ≡ rest
+  pub after : drop to.next bytes ≡ rest
 
 pub opened : (bytes rest : List ℕ) (place : ℕ) (bits : List Bool) (pad : Bool) → drop place bytes ≡ interval_bytes pad bits ++ rest → Opened bytes place bits pad rest
 opened bytes rest place bits pad e =
@@ -166,7 +166,7 @@ opened bytes rest place bits pad e =
       takes = s.1;
       left = s.2 ∙ padding_is bits pad;
       next = s.4;
-      behind = ap (λ (k : ℕ). drop k bytes) s.4 ∙ sym (drop-drop (length (stuffed units)) place bytes) ∙ ap (drop (length (stuffed units))) e ∙ drop_at (stuffed units) rest (length (stuffed units)) refl;
+      after = ap (λ (k : ℕ). drop k bytes) s.4 ∙ sym (drop-drop (length (stuffed units)) place bytes) ∙ ap (drop (length (stuffed units))) e ∙ drop_at (stuffed units) rest (length (stuffed units)) refl;
     }
 
 -- and one that was taken stands there

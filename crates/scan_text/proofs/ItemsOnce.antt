@@ -3,18 +3,18 @@ use Rattle.std.proofs.Common.{◌≡◌, ℕ, ◌+◌, ◌-◌, Bool, true, fals
 use Rattle.std.specs.Prelude.{nat_le, slice_set}
 use Rattle.std.specs.List.{AllByRecursion}
 use Rattle.bit_list.specs.Units.{Cursor, starting, bits_at}
-use Rattle.jpeg_marker.specs.Tables.{TableFields, IsTable}
+use Rattle.jpeg_marker.specs.HuffmanTables.{TableFields, IsTable}
 use Rattle.huff_table.specs.CodeWords.{word_of}
 use Rattle.huff_table.specs.Decoding.{value_at}
 use Rattle.huff_table.specs.declared.fault.CodeFault.{CodeFault}
-use Rattle.huff_table.proofs.Reading.{word_is_read, fault_comes}
-use Rattle.scan_text.specs.Values.{extend}
+use Rattle.huff_table.proofs.WordReading.{word_is_read, fault_comes}
+use Rattle.scan_text.specs.ValueBits.{extend}
 use Rattle.scan_text.specs.Blocks.{last_dc}
 use Rattle.scan_text.specs.Slots.{Shape}
 use Rattle.scan_text.specs.Spots.{is_closed, interval_number}
 use Rattle.scan_text.specs.Scans.{no_dcs}
 use Rattle.scan_text.specs.ScanReading.{code_refusal, bits_refusal, Symbol, Value, Sixteen, End, Past, Loose, Unknown, symbol_of, pad_of, restart_at}
-use Rattle.scan_text.specs.Items.{Due, DcWord, DcBits, AcWord, AcBits, Pads, Marker, Over, Wrong, Run, Stage, slots_due, mcu_due, mcu_over, behind_slots, block_over, size_over, dc_over, acs_due, symbol_over, pads_over, Item, Coded, Restart, IsWord, Stands, Path, IsStuck, first_stage, Refuses, Ends}
+use Rattle.scan_text.specs.Items.{Due, DcWord, DcBits, AcWord, AcBits, Pads, Marker, Over, Wrong, Run, Stage, slots_due, mcu_due, mcu_over, after_slots, block_over, size_over, dc_over, acs_due, symbol_over, pads_over, Item, Coded, Restart, IsWord, Stands, Path, IsStuck, first_stage, Refuses, Ends}
 use Rattle.scan_text.specs.ScanLaws.{IsSlot, IsShape}
 use Rattle.scan_text.specs.declared.slot.Slot.{Slot}
 use Rattle.scan_text.specs.declared.refusal.ScanRefusal.{ScanRefusal}
@@ -51,18 +51,18 @@ good_over shape run is all =
     good_if (is_closed shape (run.count + 1)) (record { due = Pads; run = record run { count = run.count + 1 } }) (mcu_due shape (record run { count = run.count + 1 }))
     (tt, all) (good_slots shape.slots (record run { count = run.count + 1 }) is.slots)
 
-good_behind : (slots : List Slot) (shape : Shape) (run : Run) → IsShape shape → AllByRecursion IsSlot run.slots → AllByRecursion IsSlot slots → Good (behind_slots shape run slots)
-good_behind [] shape run is all some = good_over shape run is all
-good_behind (slot ∷ slots) shape run is all some = (some.0, some.1)
+good_after : (slots : List Slot) (shape : Shape) (run : Run) → IsShape shape → AllByRecursion IsSlot run.slots → AllByRecursion IsSlot slots → Good (after_slots shape run slots)
+good_after [] shape run is all some = good_over shape run is all
+good_after (slot ∷ slots) shape run is all some = (some.0, some.1)
 
 good_acs : (shape : Shape) (run : Run) (slot : Slot) (left : ℕ) (loose : Bool) → IsShape shape → IsSlot slot → AllByRecursion IsSlot run.slots → Good (acs_due shape run slot left loose)
 good_acs shape run slot left loose is one all =
-    good_if (left == 0) (block_over shape run) (record { due = AcWord slot left loose; run = run }) (good_behind run.slots shape run is all all) (one, all)
+    good_if (left == 0) (block_over shape run) (record { due = AcWord slot left loose; run = run }) (good_after run.slots shape run is all all) (one, all)
 
 good_symbol : (kind : Symbol) (shape : Shape) (run : Run) (slot : Slot) (left : ℕ) → IsShape shape → IsSlot slot → AllByRecursion IsSlot run.slots → Good (symbol_over shape run slot left kind)
 good_symbol (Value zeros size) shape run slot left is one all = (one, all)
 good_symbol Sixteen shape run slot left is one all = good_acs shape run slot (left - 16) true is one all
-good_symbol End shape run slot left is one all = good_behind run.slots shape run is all all
+good_symbol End shape run slot left is one all = good_after run.slots shape run is all all
 good_symbol Past shape run slot left is one all = (tt, all)
 good_symbol Loose shape run slot left is one all = (tt, all)
 good_symbol Unknown shape run slot left is one all = (tt, all)
@@ -273,9 +273,9 @@ never_both (i ∷ items) (o ∷ others) shape bytes stage last d at end m r is g
 good_first : (shape : Shape) → IsShape shape → Good (first_stage shape)
 good_first shape is = good_slots shape.slots (record { slots = []; before = no_dcs; count = 0; pad = None }) is.slots
 
-pub one_outcome : (shape : Shape) (bytes : List ℕ) (place behind : ℕ) (pad : Option Bool) (refusal other : ScanRefusal) → IsShape shape → Refuses shape bytes place refusal
-    → (Refuses shape bytes place other → refusal ≡ other) × (Ends shape bytes place pad behind → ⊥)
-one_outcome shape bytes place behind pad refusal other is r = (
+pub one_outcome : (shape : Shape) (bytes : List ℕ) (place after : ℕ) (pad : Option Bool) (refusal other : ScanRefusal) → IsShape shape → Refuses shape bytes place refusal
+    → (Refuses shape bytes place other → refusal ≡ other) × (Ends shape bytes place pad after → ⊥)
+one_outcome shape bytes place after pad refusal other is r = (
   λ s. one_refusal r.items s.items shape bytes (first_stage shape) r.last s.last (starting place 0) r.end s.end refusal other is (good_first shape is) r.path r.stuck s.path s.stuck,
   λ s. never_both r.items s.items shape bytes (first_stage shape) r.last s.last (starting place 0) r.end s.end refusal is (good_first shape is) r.path r.stuck s.path s.over,
 )

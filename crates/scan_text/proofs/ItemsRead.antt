@@ -4,17 +4,17 @@ use Rattle.std.specs.Prelude.{nat_le, slice_set}
 use Rattle.std.proofs.lemmas.Bool.{eqb-true, eq-eqb, false_from_ne_true}
 use Rattle.bit_list.specs.Units.{Cursor, starting, bit_at, bits_at}
 use Rattle.bit_list.specs.declared.fault.BitFault.{BitFault}
-use Rattle.jpeg_marker.specs.Tables.{TableFields, IsTable}
+use Rattle.jpeg_marker.specs.HuffmanTables.{TableFields, IsTable}
 use Rattle.huff_table.specs.Decoding.{value_at, IsFaultAt}
 use Rattle.huff_table.specs.declared.fault.CodeFault.{CodeFault}
-use Rattle.huff_table.proofs.Reading.{value_is_read, fault_is_read}
-use Rattle.scan_text.specs.Values.{extend}
+use Rattle.huff_table.proofs.WordReading.{value_is_read, fault_is_read}
+use Rattle.scan_text.specs.ValueBits.{extend}
 use Rattle.scan_text.specs.Blocks.{last_dc}
 use Rattle.scan_text.specs.Slots.{Shape}
 use Rattle.scan_text.specs.Scans.{no_dcs, ends_interval}
 use Rattle.scan_text.specs.Spots.{interval_number}
-use Rattle.scan_text.specs.ScanReading.{and_then, code_refusal, bits_refusal, refused_as, symbol_at, extended_at, within_dc, difference_at, dc_at, Symbol, Value, Sixteen, End, Past, Loose, Unknown, symbol_of, behind_values, by_symbol, acs_at, block_at, BlocksRead, blocks_at, pad_of, Standing, standing_at, padded_or, pads_at, restart_at, behind_pads, behind_mcu, mcu_at, mcus_at, scan_at}
-use Rattle.scan_text.specs.Items.{DcWord, DcBits, AcWord, AcBits, Pads, Marker, Over, Wrong, Run, Stage, slots_due, mcu_due, mcu_over, behind_slots, block_over, size_over, dc_over, acs_due, symbol_over, pads_over, Item, Coded, Restart, IsWord, Stands, Path, IsStuck, first_stage, Refuses, Ends}
+use Rattle.scan_text.specs.ScanReading.{and_then, code_refusal, bits_refusal, refused_as, symbol_at, extended_at, within_dc, difference_at, dc_at, Symbol, Value, Sixteen, End, Past, Loose, Unknown, symbol_of, prefixed_values, by_symbol, acs_at, block_at, BlocksRead, blocks_at, pad_of, Standing, standing_at, padded_or, pads_at, restart_at, after_pads, after_mcu, mcu_at, mcus_at, scan_at}
+use Rattle.scan_text.specs.Items.{DcWord, DcBits, AcWord, AcBits, Pads, Marker, Over, Wrong, Run, Stage, slots_due, mcu_due, mcu_over, after_slots, block_over, size_over, dc_over, acs_due, symbol_over, pads_over, Item, Coded, Restart, IsWord, Stands, Path, IsStuck, first_stage, Refuses, Ends}
 use Rattle.scan_text.specs.ScanLaws.{IsSlot, IsShape}
 use Rattle.scan_text.specs.declared.slot.Slot.{Slot}
 use Rattle.scan_text.specs.declared.refusal.ScanRefusal.{ScanRefusal}
@@ -54,10 +54,10 @@ told_then : {A B : Type 0} (shape : Shape) (bytes : List ℕ) (stage : Stage) (a
 told_then shape bytes stage at (Ok x) f ok last t k = k x t
 told_then shape bytes stage at (Err refusal) f ok last t k = t
 
-told_behind : {A : Type 0} (shape : Shape) (bytes : List ℕ) (stage mid : Stage) (at bt : Cursor) (r : Result A ScanRefusal) (ok last : A → Type 0) → Reaches shape bytes stage at mid bt
+told_after : {A : Type 0} (shape : Shape) (bytes : List ℕ) (stage mid : Stage) (at bt : Cursor) (r : Result A ScanRefusal) (ok last : A → Type 0) → Reaches shape bytes stage at mid bt
     → ((x : A) → ok x → last x) → Told shape bytes mid bt r ok → Told shape bytes stage at r last
-told_behind shape bytes stage mid at bt (Ok x) ok last p k t = k x t
-told_behind shape bytes stage mid at bt (Err refusal) ok last p k t = reaches_fails shape bytes stage mid at bt refusal p t
+told_after shape bytes stage mid at bt (Ok x) ok last p k t = k x t
+told_after shape bytes stage mid at bt (Err refusal) ok last p k t = reaches_fails shape bytes stage mid at bt refusal p t
 
 -- a word
 word_told : (shape : Shape) (bytes : List ℕ) (stage : Stage) (at : Cursor) (table : TableFields) (r : Result (ℕ × Cursor) CodeFault) → IsTable table → value_at table bytes at ≡ r
@@ -118,7 +118,7 @@ abbrev AcsTold : Shape → List ℕ → Run → Slot → ℕ → ℕ → Bool �
 AcsTold shape bytes run slot k left loose at =
     Told shape bytes (acs_due shape run slot left loose) at (acs_at k slot.codes.ac left loose bytes at) (λ x. Reaches shape bytes (acs_due shape run slot left loose) at (block_over shape run) x.1)
 
--- what goes on behind a symbol
+-- what goes on after a symbol
 kind_told : (shape : Shape) (bytes : List ℕ) (run : Run) (slot : Slot) (k left : ℕ) (at : Cursor) (kind : Symbol) → left ≤ suc k → 0 < left
     → ((more : ℕ) (last : Bool) (to : Cursor) → more ≤ k → AcsTold shape bytes run slot k more last to)
     → Told shape bytes (symbol_over shape run slot left kind) at (by_symbol (λ more last to. acs_at k slot.codes.ac more last bytes to) left bytes at kind)
@@ -126,13 +126,13 @@ kind_told : (shape : Shape) (bytes : List ℕ) (run : Run) (slot : Slot) (k left
 kind_told shape bytes run slot k left at (Value zeros size) small some going =
     let stage : Stage = record { due = AcBits slot (left - (zeros + 1)) size; run = run } in
     let next = acs_due shape run slot (left - (zeros + 1)) false in
-    told_then shape bytes stage at (extended_at size bytes at) (λ value. behind_values (replicate zeros (pos 0) ++ value.0 ∷ []) (acs_at k slot.codes.ac (left - (zeros + 1)) false bytes value.1))
+    told_then shape bytes stage at (extended_at size bytes at) (λ value. prefixed_values (replicate zeros (pos 0) ++ value.0 ∷ []) (acs_at k slot.codes.ac (left - (zeros + 1)) false bytes value.1))
     (λ v. Reaches shape bytes stage at next v.1) (λ x. Reaches shape bytes stage at (block_over shape run) x.1)
     (value_told shape bytes stage at size (λ v. Reaches shape bytes stage at next v.1) (λ fault e. (fault, e, refl))
     (λ bits to long e. one_item shape bytes stage next at to (Coded bits) (long, e, refl)))
     (λ v p. told_then shape bytes stage at (acs_at k slot.codes.ac (left - (zeros + 1)) false bytes v.1) (λ more. Ok ((replicate zeros (pos 0) ++ v.0 ∷ []) ++ more.0, more.1))
     (λ x. Reaches shape bytes stage at (block_over shape run) x.1) (λ x. Reaches shape bytes stage at (block_over shape run) x.1)
-    (told_behind shape bytes stage next at v.1 (acs_at k slot.codes.ac (left - (zeros + 1)) false bytes v.1) (λ x. Reaches shape bytes next v.1 (block_over shape run) x.1)
+    (told_after shape bytes stage next at v.1 (acs_at k slot.codes.ac (left - (zeros + 1)) false bytes v.1) (λ x. Reaches shape bytes next v.1 (block_over shape run) x.1)
     (λ x. Reaches shape bytes stage at (block_over shape run) x.1) p (λ x q. reaches_then shape bytes stage next (block_over shape run) at v.1 x.1 p q) (going (left - (zeros + 1)) false v.1 (omega arith)))
     (λ x q. q))
 kind_told shape bytes run slot k left at Sixteen small some going =
@@ -163,7 +163,7 @@ acs_told (suc k) shape bytes run slot (suc l) loose at small is =
     let kind = symbol_of left loose s.0 in
     let next = symbol_over shape run slot left kind in
     let p = one_item shape bytes stage next at s.1 (Coded w.0) (s.0, w.1, refl) in
-    told_behind shape bytes stage next at s.1 (by_symbol (λ more last to. acs_at k table more last bytes to) left bytes s.1 kind) (λ x. Reaches shape bytes next s.1 (block_over shape run) x.1) ok
+    told_after shape bytes stage next at s.1 (by_symbol (λ more last to. acs_at k table more last bytes to) left bytes s.1 kind) (λ x. Reaches shape bytes next s.1 (block_over shape run) x.1) ok
     p (λ x q. reaches_then shape bytes stage next (block_over shape run) at s.1 x.1 p q)
     (kind_told shape bytes run slot k left s.1 kind (omega arith) (omega arith) (λ more last to h. acs_told k shape bytes run slot more last to h is))))
 
@@ -205,30 +205,30 @@ dc_told shape bytes run slot at is =
     let next : Stage = record { due = size_over slot s.0; run = run } in
     let p = one_item shape bytes stage next at s.1 (Coded w.0) (s.0, w.1, refl) in
     told_then shape bytes stage at (difference_at bytes s) (λ more. within_dc (before +ℤ more.0) more.1) (λ v. Reaches shape bytes stage at (dc_over run slot (before +ℤ v.0)) v.1) ok
-    (told_behind shape bytes stage next at s.1 (difference_at bytes s) (λ v. Reaches shape bytes next s.1 (dc_over run slot (before +ℤ v.0)) v.1) (λ v. Reaches shape bytes stage at (dc_over run slot (before +ℤ v.0)) v.1)
+    (told_after shape bytes stage next at s.1 (difference_at bytes s) (λ v. Reaches shape bytes next s.1 (dc_over run slot (before +ℤ v.0)) v.1) (λ v. Reaches shape bytes stage at (dc_over run slot (before +ℤ v.0)) v.1)
     p (λ v q. reaches_then shape bytes stage next (dc_over run slot (before +ℤ v.0)) at s.1 v.1 p q) (size_told (nat_le s.0 11) shape bytes run slot s.0 s.1))
     (λ v q.
     let dc = before +ℤ v.0 in
-    told_behind shape bytes stage (dc_over run slot dc) at v.1 (within_dc dc v.1) (λ x. Reaches shape bytes (dc_over run slot dc) v.1 (acs_stage run slot x.0) x.1) ok
+    told_after shape bytes stage (dc_over run slot dc) at v.1 (within_dc dc v.1) (λ x. Reaches shape bytes (dc_over run slot dc) v.1 (acs_stage run slot x.0) x.1) ok
     q (λ x g. reaches_then shape bytes stage (dc_over run slot dc) (acs_stage run slot x.0) at v.1 x.1 q g) (range_told (nat_le (unsigned_abs dc) 32767) shape bytes run slot dc v.1)))
 
--- the run behind a block in zigzag order
-abbrev run_behind : Run → Slot → List ℤ → Run
-run_behind run slot block = record run { before = slice_set run.before slot.component (Rattle.scan_text.specs.BlockBits.value_at block 0) }
+-- the run after a block in zigzag order
+abbrev run_after : Run → Slot → List ℤ → Run
+run_after run slot block = record run { before = slice_set run.before slot.component (Rattle.scan_text.specs.BlockBits.coefficient_at block 0) }
 
 block_told : (shape : Shape) (bytes : List ℕ) (run : Run) (slot : Slot) (at : Cursor) → IsSlot slot
-    → Told shape bytes (dc_stage run slot) at (block_at slot run.before bytes at) (λ x. Reaches shape bytes (dc_stage run slot) at (block_over shape (run_behind run slot x.0)) x.1)
+    → Told shape bytes (dc_stage run slot) at (block_at slot run.before bytes at) (λ x. Reaches shape bytes (dc_stage run slot) at (block_over shape (run_after run slot x.0)) x.1)
 unfolding block_at
 block_told shape bytes run slot at is =
     let stage = dc_stage run slot in
-    let ok : List ℤ × Cursor → Type 0 = λ x. Reaches shape bytes stage at (block_over shape (run_behind run slot x.0)) x.1 in
-    told_then shape bytes stage at (dc_at slot.codes.dc (last_dc run.before slot) bytes at) (λ dc. behind_values (dc.0 ∷ []) (acs_at 63 slot.codes.ac 63 false bytes dc.1))
+    let ok : List ℤ × Cursor → Type 0 = λ x. Reaches shape bytes stage at (block_over shape (run_after run slot x.0)) x.1 in
+    told_then shape bytes stage at (dc_at slot.codes.dc (last_dc run.before slot) bytes at) (λ dc. prefixed_values (dc.0 ∷ []) (acs_at 63 slot.codes.ac 63 false bytes dc.1))
     (λ x. Reaches shape bytes stage at (acs_stage run slot x.0) x.1) ok (dc_told shape bytes run slot at is.dc)
     (λ dc p.
     let run2 : Run = record run { before = slice_set run.before slot.component dc.0 } in
     let acs = acs_at 63 slot.codes.ac 63 false bytes dc.1 in
     told_then shape bytes stage at acs (λ more. Ok ((dc.0 ∷ []) ++ more.0, more.1)) (λ x. Reaches shape bytes stage at (block_over shape run2) x.1) ok
-    (told_behind shape bytes stage (acs_stage run slot dc.0) at dc.1 acs (λ x. Reaches shape bytes (acs_stage run slot dc.0) dc.1 (block_over shape run2) x.1) (λ x. Reaches shape bytes stage at (block_over shape run2) x.1)
+    (told_after shape bytes stage (acs_stage run slot dc.0) at dc.1 acs (λ x. Reaches shape bytes (acs_stage run slot dc.0) dc.1 (block_over shape run2) x.1) (λ x. Reaches shape bytes stage at (block_over shape run2) x.1)
     p (λ x q. reaches_then shape bytes stage (acs_stage run slot dc.0) (block_over shape run2) at dc.1 x.1 p q) (acs_told 63 shape bytes run2 slot 63 false dc.1 (omega arith) is.ac))
     (λ x q. q))
 
@@ -238,8 +238,8 @@ abbrev run_of : List Slot → List ℤ → ℕ → Option Bool → Run
 run_of slots before count pad = record { slots = slots; before = before; count = count; pad = pad }
 
 blocks_told : (slots : List Slot) (shape : Shape) (bytes : List ℕ) (before : List ℤ) (count : ℕ) (pad : Option Bool) (at : Cursor) → Rattle.std.specs.List.AllByRecursion IsSlot slots
-    → Told shape bytes (behind_slots shape (run_of slots before count pad) slots) at (blocks_at slots before bytes at)
-    (λ r. Reaches shape bytes (behind_slots shape (run_of slots before count pad) slots) at (mcu_over shape (run_of [] r.before count pad)) r.cursor)
+    → Told shape bytes (after_slots shape (run_of slots before count pad) slots) at (blocks_at slots before bytes at)
+    (λ r. Reaches shape bytes (after_slots shape (run_of slots before count pad) slots) at (mcu_over shape (run_of [] r.before count pad)) r.cursor)
 unfolding blocks_at
 blocks_told [] shape bytes before count pad at all = here shape bytes (mcu_over shape (run_of [] before count pad)) at
 blocks_told (slot ∷ slots) shape bytes before count pad at all =
@@ -247,13 +247,13 @@ blocks_told (slot ∷ slots) shape bytes before count pad at all =
     let stage = dc_stage run slot in
     let ok : BlocksRead → Type 0 = λ r. Reaches shape bytes stage at (mcu_over shape (run_of [] r.before count pad)) r.cursor in
     told_then shape bytes stage at (block_at slot before bytes at)
-    (λ block. and_then (blocks_at slots (Rattle.scan_text.specs.ScanReading.behind_read before slot block.0) bytes block.1) (λ more. Ok (record more { blocks = block.0 ∷ more.blocks })))
-    (λ x. Reaches shape bytes stage at (block_over shape (run_behind run slot x.0)) x.1) ok (block_told shape bytes run slot at all.0)
+    (λ block. and_then (blocks_at slots (Rattle.scan_text.specs.ScanReading.dcs_after_read before slot block.0) bytes block.1) (λ more. Ok (record more { blocks = block.0 ∷ more.blocks })))
+    (λ x. Reaches shape bytes stage at (block_over shape (run_after run slot x.0)) x.1) ok (block_told shape bytes run slot at all.0)
     (λ x p.
-    let before2 = Rattle.scan_text.specs.ScanReading.behind_read before slot x.0 in
-    let next = behind_slots shape (run_of slots before2 count pad) slots in
+    let before2 = Rattle.scan_text.specs.ScanReading.dcs_after_read before slot x.0 in
+    let next = after_slots shape (run_of slots before2 count pad) slots in
     told_then shape bytes stage at (blocks_at slots before2 bytes x.1) (λ more. Ok (record more { blocks = x.0 ∷ more.blocks })) ok ok
-    (told_behind shape bytes stage next at x.1 (blocks_at slots before2 bytes x.1) (λ r. Reaches shape bytes next x.1 (mcu_over shape (run_of [] r.before count pad)) r.cursor) ok
+    (told_after shape bytes stage next at x.1 (blocks_at slots before2 bytes x.1) (λ r. Reaches shape bytes next x.1 (mcu_over shape (run_of [] r.before count pad)) r.cursor) ok
     p (λ r q. reaches_then shape bytes stage next (mcu_over shape (run_of [] r.before count pad)) at x.1 r.cursor p q) (blocks_told slots shape bytes before2 count pad x.1 all.1))
     (λ r q. q))
 
@@ -304,7 +304,7 @@ padded_told false shape bytes before count pad at (Some known) e stands =
     let next : Stage = record { due = Marker; run = run_of [] no_dcs (count + 1) known } in
     let end : Cursor = record at { left = [] } in
     let p = one_item shape bytes stage next at end (Coded at.left) stands in
-    told_behind shape bytes stage next at end
+    told_after shape bytes stage next at end
     (and_then {A = ℕ} {B = Standing} (restart_at bytes (interval_number shape count) end.next) (λ place. Ok (record { cursor = starting place 0; before = no_dcs; count = count + 1; pad = known })))
     (λ s. Reaches shape bytes next end (stage_by false shape s) s.cursor × (s.count ≡ count + 1)) (λ s. Reaches shape bytes stage at (stage_by false shape s) s.cursor × (s.count ≡ count + 1))
     p (λ s q. (reaches_then shape bytes stage next (stage_by false shape s) at end s.cursor p q.0, q.1))
@@ -314,7 +314,7 @@ pads_same : (shape : Shape) (run : Run) (o : Option (Option Bool)) → pads_by (
 pads_same shape run None = refl
 pads_same shape run (Some pad) = refl
 
--- behind the blocks of an MCU
+-- after the blocks of an MCU
 end_told : (over ends : Bool) (shape : Shape) (bytes : List ℕ) (before : List ℤ) (count : ℕ) (pad : Option Bool) (at : Cursor)
     → Stands shape bytes (run_of [] before (count + 1) pad) Pads at (Coded at.left) (pads_by over shape (run_of [] before (count + 1) pad) (pad_of (Some pad) at.left)) (record at { left = [] })
     → Told {A = Standing} shape bytes (if over || ends then record { due = Pads; run = run_of [] before (count + 1) pad } else mcu_due shape (run_of [] before (count + 1) pad)) at
@@ -329,7 +329,7 @@ end_told false false shape bytes before count pad at stands = (here shape bytes 
 
 -- the first slot of an MCU
 first_slot : (slots : List Slot) (shape : Shape) (before : List ℤ) (count : ℕ) (pad : Option Bool) → 0 < length slots
-    → slots_due (run_of [] before count pad) slots ≡ behind_slots shape (run_of slots before count pad) slots
+    → slots_due (run_of [] before count pad) slots ≡ after_slots shape (run_of slots before count pad) slots
 first_slot [] shape before count pad some = absurd (omega arith)
 first_slot (slot ∷ slots) shape before count pad some = refl
 
@@ -339,19 +339,19 @@ mcu_told : (shape : Shape) (bytes : List ℕ) (s : Standing) → IsShape shape
 unfolding mcu_at
 mcu_told shape bytes s is =
     let stage = mcu_due shape (run_of [] s.before s.count s.pad) in
-    let first = behind_slots shape (run_of shape.slots s.before s.count s.pad) shape.slots in
+    let first = after_slots shape (run_of shape.slots s.before s.count s.pad) shape.slots in
     let same : stage ≡ first = first_slot shape.slots shape s.before s.count s.pad is.some in
     let over = s.count + 1 == shape.mcus in
     let ok : List (List ℤ) × Standing → Type 0 = λ x. Reaches shape bytes stage s.cursor (stage_at shape x.1) x.1.cursor × (x.1.count ≡ s.count + 1) in
     let blocks : BlocksRead → Type 0 = λ r. Reaches shape bytes stage s.cursor (mcu_over shape (run_of [] r.before s.count s.pad)) r.cursor in
-    told_then shape bytes stage s.cursor (blocks_at shape.slots s.before bytes s.cursor) (λ read. and_then (behind_mcu shape bytes s read) (λ next. Ok (read.blocks, next))) blocks ok
+    told_then shape bytes stage s.cursor (blocks_at shape.slots s.before bytes s.cursor) (λ read. and_then (after_mcu shape bytes s read) (λ next. Ok (read.blocks, next))) blocks ok
     (subst (λ (g : Stage). Told shape bytes g s.cursor (blocks_at shape.slots s.before bytes s.cursor) (λ r. Reaches shape bytes g s.cursor (mcu_over shape (run_of [] r.before s.count s.pad)) r.cursor)) (sym same)
     (blocks_told shape.slots shape bytes s.before s.count s.pad s.cursor is.slots))
     (λ r p.
     let mid = mcu_over shape (run_of [] r.before s.count s.pad) in
     let run = run_of [] r.before (s.count + 1) s.pad in
-    told_then shape bytes stage s.cursor (behind_mcu shape bytes s r) (λ next. Ok (r.blocks, next)) (λ n. Reaches shape bytes stage s.cursor (stage_by over shape n) n.cursor × (n.count ≡ s.count + 1)) ok
-    (told_behind shape bytes stage mid s.cursor r.cursor (behind_mcu shape bytes s r) (λ n. Reaches shape bytes mid r.cursor (stage_by over shape n) n.cursor × (n.count ≡ s.count + 1))
+    told_then shape bytes stage s.cursor (after_mcu shape bytes s r) (λ next. Ok (r.blocks, next)) (λ n. Reaches shape bytes stage s.cursor (stage_by over shape n) n.cursor × (n.count ≡ s.count + 1)) ok
+    (told_after shape bytes stage mid s.cursor r.cursor (after_mcu shape bytes s r) (λ n. Reaches shape bytes mid r.cursor (stage_by over shape n) n.cursor × (n.count ≡ s.count + 1))
     (λ n. Reaches shape bytes stage s.cursor (stage_by over shape n) n.cursor × (n.count ≡ s.count + 1)) p (λ n q. (reaches_then shape bytes stage mid (stage_by over shape n) s.cursor r.cursor n.cursor p q.0, q.1))
     (end_told over (ends_interval shape.interval (s.count + 1)) shape bytes r.before s.count s.pad r.cursor (refl, refl, pads_same shape run (pad_of (Some s.pad) r.cursor.left))))
     (λ n q. (subst (λ (k : ℕ). Reaches shape bytes stage s.cursor (stage_by (k == shape.mcus) shape n) n.cursor) (sym q.1) q.0, q.1)))
@@ -371,7 +371,7 @@ mcus_told (suc n) shape bytes s is e =
     (λ x p.
     let next = stage_at shape x.1 in
     told_then shape bytes stage s.cursor (mcus_at n shape bytes x.1) (λ more. Ok (x.0 ∷ more.0, more.1)) ok ok
-    (told_behind shape bytes stage next s.cursor x.1.cursor (mcus_at n shape bytes x.1) (λ y. Reaches shape bytes next x.1.cursor (stage_at shape y.1) y.1.cursor × (y.1.count ≡ shape.mcus)) ok p.0
+    (told_after shape bytes stage next s.cursor x.1.cursor (mcus_at n shape bytes x.1) (λ y. Reaches shape bytes next x.1.cursor (stage_at shape y.1) y.1.cursor × (y.1.count ≡ shape.mcus)) ok p.0
     (λ y q. (reaches_then shape bytes stage next (stage_at shape y.1) s.cursor x.1.cursor y.1.cursor p.0 q.0, q.1))
     (let h = p.1 in mcus_told n shape bytes x.1 is (omega (arith, h, e))))
     (λ y q. q))
@@ -404,4 +404,4 @@ ends_so shape bytes place blocks end is e =
     let f = told_ok shape bytes (first_stage shape) (starting place 0) (scan_at shape bytes place) (λ x. Reaches shape bytes (first_stage shape) (starting place 0) (stage_at shape x.1) x.1.cursor × (x.1.count ≡ shape.mcus)) (blocks, end) e (scan_told shape bytes place is) in
     let all : (end.count == shape.mcus) ≡ true = eq-eqb end.count shape.mcus f.1 in
     let last : stage_at shape end ≡ record { due = Over; run = run_of [] no_dcs end.count end.pad } = ap (λ (t : Bool). stage_by t shape end) all in
-    record { items = f.0.0; last = stage_at shape end; end = end.cursor; path = f.0.1; over = ap (λ (g : Stage). g.due) last; told = ap (λ (g : Stage). g.run.pad) last; place_behind = refl }
+    record { items = f.0.0; last = stage_at shape end; end = end.cursor; path = f.0.1; over = ap (λ (g : Stage). g.due) last; told = ap (λ (g : Stage). g.run.pad) last; place_after = refl }

@@ -1,13 +1,14 @@
-pub mod Values
-pub mod Signed
+pub mod ValueLemmas
+pub mod SignedValues
 pub mod Texts
+pub mod ShapeLemmas
 pub mod Words
 pub mod Cuts
 pub mod Parts
 pub mod ItemsRead
 pub mod ItemsOnce
 pub mod PutWhole
-pub mod Taking
+pub mod BitsTaken
 pub mod AcsRead
 pub mod AcsAgain
 pub mod ZigzagLaws

@@ -5,18 +5,18 @@ use Rattle.std.specs.List.{AllByRecursion}
 use Rattle.std.proofs.lemmas.List.{drop-drop, drop_at, length-replicate}
 use Rattle.bit_list.specs.Bits.{IsByte, bits_of, bytes_after, begun_after, padding, stuffed}
 use Rattle.bit_list.specs.Units.{Cursor, starting}
-use Rattle.bit_list.specs.Taken.{Spans}
+use Rattle.bit_list.specs.BitSpans.{Spans}
 use Rattle.bit_list.proofs.Wholes.{bytes_after-bits_of, bits_of-bytes_after, bytes_cut, bytes_joined, begun_joined, begun_count, none_begun}
 use Rattle.bit_list.proofs.Stuffing.{stuffed-append}
 use Rattle.bit_list.proofs.Spanning.{stand, spans_then}
 use Rattle.scan_text.specs.BlockBits.{Text}
-use Rattle.scan_text.specs.Blocks.{blocks_text, behind_blocks}
+use Rattle.scan_text.specs.Blocks.{blocks_text, dcs_after}
 use Rattle.scan_text.specs.Slots.{Shape}
 use Rattle.scan_text.specs.Scans.{no_dcs, restart_marker, ends_interval}
 use Rattle.scan_text.specs.Spots.{Spot, interval_number, put_text, mcu_put}
-use Rattle.scan_text.specs.ScanReading.{and_then, BlocksRead, Standing, behind_mcu, mcu_at}
+use Rattle.scan_text.specs.ScanReading.{and_then, BlocksRead, Standing, after_mcu, mcu_at}
 use Rattle.scan_text.specs.ScanLaws.{StandTogether, IsMcuSpelled, IsMcuReadAgain}
-use Rattle.scan_text.proofs.Taking.{is_fine}
+use Rattle.scan_text.proofs.BitsTaken.{is_fine}
 use Rattle.scan_text.proofs.BlocksTaken.{blocks_read, blocks_again}
 use Rattle.scan_text.proofs.Intervals.{Agrees, length-bits_of}
 use Rattle.scan_text.proofs.ScanTaken.{on_standing, end_by, end_taken, marker_taken, mcu_fine}
@@ -25,7 +25,7 @@ all_right : (xs ys : List ℕ) → AllByRecursion IsByte (xs ++ ys) → AllByRec
 all_right [] ys all = all
 all_right (x ∷ xs) ys all = all_right xs ys all.1
 
--- bits from the start of a unit: the bytes that they complete stand there, and those of the byte begun behind them
+-- bits from the start of a unit: the bytes that they complete stand there, and those of the byte begun after them
 record Shifted (bytes : List ℕ) (place : ℕ) (bits : List Bool) (to : Cursor) (text : List ℕ) : Type 0 where
   there : drop place bytes ≡ text ++ drop (place + length text) bytes
   few : length (begun_after [] bits) < 8
@@ -33,33 +33,33 @@ record Shifted (bytes : List ℕ) (place : ℕ) (bits : List Bool) (to : Cursor)
 
 shifted : (bytes : List ℕ) (place : ℕ) (bits : List Bool) (to : Cursor) → Spans bytes (starting place 0) bits to → Shifted bytes place bits to (stuffed (bytes_after [] bits))
 shifted bytes place bits to s =
-    let front = bytes_after [] bits in
+    let prefix = bytes_after [] bits in
     let begun = begun_after [] bits in
     let last = bytes_after begun to.left in
-    let text = stuffed front in
+    let text = stuffed prefix in
     let count : length begun ≡ (0 + length bits) % 8 = begun_count [] bits (omega arith) in
     let few : length begun < 8 = omega (arith, count) in
-    let units : s.units ≡ front ++ last = sym (bytes_after-bits_of s.units s.are_bytes) ∙ ap (bytes_after []) s.spelled ∙ bytes_cut [] bits to.left in
-    let whole : stuffed s.units ≡ text ++ stuffed last = ap stuffed units ∙ stuffed-append front last in
+    let units : s.units ≡ prefix ++ last = sym (bytes_after-bits_of s.units s.are_bytes) ∙ ap (bytes_after []) s.spelled ∙ bytes_cut [] bits to.left in
+    let whole : stuffed s.units ≡ text ++ stuffed last = ap stuffed units ∙ stuffed-append prefix last in
     let all : drop place bytes ≡ text ++ (stuffed last ++ drop to.next bytes) = s.text ∙ ap (λ (l : List ℕ). l ++ drop to.next bytes) whole ∙ append_assoc text (stuffed last) (drop to.next bytes) in
-    let behind : drop (place + length text) bytes ≡ stuffed last ++ drop to.next bytes =
+    let after : drop (place + length text) bytes ≡ stuffed last ++ drop to.next bytes =
     sym (drop-drop (length text) place bytes) ∙ ap (drop (length text)) all ∙ drop_at text (stuffed last ++ drop to.next bytes) (length text) refl in
     let eight : length (begun ++ to.left) % 8 ≡ 0 =
     let a = ap length s.spelled in let b = length-append bits to.left in let c = length-append begun to.left in let d = length-bits_of s.units in omega (arith, a, b, c, d, count) in
     record {
-      there = all ∙ ap (λ (l : List ℕ). text ++ l) (sym behind);
+      there = all ∙ ap (λ (l : List ℕ). text ++ l) (sym after);
       few = few;
       spans = record {
         units = last;
-        are_bytes = all_right front last (subst (λ (l : List ℕ). AllByRecursion IsByte l) units s.are_bytes);
-        text = behind;
+        are_bytes = all_right prefix last (subst (λ (l : List ℕ). AllByRecursion IsByte l) units s.are_bytes);
+        text = after;
         spelled = ap bits_of (bytes_joined begun to.left few) ∙ bits_of-bytes_after (begun ++ to.left) eight;
         place = let a = s.place in let b = ap length whole in let c = length-append text (stuffed last) in omega (arith, a, b, c);
         within = s.within;
       };
     }
 
--- the bits behind those of a byte begun
+-- the bits after those of a byte begun
 abbrev Moved : List ℕ → ℕ → List Bool → List Bool → Cursor → Type 0
 Moved bytes place begun bits to =
     (drop place bytes ≡ stuffed (bytes_after begun bits) ++ drop (place + length (stuffed (bytes_after begun bits))) bytes) × (length (begun_after begun bits) < 8)
@@ -220,9 +220,9 @@ mcu_spelled shape bytes place spot s next blocks pad is all at e told =
     let put = put_by (spot.count + 1 == shape.mcus) (ends_interval shape.interval (spot.count + 1)) shape pad spot read.before m.bits in
     let p : PutThere bytes place next put =
     put_there (spot.count + 1 == shape.mcus) (ends_interval shape.interval (spot.count + 1)) shape bytes place spot s next read m.bits pad at whole
-    (ap (λ (n : ℕ). end_by (n + 1 == shape.mcus) (ends_interval shape.interval (n + 1)) shape bytes s read) count ∙ one.behind) (agrees_from next.pad pad told) in
+    (ap (λ (n : ℕ). end_by (n + 1 == shape.mcus) (ends_interval shape.interval (n + 1)) shape bytes s read) count ∙ one.after) (agrees_from next.pad pad told) in
     let text : blocks_text shape.slots spot.before m.mcu ≡ Ok m.bits = ap (λ (d : List ℤ). blocks_text shape.slots d m.mcu) at.before ∙ m.text in
-    let last : behind_blocks shape.slots spot.before m.mcu ≡ read.before = ap (λ (d : List ℤ). behind_blocks shape.slots d m.mcu) at.before ∙ sym m.last in (
+    let last : dcs_after shape.slots spot.before m.mcu ≡ read.before = ap (λ (d : List ℤ). dcs_after shape.slots d m.mcu) at.before ∙ sym m.last in (
       m.mcu,
       put.0,
       put.1,
@@ -236,5 +236,5 @@ mcu_spelled shape bytes place spot s next blocks pad is all at e told =
 pub mcu_read_again : IsMcuReadAgain
 unfolding mcu_at
 mcu_read_again shape bytes s mcu bits to is one text stands =
-    ap (λ r. and_then {A = BlocksRead} {B = List (List ℤ) × Standing} r (λ read. and_then (behind_mcu shape bytes s read) (λ next. Ok (read.blocks, next))))
+    ap (λ r. and_then {A = BlocksRead} {B = List (List ℤ) × Standing} r (λ read. and_then (after_mcu shape bytes s read) (λ next. Ok (read.blocks, next))))
     (blocks_again shape.slots s.before mcu bytes bits s.cursor to is.slots one.1 one.0 text stands)

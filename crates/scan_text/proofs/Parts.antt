@@ -2,26 +2,26 @@
 use Rattle.std.proofs.Common.{◌≡◌, ℕ, Bool, List, [], ◌∷◌, ◌++◌, Ok, Err, refl, sym, ap, ◌∙◌, append_assoc}
 use Rattle.scan_text.specs.Slots.{Shape}
 use Rattle.scan_text.specs.Scans.{Mcu}
-use Rattle.scan_text.specs.Spots.{Spot, Put, behind_put, then_put, mcu_put, mcus_put}
+use Rattle.scan_text.specs.Spots.{Spot, Put, prefixed_put, then_put, mcu_put, mcus_put}
 
-nothing_put : (p : Put) → p ≡ behind_put [] p
+nothing_put : (p : Put) → p ≡ prefixed_put [] p
 nothing_put (Ok x) = refl
 nothing_put (Err e) = refl
 
-behind_twice : (a b : List ℕ) (p : Put) → behind_put a (behind_put b p) ≡ behind_put (a ++ b) p
-behind_twice a b (Ok x) = ap (λ (l : List ℕ). Ok (l, x.1)) (sym (append_assoc a b x.0))
-behind_twice a b (Err e) = refl
+after_twice : (a b : List ℕ) (p : Put) → prefixed_put a (prefixed_put b p) ≡ prefixed_put (a ++ b) p
+after_twice a b (Ok x) = ap (λ (l : List ℕ). Ok (l, x.1)) (sym (append_assoc a b x.0))
+after_twice a b (Err e) = refl
 
-then_behind : (a : List ℕ) (p : Put) (f : Spot → Put) → behind_put a (then_put p f) ≡ then_put (behind_put a p) f
-then_behind a (Ok x) f = behind_twice a x.0 (f x.1)
-then_behind a (Err e) f = refl
+then_after : (a : List ℕ) (p : Put) (f : Spot → Put) → prefixed_put a (then_put p f) ≡ then_put (prefixed_put a p) f
+then_after a (Ok x) f = after_twice a x.0 (f x.1)
+then_after a (Err e) f = refl
 
 then_twice : (p : Put) (f g : Spot → Put) → then_put p (λ s. then_put (f s) g) ≡ then_put (then_put p f) g
-then_twice (Ok x) f g = then_behind x.0 (f x.1) g
+then_twice (Ok x) f g = then_after x.0 (f x.1) g
 then_twice (Err e) f g = refl
 
 same_then : (p : Put) (f g : Spot → Put) → ((s : Spot) → f s ≡ g s) → then_put p f ≡ then_put p g
-same_then (Ok x) f g h = ap (behind_put x.0) (h x.1)
+same_then (Ok x) f g h = ap (prefixed_put x.0) (h x.1)
 same_then (Err e) f g h = refl
 
 pub put_in_parts : (shape : Shape) (pads : ℕ → Bool) (mcus more : List Mcu) (spot : Spot)

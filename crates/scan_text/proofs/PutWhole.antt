@@ -8,11 +8,11 @@ use Rattle.std.proofs.Math.Nat.{div-add-mod', mod-lt, zero-div}
 use Rattle.bit_list.specs.Bits.{bytes_after, begun_after, padding, stuffed}
 use Rattle.bit_list.proofs.Wholes.{bytes_cut, begun_cut}
 use Rattle.bit_list.proofs.Stuffing.{stuffed-append}
-use Rattle.scan_text.specs.BlockBits.{Text, behind, then_text}
-use Rattle.scan_text.specs.Blocks.{blocks_text, behind_blocks}
+use Rattle.scan_text.specs.BlockBits.{Text, prefixed, then_text}
+use Rattle.scan_text.specs.Blocks.{blocks_text, dcs_after}
 use Rattle.scan_text.specs.Slots.{Shape}
-use Rattle.scan_text.specs.Scans.{Mcu, no_dcs, mcus_bits, restart_marker, ends_interval, intervals_behind, Bytes, bytes_of, behind_bytes, then_bytes, intervals_bytes, scan_bytes, IsMcu, AreMcus}
-use Rattle.scan_text.specs.Spots.{Spot, first_spot, interval_number, Put, put_text, mcu_put, behind_put, then_put, mcus_put}
+use Rattle.scan_text.specs.Scans.{Mcu, no_dcs, mcus_bits, restart_marker, ends_interval, intervals_after, Bytes, bytes_of, prefixed_bytes, then_bytes, intervals_bytes, scan_bytes, IsMcu, AreMcus}
+use Rattle.scan_text.specs.Spots.{Spot, first_spot, interval_number, Put, put_text, mcu_put, prefixed_put, then_put, mcus_put}
 use Rattle.scan_text.specs.ScanLaws.{IsShape, bytes_in}
 use Rattle.scan_text.specs.declared.slot.Slot.{Slot}
 use Rattle.scan_text.specs.declared.stop.WriteStop.{WriteStop}
@@ -69,7 +69,7 @@ number_same_of false k c is e =
 
 -- ---- the rest of an interval
 
--- the bytes of an interval that goes on behind a byte begun
+-- the bytes of an interval that goes on after a byte begun
 abbrev closed : List Bool → Bool → List Bool → List ℕ
 closed begun pad bits = stuffed (bytes_after begun (bits ++ padding (begun_after begun bits) pad))
 
@@ -92,7 +92,7 @@ rest_is slots pads n [] = refl
 rest_is slots pads n (mcus ∷ []) = refl
 rest_is slots pads n (mcus ∷ next ∷ more) = refl
 
--- bits in front of an interval's
+-- bits in prefix of an interval's
 closed_more : (begun a b : List Bool) (pad : Bool) → closed begun pad (a ++ b) ≡ stuffed (bytes_after begun a) ++ closed (begun_after begun a) pad b
 closed_more begun a b pad =
     ap (λ (l : List Bool). stuffed (bytes_after begun ((a ++ b) ++ padding l pad))) (begun_cut begun a b)
@@ -100,56 +100,56 @@ closed_more begun a b pad =
     ∙ ap stuffed (bytes_cut begun a (b ++ padding (begun_after (begun_after begun a) b) pad))
     ∙ stuffed-append (bytes_after begun a) (bytes_after (begun_after begun a) (b ++ padding (begun_after (begun_after begun a) b) pad))
 
-front_closed : (begun a : List Bool) (pad : Bool) (t : Text) → bytes_of (closed begun pad) (behind a t) ≡ behind_bytes (stuffed (bytes_after begun a)) (bytes_of (closed (begun_after begun a) pad) t)
-front_closed begun a pad (Ok b) = ap (λ (l : List ℕ). Ok l) (closed_more begun a b pad)
-front_closed begun a pad (Err stop) = refl
+prefix_closed : (begun a : List Bool) (pad : Bool) (t : Text) → bytes_of (closed begun pad) (prefixed a t) ≡ prefixed_bytes (stuffed (bytes_after begun a)) (bytes_of (closed (begun_after begun a) pad) t)
+prefix_closed begun a pad (Ok b) = ap (λ (l : List ℕ). Ok l) (closed_more begun a b pad)
+prefix_closed begun a pad (Err stop) = refl
 
-front_marked : (begun a : List Bool) (pad : Bool) (marker : List ℕ) (t : Text)
-    → bytes_of (λ bits. closed begun pad bits ++ marker) (behind a t) ≡ behind_bytes (stuffed (bytes_after begun a)) (bytes_of (λ bits. closed (begun_after begun a) pad bits ++ marker) t)
-front_marked begun a pad marker (Ok b) =
+prefix_marked : (begun a : List Bool) (pad : Bool) (marker : List ℕ) (t : Text)
+    → bytes_of (λ bits. closed begun pad bits ++ marker) (prefixed a t) ≡ prefixed_bytes (stuffed (bytes_after begun a)) (bytes_of (λ bits. closed (begun_after begun a) pad bits ++ marker) t)
+prefix_marked begun a pad marker (Ok b) =
     ap (λ (l : List ℕ). Ok (l ++ marker)) (closed_more begun a b pad) ∙ ap (λ (l : List ℕ). Ok l) (append_assoc (stuffed (bytes_after begun a)) (closed (begun_after begun a) pad b) marker)
-front_marked begun a pad marker (Err stop) = refl
+prefix_marked begun a pad marker (Err stop) = refl
 
-behind_then : (front : List ℕ) (a b : Bytes) → then_bytes (behind_bytes front a) b ≡ behind_bytes front (then_bytes a b)
-behind_then front (Ok x) (Ok y) = ap (λ (l : List ℕ). Ok l) (append_assoc front x y)
-behind_then front (Ok x) (Err stop) = refl
-behind_then front (Err stop) b = refl
+after_then : (prefix : List ℕ) (a b : Bytes) → then_bytes (prefixed_bytes prefix a) b ≡ prefixed_bytes prefix (then_bytes a b)
+after_then prefix (Ok x) (Ok y) = ap (λ (l : List ℕ). Ok l) (append_assoc prefix x y)
+after_then prefix (Ok x) (Err stop) = refl
+after_then prefix (Err stop) b = refl
 
--- an MCU in front of an interval's others
+-- an MCU in prefix of an interval's others
 pub rest_more : (slots : List Slot) (pads : ℕ → Bool) (n : ℕ) (begun bits : List Bool) (before : List ℤ) (mcu : Mcu) (all : List (List Mcu)) → 0 < length all → length slots ≡ length mcu
     → blocks_text slots before mcu ≡ Ok bits
-    → rest_bytes slots pads n begun before (onto_first mcu all) ≡ behind_bytes (stuffed (bytes_after begun bits)) (rest_bytes slots pads n (begun_after begun bits) (behind_blocks slots before mcu) all)
+    → rest_bytes slots pads n begun before (onto_first mcu all) ≡ prefixed_bytes (stuffed (bytes_after begun bits)) (rest_bytes slots pads n (begun_after begun bits) (dcs_after slots before mcu) all)
 rest_more slots pads n begun bits before mcu [] some size e = absurd (omega arith)
 rest_more slots pads n begun bits before mcu (i ∷ []) some size e =
-    let t = blocks_text (slots_for slots i) (behind_blocks slots before mcu) (blocks_in i) in
-    let whole : blocks_text (slots ++ slots_for slots i) before (mcu ++ blocks_in i) ≡ behind bits t =
+    let t = blocks_text (slots_for slots i) (dcs_after slots before mcu) (blocks_in i) in
+    let whole : blocks_text (slots ++ slots_for slots i) before (mcu ++ blocks_in i) ≡ prefixed bits t =
     text_in_parts slots (slots_for slots i) before mcu (blocks_in i) size ∙ ap (λ (x : Text). then_text x t) e in
-    ap (bytes_of (closed begun (pads n))) whole ∙ front_closed begun bits (pads n) t
+    ap (bytes_of (closed begun (pads n))) whole ∙ prefix_closed begun bits (pads n) t
 rest_more slots pads n begun bits before mcu (i ∷ j ∷ js) some size e =
-    let t = blocks_text (slots_for slots i) (behind_blocks slots before mcu) (blocks_in i) in
-    let whole : blocks_text (slots ++ slots_for slots i) before (mcu ++ blocks_in i) ≡ behind bits t =
+    let t = blocks_text (slots_for slots i) (dcs_after slots before mcu) (blocks_in i) in
+    let whole : blocks_text (slots ++ slots_for slots i) before (mcu ++ blocks_in i) ≡ prefixed bits t =
     text_in_parts slots (slots_for slots i) before mcu (blocks_in i) size ∙ ap (λ (x : Text). then_text x t) e in
     let later = intervals_bytes slots pads (n + 1) (j ∷ js) in
-    ap (λ (x : Bytes). then_bytes x later) (ap (bytes_of (λ b. closed begun (pads n) b ++ restart_marker n)) whole ∙ front_marked begun bits (pads n) (restart_marker n) t)
-    ∙ behind_then (stuffed (bytes_after begun bits)) (bytes_of (λ b. closed (begun_after begun bits) (pads n) b ++ restart_marker n) t) later
+    ap (λ (x : Bytes). then_bytes x later) (ap (bytes_of (λ b. closed begun (pads n) b ++ restart_marker n)) whole ∙ prefix_marked begun bits (pads n) (restart_marker n) t)
+    ∙ after_then (stuffed (bytes_after begun bits)) (bytes_of (λ b. closed (begun_after begun bits) (pads n) b ++ restart_marker n) t) later
 
 pub rest_stops : (slots : List Slot) (pads : ℕ → Bool) (n : ℕ) (begun : List Bool) (before : List ℤ) (mcu : Mcu) (stop : WriteStop) (all : List (List Mcu)) → length slots ≡ length mcu
     → blocks_text slots before mcu ≡ Err stop → rest_bytes slots pads n begun before (onto_first mcu all) ≡ Err stop
 rest_stops slots pads n begun before mcu stop [] size e =
-    let whole : blocks_text (slots ++ []) before (mcu ++ []) ≡ Err stop = text_in_parts slots [] before mcu [] size ∙ ap (λ (x : Text). then_text x (blocks_text [] (behind_blocks slots before mcu) [])) e in
+    let whole : blocks_text (slots ++ []) before (mcu ++ []) ≡ Err stop = text_in_parts slots [] before mcu [] size ∙ ap (λ (x : Text). then_text x (blocks_text [] (dcs_after slots before mcu) [])) e in
     ap (bytes_of (closed begun (pads n))) whole
 rest_stops slots pads n begun before mcu stop (i ∷ []) size e =
-    let t = blocks_text (slots_for slots i) (behind_blocks slots before mcu) (blocks_in i) in
+    let t = blocks_text (slots_for slots i) (dcs_after slots before mcu) (blocks_in i) in
     ap (bytes_of (closed begun (pads n))) (text_in_parts slots (slots_for slots i) before mcu (blocks_in i) size ∙ ap (λ (x : Text). then_text x t) e)
 rest_stops slots pads n begun before mcu stop (i ∷ j ∷ js) size e =
-    let t = blocks_text (slots_for slots i) (behind_blocks slots before mcu) (blocks_in i) in
+    let t = blocks_text (slots_for slots i) (dcs_after slots before mcu) (blocks_in i) in
     let later = intervals_bytes slots pads (n + 1) (j ∷ js) in
     ap (λ (x : Text). then_bytes (bytes_of (λ b. closed begun (pads n) b ++ restart_marker n) x) later) (text_in_parts slots (slots_for slots i) before mcu (blocks_in i) size ∙ ap (λ (x : Text). then_text x t) e)
 
 -- ---- MCU by MCU
 
 rest_first : (slots : List Slot) (pads : ℕ → Bool) (n : ℕ) (begun bits : List Bool) (before : List ℤ) (mcu : Mcu) (all : List (List Mcu)) → 0 < length all → blocks_text slots before mcu ≡ Ok bits
-    → rest_bytes slots pads n begun before ((mcu ∷ []) ∷ all) ≡ behind_bytes (closed begun (pads n) bits ++ restart_marker n) (intervals_bytes slots pads (n + 1) all)
+    → rest_bytes slots pads n begun before ((mcu ∷ []) ∷ all) ≡ prefixed_bytes (closed begun (pads n) bits ++ restart_marker n) (intervals_bytes slots pads (n + 1) all)
 rest_first slots pads n begun bits before mcu [] some e = absurd (omega arith)
 rest_first slots pads n begun bits before mcu (j ∷ js) some e =
     let whole : blocks_text (slots ++ []) before (mcu ++ []) ≡ Ok bits = ap₂ (λ (s : List Slot) (b : Mcu). blocks_text s before b) (append-nil slots) (append-nil mcu) ∙ e in
@@ -169,14 +169,14 @@ if_some : (t : Bool) (a b : List (List Mcu)) → 0 < length a → 0 < length b �
 if_some true a b p q = p
 if_some false a b p q = q
 
-pub intervals_some : (interval before : ℕ) (mcu : Mcu) (mcus : List Mcu) → 0 < length (intervals_behind interval before (mcu ∷ mcus))
+pub intervals_some : (interval before : ℕ) (mcu : Mcu) (mcus : List Mcu) → 0 < length (intervals_after interval before (mcu ∷ mcus))
 intervals_some interval before mcu mcus =
-    let more = intervals_behind interval (before + 1) mcus in
+    let more = intervals_after interval (before + 1) mcus in
     if_some (ends_interval interval (before + 1)) ((mcu ∷ []) ∷ more) (onto_first mcu more) (omega arith) (onto_some mcu more)
 
-in_behind : (front : List ℕ) (p : Put) → bytes_in (behind_put front p) ≡ behind_bytes front (bytes_in p)
-in_behind front (Ok x) = refl
-in_behind front (Err stop) = refl
+in_after : (prefix : List ℕ) (p : Put) → bytes_in (prefixed_put prefix p) ≡ prefixed_bytes prefix (bytes_in p)
+in_after prefix (Ok x) = refl
+in_after prefix (Err stop) = refl
 
 -- an MCU's bits, by where it stands
 abbrev put_by : Bool → Bool → Shape → (ℕ → Bool) → Spot → List ℤ → List Bool → List ℕ × Spot
@@ -190,35 +190,35 @@ spot_of begun before count = record { begun = begun; before = before; count = co
 
 abbrev Whole : Shape → (ℕ → Bool) → List Bool → List ℤ → ℕ → List Mcu → Type 0
 Whole shape pads begun before count mcus =
-    bytes_in (mcus_put shape pads (spot_of begun before count) mcus) ≡ rest_bytes shape.slots pads (interval_number shape count) begun before (intervals_behind shape.interval count mcus)
+    bytes_in (mcus_put shape pads (spot_of begun before count) mcus) ≡ rest_bytes shape.slots pads (interval_number shape count) begun before (intervals_after shape.interval count mcus)
 
--- a first MCU with its bits, behind which there are others
+-- a first MCU with its bits, after which there are others
 more_by : (ends : Bool) (shape : Shape) (pads : ℕ → Bool) (begun bits : List Bool) (before : List ℤ) (count : ℕ) (mcu next : Mcu) (mcus : List Mcu) → length shape.slots ≡ length mcu
     → ends_interval shape.interval (count + 1) ≡ ends → blocks_text shape.slots before mcu ≡ Ok bits
     → ((b : List Bool) (d : List ℤ) → Whole shape pads b d (count + 1) (next ∷ mcus))
-    → bytes_in (then_put (Ok (put_by false ends shape pads (spot_of begun before count) (behind_blocks shape.slots before mcu) bits)) (λ s. mcus_put shape pads s (next ∷ mcus)))
+    → bytes_in (then_put (Ok (put_by false ends shape pads (spot_of begun before count) (dcs_after shape.slots before mcu) bits)) (λ s. mcus_put shape pads s (next ∷ mcus)))
     ≡ rest_bytes shape.slots pads (interval_number shape count) begun before
-    (if ends then (mcu ∷ []) ∷ intervals_behind shape.interval (count + 1) (next ∷ mcus) else onto_first mcu (intervals_behind shape.interval (count + 1) (next ∷ mcus)))
+    (if ends then (mcu ∷ []) ∷ intervals_after shape.interval (count + 1) (next ∷ mcus) else onto_first mcu (intervals_after shape.interval (count + 1) (next ∷ mcus)))
 more_by true shape pads begun bits before count mcu next mcus size is text whole =
     let n = interval_number shape count in
-    let all = intervals_behind shape.interval (count + 1) (next ∷ mcus) in
-    let front = closed begun (pads n) bits ++ restart_marker n in
+    let all = intervals_after shape.interval (count + 1) (next ∷ mcus) in
+    let prefix = closed begun (pads n) bits ++ restart_marker n in
     let later = whole [] no_dcs ∙ rest_is shape.slots pads (interval_number shape (count + 1)) all
     ∙ ap (λ (k : ℕ). intervals_bytes shape.slots pads k all) (number_next_of (shape.interval == 0) shape.interval count refl is) in
-    in_behind front (mcus_put shape pads (spot_of [] no_dcs (count + 1)) (next ∷ mcus)) ∙ ap (behind_bytes front) later
+    in_after prefix (mcus_put shape pads (spot_of [] no_dcs (count + 1)) (next ∷ mcus)) ∙ ap (prefixed_bytes prefix) later
     ∙ sym (rest_first shape.slots pads n begun bits before mcu all (intervals_some shape.interval (count + 1) next mcus) text)
 more_by false shape pads begun bits before count mcu next mcus size is text whole =
     let n = interval_number shape count in
-    let all = intervals_behind shape.interval (count + 1) (next ∷ mcus) in
-    let front = stuffed (bytes_after begun bits) in
+    let all = intervals_after shape.interval (count + 1) (next ∷ mcus) in
+    let prefix = stuffed (bytes_after begun bits) in
     let b = begun_after begun bits in
-    let d = behind_blocks shape.slots before mcu in
+    let d = dcs_after shape.slots before mcu in
     let later = whole b d ∙ ap (λ (k : ℕ). rest_bytes shape.slots pads k b d all) (number_same_of (shape.interval == 0) shape.interval count refl is) in
-    in_behind front (mcus_put shape pads (spot_of b d (count + 1)) (next ∷ mcus)) ∙ ap (behind_bytes front) later
+    in_after prefix (mcus_put shape pads (spot_of b d (count + 1)) (next ∷ mcus)) ∙ ap (prefixed_bytes prefix) later
     ∙ sym (rest_more shape.slots pads n begun bits before mcu all (intervals_some shape.interval (count + 1) next mcus) size text)
 
 last_by : (ends : Bool) (shape : Shape) (pads : ℕ → Bool) (begun bits : List Bool) (before : List ℤ) (count : ℕ) (mcu : Mcu) → blocks_text shape.slots before mcu ≡ Ok bits
-    → bytes_in (then_put (Ok (put_by true ends shape pads (spot_of begun before count) (behind_blocks shape.slots before mcu) bits)) (λ s. Ok ([], s)))
+    → bytes_in (then_put (Ok (put_by true ends shape pads (spot_of begun before count) (dcs_after shape.slots before mcu) bits)) (λ s. Ok ([], s)))
     ≡ rest_bytes shape.slots pads (interval_number shape count) begun before (if ends then (mcu ∷ []) ∷ [] else (mcu ∷ []) ∷ [])
 last_by true shape pads begun bits before count mcu text =
     let n = interval_number shape count in
@@ -237,21 +237,21 @@ stops_by false shape pads n begun before mcu stop all size text = rest_stops sha
 first_by : (t : Text) (shape : Shape) (pads : ℕ → Bool) (begun : List Bool) (before : List ℤ) (count : ℕ) (mcu : Mcu) (mcus : List Mcu) → length shape.slots ≡ length mcu
     → count + suc (length mcus) ≡ shape.mcus → blocks_text shape.slots before mcu ≡ t
     → ((b : List Bool) (d : List ℤ) → Whole shape pads b d (count + 1) mcus)
-    → bytes_in (then_put (put_text shape pads (spot_of begun before count) (behind_blocks shape.slots before mcu) t) (λ s. mcus_put shape pads s mcus))
+    → bytes_in (then_put (put_text shape pads (spot_of begun before count) (dcs_after shape.slots before mcu) t) (λ s. mcus_put shape pads s mcus))
     ≡ rest_bytes shape.slots pads (interval_number shape count) begun before
-    (if ends_interval shape.interval (count + 1) then (mcu ∷ []) ∷ intervals_behind shape.interval (count + 1) mcus else onto_first mcu (intervals_behind shape.interval (count + 1) mcus))
+    (if ends_interval shape.interval (count + 1) then (mcu ∷ []) ∷ intervals_after shape.interval (count + 1) mcus else onto_first mcu (intervals_after shape.interval (count + 1) mcus))
 unfolding mcus_put
 first_by (Err stop) shape pads begun before count mcu mcus size long text whole =
-    sym (stops_by (ends_interval shape.interval (count + 1)) shape pads (interval_number shape count) begun before mcu stop (intervals_behind shape.interval (count + 1) mcus) size text)
+    sym (stops_by (ends_interval shape.interval (count + 1)) shape pads (interval_number shape count) begun before mcu stop (intervals_after shape.interval (count + 1) mcus) size text)
 first_by (Ok bits) shape pads begun before count mcu [] size long text whole =
     let ends = ends_interval shape.interval (count + 1) in
     let over : (count + 1 == shape.mcus) ≡ true = eq-eqb (count + 1) shape.mcus (omega (arith, long)) in
-    ap (λ (t : Bool). bytes_in (then_put (Ok (put_by t ends shape pads (spot_of begun before count) (behind_blocks shape.slots before mcu) bits)) (λ s. Ok ([], s)))) over
+    ap (λ (t : Bool). bytes_in (then_put (Ok (put_by t ends shape pads (spot_of begun before count) (dcs_after shape.slots before mcu) bits)) (λ s. Ok ([], s)))) over
     ∙ last_by ends shape pads begun bits before count mcu text
 first_by (Ok bits) shape pads begun before count mcu (next ∷ mcus) size long text whole =
     let ends = ends_interval shape.interval (count + 1) in
     let over : (count + 1 == shape.mcus) ≡ false = false_from_ne_true (count + 1 == shape.mcus) (λ e. let same = eqb-true (count + 1) shape.mcus e in omega (arith, same, long)) in
-    ap (λ (t : Bool). bytes_in (then_put (Ok (put_by t ends shape pads (spot_of begun before count) (behind_blocks shape.slots before mcu) bits)) (λ s. mcus_put shape pads s (next ∷ mcus)))) over
+    ap (λ (t : Bool). bytes_in (then_put (Ok (put_by t ends shape pads (spot_of begun before count) (dcs_after shape.slots before mcu) bits)) (λ s. mcus_put shape pads s (next ∷ mcus)))) over
     ∙ more_by ends shape pads begun bits before count mcu next mcus size refl text whole
 
 put_all : (mcus : List Mcu) (shape : Shape) (pads : ℕ → Bool) (begun : List Bool) (before : List ℤ) (count : ℕ) → count + length mcus ≡ shape.mcus → AllByRecursion (IsMcu shape.slots) mcus
@@ -266,8 +266,8 @@ unfolding scan_bytes
 put_whole shape pads mcus is are =
     let zero_of : interval_number shape 0 ≡ 0 = if_zero (shape.interval == 0) (0 / shape.interval) (zero-div shape.interval) in
     put_all mcus shape pads [] no_dcs 0 (let n = are.count in omega (arith, n)) are.each
-    ∙ ap (λ (n : ℕ). rest_bytes shape.slots pads n [] no_dcs (intervals_behind shape.interval 0 mcus)) zero_of
-    ∙ rest_is shape.slots pads 0 (intervals_behind shape.interval 0 mcus) where
+    ∙ ap (λ (n : ℕ). rest_bytes shape.slots pads n [] no_dcs (intervals_after shape.interval 0 mcus)) zero_of
+    ∙ rest_is shape.slots pads 0 (intervals_after shape.interval 0 mcus) where
       if_zero : (t : Bool) (n : ℕ) → n ≡ 0 → (if t then 0 else n) ≡ 0
       if_zero true n e = refl
       if_zero false n e = e

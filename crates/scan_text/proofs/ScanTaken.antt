@@ -8,24 +8,24 @@ use Rattle.std.proofs.Math.Nat.{zero-div}
 use Rattle.coef_block.specs.Block.{IsBlock}
 use Rattle.bit_list.specs.Bits.{IsByte}
 use Rattle.bit_list.specs.Units.{Cursor, starting}
-use Rattle.scan_text.specs.Blocks.{blocks_text, behind_blocks}
+use Rattle.scan_text.specs.Blocks.{blocks_text, dcs_after}
 use Rattle.scan_text.specs.Slots.{Shape}
-use Rattle.scan_text.specs.Scans.{Mcu, no_dcs, mcus_bits, restart_marker, ends_interval, intervals_behind, scan_bytes, IsMcu, IsScan, pads_behind}
+use Rattle.scan_text.specs.Scans.{Mcu, no_dcs, mcus_bits, restart_marker, ends_interval, intervals_after, scan_bytes, IsMcu, IsScan, pad_bits_of}
 use Rattle.scan_text.specs.Spots.{interval_number}
-use Rattle.scan_text.specs.ScanReading.{and_then, in_zigzag, BlocksRead, blocks_at, Standing, standing_at, pads_at, restart_at, behind_mcu, mcu_at, mcus_at, scan_at}
+use Rattle.scan_text.specs.ScanReading.{and_then, in_zigzag, BlocksRead, blocks_at, Standing, standing_at, pads_at, restart_at, after_mcu, mcu_at, mcus_at, scan_at}
 use Rattle.scan_text.specs.ScanLaws.{IsShape, Begins, zigzag_of, IsSpelled, IsReadAgain, OneScan}
 use Rattle.scan_text.specs.declared.slot.Slot.{Slot}
 use Rattle.scan_text.specs.declared.refusal.ScanRefusal.{ScanRefusal}
 use Rattle.scan_text.proofs.Cuts.{text_in_parts}
 use Rattle.scan_text.proofs.PutWhole.{number_next_of, number_same_of, intervals_some}
-use Rattle.scan_text.proofs.Taking.{Takes, takes_split, fine, is_fine, both_fine, then_fine}
+use Rattle.scan_text.proofs.BitsTaken.{Takes, takes_split, fine, is_fine, both_fine, then_fine}
 use Rattle.scan_text.proofs.AcsAgain.{text_parts}
 use Rattle.scan_text.proofs.ZigzagLaws.{zigzag_tells}
 use Rattle.scan_text.proofs.BlocksTaken.{McuTaken, blocks_read, blocks_again}
-use Rattle.scan_text.proofs.Intervals.{Agrees, pad_behind, pad_behind_more, agrees_behind, pads_read, pads_fine, pads_are, restart_fine, restart_again}
-use Rattle.scan_text.proofs.Rests.{slots_for, blocks_in, pads_in, all_bytes, Later, Rest, RestOf, Goes, TextOf, text_of_rest, rest_of_text, closed_rest, onto_rest}
+use Rattle.scan_text.proofs.Intervals.{Agrees, pad_after, pad_after_more, agrees_after, pads_read, pads_fine, pads_are, restart_fine, restart_again}
+use Rattle.scan_text.proofs.Rests.{slots_for, blocks_in, pads_in, all_bytes, Later, Rest, RestOf, HasWritten, TextOf, text_of_rest, rest_of_text, closed_rest, onto_rest}
 
--- ---- behind the blocks of an MCU
+-- ---- after the blocks of an MCU
 
 abbrev pub place_standing : ℕ → ℕ → Option Bool → Standing
 place_standing place count known = record { cursor = starting place 0; before = no_dcs; count = count + 1; pad = known }
@@ -48,7 +48,7 @@ pub record PadsTaken (known : Option Bool) (cursor : Cursor) (pad : Bool) (next 
   pub agrees : Agrees known pad
   pub k : ℕ
   pub left : cursor.left ≡ replicate k pad
-  pub next_is : next ≡ pad_behind known k pad
+  pub next_is : next ≡ pad_after known k pad
 
 pads_taken : (known : Option Bool) (cursor : Cursor) (x : Option Bool × Cursor) (pad : Bool) → pads_at known cursor ≡ Ok x → Agrees x.0 pad → PadsTaken known cursor pad x.0
 pads_taken known cursor x pad e a =
@@ -106,22 +106,22 @@ marker_taken shape bytes s next read e =
 pub record McuFine (shape : Shape) (bytes : List ℕ) (s : Standing) (blocks : List (List ℤ)) (next : Standing) : Type 0 where
   pub read : BlocksRead
   pub is : blocks_at shape.slots s.before bytes s.cursor ≡ Ok read
-  pub behind : behind_mcu shape bytes s read ≡ Ok next
+  pub after : after_mcu shape bytes s read ≡ Ok next
   pub same : blocks ≡ read.blocks
 
 pub mcu_fine : (shape : Shape) (bytes : List ℕ) (s : Standing) (x : List (List ℤ) × Standing) → mcu_at shape bytes s ≡ Ok x → McuFine shape bytes s x.0 x.1
 unfolding mcu_at
 mcu_fine shape bytes s x e =
-    let r = then_fine (blocks_at shape.slots s.before bytes s.cursor) (λ read. and_then (behind_mcu shape bytes s read) (λ next. Ok (read.blocks, next))) x e in
-    let n = then_fine (behind_mcu shape bytes s r.0) (λ next. fine (r.0.blocks, next)) x r.2 in
+    let r = then_fine (blocks_at shape.slots s.before bytes s.cursor) (λ read. and_then (after_mcu shape bytes s read) (λ next. Ok (read.blocks, next))) x e in
+    let n = then_fine (after_mcu shape bytes s r.0) (λ next. fine (r.0.blocks, next)) x r.2 in
     let p = both_fine (r.0.blocks, n.0) x n.2 in
-    record { read = r.0; is = r.1; behind = n.1 ∙ ap (λ (t : Standing). fine t) p.1; same = sym p.0 }
+    record { read = r.0; is = r.1; after = n.1 ∙ ap (λ (t : Standing). fine t) p.1; same = sym p.0 }
 
-mcu_again : (shape : Shape) (bytes : List ℕ) (s next : Standing) (read : BlocksRead) → blocks_at shape.slots s.before bytes s.cursor ≡ Ok read → behind_mcu shape bytes s read ≡ Ok next
+mcu_again : (shape : Shape) (bytes : List ℕ) (s next : Standing) (read : BlocksRead) → blocks_at shape.slots s.before bytes s.cursor ≡ Ok read → after_mcu shape bytes s read ≡ Ok next
     → mcu_at shape bytes s ≡ Ok (read.blocks, next)
 unfolding mcu_at
 mcu_again shape bytes s next read e f =
-    ap (λ r. and_then {A = BlocksRead} {B = List (List ℤ) × Standing} r (λ read. and_then (behind_mcu shape bytes s read) (λ next. Ok (read.blocks, next)))) e
+    ap (λ r. and_then {A = BlocksRead} {B = List (List ℤ) × Standing} r (λ read. and_then (after_mcu shape bytes s read) (λ next. Ok (read.blocks, next)))) e
     ∙ ap (λ r. and_then {A = Standing} {B = List (List ℤ) × Standing} r (λ next. Ok (read.blocks, next))) f
 
 -- and then others
@@ -167,14 +167,14 @@ record McusTaken (n : ℕ) (shape : Shape) (bytes : List ℕ) (s : Standing) (bl
   agrees : Agrees s.pad pad
   k : ℕ
   total : ℕ
-  padded : end.pad ≡ pad_behind s.pad total pad
+  padded : end.pad ≡ pad_after s.pad total pad
   rest : RestOf shape pad bytes end.cursor.next s.count s.before s.cursor k mcus total
 
--- behind an MCU that ends its interval
-later_some : (all : List (List Mcu)) (slots : List Slot) (pad : Bool) (bytes : List ℕ) (behind n at place : ℕ) → 0 < length all → drop at bytes ≡ restart_marker n ++ drop place bytes → place ≡ at + 2
-    → TextOf slots pad bytes behind (n + 1) place all → Later slots pad bytes behind n all at
-later_some [] slots pad bytes behind n at place some m p t = absurd (omega (arith, some))
-later_some (i ∷ is) slots pad bytes behind n at place some m p t =
+-- after an MCU that ends its interval
+later_some : (all : List (List Mcu)) (slots : List Slot) (pad : Bool) (bytes : List ℕ) (after n at place : ℕ) → 0 < length all → drop at bytes ≡ restart_marker n ++ drop place bytes → place ≡ at + 2
+    → TextOf slots pad bytes after (n + 1) place all → Later slots pad bytes after n all at
+later_some [] slots pad bytes after n at place some m p t = absurd (omega (arith, some))
+later_some (i ∷ is) slots pad bytes after n at place some m p t =
     let g = t.2 in
     (t.0, t.1, m ∙ ap (λ (l : List ℕ). restart_marker n ++ l) g.there, (let a = g.long in omega (arith, a, p)))
 
@@ -187,9 +187,9 @@ last_mcu shape bytes s end blocks pad is count e a =
     let m = blocks_read shape.slots s.before bytes s.cursor one.read is.slots one.is in
     let over : (s.count + 1 == shape.mcus) ≡ true = eq-eqb (s.count + 1) shape.mcus count in
     let ends = ends_interval shape.interval (s.count + 1) in
-    let t = end_taken ends shape bytes s end one.read pad (sym (ap (λ (b : Bool). end_by b ends shape bytes s one.read) over) ∙ one.behind ∙ ap (λ (g : Standing). fine g) p.1) a in
+    let t = end_taken ends shape bytes s end one.read pad (sym (ap (λ (b : Bool). end_by b ends shape bytes s one.read) over) ∙ one.after ∙ ap (λ (g : Standing). fine g) p.1) a in
     let pads = t.pads in
-    let interval : intervals_behind shape.interval s.count (m.mcu ∷ []) ≡ (m.mcu ∷ []) ∷ [] = one_interval ends m.mcu in
+    let interval : intervals_after shape.interval s.count (m.mcu ∷ []) ≡ (m.mcu ∷ []) ∷ [] = one_interval ends m.mcu in
     record {
       mcus = m.mcu ∷ [];
       long = refl;
@@ -198,7 +198,7 @@ last_mcu shape bytes s end blocks pad is count e a =
       agrees = pads.agrees;
       k = pads.k;
       total = pads.k + pads_in shape.slots [];
-      padded = pads.next_is ∙ (let z : pads.k ≡ pads.k + pads_in shape.slots [] = omega arith in ap (λ (n : ℕ). pad_behind s.pad n pad) z);
+      padded = pads.next_is ∙ (let z : pads.k ≡ pads.k + pads_in shape.slots [] = omega arith in ap (λ (n : ℕ). pad_after s.pad n pad) z);
       rest = closed_rest shape pad bytes end.cursor.next s.count s.before s.cursor one.read.cursor pads.k m.mcu [] [] m.bits interval m.text m.takes pads.left (sym t.next);
     }
 
@@ -211,13 +211,13 @@ more_mcus true n shape bytes s next end first more read pad is all closes m same
     let st = place_standing t.place s.count t.known in
     let r = subst (λ (g : Standing). McusTaken (suc n) shape bytes g more pad end) t.is (later (ap (λ (g : Standing). g.count) t.is)) in
     let x = text_of_rest shape pad bytes end.cursor.next (s.count + 1) t.place r.k r.mcus r.total all r.rest in
-    let intervals = intervals_behind shape.interval (s.count + 1) r.mcus in
+    let intervals = intervals_after shape.interval (s.count + 1) r.mcus in
     let number : interval_number shape (s.count + 1) ≡ interval_number shape s.count + 1 = number_next_of (shape.interval == 0) shape.interval s.count refl closes in
     let text : TextOf shape.slots pad bytes end.cursor.next (interval_number shape s.count + 1) t.place intervals = subst (λ (k : ℕ). TextOf shape.slots pad bytes end.cursor.next k t.place intervals) number x.1 in
     let w = r.rest in
     let some : 0 < length intervals = let l = ap length w.is in omega (arith, l) in
     let pads = t.pads pad r.agrees in
-    let interval : intervals_behind shape.interval s.count (m.mcu ∷ r.mcus) ≡ (m.mcu ∷ []) ∷ intervals = ap (λ (b : Bool). if b then (m.mcu ∷ []) ∷ intervals else onto_first m.mcu intervals) closes in
+    let interval : intervals_after shape.interval s.count (m.mcu ∷ r.mcus) ≡ (m.mcu ∷ []) ∷ intervals = ap (λ (b : Bool). if b then (m.mcu ∷ []) ∷ intervals else onto_first m.mcu intervals) closes in
     record {
       mcus = m.mcu ∷ r.mcus;
       long = ap suc r.long;
@@ -227,7 +227,7 @@ more_mcus true n shape bytes s next end first more read pad is all closes m same
       k = pads.k;
       total = pads.k + pads_in shape.slots intervals;
       padded =
-          r.padded ∙ ap₂ (λ (o : Option Bool) (k : ℕ). pad_behind o k pad) pads.next_is x.0 ∙ pad_behind_more s.pad pads.k (pads_in shape.slots intervals) pad;
+          r.padded ∙ ap₂ (λ (o : Option Bool) (k : ℕ). pad_after o k pad) pads.next_is x.0 ∙ pad_after_more s.pad pads.k (pads_in shape.slots intervals) pad;
       rest = closed_rest shape pad bytes end.cursor.next s.count s.before s.cursor read.cursor pads.k m.mcu r.mcus intervals m.bits interval m.text m.takes pads.left
           (later_some intervals shape.slots pad bytes end.cursor.next (interval_number shape s.count) read.cursor.next t.place some t.marker t.place_is text);
     }
@@ -257,7 +257,7 @@ mcus_read (suc n) shape bytes s end blocks pad is all count e a =
     let m = blocks_read shape.slots s.before bytes s.cursor one.read is.slots one.is in
     let ends = ends_interval shape.interval (s.count + 1) in
     let on : (s.count + 1 == shape.mcus) ≡ false = false_from_ne_true (s.count + 1 == shape.mcus) (λ z. let h = eqb-true (s.count + 1) shape.mcus z in omega (arith, h, count)) in
-    let g : end_by false ends shape bytes s one.read ≡ Ok f.next = sym (ap (λ (b : Bool). end_by b ends shape bytes s one.read) on) ∙ one.behind in
+    let g : end_by false ends shape bytes s one.read ≡ Ok f.next = sym (ap (λ (b : Bool). end_by b ends shape bytes s one.read) on) ∙ one.after in
     let r = more_mcus ends n shape bytes s f.next end f.first f.more one.read pad is all refl m one.same g
     (λ c. mcus_read n shape bytes f.next end f.more pad is all (omega (arith, c, count)) f.others a) in
     subst (λ (b : List (List (List ℤ))). McusTaken (suc (suc n)) shape bytes s b pad end) (sym f.same) r
@@ -273,7 +273,7 @@ first_number shape = by (shape.interval == 0) where
   by false = zero-div shape.interval
 
 -- a pad bit that isn't told is 1
-told_pad : (n : ℕ) (known : Option Bool) (pad : Bool) → known ≡ pad_behind None n pad → pad ≡ unwrap_or known true → n ≡ 0 → pad ≡ true
+told_pad : (n : ℕ) (known : Option Bool) (pad : Bool) → known ≡ pad_after None n pad → pad ≡ unwrap_or known true → n ≡ 0 → pad ≡ true
 told_pad zero known pad e is none = is ∙ ap (λ (o : Option Bool). unwrap_or o true) e
 told_pad (suc n) known pad e is none = absurd (omega (arith, none))
 
@@ -284,11 +284,11 @@ unfolding scan_bytes
 spelled_by zero shape bytes place blocks end n is all within e = absurd (let h = is.mcus in omega (arith, n, h))
 spelled_by (suc n) shape bytes place blocks end count is all within e =
     let pad = unwrap_or end.pad true in
-    let behind = end.cursor.next in
+    let after = end.cursor.next in
     let r = mcus_read n shape bytes (standing_at place) end blocks pad is all (omega (arith, count)) e (agrees_known end.pad) in
-    let x = text_of_rest shape pad bytes behind 0 place r.k r.mcus r.total all r.rest in
-    let intervals = intervals_behind shape.interval 0 r.mcus in
-    let text : TextOf shape.slots pad bytes behind 0 place intervals = subst (λ (k : ℕ). TextOf shape.slots pad bytes behind k place intervals) (first_number shape) x.1 in
+    let x = text_of_rest shape pad bytes after 0 place r.k r.mcus r.total all r.rest in
+    let intervals = intervals_after shape.interval 0 r.mcus in
+    let text : TextOf shape.slots pad bytes after 0 place intervals = subst (λ (k : ℕ). TextOf shape.slots pad bytes after k place intervals) (first_number shape) x.1 in
     let g = text.2 in (
       r.mcus,
       r.same,
@@ -301,7 +301,7 @@ spelled_by (suc n) shape bytes place blocks end count is all within e =
         };
         text = g.there;
         within =
-            let a = ap length g.there in let b = length-append text.0 (drop behind bytes) in let c = length-drop place bytes in let d = length-drop behind bytes in let f = g.long in omega (arith, a, b, c, d, f, within);
+            let a = ap length g.there in let b = length-append text.0 (drop after bytes) in let c = length-drop place bytes in let d = length-drop after bytes in let f = g.long in omega (arith, a, b, c, d, f, within);
         long = g.long;
       },
     )
@@ -315,16 +315,16 @@ abbrev no_left : Cursor → Cursor
 no_left cursor = record cursor { left = [] }
 
 end_again : (ends : Bool) (shape : Shape) (bytes : List ℕ) (s : Standing) (read : BlocksRead) (pad : Bool) (k : ℕ) → Agrees s.pad pad → read.cursor.left ≡ replicate k pad
-    → end_by true ends shape bytes s read ≡ Ok (over_standing (no_left read.cursor) s.count (pad_behind s.pad k pad))
+    → end_by true ends shape bytes s read ≡ Ok (over_standing (no_left read.cursor) s.count (pad_after s.pad k pad))
 end_again ends shape bytes s read pad k a left =
     ap (λ r. and_then {A = Option Bool × Cursor} {B = Standing} r (λ padded. Ok (over_standing padded.1 s.count padded.0))) (pads_are k s.pad read.cursor pad a left)
 
 marker_again : (shape : Shape) (bytes more : List ℕ) (s : Standing) (read : BlocksRead) (pad : Bool) (k : ℕ) → Agrees s.pad pad → read.cursor.left ≡ replicate k pad
-    → drop read.cursor.next bytes ≡ restart_marker (interval_number shape s.count) ++ more → end_by false true shape bytes s read ≡ Ok (place_standing (read.cursor.next + 2) s.count (pad_behind s.pad k pad))
+    → drop read.cursor.next bytes ≡ restart_marker (interval_number shape s.count) ++ more → end_by false true shape bytes s read ≡ Ok (place_standing (read.cursor.next + 2) s.count (pad_after s.pad k pad))
 marker_again shape bytes more s read pad k a left e =
     let n = interval_number shape s.count in
     ap (λ r. and_then {A = Option Bool × Cursor} {B = Standing} r (λ padded. and_then (restart_at bytes n padded.1.next) (λ place. Ok (place_standing place s.count padded.0)))) (pads_are k s.pad read.cursor pad a left)
-    ∙ ap (λ r. and_then {A = ℕ} {B = Standing} r (λ place. Ok (place_standing place s.count (pad_behind s.pad k pad)))) (restart_again bytes more n read.cursor.next e).0
+    ∙ ap (λ r. and_then {A = ℕ} {B = Standing} r (λ place. Ok (place_standing place s.count (pad_after s.pad k pad)))) (restart_again bytes more n read.cursor.next e).0
 
 lists_same : (a b : List Mcu) (xs ys : List (List Mcu)) → a ∷ xs ≡ b ∷ ys → (a ≡ b) × (xs ≡ ys)
 lists_same a b xs ys e = (cc, cc)
@@ -334,23 +334,23 @@ list_split [] some = absurd (omega (arith, some))
 list_split (i ∷ is) some = (i, is, refl)
 
 -- the first MCU, where it ends its interval
-record ClosedMcu (shape : Shape) (pad : Bool) (bytes : List ℕ) (behind count : ℕ) (before : List ℤ) (cursor : Cursor) (k : ℕ) (mcu : Mcu) (others : List (List Mcu)) (total : ℕ) : Type 0 where
+record ClosedMcu (shape : Shape) (pad : Bool) (bytes : List ℕ) (after count : ℕ) (before : List ℤ) (cursor : Cursor) (k : ℕ) (mcu : Mcu) (others : List (List Mcu)) (total : ℕ) : Type 0 where
   bits : List Bool
   text : blocks_text shape.slots before mcu ≡ Ok bits
   to : Cursor
   takes : Takes bytes cursor bits to
   left : to.left ≡ replicate k pad
-  later : Later shape.slots pad bytes behind (interval_number shape count) others to.next
+  later : Later shape.slots pad bytes after (interval_number shape count) others to.next
   sum : total ≡ k + pads_in shape.slots others
 
-closed_parts : (shape : Shape) (pad : Bool) (bytes : List ℕ) (behind count : ℕ) (before : List ℤ) (cursor : Cursor) (k : ℕ) (mcu : Mcu) (mcus : List Mcu) (others : List (List Mcu)) (total : ℕ)
-    → RestOf shape pad bytes behind count before cursor k (mcu ∷ mcus) total → intervals_behind shape.interval count (mcu ∷ mcus) ≡ (mcu ∷ []) ∷ others
-    → ClosedMcu shape pad bytes behind count before cursor k mcu others total
-closed_parts shape pad bytes behind count before cursor k mcu mcus others total r is =
+closed_parts : (shape : Shape) (pad : Bool) (bytes : List ℕ) (after count : ℕ) (before : List ℤ) (cursor : Cursor) (k : ℕ) (mcu : Mcu) (mcus : List Mcu) (others : List (List Mcu)) (total : ℕ)
+    → RestOf shape pad bytes after count before cursor k (mcu ∷ mcus) total → intervals_after shape.interval count (mcu ∷ mcus) ≡ (mcu ∷ []) ∷ others
+    → ClosedMcu shape pad bytes after count before cursor k mcu others total
+closed_parts shape pad bytes after count before cursor k mcu mcus others total r is =
     let p = lists_same r.first (mcu ∷ []) r.others others (sym r.is ∙ is) in
     let n = interval_number shape count in
-    let a = subst (λ (f : List Mcu). Rest shape.slots pad bytes behind n before cursor k f r.others) p.0 r.rest in
-    let w = subst (λ (o : List (List Mcu)). Rest shape.slots pad bytes behind n before cursor k (mcu ∷ []) o) p.1 a in
+    let a = subst (λ (f : List Mcu). Rest shape.slots pad bytes after n before cursor k f r.others) p.0 r.rest in
+    let w = subst (λ (o : List (List Mcu)). Rest shape.slots pad bytes after n before cursor k (mcu ∷ []) o) p.1 a in
     record {
       bits = w.bits;
       text = sym (ap₂ (λ (s : List Slot) (b : Mcu). blocks_text s before b) (append-nil shape.slots) (append-nil mcu)) ∙ w.text;
@@ -362,24 +362,24 @@ closed_parts shape pad bytes behind count before cursor k mcu mcus others total 
     }
 
 -- and where the interval goes on
-record OnMcu (shape : Shape) (pad : Bool) (bytes : List ℕ) (behind count : ℕ) (before : List ℤ) (cursor : Cursor) (k : ℕ) (mcu : Mcu) (mcus : List Mcu) (total : ℕ) : Type 0 where
+record OnMcu (shape : Shape) (pad : Bool) (bytes : List ℕ) (after count : ℕ) (before : List ℤ) (cursor : Cursor) (k : ℕ) (mcu : Mcu) (mcus : List Mcu) (total : ℕ) : Type 0 where
   bits : List Bool
   text : blocks_text shape.slots before mcu ≡ Ok bits
   mid : Cursor
   takes : Takes bytes cursor bits mid
-  rest : RestOf shape pad bytes behind (count + 1) (behind_blocks shape.slots before mcu) mid k mcus total
+  rest : RestOf shape pad bytes after (count + 1) (dcs_after shape.slots before mcu) mid k mcus total
 
-on_parts : (shape : Shape) (pad : Bool) (bytes : List ℕ) (behind count : ℕ) (before : List ℤ) (cursor : Cursor) (k : ℕ) (mcu : Mcu) (mcus first : List Mcu) (others : List (List Mcu)) (total : ℕ)
-    → length shape.slots ≡ length mcu → ends_interval shape.interval (count + 1) ≡ false → intervals_behind shape.interval (count + 1) mcus ≡ first ∷ others
-    → RestOf shape pad bytes behind count before cursor k (mcu ∷ mcus) total → OnMcu shape pad bytes behind count before cursor k mcu mcus total
-on_parts shape pad bytes behind count before cursor k mcu mcus first others total size on is r =
-    let whole : intervals_behind shape.interval count (mcu ∷ mcus) ≡ (mcu ∷ first) ∷ others =
-    ap (λ (t : Bool). if t then (mcu ∷ []) ∷ intervals_behind shape.interval (count + 1) mcus else onto_first mcu (intervals_behind shape.interval (count + 1) mcus)) on ∙ ap (onto_first mcu) is in
+on_parts : (shape : Shape) (pad : Bool) (bytes : List ℕ) (after count : ℕ) (before : List ℤ) (cursor : Cursor) (k : ℕ) (mcu : Mcu) (mcus first : List Mcu) (others : List (List Mcu)) (total : ℕ)
+    → length shape.slots ≡ length mcu → ends_interval shape.interval (count + 1) ≡ false → intervals_after shape.interval (count + 1) mcus ≡ first ∷ others
+    → RestOf shape pad bytes after count before cursor k (mcu ∷ mcus) total → OnMcu shape pad bytes after count before cursor k mcu mcus total
+on_parts shape pad bytes after count before cursor k mcu mcus first others total size on is r =
+    let whole : intervals_after shape.interval count (mcu ∷ mcus) ≡ (mcu ∷ first) ∷ others =
+    ap (λ (t : Bool). if t then (mcu ∷ []) ∷ intervals_after shape.interval (count + 1) mcus else onto_first mcu (intervals_after shape.interval (count + 1) mcus)) on ∙ ap (onto_first mcu) is in
     let p = lists_same r.first (mcu ∷ first) r.others others (sym r.is ∙ whole) in
     let n = interval_number shape count in
-    let a = subst (λ (f : List Mcu). Rest shape.slots pad bytes behind n before cursor k f r.others) p.0 r.rest in
-    let w = subst (λ (o : List (List Mcu)). Rest shape.slots pad bytes behind n before cursor k (mcu ∷ first) o) p.1 a in
-    let d = behind_blocks shape.slots before mcu in
+    let a = subst (λ (f : List Mcu). Rest shape.slots pad bytes after n before cursor k f r.others) p.0 r.rest in
+    let w = subst (λ (o : List (List Mcu)). Rest shape.slots pad bytes after n before cursor k (mcu ∷ first) o) p.1 a in
+    let d = dcs_after shape.slots before mcu in
     let t = text_parts (blocks_text shape.slots before mcu) (blocks_text (slots_for shape.slots first) d (blocks_in first)) w.bits
     (sym (text_in_parts shape.slots (slots_for shape.slots first) before mcu (blocks_in first) size) ∙ w.text) in
     let x = takes_split bytes cursor w.to t.0 t.1 (subst (λ (l : List Bool). Takes bytes cursor l w.to) t.4 w.takes) in
@@ -399,30 +399,30 @@ on_parts shape pad bytes behind count before cursor k mcu mcus first others tota
           to = w.to;
           takes = x.2;
           left = w.left;
-          later = subst (λ (m : ℕ). Later shape.slots pad bytes behind m others w.to.next) (sym same) w.later;
+          later = subst (λ (m : ℕ). Later shape.slots pad bytes after m others w.to.next) (sym same) w.later;
         };
         sum = r.sum ∙ ap (λ (o : List (List Mcu)). k + pads_in shape.slots o) p.1;
       };
     }
 
-record McusAgain (n : ℕ) (shape : Shape) (bytes : List ℕ) (s : Standing) (blocks : List (List (List ℤ))) (behind : ℕ) (pad : Bool) (total : ℕ) : Type 0 where
+record McusAgain (n : ℕ) (shape : Shape) (bytes : List ℕ) (s : Standing) (blocks : List (List (List ℤ))) (after : ℕ) (pad : Bool) (total : ℕ) : Type 0 where
   end : Standing
   is : mcus_at n shape bytes s ≡ Ok (blocks, end)
-  next : end.cursor.next ≡ behind
-  padded : end.pad ≡ pad_behind s.pad total pad
+  next : end.cursor.next ≡ after
+  padded : end.pad ≡ pad_after s.pad total pad
 
 abbrev read_of : List Slot → List ℤ → Mcu → Cursor → BlocksRead
-read_of slots before mcu cursor = record { blocks = map in_zigzag mcu; before = behind_blocks slots before mcu; cursor = cursor }
+read_of slots before mcu cursor = record { blocks = map in_zigzag mcu; before = dcs_after slots before mcu; cursor = cursor }
 
-last_again : (shape : Shape) (bytes : List ℕ) (s : Standing) (mcu : Mcu) (pad : Bool) (behind k total : ℕ) → IsShape shape → IsMcu shape.slots mcu → s.count + 1 ≡ shape.mcus → Agrees s.pad pad
-    → RestOf shape pad bytes behind s.count s.before s.cursor k (mcu ∷ []) total → McusAgain 1 shape bytes s (zigzag_of (mcu ∷ [])) behind pad total
-last_again shape bytes s mcu pad behind k total is one count a r =
+last_again : (shape : Shape) (bytes : List ℕ) (s : Standing) (mcu : Mcu) (pad : Bool) (after k total : ℕ) → IsShape shape → IsMcu shape.slots mcu → s.count + 1 ≡ shape.mcus → Agrees s.pad pad
+    → RestOf shape pad bytes after s.count s.before s.cursor k (mcu ∷ []) total → McusAgain 1 shape bytes s (zigzag_of (mcu ∷ [])) after pad total
+last_again shape bytes s mcu pad after k total is one count a r =
     let ends = ends_interval shape.interval (s.count + 1) in
-    let c = closed_parts shape pad bytes behind s.count s.before s.cursor k mcu [] [] total r (one_interval ends mcu) in
+    let c = closed_parts shape pad bytes after s.count s.before s.cursor k mcu [] [] total r (one_interval ends mcu) in
     let read = read_of shape.slots s.before mcu c.to in
     let blocks = blocks_again shape.slots s.before mcu bytes c.bits s.cursor c.to is.slots one.1 one.0 c.text c.takes in
     let over : (s.count + 1 == shape.mcus) ≡ true = eq-eqb (s.count + 1) shape.mcus count in
-    let end = over_standing (no_left c.to) s.count (pad_behind s.pad k pad) in
+    let end = over_standing (no_left c.to) s.count (pad_after s.pad k pad) in
     let sum = c.sum in
     let same : k ≡ total = omega (arith, sum) in
     record {
@@ -431,56 +431,56 @@ last_again shape bytes s mcu pad behind k total is one count a r =
           mcus_more 0 shape bytes s end end (map in_zigzag mcu) []
           (mcu_again shape bytes s end read blocks (ap (λ (b : Bool). end_by b ends shape bytes s read) over ∙ end_again ends shape bytes s read pad k a c.left)) (no_mcus shape bytes end);
       next = c.later;
-      padded = ap (λ (n : ℕ). pad_behind s.pad n pad) same;
+      padded = ap (λ (n : ℕ). pad_after s.pad n pad) same;
     }
 
-some_text : (all : List (List Mcu)) (slots : List Slot) (pad : Bool) (bytes : List ℕ) (behind n at : ℕ) → 0 < length all → Later slots pad bytes behind n all at
-    → (text : List ℕ) × (all_bytes slots pad (n + 1) all ≡ Ok text) × (drop at bytes ≡ restart_marker n ++ (text ++ drop behind bytes)) × (behind ≡ at + (2 + length text))
-some_text [] slots pad bytes behind n at some l = absurd (omega (arith, some))
-some_text (i ∷ is) slots pad bytes behind n at some l = l
+some_text : (all : List (List Mcu)) (slots : List Slot) (pad : Bool) (bytes : List ℕ) (after n at : ℕ) → 0 < length all → Later slots pad bytes after n all at
+    → (text : List ℕ) × (all_bytes slots pad (n + 1) all ≡ Ok text) × (drop at bytes ≡ restart_marker n ++ (text ++ drop after bytes)) × (after ≡ at + (2 + length text))
+some_text [] slots pad bytes after n at some l = absurd (omega (arith, some))
+some_text (i ∷ is) slots pad bytes after n at some l = l
 
 -- an MCU before others, by whether it ends its interval
-more_again : (ends : Bool) (n : ℕ) (shape : Shape) (bytes : List ℕ) (s : Standing) (mcu next : Mcu) (mcus : List Mcu) (pad : Bool) (behind k total : ℕ) → IsShape shape → IsMcu shape.slots mcu
-    → (s.count + 1 == shape.mcus) ≡ false → ends_interval shape.interval (s.count + 1) ≡ ends → Agrees s.pad pad → RestOf shape pad bytes behind s.count s.before s.cursor k (mcu ∷ next ∷ mcus) total
-    → ((t : Standing) (j all : ℕ) → t.count ≡ s.count + 1 → Agrees t.pad pad → RestOf shape pad bytes behind t.count t.before t.cursor j (next ∷ mcus) all
-    → McusAgain n shape bytes t (zigzag_of (next ∷ mcus)) behind pad all)
-    → McusAgain (suc n) shape bytes s (zigzag_of (mcu ∷ next ∷ mcus)) behind pad total
-more_again true n shape bytes s mcu next mcus pad behind k total is one on closes a r later =
-    let intervals = intervals_behind shape.interval (s.count + 1) (next ∷ mcus) in
+more_again : (ends : Bool) (n : ℕ) (shape : Shape) (bytes : List ℕ) (s : Standing) (mcu next : Mcu) (mcus : List Mcu) (pad : Bool) (after k total : ℕ) → IsShape shape → IsMcu shape.slots mcu
+    → (s.count + 1 == shape.mcus) ≡ false → ends_interval shape.interval (s.count + 1) ≡ ends → Agrees s.pad pad → RestOf shape pad bytes after s.count s.before s.cursor k (mcu ∷ next ∷ mcus) total
+    → ((t : Standing) (j all : ℕ) → t.count ≡ s.count + 1 → Agrees t.pad pad → RestOf shape pad bytes after t.count t.before t.cursor j (next ∷ mcus) all
+    → McusAgain n shape bytes t (zigzag_of (next ∷ mcus)) after pad all)
+    → McusAgain (suc n) shape bytes s (zigzag_of (mcu ∷ next ∷ mcus)) after pad total
+more_again true n shape bytes s mcu next mcus pad after k total is one on closes a r later =
+    let intervals = intervals_after shape.interval (s.count + 1) (next ∷ mcus) in
     let some = intervals_some shape.interval (s.count + 1) next mcus in
-    let c = closed_parts shape pad bytes behind s.count s.before s.cursor k mcu (next ∷ mcus) intervals total r
+    let c = closed_parts shape pad bytes after s.count s.before s.cursor k mcu (next ∷ mcus) intervals total r
     (ap (λ (b : Bool). if b then (mcu ∷ []) ∷ intervals else onto_first mcu intervals) closes) in
     let read = read_of shape.slots s.before mcu c.to in
     let blocks = blocks_again shape.slots s.before mcu bytes c.bits s.cursor c.to is.slots one.1 one.0 c.text c.takes in
-    let t = some_text intervals shape.slots pad bytes behind (interval_number shape s.count) c.to.next some c.later in
-    let marker = restart_again bytes (t.0 ++ drop behind bytes) (interval_number shape s.count) c.to.next t.2 in
-    let known = pad_behind s.pad k pad in
+    let t = some_text intervals shape.slots pad bytes after (interval_number shape s.count) c.to.next some c.later in
+    let marker = restart_again bytes (t.0 ++ drop after bytes) (interval_number shape s.count) c.to.next t.2 in
+    let known = pad_after s.pad k pad in
     let place = c.to.next + 2 in
     let st = place_standing place s.count known in
     let number : interval_number shape (s.count + 1) ≡ interval_number shape s.count + 1 = number_next_of (shape.interval == 0) shape.interval s.count refl closes in
     let long = t.3 in
-    let goes : Goes bytes place t.0 behind = record { there = marker.1; long = omega (arith, long) } in
-    let text : TextOf shape.slots pad bytes behind (interval_number shape (s.count + 1)) place intervals =
+    let goes : HasWritten bytes place t.0 after = record { there = marker.1; long = omega (arith, long) } in
+    let text : TextOf shape.slots pad bytes after (interval_number shape (s.count + 1)) place intervals =
     (t.0, ap (λ (m : ℕ). all_bytes shape.slots pad m intervals) number ∙ t.1, goes) in
     let f = list_split intervals some in
-    let rest = rest_of_text shape pad bytes behind (s.count + 1) place (next ∷ mcus) f.0 f.1 f.2 text in
-    let l = later st (pads_behind (mcus_bits shape.slots f.0)) (pads_in shape.slots intervals) refl (agrees_behind s.pad k pad a) rest in
+    let rest = rest_of_text shape pad bytes after (s.count + 1) place (next ∷ mcus) f.0 f.1 f.2 text in
+    let l = later st (pad_bits_of (mcus_bits shape.slots f.0)) (pads_in shape.slots intervals) refl (agrees_after s.pad k pad a) rest in
     record {
       end = l.end;
       is =
           mcus_more n shape bytes s st l.end (map in_zigzag mcu) (zigzag_of (next ∷ mcus))
           (mcu_again shape bytes s st read blocks (ap (λ (b : Bool). end_by b (ends_interval shape.interval (s.count + 1)) shape bytes s read) on ∙ ap (λ (b : Bool). end_by false b shape bytes s read) closes
-          ∙ marker_again shape bytes (t.0 ++ drop behind bytes) s read pad k a c.left t.2)) l.is;
+          ∙ marker_again shape bytes (t.0 ++ drop after bytes) s read pad k a c.left t.2)) l.is;
       next = l.next;
-      padded = l.padded ∙ pad_behind_more s.pad k (pads_in shape.slots intervals) pad ∙ ap (λ (m : ℕ). pad_behind s.pad m pad) (sym c.sum);
+      padded = l.padded ∙ pad_after_more s.pad k (pads_in shape.slots intervals) pad ∙ ap (λ (m : ℕ). pad_after s.pad m pad) (sym c.sum);
     }
-more_again false n shape bytes s mcu next mcus pad behind k total is one on goes_on a r later =
-    let intervals = intervals_behind shape.interval (s.count + 1) (next ∷ mcus) in
+more_again false n shape bytes s mcu next mcus pad after k total is one on goes_on a r later =
+    let intervals = intervals_after shape.interval (s.count + 1) (next ∷ mcus) in
     let f = list_split intervals (intervals_some shape.interval (s.count + 1) next mcus) in
-    let c = on_parts shape pad bytes behind s.count s.before s.cursor k mcu (next ∷ mcus) f.0 f.1 total (sym one.0) goes_on f.2 r in
+    let c = on_parts shape pad bytes after s.count s.before s.cursor k mcu (next ∷ mcus) f.0 f.1 total (sym one.0) goes_on f.2 r in
     let read = read_of shape.slots s.before mcu c.mid in
     let blocks = blocks_again shape.slots s.before mcu bytes c.bits s.cursor c.mid is.slots one.1 one.0 c.text c.takes in
-    let st = on_standing c.mid (behind_blocks shape.slots s.before mcu) s.count s.pad in
+    let st = on_standing c.mid (dcs_after shape.slots s.before mcu) s.count s.pad in
     let l = later st k total refl a c.rest in
     record {
       end = l.end;
@@ -491,37 +491,37 @@ more_again false n shape bytes s mcu next mcus pad behind k total is one on goes
       padded = l.padded;
     }
 
-mcus_again : (mcus : List Mcu) (mcu : Mcu) (shape : Shape) (bytes : List ℕ) (s : Standing) (pad : Bool) (behind k total : ℕ) → IsShape shape → AllByRecursion (IsMcu shape.slots) (mcu ∷ mcus)
-    → s.count + suc (length mcus) ≡ shape.mcus → Agrees s.pad pad → RestOf shape pad bytes behind s.count s.before s.cursor k (mcu ∷ mcus) total
-    → McusAgain (suc (length mcus)) shape bytes s (zigzag_of (mcu ∷ mcus)) behind pad total
-mcus_again [] mcu shape bytes s pad behind k total is each count a r = last_again shape bytes s mcu pad behind k total is each.0 count a r
-mcus_again (next ∷ mcus) mcu shape bytes s pad behind k total is each count a r =
+mcus_again : (mcus : List Mcu) (mcu : Mcu) (shape : Shape) (bytes : List ℕ) (s : Standing) (pad : Bool) (after k total : ℕ) → IsShape shape → AllByRecursion (IsMcu shape.slots) (mcu ∷ mcus)
+    → s.count + suc (length mcus) ≡ shape.mcus → Agrees s.pad pad → RestOf shape pad bytes after s.count s.before s.cursor k (mcu ∷ mcus) total
+    → McusAgain (suc (length mcus)) shape bytes s (zigzag_of (mcu ∷ mcus)) after pad total
+mcus_again [] mcu shape bytes s pad after k total is each count a r = last_again shape bytes s mcu pad after k total is each.0 count a r
+mcus_again (next ∷ mcus) mcu shape bytes s pad after k total is each count a r =
     let on : (s.count + 1 == shape.mcus) ≡ false = false_from_ne_true (s.count + 1 == shape.mcus) (λ z. let h = eqb-true (s.count + 1) shape.mcus z in omega (arith, h, count)) in
-    more_again (ends_interval shape.interval (s.count + 1)) (suc (length mcus)) shape bytes s mcu next mcus pad behind k total is each.0 on refl a r
-    (λ t j all c b rest. mcus_again mcus next shape bytes t pad behind j all is each.1 (omega (arith, c, count)) b rest)
+    more_again (ends_interval shape.interval (s.count + 1)) (suc (length mcus)) shape bytes s mcu next mcus pad after k total is each.0 on refl a r
+    (λ t j all c b rest. mcus_again mcus next shape bytes t pad after j all is each.1 (omega (arith, c, count)) b rest)
 
-pad_told : (n : ℕ) (known : Option Bool) (pad : Bool) → known ≡ pad_behind None n pad → (n ≡ 0 → pad ≡ true) → unwrap_or known true ≡ pad
+pad_told : (n : ℕ) (known : Option Bool) (pad : Bool) → known ≡ pad_after None n pad → (n ≡ 0 → pad ≡ true) → unwrap_or known true ≡ pad
 pad_told zero known pad e told = ap (λ (o : Option Bool). unwrap_or o true) e ∙ sym (told refl)
 pad_told (suc n) known pad e told = ap (λ (o : Option Bool). unwrap_or o true) e
 
-again_by : (mcus : List Mcu) (shape : Shape) (bytes : List ℕ) (place behind : ℕ) (pad : Bool) → IsShape shape → Begins shape mcus pad bytes place behind
-    → (end : Standing) × (scan_at shape bytes place ≡ Ok (zigzag_of mcus, end)) × (end.cursor.next ≡ behind) × (unwrap_or end.pad true ≡ pad)
+again_by : (mcus : List Mcu) (shape : Shape) (bytes : List ℕ) (place after : ℕ) (pad : Bool) → IsShape shape → Begins shape mcus pad bytes place after
+    → (end : Standing) × (scan_at shape bytes place ≡ Ok (zigzag_of mcus, end)) × (end.cursor.next ≡ after) × (unwrap_or end.pad true ≡ pad)
 unfolding scan_bytes
-again_by [] shape bytes place behind pad is b = absurd (let h = b.is.grid.count in let m = is.mcus in omega (arith, h, m))
-again_by (mcu ∷ mcus) shape bytes place behind pad is b =
+again_by [] shape bytes place after pad is b = absurd (let h = b.is.grid.count in let m = is.mcus in omega (arith, h, m))
+again_by (mcu ∷ mcus) shape bytes place after pad is b =
     let all = mcu ∷ mcus in
     let w = b.is in
     let count = w.grid.count in
-    let intervals = intervals_behind shape.interval 0 all in
+    let intervals = intervals_after shape.interval 0 all in
     let f = list_split intervals (intervals_some shape.interval 0 mcu mcus) in
-    let goes : Goes bytes place b.scan behind = record { there = b.text; long = b.long } in
-    let text : TextOf shape.slots pad bytes behind (interval_number shape 0) place intervals = (b.scan, ap (λ (n : ℕ). all_bytes shape.slots pad n intervals) (first_number shape) ∙ w.text, goes) in
-    let rest = rest_of_text shape pad bytes behind 0 place all f.0 f.1 f.2 text in
-    let r = mcus_again mcus mcu shape bytes (standing_at place) pad behind (pads_behind (mcus_bits shape.slots f.0)) (pads_in shape.slots intervals) is w.grid.each (omega (arith, count)) tt rest in
+    let goes : HasWritten bytes place b.scan after = record { there = b.text; long = b.long } in
+    let text : TextOf shape.slots pad bytes after (interval_number shape 0) place intervals = (b.scan, ap (λ (n : ℕ). all_bytes shape.slots pad n intervals) (first_number shape) ∙ w.text, goes) in
+    let rest = rest_of_text shape pad bytes after 0 place all f.0 f.1 f.2 text in
+    let r = mcus_again mcus mcu shape bytes (standing_at place) pad after (pad_bits_of (mcus_bits shape.slots f.0)) (pads_in shape.slots intervals) is w.grid.each (omega (arith, count)) tt rest in
     (r.end, ap (λ (n : ℕ). mcus_at n shape bytes (standing_at place)) (sym count) ∙ r.is, r.next, pad_told (pads_in shape.slots intervals) r.end.pad pad r.padded w.told)
 
 pub read_again : IsReadAgain
-read_again shape bytes place behind mcus pad is b = again_by mcus shape bytes place behind pad is b
+read_again shape bytes place after mcus pad is b = again_by mcus shape bytes place after pad is b
 
 -- ---- bytes tell the scan
 
@@ -559,13 +559,13 @@ same_length (c ∷ a) (d ∷ b) x y h e =
 -- a scan at the head of bytes
 head_begins : (shape : Shape) (mcus : List Mcu) (pad : Bool) (a x bytes : List ℕ) → IsScan shape mcus pad a → bytes ≡ a ++ x → Begins shape mcus pad bytes 0 (length a)
 head_begins shape mcus pad a x bytes is e =
-    let behind : drop (length a) bytes ≡ x = ap (drop (length a)) e ∙ drop_at a x (length a) refl in
+    let after : drop (length a) bytes ≡ x = ap (drop (length a)) e ∙ drop_at a x (length a) refl in
     let long = ap length e in
     let sum = length-append a x in
     record {
       scan = a;
       is = is;
-      text = e ∙ ap (λ (l : List ℕ). a ++ l) (sym behind);
+      text = e ∙ ap (λ (l : List ℕ). a ++ l) (sym after);
       within = omega (arith, long, sum);
       long = omega arith;
     }

@@ -3,15 +3,16 @@ use Rattle.std.proofs.Common.{◌≡◌, ℕ, zero, suc, ◌+◌, ◌*◌, ◌/�
 use Rattle.std.specs.List.{AllByRecursion}
 use Rattle.std.proofs.lemmas.Bool.{cases_eq, cases_lt}
 use Rattle.coef_block.specs.Block.{IsBlock}
-use Rattle.jpeg_marker.specs.Tables.{TableFields, IsTable}
+use Rattle.jpeg_marker.specs.HuffmanTables.{TableFields, IsTable}
 use Rattle.huff_table.proofs.Lookup.{word_size}
-use Rattle.scan_text.specs.Values.{size, mag}
-use Rattle.scan_text.specs.BlockBits.{word_text, value_text, zeros_text, coefficient_text, ac_text, dc_text, value_at, ac_values, block_text}
-use Rattle.scan_text.specs.Blocks.{last_dc, behind_block, blocks_text}
+use Rattle.coef_block.specs.Categories.{category as size}
+use Rattle.scan_text.specs.ValueBits.{mag}
+use Rattle.scan_text.specs.BlockBits.{word_text, value_text, zeros_text, coefficient_text, ac_text, dc_text, coefficient_at, ac_values, block_text}
+use Rattle.scan_text.specs.Blocks.{last_dc, dcs_after_block, blocks_text}
 use Rattle.scan_text.specs.ScanLaws.{IsSlot, TextsAreShort}
 use Rattle.scan_text.specs.declared.slot.Slot.{Slot}
 use Rattle.scan_text.specs.declared.stop.WriteStop.TheVariants.{DiffRange}
-use Rattle.scan_text.proofs.Values.{length-mag, small_size}
+use Rattle.scan_text.proofs.ValueLemmas.{length-mag, small_size}
 use Rattle.scan_text.proofs.Words.{ac_zero, ac_value, ac_full, ac_end, dc_far, dc_near, block_is, length-ac_values}
 use Rattle.scan_text.proofs.AcsRead.{IsAc}
 use Rattle.scan_text.proofs.AcsAgain.{same_text, stopped, text_parts, word_there, value_there}
@@ -77,8 +78,8 @@ dc_few table before dc bits is e =
 -- the bits of a block
 pub block_few : (slot : Slot) (before : ℤ) (block : List ℤ) (bits : List Bool) → IsSlot slot → IsBlock block → block_text slot.codes before block ≡ Ok bits → length bits ≤ 1665
 block_few slot before block bits is fits e =
-    let p = text_parts (dc_text slot.codes.dc before (value_at block 0)) (ac_text slot.codes.ac 0 (ac_values block)) bits (sym (block_is slot.codes before block) ∙ e) in
-    let a = dc_few slot.codes.dc before (value_at block 0) p.0 is.dc p.2 in
+    let p = text_parts (dc_text slot.codes.dc before (coefficient_at block 0)) (ac_text slot.codes.ac 0 (ac_values block)) bits (sym (block_is slot.codes before block) ∙ e) in
+    let a = dc_few slot.codes.dc before (coefficient_at block 0) p.0 is.dc p.2 in
     let b = acs_few (ac_values block) slot.codes.ac 0 p.1 is.ac (acs_small block fits) p.3 in
     let c = length-ac_values block in
     let d = ap length p.4 in
@@ -90,9 +91,9 @@ unfolding blocks_text
 short [] before blocks bits all each e = let h = ap length (same_text [] bits e) in omega (arith, h)
 short (slot ∷ slots) before [] bits all each e = let h = ap length (same_text [] bits e) in omega (arith, h)
 short (slot ∷ slots) before (block ∷ blocks) bits all each e =
-    let p = text_parts (block_text slot.codes (last_dc before slot) block) (blocks_text slots (behind_block before slot block) blocks) bits e in
+    let p = text_parts (block_text slot.codes (last_dc before slot) block) (blocks_text slots (dcs_after_block before slot block) blocks) bits e in
     let a = block_few slot (last_dc before slot) block p.0 all.0 each.0 p.2 in
-    let b = short slots (behind_block before slot block) blocks p.1 all.1 each.1 p.3 in
+    let b = short slots (dcs_after_block before slot block) blocks p.1 all.1 each.1 p.3 in
     let c = ap length p.4 in
     let d = length-append p.0 p.1 in
     omega (arith, a, b, c, d)

@@ -8,10 +8,11 @@ use Rattle.coef_block.specs.Block.{IsCoefficient}
 use Rattle.std.proofs.lemmas.Bool.Decides.{nat_tests}
 use Rattle.std.proofs.lemmas.Nat.Bits.{shr_and_one}
 use Rattle.bit_list.specs.Bits.{low_bits}
-use Rattle.jpeg_marker.specs.Tables.{TableFields}
+use Rattle.jpeg_marker.specs.HuffmanTables.{TableFields}
 use Rattle.huff_table.specs.CodeWords.{word_of}
-use Rattle.scan_text.specs.Values.{size, mag}
-use Rattle.scan_text.specs.BlockBits.{then_text, block_text, coded_word, word_text, value_text, zeros_text, coefficient_text, ac_text, dc_text, value_at, ac_values}
+use Rattle.coef_block.specs.Categories.{category as size}
+use Rattle.scan_text.specs.ValueBits.{mag}
+use Rattle.scan_text.specs.BlockBits.{then_text, block_text, coded_word, word_text, value_text, zeros_text, coefficient_text, ac_text, dc_text, coefficient_at, ac_values}
 use Rattle.huff_table.specs.declared.plan_codes.ComponentCodes.{ComponentCodes}
 use Rattle.scan_text.specs.declared.stop.WriteStop.TheVariants.{NoCode, DiffRange}
 
@@ -90,7 +91,7 @@ unfolding dc_text
 dc_near table before dc h =
     ap (λ test. if test then Err DiffRange else value_text table (size (unsigned_abs (dc -ℤ before))) (dc -ℤ before)) (within _ h)
 
-pub value_is : (block : List ℤ) (place : ℕ) (value : ℤ) → slice_get block place ≡ Some value → value_at block place ≡ value
+pub value_is : (block : List ℤ) (place : ℕ) (value : ℤ) → slice_get block place ≡ Some value → coefficient_at block place ≡ value
 value_is block place value e = get_or_from_slice_get block place value (pos 0) e
 
 -- the next AC coefficient
@@ -98,11 +99,11 @@ pub length-ac_values : (block : List ℤ) → length (ac_values block) ≡ 63
 unfolding ac_values
 length-ac_values block = refl
 
-ac_at : (block : List ℤ) (i : ℕ) → i < 63 → get_or (ac_values block) i (pos 0) ≡ value_at block (get_or zigzag (i + 1) 0)
+ac_at : (block : List ℤ) (i : ℕ) → i < 63 → get_or (ac_values block) i (pos 0) ≡ coefficient_at block (get_or zigzag (i + 1) 0)
 unfolding ac_values
 ac_at block i below =
     let n : 1 + i ≡ i + 1 = omega arith in
-    get_or-map (value_at block) (drop 1 zigzag) i 0 (pos 0) below ∙ ap (value_at block) (get_or-drop 1 zigzag i 0 ∙ ap (λ k. get_or zigzag k 0) n)
+    get_or-map (coefficient_at block) (drop 1 zigzag) i 0 (pos 0) below ∙ ap (coefficient_at block) (get_or-drop 1 zigzag i 0 ∙ ap (λ k. get_or zigzag k 0) n)
 
 pub ac_next : (block : List ℤ) (index place : ℕ) (value : ℤ) → 1 ≤ index → index < 64 → place ≡ get_or zigzag index 0 → slice_get block place ≡ Some value
     → drop (index - 1) (ac_values block) ≡ value ∷ drop index (ac_values block)
@@ -112,14 +113,14 @@ ac_next block index place value some below is stands =
     let within : index - 1 < length (ac_values block) = omega arith in
     drop-cons (ac_values block) (index - 1) (pos 0) within
     ∙ ap₂ (λ (v : ℤ) (n : ℕ). v ∷ drop n (ac_values block))
-    (ac_at block (index - 1) (omega arith) ∙ ap (λ n. value_at block (get_or zigzag n 0)) (sym i) ∙ ap (value_at block) (sym is) ∙ value_is block place value stands)
+    (ac_at block (index - 1) (omega arith) ∙ ap (λ n. coefficient_at block (get_or zigzag n 0)) (sym i) ∙ ap (coefficient_at block) (sym is) ∙ value_is block place value stands)
     (sym (add-one (index - 1)) ∙ sym i)
 
 pub no_more : (block : List ℤ) (index : ℕ) → 64 ≤ index → drop (index - 1) (ac_values block) ≡ []
 no_more block index h = drop_all (index - 1) (ac_values block) (omega (arith, length-ac_values block))
 
 -- a block's text is its DC's and then its AC coefficients'
-pub block_is : (codes : ComponentCodes) (before : ℤ) (block : List ℤ) → block_text codes before block ≡ then_text (dc_text codes.dc before (value_at block 0)) (ac_text codes.ac 0 (ac_values block))
+pub block_is : (codes : ComponentCodes) (before : ℤ) (block : List ℤ) → block_text codes before block ≡ then_text (dc_text codes.dc before (coefficient_at block 0)) (ac_text codes.ac 0 (ac_values block))
 unfolding block_text
 block_is codes before block = refl
 

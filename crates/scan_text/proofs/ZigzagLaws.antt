@@ -5,7 +5,7 @@ use Rattle.std.proofs.lemmas.Bool.{eqb-true, cases_eq, agree_below_at}
 use Rattle.std.proofs.lemmas.Bool.Decides.{nat_tests}
 use Rattle.std.proofs.lemmas.List.{drop_all, get_or-map, get_or-set_same, get_or-set_other, length-set}
 use Rattle.coef_block.specs.Zigzag.{zigzag}
-use Rattle.scan_text.specs.BlockBits.{value_at, ac_values}
+use Rattle.scan_text.specs.BlockBits.{coefficient_at, ac_values}
 use Rattle.scan_text.specs.ScanReading.{in_zigzag}
 use Rattle.scan_text.specs.ScanLaws.{ZigzagTells, IsSetInZigzag}
 
@@ -80,7 +80,7 @@ index_again j below = eqb-true (get_or indexes (get_or zigzag j 0) 0) j (agree_b
 
 zigzag_at : (block : List ℤ) (j : ℕ) → j < 64 → get_or (in_zigzag block) j (pos 0) ≡ get_or block (get_or zigzag j 0) (pos 0)
 unfolding ac_values
-zigzag_at block j below = get_or-map (value_at block) zigzag j 0 (pos 0) below
+zigzag_at block j below = get_or-map (coefficient_at block) zigzag j 0 (pos 0) below
 
 set_item : (block : List ℤ) (index j : ℕ) (value : ℤ) → length block ≡ 64 → index < 64 → j < 64
     → get_or (in_zigzag (set block (get_or zigzag index 0) value)) j (pos 0) ≡ get_or (set (in_zigzag block) index value) j (pos 0)

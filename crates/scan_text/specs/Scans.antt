@@ -13,15 +13,16 @@ use Rattle.scan_text.specs.declared.stop.WriteStop.{WriteStop}
 abbrev pub Mcu : Type 0
 Mcu = List (List ℤ)
 
--- the DCs before the first blocks of an interval, by place in the frame (F.1.1.5.1)
+-- the DCs before the first blocks of an interval, by the component's index in the frame (F.1.1.5.1)
 abbrev pub no_dcs : List ℤ
 no_dcs = replicate 4 (pos 0)
 
 -- the bits of an interval's MCUs (A.2, F.1.1.5.1)
 unfoldable pub mcus_bits : List Slot → List Mcu → Text
-mcus_bits slots mcus = blocks_text (flat_map (λ mcu. slots) mcus) no_dcs (flat_map (λ mcu. mcu) mcus)
+mcus_bits slots mcus =
+    blocks_text (flat_map (λ mcu. slots) mcus) no_dcs (flat_map (λ mcu. mcu) mcus)
 
--- bits with pad bits behind them, up to a whole byte (F.1.2.3; a pad bit of 0: own)
+-- bits and then pad bits, up to a whole byte (F.1.2.3; a pad bit of 0: own)
 abbrev pub padded : List Bool → Bool → List Bool
 padded bits pad = bits ++ padding (begun_after [] bits) pad
 
@@ -33,43 +34,48 @@ interval_bytes pad bits = stuffed (bytes_after [] (padded bits pad))
 abbrev pub restart_marker : ℕ → List ℕ
 restart_marker n = 0xff ∷ (0xd0 + n % 8) ∷ []
 
--- whether the last of so many MCUs ends an interval that isn't the last (B.2.4.4)
+-- whether a restart interval ends after this many MCUs, 1 at least (B.2.4.4)
 abbrev pub ends_interval : ℕ → ℕ → Bool
 ends_interval interval count = not (interval == 0) && count % interval == 0
 
--- MCUs in restart intervals, behind so many others (B.2.4.4)
-abbrev pub intervals_behind : ℕ → ℕ → List Mcu → List (List Mcu)
-intervals_behind interval before [] = []
-intervals_behind interval before (mcu ∷ mcus) =
-    if ends_interval interval (before + 1) then (mcu ∷ []) ∷ intervals_behind interval (before + 1) mcus
-    else onto_first mcu (intervals_behind interval (before + 1) mcus)
+-- MCUs in restart intervals, `before` being how many MCUs come before (B.2.4.4)
+abbrev pub intervals_after : ℕ → ℕ → List Mcu → List (List Mcu)
+intervals_after interval before [] = []
+intervals_after interval before (mcu ∷ mcus) =
+    if ends_interval interval (before + 1)
+    then (mcu ∷ []) ∷ intervals_after interval (before + 1) mcus
+    else onto_first mcu (intervals_after interval (before + 1) mcus)
 
+-- all MCUs of a scan in restart intervals (B.2.4.4)
 abbrev pub intervals_of : Shape → List Mcu → List (List Mcu)
-intervals_of shape mcus = intervals_behind shape.interval 0 mcus
+intervals_of shape mcus = intervals_after shape.interval 0 mcus
 
--- bytes, or why there are none
+-- bytes, or the first cause in writing order why there are none (own)
 abbrev pub Bytes : Type 0
 Bytes = Result (List ℕ) WriteStop
 
+-- bytes of bits
 abbrev pub bytes_of : (List Bool → List ℕ) → Text → Bytes
 bytes_of bytes (Ok bits) = Ok (bytes bits)
 bytes_of bytes (Err stop) = Err stop
 
--- bytes behind bytes
-abbrev pub behind_bytes : List ℕ → Bytes → Bytes
-behind_bytes front (Ok bytes) = Ok (front ++ bytes)
-behind_bytes front (Err stop) = Err stop
+-- bytes with others before them
+abbrev pub prefixed_bytes : List ℕ → Bytes → Bytes
+prefixed_bytes prefix (Ok bytes) = Ok (prefix ++ bytes)
+prefixed_bytes prefix (Err stop) = Err stop
 
+-- bytes and then others
 abbrev pub then_bytes : Bytes → Bytes → Bytes
-then_bytes (Ok front) bytes = behind_bytes front bytes
+then_bytes (Ok prefix) bytes = prefixed_bytes prefix bytes
 then_bytes (Err stop) bytes = Err stop
 
--- intervals by number, each with its pad bit, and behind each but the last its marker
+-- intervals by their numbers, each with its pad bit, and after each but the last one its marker (B.2.1, E.1.4)
 unfoldable pub intervals_bytes : List Slot → (ℕ → Bool) → ℕ → List (List Mcu) → Bytes
 intervals_bytes slots pads n [] = Ok []
 intervals_bytes slots pads n (mcus ∷ []) = bytes_of (interval_bytes (pads n)) (mcus_bits slots mcus)
 intervals_bytes slots pads n (mcus ∷ next ∷ more) =
-    then_bytes (bytes_of (λ bits. interval_bytes (pads n) bits ++ restart_marker n) (mcus_bits slots mcus)) (intervals_bytes slots pads (n + 1) (next ∷ more))
+    then_bytes (bytes_of (λ bits. interval_bytes (pads n) bits
+    ++ restart_marker n) (mcus_bits slots mcus)) (intervals_bytes slots pads (n + 1) (next ∷ more))
 
 -- the bytes of a scan with these MCUs, and a pad bit for each interval
 unfoldable pub scan_bytes : Shape → (ℕ → Bool) → List Mcu → Bytes
@@ -84,13 +90,15 @@ pub record AreMcus (shape : Shape) (mcus : List Mcu) : Type 0 where
   pub count : length mcus ≡ shape.mcus
   pub each : AllByRecursion (IsMcu shape.slots) mcus
 
--- how many pad bits there are in all (own)
-abbrev pub pads_behind : Text → ℕ
-pads_behind (Ok bits) = length (padding (begun_after [] bits) true)
-pads_behind (Err stop) = 0
+-- how many pad bits follow an interval's bits (own)
+abbrev pub pad_bits_of : Text → ℕ
+pad_bits_of (Ok bits) = length (padding (begun_after [] bits) true)
+pad_bits_of (Err stop) = 0
 
+-- how many there are in all (own)
 abbrev pub pad_count : Shape → List Mcu → ℕ
-pad_count shape mcus = sum_by (λ interval. pads_behind (mcus_bits shape.slots interval)) (intervals_of shape mcus)
+pad_count shape mcus =
+    sum_by (λ interval. pad_bits_of (mcus_bits shape.slots interval)) (intervals_of shape mcus)
 
 -- MCUs and one pad bit, which is 1 where no bit is padded, as a scan of these bytes (own)
 pub record IsScan (shape : Shape) (mcus : List Mcu) (pad : Bool) (scan : List ℕ) : Type 0 where

@@ -1,6 +1,7 @@
-//! The text of a scan: which bits a block has, and blocks behind one another (ITU-T T.81, F.1.1.5.1, F.1.2).
+//! The text of a scan: which bits a block has, which bytes a scan has, and how bytes are read as a scan, with the first
+//! refusal (ITU-T T.81, A.2, F.1.1.5.1, F.1.2, F.2.2).
 //!
-//!     15  0 -1  0 ..     behind a DC of 12, with the tables K.3 and K.5
+//!     15  0 -1  0 ..     the DC before is 12, with the tables K.3 and K.5
 //!     -2 -1  0 ..
 //!     -1 -1  0 ..
 //!      0 ..
@@ -14,6 +15,7 @@
 mod laws;
 mod plain;
 mod refusal;
+mod scan_shape;
 mod slot;
 mod stop;
 
@@ -23,6 +25,7 @@ pub use laws::{
 };
 pub use plain::{PlainError, plain_block, plain_blocks};
 pub use refusal::ScanRefusal;
+pub use scan_shape::{MOST_SLOTS, ScanShape};
 pub use slot::Slot;
 pub use stop::WriteStop;
 

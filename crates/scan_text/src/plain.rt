@@ -2,15 +2,17 @@
 ghost use Rattle.std.specs.Prelude.{◌≡◌, ℕ, ◌+◌, ◌*◌, ◌^◌, ◌<◌, ◌≤◌, ◌++◌, ℤ, pos, Bool, List, length, unsigned_abs, ◌∷◌, Ok, Err, IfOk, IfErr, OnOk, IsErrOf};
 ghost use Rattle.std.specs.List.{All};
 ghost use Rattle.bit_list.specs.Bits.{low_bits};
-ghost use Rattle.scan_text.specs.Values.{size as size_of, mag};
+ghost use Rattle.coef_block.specs.Block.{IsDc, IsAc, most_difference};
+ghost use Rattle.coef_block.specs.Categories.{category};
+ghost use Rattle.scan_text.specs.ValueBits.{mag};
 ghost use Rattle.scan_text.specs.BlockBits.{Text, word_text, value_text, zeros_text, coefficient_text, ac_text, dc_text, block_text, ac_values};
 ghost use Rattle.scan_text.specs.Blocks.{blocks_text};
-ghost use Rattle.scan_text.specs.Plain.{Goes, Writes};
+ghost use Rattle.scan_text.specs.PlainWriting.{HasWritten, IsWritten};
 ghost use Rattle.scan_text.specs.declared.plain.PlainError.TheVariants.{NoMemory};
 
 use crate::slot::Slot;
 use crate::stop::WriteStop;
-use coef_block::{Block, size, zigzag_place};
+use coef_block::{Block, natural_position, size};
 use huff_table::{Codes, ComponentCodes};
 use std::alloc::{AllocError, Global};
 
@@ -29,23 +31,24 @@ impl From<AllocError> for PlainError {
     }
 }
 
-/// The bits of a block behind one with the DC before, one after another: the definition as a program.
+/// The bits of a block, `before` being the DC of its component's block before: the definition as a program.
 pub fn plain_block(
     alloc: Global,
     codes: &ComponentCodes,
     before: i16,
     block: &Block,
 ) -> Result<Vec<bool>, PlainError>
-    requires { unsigned_abs before ≤ 32767 }
+    requires { IsDc before }
     ensures bits { IfOk result (λ bits. block_text codes.now before block.now ≡ Ok bits.items) }
-    ensures stop { (stop : WriteStop) → IsErrOf result (PlainError.Stop stop) → block_text codes.now before block.now ≡ Err stop }
+    ensures stop { (stop : WriteStop) → IsErrOf result (PlainError.Stop stop)
+        → block_text codes.now before block.now ≡ Err stop }
 {
     let mut bits = Vec::new(alloc);
     put_block(codes, before, block, &mut bits)?;
     Ok(bits)
 }
 
-/// The bits of blocks, each behind the last one of its component. `before` has the DC of each component's last one
+/// The bits of blocks, each coded by the last DC of its component. `before` has the DC of each component's last one
 /// before them.
 pub fn plain_blocks(
     alloc: Global,
@@ -55,9 +58,10 @@ pub fn plain_blocks(
 ) -> Result<Vec<bool>, PlainError>
     requires long { length slots.now ≡ length blocks.now }
     requires slots { All (λ slot. slot.component < 4) slots.now }
-    requires before { All (λ dc. unsigned_abs dc ≤ 32767) before }
+    requires before { All IsDc before }
     ensures bits { IfOk result (λ bits. blocks_text slots.now before blocks.now ≡ Ok bits.items) }
-    ensures stop { (stop : WriteStop) → IsErrOf result (PlainError.Stop stop) → blocks_text slots.now before blocks.now ≡ Err stop }
+    ensures stop { (stop : WriteStop) → IsErrOf result (PlainError.Stop stop)
+        → blocks_text slots.now before blocks.now ≡ Err stop }
 {
     let mut bits = Vec::new(alloc);
     let mut last = before;
@@ -76,17 +80,17 @@ fn put_block(
     block: &Block,
     bits: &mut Vec<bool>,
 ) -> Result<(), PlainError>
-    requires { unsigned_abs before ≤ 32767 }
-    ensures { Writes result bits.old.items bits.new.items (block_text codes.now before block.now) }
+    requires { IsDc before }
+    ensures { IsWritten result bits.old.items bits.new.items (block_text codes.now before block.now) }
 {
     put_dc(&codes.dc, i32::from(before), i32::from(block.get(0)), bits)?;
     put_acs(&codes.ac, block, bits)
 }
 
 fn put_dc(codes: &Codes, before: i32, dc: i32, bits: &mut Vec<bool>) -> Result<(), PlainError>
-    requires before { unsigned_abs before ≤ 32767 }
-    requires dc { unsigned_abs dc ≤ 32767 }
-    ensures { Writes result bits.old.items bits.new.items (dc_text codes.now before dc) }
+    requires before { IsDc before }
+    requires dc { IsDc dc }
+    ensures { IsWritten result bits.old.items bits.new.items (dc_text codes.now before dc) }
 {
     let difference = dc - before;
     if difference.unsigned_abs() > 2047 {
@@ -96,11 +100,12 @@ fn put_dc(codes: &Codes, before: i32, dc: i32, bits: &mut Vec<bool>) -> Result<(
 }
 
 fn put_acs(codes: &Codes, block: &Block, bits: &mut Vec<bool>) -> Result<(), PlainError>
-    ensures { Writes result bits.old.items bits.new.items (ac_text codes.now 0 (ac_values block.now)) }
+    ensures { IsWritten result bits.old.items bits.new.items
+        (ac_text codes.now 0 (ac_values block.now)) }
 {
     let mut zeros = 0;
     for index in 1..64 {
-        let value = block.get(zigzag_place(index));
+        let value = block.get(natural_position(index));
         zeros = put_next(codes, zeros, i32::from(value), bits)?;
     }
     if zeros == 0 {
@@ -109,15 +114,17 @@ fn put_acs(codes: &Codes, block: &Block, bits: &mut Vec<bool>) -> Result<(), Pla
     put_word(codes, 0x00, bits)
 }
 
-// A coefficient behind so many zeros, and how many stand behind it then.
+// A coefficient and the zeros before it; answers how many zeros stand before the next one.
 fn put_next(codes: &Codes, zeros: u8, value: i32, bits: &mut Vec<bool>) -> Result<u8, PlainError>
-    requires value { unsigned_abs value ≤ 1023 }
+    requires value { IsAc value }
     requires zeros { zeros ≤ 63 }
     ensures ok { IfOk result (λ next. (whole : Text) (old : List Bool) (values : List ℤ)
-        → Goes whole old bits.old.items (ac_text codes.now zeros (value ∷ values)) → Goes whole old bits.new.items (ac_text codes.now next values)) }
+        → HasWritten whole old bits.old.items (ac_text codes.now zeros (value ∷ values))
+        → HasWritten whole old bits.new.items (ac_text codes.now next values)) }
     ensures few { IfOk result (λ next. next ≤ zeros + 1) }
     ensures err { IfErr result (λ error. (whole : Text) (old : List Bool) (values : List ℤ)
-        → Goes whole old bits.old.items (ac_text codes.now zeros (value ∷ values)) → Writes (Err error) old bits.new.items whole) }
+        → HasWritten whole old bits.old.items (ac_text codes.now zeros (value ∷ values))
+        → IsWritten (Err error) old bits.new.items whole) }
 {
     if value == 0 {
         return Ok(zeros + 1);
@@ -132,15 +139,15 @@ fn put_coefficient(
     value: i32,
     bits: &mut Vec<bool>,
 ) -> Result<(), PlainError>
-    requires { unsigned_abs value ≤ 1023 }
-    ensures { Writes result bits.old.items bits.new.items (coefficient_text codes.now zeros value) }
+    requires { IsAc value }
+    ensures { IsWritten result bits.old.items bits.new.items (coefficient_text codes.now zeros value) }
 {
     put_zeros(codes, zeros / 16, bits)?;
     put_value(codes, 16 * (zeros % 16) + size(value), value, bits)
 }
 
 fn put_zeros(codes: &Codes, sixteens: u8, bits: &mut Vec<bool>) -> Result<(), PlainError>
-    ensures { Writes result bits.old.items bits.new.items (zeros_text codes.now sixteens) }
+    ensures { IsWritten result bits.old.items bits.new.items (zeros_text codes.now sixteens) }
 {
     for _ in 0..sixteens {
         put_word(codes, 0xf0, bits)?;
@@ -149,8 +156,8 @@ fn put_zeros(codes: &Codes, sixteens: u8, bits: &mut Vec<bool>) -> Result<(), Pl
 }
 
 fn put_value(codes: &Codes, symbol: u8, value: i32, bits: &mut Vec<bool>) -> Result<(), PlainError>
-    requires { unsigned_abs value ≤ 2047 }
-    ensures { Writes result bits.old.items bits.new.items (value_text codes.now symbol value) }
+    requires { unsigned_abs value ≤ most_difference }
+    ensures { IsWritten result bits.old.items bits.new.items (value_text codes.now symbol value) }
 {
     put_word(codes, symbol, bits)?;
     let size = size(value);
@@ -158,10 +165,10 @@ fn put_value(codes: &Codes, symbol: u8, value: i32, bits: &mut Vec<bool>) -> Res
     Ok(())
 }
 
-// The number that a value's bits spell, with so many of them.
+// The number that a value's `size` bits spell.
 fn number_of(value: i32, size: u8) -> u32
-    requires small { unsigned_abs value ≤ 2047 }
-    requires size { size ≡ size_of (unsigned_abs value) }
+    requires small { unsigned_abs value ≤ most_difference }
+    requires size { size ≡ category (unsigned_abs value) }
     ensures { mag value ≡ low_bits size result }
 {
     if value >= 0 {
@@ -172,7 +179,7 @@ fn number_of(value: i32, size: u8) -> u32
 }
 
 fn put_word(codes: &Codes, symbol: u8, bits: &mut Vec<bool>) -> Result<(), PlainError>
-    ensures { Writes result bits.old.items bits.new.items (word_text codes.now symbol) }
+    ensures { IsWritten result bits.old.items bits.new.items (word_text codes.now symbol) }
 {
     let Some((code, size)) = codes.word(symbol) else {
         return Err(PlainError::Stop(WriteStop::NoCode));

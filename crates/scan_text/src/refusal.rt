@@ -10,7 +10,7 @@ pub enum ScanRefusal {
     CodeBad { place: usize },
     /// A symbol that no baseline block has.
     SymbolBad { place: usize },
-    /// Coefficients behind the last one of a block.
+    /// Coefficients past the last one of a block.
     RunPast { place: usize },
     /// Sixteen zeros before the end of a block.
     LooseZeros { place: usize },

@@ -1,6 +1,6 @@
 // Why a block has no bits.
 
-/// Why a block has no bits. The one that comes first in writing order is told.
+/// Why a block has no bits: the cause that comes first in writing order.
 #[derive(Clone, Copy, Debug, PartialEq, Eq)]
 pub enum WriteStop {
     /// A table has no code word for a symbol that is due.

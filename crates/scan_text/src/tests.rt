@@ -1,6 +1,6 @@
 // Worked blocks through the plain program.
 use super::*;
-use coef_block::{Block, zigzag_place};
+use coef_block::{Block, natural_position};
 use huff_table::PlanCodes;
 use jpeg_marker::read_header;
 use std::alloc::Global;
@@ -101,7 +101,7 @@ fn block_of(rt: &impl Abort, coefficients: &[(usize, i16)]) -> Block {
     let mut block = Block::zero();
     for (index, value) in coefficients {
         assert!(rt; *index < 64);
-        let place = zigzag_place(*index);
+        let place = natural_position(*index);
         assert!(rt; value.unsigned_abs() <= if place == 0 { 32767 } else { 1023 });
         block.set(place, *value);
     }
@@ -115,7 +115,7 @@ fn expect_bits(rt: &impl Abort, bits: &[bool], text: &[u8]) {
     }
 }
 
-// Two blocks of the first component and one of the second, twice: each DC is coded behind that of its component.
+// Two blocks of the first component and one of the second, twice: each DC is coded by the last one of its component.
 #[test]
 fn worked_mcus(rt: HostRuntime) -> Result<(), Fail> {
     let alloc = rt.alloc();

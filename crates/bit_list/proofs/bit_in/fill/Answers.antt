@@ -1,7 +1,7 @@
 use Rattle.std.proofs.Common.{◌≡◌, ℕ, ◌+◌, ◌-◌, ◌%◌, ◌^◌, sym, ap, ◌∙◌, arith}
 use Rattle.std.proofs.lemmas.Result.{err_from_is_err_and}
-use Rattle.bit_list.specs.Again.{length-low_bits}
-use Rattle.bit_list.specs.Kept.{cursor_of}
+use Rattle.bit_list.specs.NumbersOfBits.{length-low_bits}
+use Rattle.bit_list.specs.BitsInside.{cursor_of}
 use Rattle.bit_list.proofs.Cursors.{filled_already}
 use Rattle.bit_list.proofs.Machine.{masked, fill_made, fill_fault}
 use Rattle.bit_list.proofs.bit_in.fill.Goals as goal

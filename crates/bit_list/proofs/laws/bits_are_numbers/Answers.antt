@@ -1,4 +1,4 @@
-use Rattle.bit_list.specs.Again.{number_again}
+use Rattle.bit_list.specs.NumbersOfBits.{number_again}
 use Rattle.bit_list.proofs.LowBits.{bits_again, number_below}
 use Rattle.bit_list.proofs.laws.bits_are_numbers.Goals as goal
 

@@ -1,6 +1,6 @@
 use Rattle.std.proofs.Common.{◌≡◌, ◌*◌, ◌%◌, ◌∙◌, arith}
 use Rattle.std.proofs.lemmas.Nat.{shl_whole}
-use Rattle.bool_coder.proofs.Window.{window_filled}
+use Rattle.bool_coder.proofs.DecoderWindow.{window_filled}
 use Rattle.bool_coder.proofs.decoder.fill.Goals as goal
 use Rattle.bool_coder.proofs.decoder.fill.Goals.{After-from}
 

@@ -1,6 +1,6 @@
 use Rattle.std.proofs.Common.{◌≡◌, ◌*◌, ◌^◌, ◌%◌, arith}
 use Rattle.std.proofs.lemmas.Nat.{shl_whole}
-use Rattle.bool_coder.proofs.Window.{window_taken}
+use Rattle.bool_coder.proofs.DecoderWindow.{window_taken}
 use Rattle.bool_coder.proofs.decoder.step.Goals as goal
 
 fits : (c : goal.After-doublings-shift) → c.choose-bit.result.2 * 2 ^ c.doublings-shift.result % 4294967296 ≡ c.choose-bit.result.2 * 2 ^ c.doublings-shift.result

@@ -7,7 +7,7 @@ pub carry-requires-clause-room : goal.carry-requires-clause-room
 carry-requires-clause-room c =
     let a = Appends-from _ _ _ _ c.args.count (omega arith) c.to_be_bytes.ensures c.in_ok-extend_from_slice.ensures.items in
     let w : c.len-whole.result ≡ length c.args.written.now.items = omega arith in
-    rw (w, a.front) (carry_room _ c.args.number c.args.count _ c.if-number-count-ne0.true c.requires.room)
+    rw (w, a.prefix) (carry_room _ c.args.number c.args.count _ c.if-number-count-ne0.true c.requires.room)
 
 pub returns-then-number-count-ne0-clause-number : goal.returns-then-number-count-ne0-clause-number
 returns-then-number-count-ne0-clause-number c =

@@ -1,6 +1,6 @@
 use Rattle.std.proofs.Common.{◌≡◌, ◌≤◌, ◌<◌, ◌+◌, ◌*◌, ◌^◌, ◌%◌, arith}
 use Rattle.std.proofs.lemmas.Nat.{shl_whole}
-use Rattle.bool_coder.proofs.Word.{kept-after, chosen_word, word_fits, one_carry_more}
+use Rattle.bool_coder.proofs.EncoderWord.{kept-after, chosen_word, word_fits, one_carry_more}
 use Rattle.bool_coder.proofs.encoder.step.Goals as goal
 
 chosen : (c : goal.After-doublings-shift) → (0 < c.choose-low.result.1) × (c.choose-low.result.1 < 256) × (c.choose-low.result.0 + c.choose-low.result.1 ≤ 2 ^ (c.args.bits + 1))

@@ -1,7 +1,7 @@
 use Rattle.std.proofs.Common.{◌≡◌, ◌+◌, ◌-◌, ◌*◌, ◌^◌, ◌%◌, sym, arith}
 use Rattle.std.specs.Int.{div_ceil}
 use Rattle.std.proofs.Math.Nat.{mod-eq_of_lt}
-use Rattle.bool_coder.specs.Plain.{interval}
+use Rattle.bool_coder.specs.PlainLine.{interval}
 use Rattle.bool_coder.proofs.PlainSteps.{plain-fits, plain_bytes}
 use Rattle.bool_coder.proofs.plain.bytes_of.Goals as goal
 

@@ -1,6 +1,6 @@
 use Rattle.std.proofs.Common.{sym, arith, rules}
 use Rattle.bool_coder.specs.BoolStream.{after}
-use Rattle.bool_coder.specs.Plain.{interval}
+use Rattle.bool_coder.specs.PlainLine.{interval}
 use Rattle.bool_coder.proofs.PlainSteps.{plain-sum}
 use Rattle.bool_coder.proofs.plain.one_more.Goals as goal
 

@@ -1,6 +1,6 @@
 use Rattle.std.proofs.Common.{◌≡◌, take}
 use Rattle.bool_coder.specs.BoolStream.{coded}
-use Rattle.bool_coder.specs.Plain.{interval}
+use Rattle.bool_coder.specs.PlainLine.{interval}
 use Rattle.bool_coder.proofs.plain.plain_stream.Given as goal
 
 abbrev pub invariant-loop-prob : goal.invariant-loop-prob

@@ -1,5 +1,5 @@
 use Rattle.std.proofs.Common.{◌≡◌, ◌+◌, drop, length}
-use Rattle.huff_table.specs.Kept.{placed}
+use Rattle.huff_table.specs.CodesInside.{placed}
 use Rattle.huff_table.specs.Levels.{level}
 use Rattle.huff_table.proofs.codes.place_level.Given as goal
 

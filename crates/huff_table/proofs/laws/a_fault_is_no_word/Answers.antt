@@ -1,4 +1,4 @@
-use Rattle.huff_table.proofs.Reading.{fault_is_read, fault_comes}
+use Rattle.huff_table.proofs.WordReading.{fault_is_read, fault_comes}
 use Rattle.huff_table.proofs.laws.a_fault_is_no_word.Goals as goal
 
 pub returns : goal.returns

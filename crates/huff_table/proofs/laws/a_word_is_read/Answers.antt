@@ -1,4 +1,4 @@
-use Rattle.huff_table.proofs.Reading.{value_is_read, word_is_read}
+use Rattle.huff_table.proofs.WordReading.{value_is_read, word_is_read}
 use Rattle.huff_table.proofs.laws.a_word_is_read.Goals as goal
 
 pub returns : goal.returns

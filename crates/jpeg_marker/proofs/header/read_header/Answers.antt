@@ -1,7 +1,7 @@
 use Rattle.std.proofs.Common.{◌≡◌, ◌-◌, length, get_or, arith, ap, sym, ◌∙◌, Some}
-use Rattle.jpeg_marker.specs.Holds.{table_in}
+use Rattle.jpeg_marker.specs.HeldTables.{table_in}
 use Rattle.jpeg_marker.specs.Plans.{PlanFields, plan_after}
-use Rattle.jpeg_marker.specs.Good.{body_fault}
+use Rattle.jpeg_marker.specs.GoodSegments.{body_fault}
 use Rattle.jpeg_marker.specs.HeaderPlan.{Accepts, Refuses}
 use Rattle.jpeg_marker.proofs.SegmentTexts.{two_are}
 use Rattle.jpeg_marker.proofs.Walking.{Walked-start, Walked-more, Stands-shorter, stops_checked, accepts_here, ok_checked, err_checked}

@@ -1,5 +1,5 @@
 use Rattle.std.proofs.Common.{◌≡◌, ◌+◌, length}
-use Rattle.jpeg_marker.specs.Walks.{Walked}
+use Rattle.jpeg_marker.specs.HeaderWalks.{Walked}
 use Rattle.jpeg_marker.proofs.header.read_header.Given as goal
 
 abbrev pub invariant-segments : goal.invariant-segments

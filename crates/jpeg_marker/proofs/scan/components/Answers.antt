@@ -1,6 +1,6 @@
 use Rattle.std.proofs.Common.{arith, sym, ◌∙◌}
 use Rattle.std.proofs.lemmas.List.{length-set}
-use Rattle.jpeg_marker.specs.Holds.{table_in}
+use Rattle.jpeg_marker.specs.HeldTables.{table_in}
 use Rattle.jpeg_marker.proofs.Chosen.{components_more, components_none, blank_more, parts_more}
 use Rattle.jpeg_marker.proofs.scan.components.Goals as goal
 

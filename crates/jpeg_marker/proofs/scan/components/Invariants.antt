@@ -1,5 +1,5 @@
 use Rattle.std.proofs.Common.{◌≡◌, ◌-◌, ◌++◌, length, take, drop, replicate, map, option_map}
-use Rattle.jpeg_marker.specs.Holds.{table_in}
+use Rattle.jpeg_marker.specs.HeldTables.{table_in}
 use Rattle.jpeg_marker.specs.Components.{no_component}
 use Rattle.jpeg_marker.specs.Plans.{components_of, part_of}
 use Rattle.jpeg_marker.proofs.scan.components.Given as goal

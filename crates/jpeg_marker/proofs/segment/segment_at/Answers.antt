@@ -1,5 +1,5 @@
 use Rattle.std.proofs.Common.{◌≡◌, ◌+◌, ◌-◌, ◌∷◌, length, get_or, take, drop, arith, ap, ◌∙◌}
-use Rattle.jpeg_marker.proofs.SegmentTexts.{front_is, stands_text}
+use Rattle.jpeg_marker.proofs.SegmentTexts.{prefix_is, stands_text}
 use Rattle.jpeg_marker.proofs.segment.segment_at.Goals as goal
 
 pub returns-clause-whole : goal.returns-clause-whole
@@ -7,8 +7,8 @@ returns-clause-whole c =
     let bytes = c.args.bytes.now in
     let marked = c.skip_fill-place.result.0.now in
     let byte : get_or bytes 0 0 ≡ 255 = omega arith in
-    let first : bytes ≡ 255 ∷ take (length bytes - 1) (drop 1 bytes) = front_is bytes (omega arith) ∙ ap (λ b. b ∷ take (length bytes - 1) (drop 1 bytes)) byte in
-    let coded : marked ≡ get_or marked 0 0 ∷ take (length marked - 1) (drop 1 marked) = front_is marked (omega arith) in
+    let first : bytes ≡ 255 ∷ take (length bytes - 1) (drop 1 bytes) = prefix_is bytes (omega arith) ∙ ap (λ b. b ∷ take (length bytes - 1) (drop 1 bytes)) byte in
+    let coded : marked ≡ get_or marked 0 0 ∷ take (length marked - 1) (drop 1 marked) = prefix_is marked (omega arith) in
     record {
       fill = c.skip_fill-place.result.1 - (c.args.place + 1);
       length_at = omega arith;

@@ -1,7 +1,7 @@
 use Rattle.std.proofs.Common.{arith, refl, ap, sym, ◌∙◌, take, ◌≡◌, ◌<◌}
 use Rattle.std.proofs.lemmas.List.{take_all, length-set}
 use Rattle.std.proofs.lemmas.Bool.{false≢true}
-use Rattle.jpeg_marker.specs.Tables.{distinct}
+use Rattle.jpeg_marker.specs.HuffmanTables.{distinct}
 use Rattle.jpeg_marker.proofs.Repeats.{marked_more, once_more, found_again, few_distinct, get_or-falses}
 use Rattle.jpeg_marker.proofs.table.distinct.Goals as goal
 

@@ -1,6 +1,6 @@
 use Rattle.std.proofs.Common.{◌≡◌, ◌<◌, ℕ, true, false, length, get_or, take, eqb}
 use Rattle.std.specs.List.{list_any}
-use Rattle.jpeg_marker.specs.Tables.{distinct}
+use Rattle.jpeg_marker.specs.HuffmanTables.{distinct}
 use Rattle.jpeg_marker.proofs.table.distinct.Given as goal
 
 abbrev pub invariant-loop-value : goal.invariant-loop-value

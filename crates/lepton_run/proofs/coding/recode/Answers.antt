@@ -2,7 +2,8 @@ use Rattle.std.proofs.Common.{◌≡◌, ◌∙◌, ap, Err, ◌<◌, ◌*◌, �
 use Rattle.std.proofs.lemmas.Result.{err_from_is_err_and}
 use Rattle.bool_coder.specs.BoolStream.{coded, stream}
 use Rattle.lepton_run.specs.Events.{priced, segment_events}
-use Rattle.lepton_run.specs.Jpeg.{header_bytes, blocks_across, most_blocks}
+use Rattle.jpeg_marker.specs.Plans.{most_blocks}
+use Rattle.lepton_run.specs.Jpeg.{header_bytes, blocks_across}
 use Rattle.lepton_run.specs.declared.coding.RecodeError.TheVariants.{Outside}
 use Rattle.lepton_run.proofs.Files.{no_file, too_many, no_scan, file_is, front_is, same_layout}
 use Rattle.lepton_run.proofs.coding.recode.Goals as goal

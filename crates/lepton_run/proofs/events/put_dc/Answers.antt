@@ -3,7 +3,7 @@ use Rattle.std.proofs.lemmas.Int.{to_z-of_z}
 use Rattle.std.specs.Int.{w32}
 use Rattle.std.proofs.lemmas.Result.{on_ok_weaker}
 use Rattle.bit_list.specs.Bits.{low_bits}
-use Rattle.scan_text.specs.Values.{size}
+use Rattle.coef_block.specs.Categories.{category as size}
 use Rattle.lepton_run.specs.Events.{coded_from}
 use Rattle.lepton_run.proofs.Coded.{value_none, value_some, small_size}
 use Rattle.lepton_run.proofs.events.put_dc.Goals as goal

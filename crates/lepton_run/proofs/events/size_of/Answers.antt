@@ -1,6 +1,6 @@
 use Rattle.std.proofs.Common.{arith}
 use Rattle.std.proofs.lemmas.Nat.{leading_length}
-use Rattle.scan_text.proofs.Values.{size_of_bound}
+use Rattle.coef_block.proofs.CategoryLemmas.{size_of_bound}
 use Rattle.lepton_run.proofs.events.size_of.Goals as goal
 
 pub returns : goal.returns

@@ -1,6 +1,7 @@
 use Rattle.std.proofs.Common.{◌≡◌, ◌≤◌, ◌*◌, ap, Err, arith, rules}
 use Rattle.std.proofs.lemmas.Result.{err_from_is_err_and}
-use Rattle.lepton_run.specs.Jpeg.{header_of, blocks_across, most_blocks}
+use Rattle.jpeg_marker.specs.Plans.{most_blocks}
+use Rattle.lepton_run.specs.Jpeg.{header_of, blocks_across}
 use Rattle.lepton_run.specs.declared.coding.RecodeError.TheVariants.{Outside}
 use Rattle.lepton_run.proofs.Unpacked.{header_short, stream_of, no_container, no_stream_of, container_is, text_is}
 use Rattle.lepton_run.proofs.restoring.restore.Goals as goal

@@ -3,7 +3,7 @@ use Rattle.std.specs.Int.{w32}
 use Rattle.std.proofs.lemmas.Int.{to_z-of_z}
 use mir.Val.{to_z}
 use Rattle.lepton_run.specs.Scan.{block_bits}
-use Rattle.lepton_run.proofs.Blocks.{no_block}
+use Rattle.lepton_run.proofs.NarrowBlocks.{no_block}
 use Rattle.lepton_run.proofs.Signed.{far}
 use Rattle.lepton_run.proofs.scan_writing.put_difference.Goals as goal
 

@@ -4,7 +4,7 @@ use Rattle.std.proofs.lemmas.Int.{to_z-of_z}
 use Rattle.std.proofs.lemmas.Option.{same_Some}
 use Rattle.lepton_run.specs.Scan.{block_bits}
 use Rattle.lepton_run.proofs.Signed.{fits}
-use Rattle.scan_text.proofs.Signed.{difference_is}
+use Rattle.scan_text.proofs.SignedValues.{difference_is}
 use Rattle.lepton_run.proofs.Taken.{none_some}
 use Rattle.lepton_run.proofs.scan_writing.write_block.Goals as goal
 

@@ -3,7 +3,7 @@ use Rattle.std.specs.Prelude.{Some}
 use Rattle.std.specs.Int.{w32}
 use Rattle.std.proofs.lemmas.Int.{to_z-of_z}
 use Rattle.std.proofs.lemmas.Option.{same_Some}
-use Rattle.scan_text.specs.Values.{size}
+use Rattle.coef_block.specs.Categories.{category as size}
 use Rattle.lepton_run.specs.Reading.{Took}
 use Rattle.lepton_run.proofs.Signed.{fits}
 use Rattle.lepton_run.proofs.Taken.{value_taken, power_small, magnitude_fits, tail, few_steps, value_ahead, none_ahead, some_ahead, same_signed, none_some, four_parts}

@@ -1,9 +1,9 @@
 use Rattle.std.proofs.Common.{refl, [], ◌∷◌, true, false, None, List, Bool}
 use Rattle.huff_table.specs.CodeWords.{word_of, words_of, value_of}
-use Rattle.huff_table.specs.Decoding.{value_behind}
+use Rattle.huff_table.specs.Decoding.{value_after}
 use Rattle.bit_list.specs.Units.{Cursor, unit_at, filled, bit_at, bits_at}
 use Rattle.scan_text.specs.BlockBits.{block_text, dc_text, ac_text, ac_values, value_text, zeros_text, word_text}
-use Rattle.scan_text.specs.Blocks.{blocks_text, behind_blocks}
+use Rattle.scan_text.specs.Blocks.{blocks_text, dcs_after}
 use Rattle.scan_text.specs.Scans.{mcus_bits, intervals_bytes, scan_bytes, no_dcs}
 use Rattle.scan_text.specs.Spots.{mcu_put, mcus_put}
 use Rattle.scan_text.specs.ScanReading.{dc_at, acs_at, block_at, blocks_at, restart_at, mcu_at, mcus_at}
@@ -20,11 +20,11 @@ unfolding block_text dc_text ac_text ac_values value_text zeros_text word_text w
 returns-clause-written c = (refl, refl, refl, refl, refl, refl, refl, refl, refl)
 
 pub returns-clause-put : goal.returns-clause-put
-unfolding block_text dc_text ac_text ac_values value_text zeros_text word_text word_of words_of blocks_text behind_blocks mcu_put mcus_put
+unfolding block_text dc_text ac_text ac_values value_text zeros_text word_text word_of words_of blocks_text dcs_after mcu_put mcus_put
 returns-clause-put c = (refl, refl, refl)
 
 pub returns-clause-read : goal.returns-clause-read
-unfolding value_of words_of value_behind unit_at filled bit_at bits_at dc_at acs_at block_at blocks_at restart_at mcu_at mcus_at ac_values
+unfolding value_of words_of value_after unit_at filled bit_at bits_at dc_at acs_at block_at blocks_at restart_at mcu_at mcus_at ac_values
 returns-clause-read c = (refl, refl, refl, refl, refl, refl, refl, refl, refl, refl, refl)
 
 pub returns-clause-parts : goal.returns-clause-parts

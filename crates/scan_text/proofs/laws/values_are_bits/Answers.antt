@@ -1,4 +1,4 @@
-use Rattle.scan_text.proofs.Values.{value_again, bits_again_of_value, length-mag}
+use Rattle.scan_text.proofs.ValueLemmas.{value_again, bits_again_of_value, length-mag}
 use Rattle.scan_text.proofs.laws.values_are_bits.Goals as goal
 
 pub returns-clause-value : goal.returns-clause-value

@@ -3,8 +3,8 @@ use Rattle.std.specs.Int.{w32}
 use Rattle.std.specs.Int.Signed.{le_z}
 use Rattle.std.proofs.lemmas.Int.{to_z-of_z}
 use Rattle.std.proofs.lemmas.Nat.{one_shl, pow_pos}
-use Rattle.scan_text.specs.Values.{size}
-use Rattle.scan_text.proofs.Values.{size_below, small_size, mag_negative}
+use Rattle.coef_block.specs.Categories.{category as size}
+use Rattle.scan_text.proofs.ValueLemmas.{size_below, small_size, mag_negative}
 use Rattle.scan_text.proofs.plain.number_of.Goals as goal
 
 -- a small value has at most eleven bits

@@ -2,11 +2,11 @@ use Rattle.std.proofs.Common.{◌+◌, ◌*◌, ◌/◌, ◌%◌, ℤ, unsigned_
 use Rattle.std.proofs.lemmas.Int.{to_z-of_z}
 use Rattle.std.specs.Int.{w32}
 use mir.Val.{to_z, of_z}
-use Rattle.scan_text.specs.Values.{size}
+use Rattle.coef_block.specs.Categories.{category as size}
 use Rattle.scan_text.specs.BlockBits.{Text, zeros_text, value_text, coefficient_text}
-use Rattle.scan_text.specs.Plain.{Writes}
+use Rattle.scan_text.specs.PlainWriting.{IsWritten}
 use Rattle.scan_text.proofs.Texts.{goes_start, goes_more, goes_last}
-use Rattle.scan_text.proofs.Values.{size_is}
+use Rattle.scan_text.proofs.ValueLemmas.{size_is}
 use Rattle.scan_text.proofs.plain.put_coefficient.Goals as goal
 
 pub overflow_add-zeros : goal.overflow_add-zeros
@@ -25,7 +25,7 @@ returns c =
     let zeros = zeros_text codes (c.args.zeros / 16) in
     let whole = coefficient_text codes c.args.zeros c.args.value in
     let old = c.args.bits.now.items in
-    let last = subst (λ (t : Text). Writes c.put_value.result c.put_zeros.new.bits.items c.put_value.new.bits.items t)
+    let last = subst (λ (t : Text). IsWritten c.put_value.result c.put_zeros.new.bits.items c.put_value.new.bits.items t)
     (ap₂ (λ n v. value_text codes (symbol + n) v) sized same) c.put_value.ensures in
     goes_last whole old c.put_zeros.new.bits.items c.put_value.new.bits.items value c.put_value.result
     (goes_more whole old old c.put_zeros.new.bits.items zeros value tt (goes_start whole old) c.in_ok-put_zeros.ensures) last

@@ -1,11 +1,11 @@
 use Rattle.std.proofs.Common.{◌≤◌, ℤ, ◌-ℤ◌, unsigned_abs, sym, ap, ap₂, ◌∙◌, subst, arith}
 use Rattle.std.specs.Int.{w32}
 use mir.Val.{to_z, of_z}
-use Rattle.scan_text.specs.Values.{size}
+use Rattle.coef_block.specs.Categories.{category as size}
 use Rattle.scan_text.specs.BlockBits.{Text, value_text}
-use Rattle.scan_text.specs.Plain.{Writes}
-use Rattle.scan_text.proofs.Signed.{difference_is}
-use Rattle.scan_text.proofs.Values.{size_is}
+use Rattle.scan_text.specs.PlainWriting.{IsWritten}
+use Rattle.scan_text.proofs.SignedValues.{difference_is}
+use Rattle.scan_text.proofs.ValueLemmas.{size_is}
 use Rattle.scan_text.proofs.Words.{dc_far, dc_near}
 use Rattle.scan_text.proofs.plain.put_dc.Goals as goal
 
@@ -21,5 +21,5 @@ returns c =
     let near : unsigned_abs difference ≤ 2047 = omega (arith, c.unsigned_abs.ensures.value, ap unsigned_abs same, c.if-unsigned_abs-gt2047.false) in
     let sized = size_is (to_z w32 (of_z w32 (to_z w32 (of_z w32 c.args.dc) -ℤ to_z w32 (of_z w32 c.args.before)))) c.size.result c.size.ensures.below c.size.ensures.least in
     let text = dc_near c.args.codes.now c.args.before c.args.dc near in
-    subst (λ (t : Text). Writes c.put_value.result c.args.bits.now.items c.put_value.new.bits.items t)
+    subst (λ (t : Text). IsWritten c.put_value.result c.args.bits.now.items c.put_value.new.bits.items t)
     (ap₂ (value_text c.args.codes.now) (sized ∙ ap (λ (z : ℤ). size (unsigned_abs z)) same) same ∙ sym text) c.put_value.ensures

@@ -4,11 +4,11 @@ use Rattle.std.proofs.lemmas.Result.{err_from_is_err_and}
 use Rattle.std.specs.Int.{w32}
 use mir.Val.{to_z, of_z}
 use Rattle.bit_list.specs.Bits.{low_bits}
-use Rattle.scan_text.specs.Values.{mag}
+use Rattle.scan_text.specs.ValueBits.{mag}
 use Rattle.scan_text.specs.BlockBits.{Text, then_text, word_text}
-use Rattle.scan_text.specs.Plain.{Writes}
+use Rattle.scan_text.specs.PlainWriting.{IsWritten}
 use Rattle.scan_text.proofs.Texts.{goes_start, goes_stop}
-use Rattle.scan_text.proofs.Values.{size_is}
+use Rattle.scan_text.proofs.ValueLemmas.{size_is}
 use Rattle.scan_text.proofs.Words.{value_parts}
 use Rattle.scan_text.proofs.plain.put_value.Goals as goal
 
@@ -19,7 +19,7 @@ returns-in_err-put_word c =
     let whole = then_text word rest in
     let old = c.args.bits.now.items in
     let p = err_from_is_err_and c.from_residual.result c.from_residual.ensures.1 in
-    rw (p.1, p.2) (subst (λ (t : Text). Writes (Err c.in_err-put_word.field-0.0) old c.put_word.new.bits.items t) (sym (value_parts c.args.codes.now c.args.symbol c.args.value))
+    rw (p.1, p.2) (subst (λ (t : Text). IsWritten (Err c.in_err-put_word.field-0.0) old c.put_word.new.bits.items t) (sym (value_parts c.args.codes.now c.args.symbol c.args.value))
     (goes_stop whole old old c.put_word.new.bits.items word rest c.in_err-put_word.field-0.0 (goes_start whole old) c.in_err-put_word.ensures))
 
 pub number_of-requires-clause-size : goal.number_of-requires-clause-size

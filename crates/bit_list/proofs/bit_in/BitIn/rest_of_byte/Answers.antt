@@ -1,5 +1,5 @@
 use Rattle.std.proofs.Common.{sym}
-use Rattle.bit_list.specs.Again.{length-low_bits, number_again}
+use Rattle.bit_list.specs.NumbersOfBits.{length-low_bits, number_again}
 use Rattle.bit_list.proofs.bit_in.BitIn.rest_of_byte.Goals as goal
 
 pub returns-clause-count : goal.returns-clause-count

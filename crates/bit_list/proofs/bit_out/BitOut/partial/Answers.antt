@@ -1,5 +1,5 @@
 use Rattle.std.proofs.Common.{ℕ, ◌-◌, ◌*◌, ◌%◌, ◌^◌, sym, ap, ◌∙◌, arith}
-use Rattle.bit_list.specs.Again.{length-low_bits}
+use Rattle.bit_list.specs.NumbersOfBits.{length-low_bits}
 use Rattle.bit_list.proofs.Machine.{partial_of}
 use Rattle.bit_list.proofs.bit_out.BitOut.partial.Goals as goal
 

@@ -1,6 +1,6 @@
 use Rattle.std.proofs.Common.{◌≡◌, ◌⊎◌, inl, inr, length, get_or, refl, sym, ◌∙◌, arith, rules}
 use Rattle.std.proofs.lemmas.Bool.{eqb-true}
-use Rattle.bool_coder.proofs.Front.{front_start, all_bytes}
+use Rattle.bool_coder.proofs.FirstBits.{prefix_start, all_bytes}
 use Rattle.bool_coder.proofs.Beginnings.{no_stream}
 use Rattle.bool_coder.proofs.decoder.Decoder.start.Goals as goal
 use Rattle.bool_coder.proofs.decoder.Decoder.start.Goals.{then-is_empty, else-is_empty}
@@ -8,8 +8,8 @@ use Rattle.bool_coder.proofs.decoder.Decoder.start.Goals.{then-is_empty, else-is
 pub returns-else-bytes-clause-opened : goal.returns-else-bytes-clause-opened
 returns-else-bytes-clause-opened c =
     let below = all_bytes c.args.bytes.now (λ i. let h = c.type_inv.bytes i in search rules) in
-    let first = front_start c.args.bytes.now below in
-    (refl, record { given = refl; range = refl; bottom = rw first (omega (arith, c.from.ensures)); place = refl; probs = tt })
+    let first = prefix_start c.args.bytes.now below in
+    (refl, record { given = refl; range = refl; bottom = rw first (omega (arith, c.from.ensures)); position = refl; probs = tt })
 
 pub returns-then-bytes-clause-no_stream : goal.returns-then-bytes-clause-no_stream
 returns-then-bytes-clause-no_stream c =

@@ -1,6 +1,6 @@
 use Rattle.std.proofs.Common.{◌≡◌, ◌<◌, ap, ◌∙◌, arith, length}
-use Rattle.bool_coder.specs.Reading.{Seen, seen_bit, seen_after}
-use Rattle.bool_coder.proofs.Taking.{Reads-more}
+use Rattle.bool_coder.specs.BoolReading.{Seen, seen_bit, seen_after}
+use Rattle.bool_coder.proofs.BoolsTaken.{Reads-more}
 use Rattle.bool_coder.proofs.Beginnings.{next_in_turn}
 use Rattle.bool_coder.proofs.decoder.Decoder.take.Goals as goal
 

@@ -1,5 +1,5 @@
 use Rattle.std.proofs.Common.{◌≡◌, ◌-◌, ◌*◌, ◌^◌, ◌%◌, ◌∙◌, sym, arith}
-use Rattle.bool_coder.proofs.Word.{whole_bytes, word_fits, last_carry, last_room, stream_is, shown}
+use Rattle.bool_coder.proofs.EncoderWord.{whole_bytes, word_fits, last_carry, last_room, stream_is, shown}
 use Rattle.bool_coder.proofs.encoder.Encoder.finish.Goals as goal
 
 fits : (c : goal.After-written-1) → c.self.inside.low * 2 ^ (8 * c.div_ceil-count.result - c.self.inside.bits) % 18446744073709551616 ≡ c.self.inside.low * 2 ^ (8 * c.div_ceil-count.result - c.self.inside.bits)

@@ -1,6 +1,6 @@
 use Rattle.std.proofs.Common.{◌-◌, ◌∙◌, sym, ap, Some, option_map, arith}
 use Rattle.bool_coder.specs.BoolStream.{after}
-use Rattle.bool_coder.proofs.Word.{step-kept, flush_carry, flush_room, flushed-word, kept-flushed, mask_is, in_ok, shown}
+use Rattle.bool_coder.proofs.EncoderWord.{step-kept, flush_carry, flush_room, flushed-word, kept-flushed, mask_is, in_ok, shown}
 use Rattle.bool_coder.proofs.encoder.Encoder.put.Goals as goal
 use Rattle.bool_coder.proofs.encoder.Encoder.put.Goals.{then-bits-lt-FULL, else-bits-lt-FULL+else-is_err}
 

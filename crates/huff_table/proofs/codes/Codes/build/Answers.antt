@@ -1,5 +1,5 @@
 use Rattle.std.proofs.Common.{◌≡◌, ℕ, ◌+◌, List, [], length, drop, replicate, sum, refl, sym, ap, ap₂, ◌∙◌, subst, arith}
-use Rattle.huff_table.specs.Kept.{no_word, placed}
+use Rattle.huff_table.specs.CodesInside.{no_word, placed}
 use Rattle.huff_table.specs.Levels.{levels}
 use Rattle.huff_table.proofs.Fits.{room_of_table}
 use Rattle.huff_table.proofs.Built.{Builds, these_fit, builds_more, all_built, built}
@@ -21,7 +21,7 @@ place_level-requires c =
     let counts = c.counts-counts.result.now in
     let size : length counts ≡ 16 = ap length c.counts-counts.ensures.value ∙ c.counts-counts.ensures.kept.lengths in
     let turn : Turn l.i c.from.result counts l.values.now c.split_at.result.0.now c.split_at.result.1.now =
-    record { within = omega (arith, size, c.loop-i-test.true); is_count = c.from.ensures; front = c.split_at.ensures.front; back = c.split_at.ensures.back } in
+    record { within = omega (arith, size, c.loop-i-test.true); is_count = c.from.ensures; prefix = c.split_at.ensures.front; back = c.split_at.ensures.back } in
     these_fit turn l.invariant.builds
 
 pub loop-i-preserved : goal.loop-i-preserved
@@ -30,7 +30,7 @@ loop-i-preserved c =
     let counts = c.counts-counts.result.now in
     let size : length counts ≡ 16 = ap length c.counts-counts.ensures.value ∙ c.counts-counts.ensures.kept.lengths in
     let turn : Turn l.i c.from.result counts l.values.now c.split_at.result.0.now c.split_at.result.1.now =
-    record { within = omega (arith, size, c.loop-i-test.true); is_count = c.from.ensures; front = c.split_at.ensures.front; back = c.split_at.ensures.back } in
+    record { within = omega (arith, size, c.loop-i-test.true); is_count = c.from.ensures; prefix = c.split_at.ensures.front; back = c.split_at.ensures.back } in
     let count : c.from.result ≡ c.from-in-loop-i.result = c.from.ensures ∙ sym c.from-in-loop-i.ensures in
     record {
       size = c.place_level.array_long;

@@ -1,5 +1,5 @@
 use Rattle.std.proofs.Common.{◌≡◌, ◌+◌, drop, length, sum, replicate}
-use Rattle.huff_table.specs.Kept.{no_word}
+use Rattle.huff_table.specs.CodesInside.{no_word}
 use Rattle.huff_table.specs.Levels.{levels}
 use Rattle.huff_table.proofs.Built.{Builds}
 use Rattle.huff_table.proofs.codes.Codes.build.Given as goal

@@ -1,7 +1,7 @@
 use Rattle.std.proofs.Common.{◌≡◌, ℕ, ◌+◌, ◌*◌, ◌<◌, Bool, true, false, List, length, take, drop, get_or, Ok, Err, refl, sym, ap, ◌∙◌, subst, arith, sum}
 use Rattle.std.proofs.lemmas.Result.{err_from_is_err_and}
 use mir.Val.{bool_byte}
-use Rattle.jpeg_marker.specs.Tables.{TableFields}
+use Rattle.jpeg_marker.specs.HuffmanTables.{TableFields}
 use Rattle.bit_list.specs.Units.{bit_at}
 use Rattle.huff_table.specs.Levels.{value_among}
 use Rattle.huff_table.specs.declared.fault.CodeFault.TheVariants.{NoWord}
@@ -32,7 +32,7 @@ overflow_mul-code c =
     let counts = c.counts-counts.result.now in
     let size : length counts ≡ 16 = ap length c.counts-counts.ensures.value ∙ c.counts-counts.ensures.kept.lengths in
     let turn : Turn l.count-index (get_or counts l.count-index 0) counts l.values.now (take (get_or counts l.count-index 0) l.values.now) (drop (get_or counts l.count-index 0) l.values.now) =
-    record { within = omega (arith, size, c.loop-count-test.true); is_count = refl; front = refl; back = refl } in
+    record { within = omega (arith, size, c.loop-count-test.true); is_count = refl; prefix = refl; back = refl } in
     let small : l.code < 65536 = (turn_small turn l.invariant.reaches).0 in
     omega (arith, small)
 
@@ -42,7 +42,7 @@ overflow_add-code c =
     let counts = c.counts-counts.result.now in
     let size : length counts ≡ 16 = ap length c.counts-counts.ensures.value ∙ c.counts-counts.ensures.kept.lengths in
     let turn : Turn l.count-index (get_or counts l.count-index 0) counts l.values.now (take (get_or counts l.count-index 0) l.values.now) (drop (get_or counts l.count-index 0) l.values.now) =
-    record { within = omega (arith, size, c.loop-count-test.true); is_count = refl; front = refl; back = refl } in
+    record { within = omega (arith, size, c.loop-count-test.true); is_count = refl; prefix = refl; back = refl } in
     let small : l.code < 65536 = (turn_small turn l.invariant.reaches).0 in
     let bit = is_number c.from.result c.in_ok-bit.field-0 c.from.ensures in
     omega (arith, small, bit, small_bit c.in_ok-bit.field-0)
@@ -53,7 +53,7 @@ returns-in_err-bit-clause-err c =
     let counts = c.counts-counts.result.now in
     let size : length counts ≡ 16 = ap length c.counts-counts.ensures.value ∙ c.counts-counts.ensures.kept.lengths in
     let turn : Turn l.count-index (get_or counts l.count-index 0) counts l.values.now (take (get_or counts l.count-index 0) l.values.now) (drop (get_or counts l.count-index 0) l.values.now) =
-    record { within = omega (arith, size, c.loop-count-test.true); is_count = refl; front = refl; back = refl } in
+    record { within = omega (arith, size, c.loop-count-test.true); is_count = refl; prefix = refl; back = refl } in
     let p = err_from_is_err_and c.from_residual.result c.from_residual.ensures.1 in
     let fault = subst (λ (b : List ℕ). bit_at b l.input.cursor ≡ Err c.in_err-bit.field-0.0) l.invariant.bytes c.in_err-bit.ensures.err in
     rw (p.1, p.2) (turn_fault c.in_err-bit.field-0.0 turn l.invariant.reaches fault)
@@ -64,7 +64,7 @@ returns-in-Some-clause-ok c =
     let counts = c.counts-counts.result.now in
     let size : length counts ≡ 16 = ap length c.counts-counts.ensures.value ∙ c.counts-counts.ensures.kept.lengths in
     let turn : Turn l.count-index c.from-in-loop-count.result counts l.values.now c.split_at.result.0.now c.split_at.result.1.now =
-    record { within = omega (arith, size, c.loop-count-test.true); is_count = c.from-in-loop-count.ensures; front = c.split_at.ensures.front; back = c.split_at.ensures.back } in
+    record { within = omega (arith, size, c.loop-count-test.true); is_count = c.from-in-loop-count.ensures; prefix = c.split_at.ensures.front; back = c.split_at.ensures.back } in
     let bit = subst (λ (b : List ℕ). bit_at b l.input.cursor ≡ Ok (c.in_ok-bit.field-0, c.bit.new.self.cursor)) l.invariant.bytes c.in_ok-bit.ensures.ok in
     turn_found c.bit.new.self.cursor c.in_ok-bit.field-0 c.in-Some.value turn l.invariant.reaches bit
     (ap (λ n. value_among c.split_at.result.0.now l.first (2 * l.code + n)) (sym (is_number c.from.result c.in_ok-bit.field-0 c.from.ensures)) ∙ sym c.value_among.ensures ∙ c.in-Some.is)
@@ -75,7 +75,7 @@ loop-count-preserved c =
     let counts = c.counts-counts.result.now in
     let size : length counts ≡ 16 = ap length c.counts-counts.ensures.value ∙ c.counts-counts.ensures.kept.lengths in
     let turn : Turn l.count-index c.from-in-loop-count.result counts l.values.now c.split_at.result.0.now c.split_at.result.1.now =
-    record { within = omega (arith, size, c.loop-count-test.true); is_count = c.from-in-loop-count.ensures; front = c.split_at.ensures.front; back = c.split_at.ensures.back } in
+    record { within = omega (arith, size, c.loop-count-test.true); is_count = c.from-in-loop-count.ensures; prefix = c.split_at.ensures.front; back = c.split_at.ensures.back } in
     let bit = subst (λ (b : List ℕ). bit_at b l.input.cursor ≡ Ok (c.in_ok-bit.field-0, c.bit.new.self.cursor)) l.invariant.bytes c.in_ok-bit.ensures.ok in
     let same = is_number c.from.result c.in_ok-bit.field-0 c.from.ensures in
     let none = ap (λ n. value_among c.split_at.result.0.now l.first (2 * l.code + n)) (sym same) ∙ sym c.value_among.ensures ∙ c.in_default.is in

@@ -1,9 +1,9 @@
 use Rattle.std.proofs.Common.{◌≡◌, ◌<◌, refl, sym, get_or, ap₂, subst, arith, None, Some}
 use Rattle.std.specs.Prelude.{Contains}
 use Rattle.bit_list.specs.Bits.{low_bits}
-use Rattle.jpeg_marker.specs.Tables.{TableFields}
+use Rattle.jpeg_marker.specs.HuffmanTables.{TableFields}
 use Rattle.huff_table.specs.CodeWords.{word_of}
-use Rattle.huff_table.specs.Kept.{no_word}
+use Rattle.huff_table.specs.CodesInside.{no_word}
 use Rattle.huff_table.proofs.Lookup.{has_if_some, none_if_none}
 use Rattle.huff_table.proofs.codes.Codes.word.Goals as goal
 

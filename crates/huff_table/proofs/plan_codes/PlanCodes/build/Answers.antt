@@ -1,6 +1,6 @@
 use Rattle.std.proofs.Common.{◌≤◌, length, map, set, ap, ◌∙◌, arith}
 use Rattle.huff_table.specs.PlanWords.{tables_of}
-use Rattle.huff_table.proofs.Components.{filled_so_far, filled_more, filled_all, first_is, front_is, are_components}
+use Rattle.huff_table.proofs.PlanComponents.{filled_so_far, filled_more, filled_all, first_is, prefix_is, are_components}
 use Rattle.huff_table.proofs.plan_codes.PlanCodes.build.Goals as goal
 
 pub loop-i-preserved : goal.loop-i-preserved
@@ -28,4 +28,4 @@ returns c =
     let few : length components ≤ 4 = omega (arith, ap length c.components-components.ensures.value, c.components-components.ensures.kept.few) in
     let first = c.build-first.result in
     let all = c.loop-i.invariant ∙ filled_all tables_of first components c.loop-i.i c.loop-i-test.false few c.loop-i.auto.i-end in
-    front_is c.loop-i.all components first all ∙ ap (map tables_of) c.components-components.ensures.value
+    prefix_is c.loop-i.all components first all ∙ ap (map tables_of) c.components-components.ensures.value

@@ -1,6 +1,6 @@
 use Rattle.std.proofs.Common.{◌≡◌, get_or}
 use Rattle.huff_table.specs.PlanWords.{tables_of, no_codes}
-use Rattle.huff_table.proofs.Components.{filled_so_far}
+use Rattle.huff_table.proofs.PlanComponents.{filled_so_far}
 use Rattle.huff_table.proofs.plan_codes.PlanCodes.build.Given as goal
 
 abbrev pub invariant-loop-i : goal.invariant-loop-i

@@ -1,5 +1,5 @@
 use Rattle.std.proofs.Common.{[], replicate, refl, lit≤}
-use Rattle.jpeg_marker.proofs.Kept.{kept_fields}
+use Rattle.jpeg_marker.proofs.KeptPlans.{kept_fields}
 use Rattle.jpeg_marker.proofs.table.RawTable.empty.Goals as goal
 
 pub invariant_of-result : goal.invariant_of-result

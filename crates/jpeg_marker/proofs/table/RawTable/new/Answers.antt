@@ -1,6 +1,6 @@
 use Rattle.std.proofs.Common.{◌≡◌, true, sym, ◌∙◌, arith}
-use Rattle.jpeg_marker.specs.Tables.{distinct}
-use Rattle.jpeg_marker.proofs.Kept.{kept_fields}
+use Rattle.jpeg_marker.specs.HuffmanTables.{distinct}
+use Rattle.jpeg_marker.proofs.KeptPlans.{kept_fields}
 use Rattle.jpeg_marker.proofs.table.RawTable.new.Goals as goal
 
 pub invariant_of-result : goal.invariant_of-result

@@ -1,6 +1,6 @@
 use Rattle.std.proofs.Common.{◌∙◌, ◌++◌, ap, sym, List, ℕ, Bool, arith}
 use Rattle.bit_list.specs.Bits.{bits_of, low_bits}
-use Rattle.lepton_run.specs.Bits.{padded}
+use Rattle.lepton_run.specs.NarrowBits.{padded}
 use Rattle.lepton_run.proofs.Written.{finished_padded, finished_whole}
 use Rattle.lepton_run.proofs.bit_writer.BitWriter.finish.Goals as goal
 

@@ -1,0 +1,24 @@
+-- What holds of all bits and bytes.
+use Rattle.std.specs.Prelude.{◌≡◌, ℕ, ◌+◌, Bool, List, [], ◌++◌, length, Ok}
+use Rattle.bit_list.specs.Bits.{bytes_after, stuffed}
+use Rattle.bit_list.specs.Units.{Cursor, starting, bits_at, and_then}
+
+-- after the last bit of the unit before a place
+pub record StandsAt (place : ℕ) (cursor : Cursor) : Type 0 where
+  pub left : cursor.left ≡ []
+  pub skip : cursor.skip ≡ 0
+  pub next : cursor.next ≡ place
+
+-- bits that were put as whole bytes, among other bytes, are taken again, and the next unit is the one after them
+abbrev pub IsTakenAgain : List Bool → List ℕ → List ℕ → Type 0
+IsTakenAgain bits prefix rest =
+    (cursor : Cursor) × (bits_at (length bits) (prefix ++ (stuffed (bytes_after [] bits) ++ rest))
+    (starting (length prefix) 0) ≡ Ok (bits, cursor))
+    × StandsAt (length prefix + length (stuffed (bytes_after [] bits))) cursor
+
+-- to take some bits is to take the first of them, and then the others
+abbrev pub IsTakenInParts : ℕ → ℕ → List ℕ → Cursor → Type 0
+IsTakenInParts m n bytes cursor =
+    bits_at (m + n) bytes cursor
+    ≡ and_then (bits_at m bytes cursor)
+    (λ prefix. and_then (bits_at n bytes prefix.1) (λ more. Ok (prefix.0 ++ more.0, more.1)))

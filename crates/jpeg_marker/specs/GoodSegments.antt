@@ -1,0 +1,94 @@
+-- Which segments a header may have, and where it stops being one (ITU-T T.81, B.1.1, B.2). Places are
+-- offsets of bytes from the file's first.
+use Rattle.std.specs.Prelude.{ℕ, ◌+◌, ◌≡◌, List, [], ◌∷◌, ◌++◌, length, flat_map, ◌==◌, nat_lt, not, Option, Some, None, if◌then◌else◌, unwrap_or, IsTrue}
+use Rattle.jpeg_marker.specs.declared.refusal.HeaderRefusal.{HeaderRefusal}
+use Rattle.jpeg_marker.specs.declared.refusal.HeaderRefusal.TheVariants.{HeaderCut, MarkerBad, NotBaseline, LengthBad}
+use Rattle.jpeg_marker.specs.HeaderRefusals.{or_else}
+use Rattle.jpeg_marker.specs.MarkerSegments.{Segment, IsWhole, number_at, header_text, is_other_process, is_known, last_of}
+use Rattle.jpeg_marker.specs.HuffmanTables.{TableFields, table_of}
+use Rattle.jpeg_marker.specs.TableFaults.{tables_fault}
+use Rattle.jpeg_marker.specs.Frames.{FrameFields, frame_of, frame_fault}
+use Rattle.jpeg_marker.specs.Plans.{scan_fault}
+
+-- the first check that a restart interval fails: a length of 4 (B.2.4.4)
+abbrev pub interval_fault : ℕ → List ℕ → Option HeaderRefusal
+interval_fault at body = if length body == 2 then None else Some (LengthBad at)
+
+-- the restart interval that a segment gives, in MCUs, if it is one of an interval
+abbrev pub intervals_in : Segment → List ℕ
+intervals_in s = if s.code == 0xdd then number_at s.body ∷ [] else []
+
+-- the restart interval of the last segment that gives one, and 0 where none does (B.2.4.4)
+abbrev pub interval_of : List Segment → ℕ
+interval_of segments = unwrap_or (last_of (flat_map intervals_in segments)) 0
+
+-- The first check that a segment with this code and body fails after a frame, if any, and with some tables,
+-- its length at a place. What no check speaks of is passed.
+abbrev pub body_fault : Option FrameFields → (ℕ → ℕ → Option TableFields) → ℕ → ℕ → List ℕ
+    → Option HeaderRefusal
+body_fault frame table at code body =
+    if code == 0xc0 then frame_fault frame at body
+    else if code == 0xc4 then tables_fault at (at + 2) 0 body
+    else if code == 0xdd then interval_fault at body
+    else if code == 0xda then scan_fault frame table at body
+    else None
+
+-- the first check that a segment fails after the segments before it, its length at a place
+abbrev pub fault_of : List Segment → ℕ → Segment → Option HeaderRefusal
+fault_of before at s = body_fault (frame_of before) (table_of before) at s.code s.body
+
+-- where a segment's length stands after the segments before it
+abbrev pub length_place : List Segment → Segment → ℕ
+length_place before s = length (header_text before) + s.fill + 2
+
+-- a segment that may stand after those before it
+pub record IsGood (before : List Segment) (s : Segment) : Type 0 where
+  pub whole : IsWhole s
+  pub checked : fault_of before (length_place before s) s ≡ None
+
+-- each of the segments may stand after those before it, of which some came already
+abbrev pub AreGoodAfter : List Segment → List Segment → Type 0
+AreGoodAfter before [] = Unit {0}
+AreGoodAfter before (s ∷ segments) = IsGood before s × AreGoodAfter (before ++ s ∷ []) segments
+
+-- no segment is a scan's
+abbrev pub HaveNoScan : List Segment → Type 0
+HaveNoScan [] = Unit {0}
+HaveNoScan (s ∷ segments) = IsTrue (not (s.code == 0xda)) × HaveNoScan segments
+
+-- segments before a scan, each good
+pub record ArePassed (segments : List Segment) : Type 0 where
+  pub good : AreGoodAfter [] segments
+  pub no_scan : HaveNoScan segments
+
+-- What is wrong with a segment that isn't whole, its length at a place: no two bytes of it, less than 2, or
+-- more than there is (B.1.1.4).
+abbrev pub length_fault : ℕ → List ℕ → Option HeaderRefusal
+length_fault at bytes =
+    if nat_lt (length bytes) 2 then Some HeaderCut
+    else if nat_lt (number_at bytes) 2 then Some (LengthBad at)
+    else if nat_lt (length bytes) (number_at bytes) then Some HeaderCut
+    else None
+
+-- What is wrong with a code at a place: no marker, one of another process, or one that no header has
+-- (B.1.1.2, Table B.1).
+abbrev pub code_fault : ℕ → ℕ → Option HeaderRefusal
+code_fault place code =
+    if code == 0 then Some (MarkerBad place)
+    else if is_other_process code then Some (NotBaseline code)
+    else if not (is_known code) then Some (MarkerBad place)
+    else None
+
+-- What is wrong after a first byte of 0xff, the byte after it at a place: further bytes of 0xff are passed
+-- (B.1.1.2).
+abbrev pub stuck_after : ℕ → List ℕ → Option HeaderRefusal
+stuck_after place [] = Some HeaderCut
+stuck_after place (byte ∷ bytes) =
+    if byte == 0xff then stuck_after (place + 1) bytes
+    else or_else (code_fault place byte) (length_fault (place + 1) bytes)
+
+-- What keeps a whole segment from standing at a place, if anything does: no byte, or none of 0xff.
+abbrev pub stuck_at : ℕ → List ℕ → Option HeaderRefusal
+stuck_at place [] = Some HeaderCut
+stuck_at place (byte ∷ bytes) =
+    if byte == 0xff then stuck_after (place + 1) bytes else Some (MarkerBad place)

@@ -1,0 +1,78 @@
+// What the segments before a scan say.
+ghost use Rattle.std.specs.Prelude.{ℕ, ◌≡◌, ◌≢◌, ◌≤◌, ◌<◌, ◌+◌, ◌^◌, ◌++◌, ◌∷◌, [], List, length, OnOk, Some};
+ghost use Rattle.jpeg_marker.specs.HeaderRefusals.{fault_in};
+ghost use Rattle.jpeg_marker.specs.MarkerSegments.{Segment};
+ghost use Rattle.jpeg_marker.specs.HeldTables.{table_in};
+ghost use Rattle.jpeg_marker.specs.GoodSegments.{body_fault, interval_fault};
+ghost use Rattle.jpeg_marker.specs.Frames.{frame_at, frame_fault};
+ghost use Rattle.jpeg_marker.specs.MarkerSegments.{number_at};
+ghost use Rattle.jpeg_marker.specs.HeaderWalks.{Knows};
+
+use crate::frame::{Frame, read_frame};
+use crate::number::number_at;
+use crate::refusal::HeaderRefusal;
+use crate::table::RawTable;
+use crate::tables::read_tables;
+
+/// The frame, the tables of both classes, four numbers to a class, and the restart interval.
+#[derive(Drop)]
+pub(crate) struct Definitions {
+    pub(crate) frame: Option<Frame>,
+    pub(crate) tables: [Option<RawTable>; 8],
+    pub(crate) interval: u16,
+}
+
+impl Definitions {
+    /// What no segment says.
+    pub(crate) fn new() -> Definitions
+        ensures { Knows result [] }
+    {
+        Definitions {
+            frame: None,
+            tables: [None; 8],
+            interval: 0,
+        }
+    }
+
+    /// Takes what a segment says that is no scan's, its length at a place.
+    pub(crate) fn take(&mut self, code: u8, body: &[u8], at: usize) -> Result<(), HeaderRefusal>
+        requires other { code ≢ 0xda }
+        requires room { at + 2 + length body.now < 2 ^ 64 }
+        ensures fault { fault_in result
+            ≡ body_fault self.old.frame (table_in self.old.tables) at code body.now }
+        ensures kept { OnOk result ((before : List Segment) (fill : ℕ) → Knows self.old before
+            → Knows self.new (before
+            ++ record { fill = fill; code = code; body = body.now } ∷ [])) }
+    {
+        match code {
+            0xc0 => take_frame(&mut self.frame, body, at),
+            0xc4 => read_tables(&mut self.tables, body, at),
+            0xdd => take_interval(&mut self.interval, body, at),
+            _ => Ok(()),
+        }
+    }
+}
+
+// Takes the first frame.
+fn take_frame(frame: &mut Option<Frame>, body: &[u8], at: usize) -> Result<(), HeaderRefusal>
+    ensures fault { fault_in result ≡ frame_fault frame.old at body.now }
+    ensures taken { OnOk result (frame.new ≡ Some (frame_at body.now)) }
+{
+    if frame.is_some() {
+        return Err(HeaderRefusal::FrameTwice);
+    }
+    *frame = Some(read_frame(body, at)?);
+    Ok(())
+}
+
+// Takes a restart interval.
+fn take_interval(interval: &mut u16, body: &[u8], at: usize) -> Result<(), HeaderRefusal>
+    ensures fault { fault_in result ≡ interval_fault at body.now }
+    ensures taken { OnOk result (interval.new ≡ number_at body.now) }
+{
+    if body.len() != 2 {
+        return Err(HeaderRefusal::LengthBad { place: at });
+    }
+    *interval = number_at(body);
+    Ok(())
+}

@@ -1,0 +1,95 @@
+-- What a reader and a writer of a scan are, and what their calls answer (own).
+use Rattle.std.specs.Prelude.{ℕ, ◌≡◌, ◌+◌, Bool, false, not, ◌&&◌, ◌||◌, ◌==◌, if◌then◌else◌, List, ◌++◌, length, map, ℤ, Option, Some, None, Result, Ok, Err}
+use Rattle.scan_text.specs.BlockBits.{Text}
+use Rattle.bit_list.specs.Bits.{begun_after}
+use Rattle.bit_list.specs.Units.{Cursor}
+use Rattle.scan_text.specs.Blocks.{blocks_text}
+use Rattle.scan_text.specs.Slots.{Shape}
+use Rattle.scan_text.specs.Scans.{Mcu}
+use Rattle.scan_text.specs.Spots.{Spot, first_spot, is_closed, mcu_put}
+use Rattle.scan_text.specs.ScanReading.{Standing, standing_at, in_zigzag, mcu_at}
+use Rattle.scan_text.specs.declared.refusal.ScanRefusal.{ScanRefusal}
+use Rattle.scan_text.specs.declared.stop.WriteStop.{WriteStop}
+
+-- a reader: the scan, the bytes, where it stands between two MCUs, and the refusal that it came to
+pub record ScanReader : Type 0 where
+  pub shape : Shape
+  pub bytes : List ℕ
+  pub at : Standing
+  pub stop : Option ScanRefusal
+
+-- a reader before the first MCU of the scan at a place
+abbrev pub reader_at : Shape → List ℕ → ℕ → ScanReader
+reader_at shape bytes place = record {
+  shape = shape;
+  bytes = bytes;
+  at = standing_at place;
+  stop = None;
+}
+
+-- the place where a reader that begins at a cursor starts (own): that of a unit whose bits were taken in part, or else of
+-- the next one
+abbrev pub resume_place : Cursor → ℕ
+resume_place cursor = if length cursor.left == 0 then cursor.next else cursor.last
+
+-- the next MCU, or the refusal that it comes to
+abbrev pub McuIsReadOn : {A : Type 0} → ScanReader → Result A ScanRefusal → ScanReader → List (List ℤ)
+    → Type 0
+McuIsReadOn old (Ok done) new out =
+    (mcu_at old.shape old.bytes old.at ≡ Ok (map in_zigzag out, new.at))
+    × (new ≡ record old { at = new.at })
+McuIsReadOn old (Err refusal) new out =
+    (mcu_at old.shape old.bytes old.at ≡ Err refusal)
+    × (new ≡ record old { at = new.at; stop = Some refusal })
+
+-- a refusal is answered again, and changes nothing
+abbrev pub McuIsRead : {A : Type 0} → Option ScanRefusal → ScanReader → Result A ScanRefusal
+    → ScanReader → List (List ℤ) → Type 0
+McuIsRead None old result new out = McuIsReadOn old result new out
+McuIsRead (Some refusal) old result new out = (result ≡ Err refusal) × (new ≡ old)
+
+-- a writer: the scan, its pad bit, where it leaves off, whether a bit was padded, and the cause why it stopped
+pub record ScanWriter : Type 0 where
+  pub shape : Shape
+  pub pad : Bool
+  pub spot : Spot
+  pub padded : Bool
+  pub stop : Option WriteStop
+
+-- a writer before the first MCU
+abbrev pub writer_of : Shape → Bool → ScanWriter
+writer_of shape pad = record {
+  shape = shape;
+  pad = pad;
+  spot = first_spot;
+  padded = false;
+  stop = None;
+}
+
+-- whether a pad bit follows an MCU's text (F.1.2.3)
+abbrev pub is_padded : Shape → Spot → Text → Bool
+is_padded shape spot (Ok bits) =
+    is_closed shape (spot.count + 1) && not (length (begun_after spot.begun bits) == 0)
+is_padded shape spot (Err stop) = false
+
+-- an MCU's bytes were appended, or none of them
+abbrev pub McuIsPutOn : {A : Type 0} → ScanWriter → Mcu → List ℕ → Result A WriteStop → ScanWriter
+    → List ℕ → Type 0
+McuIsPutOn old mcu out (Ok done) new out_new =
+    (text : List ℕ) × (mcu_put old.shape (λ n. old.pad) old.spot mcu ≡ Ok (text, new.spot))
+    × (out_new ≡ out ++ text)
+    × (new ≡ record old {
+      spot = new.spot;
+      padded =
+          old.padded || is_padded old.shape old.spot (blocks_text old.shape.slots old.spot.before mcu);
+    })
+McuIsPutOn old mcu out (Err stop) new out_new =
+    (mcu_put old.shape (λ n. old.pad) old.spot mcu ≡ Err stop) × (out_new ≡ out)
+    × (new ≡ record old { stop = Some stop })
+
+-- a stop is answered again, and changes nothing
+abbrev pub McuIsPut : {A : Type 0} → Option WriteStop → ScanWriter → Mcu → List ℕ → Result A WriteStop
+    → ScanWriter → List ℕ → Type 0
+McuIsPut None old mcu out result new out_new = McuIsPutOn old mcu out result new out_new
+McuIsPut (Some stop) old mcu out result new out_new =
+    (result ≡ Err stop) × (out_new ≡ out) × (new ≡ old)
