@@ -1,0 +1,8 @@
+pub mod BlockStepLemmas
+pub mod MachineValues
+pub mod DcReading
+pub mod McuReading
+pub mod RestartMarkers
+pub mod PadBits
+pub mod Standings
+pub mod IntervalEnds

@@ -1,0 +1,104 @@
+-- A value of so many bits, as the machine makes it.
+use Rattle.std.proofs.Common.{◌≡◌, ℕ, zero, suc, ◌+◌, ◌-◌, ◌*◌, ◌/◌, ◌%◌, ◌^◌, ◌<◌, ◌≤◌, Bool, true, false, ◌==◌, ◌∷◌, length, ℤ, pos, negsuc, neg_ℤ, ◌-ℤ◌, ◌+ℤ◌, unsigned_abs, sym, ap, ap₂, ◌∙◌, arith, pow-suc}
+use Rattle.std.specs.Prelude.{FitsSigned}
+use Rattle.std.specs.Int.{w32, bit_at}
+use Rattle.std.proofs.lemmas.Int.{ints, to_z-of_z}
+use Rattle.std.proofs.lemmas.Nat.{one_shl, pow_pos, shr_high}
+use Rattle.std.proofs.lemmas.Nat.Bits.{bit_at_above}
+use Rattle.std.proofs.Math.Pow.{pow_mono}
+use mir.Val.{to_z, of_z}
+use Rattle.bit_list.specs.Bits.{low_bits, number_of}
+use Rattle.bit_list.specs.NumbersOfBits.{length-low_bits, number_again}
+use Rattle.scan_text.specs.ValueBits.{extend}
+
+pub fits_word : (z : ℤ) → unsigned_abs z ≤ 65534 → FitsSigned w32 z
+fits_word (pos n) h = record { sfits = omega arith }
+fits_word (negsuc n) h = record { sfits = omega arith }
+
+pub kept_word : (z : ℤ) → unsigned_abs z ≤ 65534 → to_z w32 (of_z w32 z) ≡ z
+kept_word z h = to_z-of_z w32 z (fits_word z h)
+
+-- the highest bit of a number with so many bits is a one
+first_one : (k n : ℕ) → n < 2 ^ suc k → 2 ^ k ≤ n → (bit_at n k == 1) ≡ true
+first_one k n below least =
+    let whole : 1 * 2 ^ k + (n - 2 ^ k) ≡ n = omega arith in
+    let shifted = shr_high 1 k (n - 2 ^ k) (omega (arith, pow-suc 2 k)) in
+    ap (λ (q : ℕ). q % 2 == 1) (ap (λ (m : ℕ). m / 2 ^ k) (sym whole) ∙ shifted)
+
+first_zero : (k n : ℕ) → n < 2 ^ k → (bit_at n k == 1) ≡ false
+first_zero k n below = ap (λ (bit : ℕ). bit == 1) (bit_at_above n k k below (omega arith))
+
+extend_high : (k n : ℕ) → n < 2 ^ suc k → 2 ^ k ≤ n → extend (low_bits (suc k) n) ≡ pos n
+extend_high k n below least =
+    let first = first_one k n below least in
+    ap (λ (bit : Bool). extend (bit ∷ low_bits k n)) first
+    ∙ ap (λ (bit : Bool). pos (number_of (bit ∷ low_bits k n))) (sym first)
+    ∙ ap pos (number_again (suc k) n below)
+
+extend_low : (k n : ℕ) → n < 2 ^ k → extend (low_bits (suc k) n) ≡ neg_ℤ (pos (2 ^ suc k - 1 - n))
+extend_low k n below =
+    let first = first_zero k n below in
+    ap (λ (bit : Bool). extend (bit ∷ low_bits k n)) first
+    ∙ ap (λ (bit : Bool). neg_ℤ (pos (2 ^ length (bit ∷ low_bits k n) - 1 - number_of (bit ∷ low_bits k n)))) (sym first)
+    ∙ ap₂ (λ (count number : ℕ). neg_ℤ (pos (2 ^ count - 1 - number))) (length-low_bits (suc k) n) (number_again (suc k) n (omega (arith, pow-suc 2 k)))
+
+minus : (p n : ℕ) → n < p → pos n -ℤ (pos p -ℤ pos 1) ≡ neg_ℤ (pos (p - 1 - n))
+minus p n h = omega (arith, ints)
+
+one_less : (p : ℕ) → 0 < p → p ≤ 2048 → unsigned_abs (pos p -ℤ pos 1) ≤ 65534
+one_less p some few = omega (arith, ints)
+
+difference_few : (p n : ℕ) → n < p → p ≤ 2048 → unsigned_abs (pos n -ℤ (pos p -ℤ pos 1)) ≤ 65534
+difference_few p n below few = omega (arith, ints)
+
+abbrev made : ℤ → ℤ
+made z = to_z w32 (of_z w32 z)
+
+-- with the first bit a zero
+pub low_value : (bits size : ℕ) (number : ℤ) → 0 < size → size ≤ 11 → bits < 2 ^ (size - 1) → number ≡ pos bits
+    → to_z w32 (of_z w32 (to_z w32 (of_z w32 number) -ℤ to_z w32 (of_z w32 (to_z w32 (1 * 2 ^ size % 4294967296) -ℤ pos 1)))) ≡ extend (low_bits size bits)
+low_value bits zero number some few below is = absurd (omega arith)
+low_value bits (suc k) number some few below is =
+    let one : suc k - 1 ≡ k = omega arith in
+    let under : bits < 2 ^ k = rw one at below in
+    let p = 2 ^ suc k in
+    let twice : p ≡ 2 * 2 ^ k = omega (arith, pow-suc 2 k) in
+    let most : p ≤ 2 ^ 11 = pow_mono few in
+    let positive : 0 < p = omega (arith, pow_pos (suc k)) in
+    let below_all : bits < p = omega (arith, under, twice) in
+    let shifted : 1 * 2 ^ suc k % 4294967296 ≡ p = one_shl (suc k) 32 (omega arith) in
+    let word : to_z w32 (1 * 2 ^ suc k % 4294967296) ≡ pos p = ap (to_z w32) shifted ∙ kept_word (pos p) (omega (arith, most)) in
+    let first : made number ≡ pos bits = ap made is ∙ kept_word (pos bits) (omega (arith, below_all, most)) in
+    let second : made (to_z w32 (1 * 2 ^ suc k % 4294967296) -ℤ pos 1) ≡ pos p -ℤ pos 1 =
+    ap (λ (z : ℤ). made (z -ℤ pos 1)) word ∙ kept_word (pos p -ℤ pos 1) (one_less p positive (omega (arith, most))) in
+    ap₂ (λ (a b : ℤ). made (a -ℤ b)) first second
+    ∙ kept_word (pos bits -ℤ (pos p -ℤ pos 1)) (difference_few p bits below_all (omega (arith, most)))
+    ∙ minus p bits below_all
+    ∙ sym (extend_low k bits under)
+
+-- with the first bit a one
+pub high_value : (bits size : ℕ) (number : ℤ) → 0 < size → size ≤ 11 → bits < 2 ^ size → 2 ^ (size - 1) ≤ bits → number ≡ pos bits
+    → to_z w32 (of_z w32 number) ≡ extend (low_bits size bits)
+high_value bits zero number some few below least is = absurd (omega arith)
+high_value bits (suc k) number some few below least is =
+    let one : suc k - 1 ≡ k = omega arith in
+    let over : 2 ^ k ≤ bits = rw one at least in
+    let most : 2 ^ suc k ≤ 2 ^ 11 = pow_mono few in
+    ap made is ∙ kept_word (pos bits) (omega (arith, below, most)) ∙ sym (extend_high k bits below over)
+
+-- a sum, as the machine adds
+pub sum_is : (a b : ℤ) → unsigned_abs a ≤ 32767 → unsigned_abs b ≤ 2047 → to_z w32 (of_z w32 (a +ℤ b)) ≡ a +ℤ b
+sum_is a b small few = let most : unsigned_abs (a +ℤ b) ≤ 65534 = omega (arith, ints) in kept_word (a +ℤ b) most
+
+-- the first bit's weight, as the machine shifts
+pub weight : (size : ℕ) → size ≤ 11 → 1 * 2 ^ (size - 1) % 65536 ≡ 2 ^ (size - 1)
+weight size few = one_shl (size - 1) 16 (omega (arith, few))
+
+-- a DC after one before
+pub dc_sum : (before difference from : ℤ) → unsigned_abs before ≤ 32767 → unsigned_abs difference ≤ 2047 → from ≡ before
+    → to_z w32 (of_z w32 (to_z w32 (of_z w32 from) +ℤ to_z w32 (of_z w32 difference))) ≡ before +ℤ difference
+dc_sum before difference from small few is =
+    ap₂ (λ (a b : ℤ). made (a +ℤ b)) (ap made is ∙ kept_word before (omega (arith, small))) (kept_word difference (omega (arith, few))) ∙ sum_is before difference small few
+
+pub few_bits : (size : ℕ) (v : ℤ) → size ≤ 11 → unsigned_abs v < 2 ^ size → unsigned_abs v ≤ 2047
+few_bits size v few below = let most : 2 ^ size ≤ 2 ^ 11 = pow_mono few in omega (arith, most, below)

@@ -1,0 +1,4 @@
+pub mod ReadResults
+pub mod BlockSteps
+pub mod McuBlocks
+pub mod ReaderInside

@@ -1,0 +1,22 @@
+-- What a reader stands for, and what always holds of it (own).
+use Rattle.std.specs.Prelude.{◌≡◌, ◌^◌, ◌<◌, ◌≤◌}
+use Rattle.std.specs.List.{All}
+use Rattle.coef_block.specs.Block.{IsDc}
+use Rattle.scan_text.specs.ScanCalls.{ScanReader}
+use Rattle.scan_decode.specs.declared.reader.Reader.TheInside.{Inside}
+
+-- the scan, its bytes, where the reader stands in them, and its refusal
+abbrev pub reader_of : Inside → ScanReader
+reader_of r = record {
+  shape = r.shape;
+  bytes = r.input.bytes;
+  at = record { cursor = r.input.cursor; before = r.before; count = r.count; pad = r.pad };
+  stop = r.stop;
+}
+
+-- the last DCs are some that blocks can have, no more MCUs were read than there are, and the bits are those of the bytes
+pub record IsReader (r : Inside) : Type 0 where
+  pub before : All IsDc r.before
+  pub count : r.count ≤ r.shape.mcus
+  pub size : r.shape.mcus < 2 ^ 32
+  pub bytes : r.input.bytes ≡ r.bytes.now

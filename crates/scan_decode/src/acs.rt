@@ -1,0 +1,127 @@
+// The AC coefficients of a block.
+ghost use Rattle.std.specs.Prelude.{◌≡◌, ◌≤◌, ◌<◌, ◌-◌, List, ℤ, ◌∷◌, [], Bool, true, false, length, replicate, pos, Result, Err, IfOk, IfErr};
+ghost use Rattle.bit_list.specs.Units.{Cursor};
+ghost use Rattle.scan_text.specs.BlockBits.{coefficient_at, ac_values};
+ghost use Rattle.scan_text.specs.ScanReading.{in_zigzag, prefixed_values, acs_at, symbol_of};
+ghost use Rattle.scan_decode.specs.ReadResults.{values_at_cursor};
+ghost use Rattle.scan_decode.specs.BlockSteps.{Going, step_symbol};
+ghost use Rattle.scan_text.specs.declared.refusal.ScanRefusal.{ScanRefusal as Refusal};
+
+use crate::values::{extended, symbol};
+use bit_list::BitIn;
+use coef_block::{Block, natural_position};
+use huff_table::Codes;
+use scan_text::ScanRefusal;
+
+// What a symbol says where so many coefficients are left.
+enum Step {
+    Value { zeros: u8, size: u8 },
+    Sixteen,
+    End,
+    Past,
+    Loose,
+    Unknown,
+}
+
+// The next zigzag index, and whether sixteen zeros were the last.
+#[derive(Clone, Copy)]
+struct At {
+    index: usize,
+    loose: bool,
+}
+
+#[inline(always)]
+fn step_of(left: usize, loose: bool, symbol: u8) -> Step
+    ensures { step_symbol result ≡ symbol_of left loose symbol }
+{
+    let zeros = symbol / 16;
+    let size = symbol % 16;
+    if size == 0 {
+        if zeros == 0 {
+            return if loose { Step::Loose } else { Step::End };
+        }
+        if zeros == 15 {
+            return if left <= 16 {
+                Step::Past
+            } else {
+                Step::Sixteen
+            };
+        }
+        return Step::Unknown;
+    }
+    if size > 10 {
+        return Step::Unknown;
+    }
+    if left <= usize::from(zeros) {
+        return Step::Past;
+    }
+    Step::Value { zeros, size }
+}
+
+// What one symbol tells.
+#[inline(always)]
+fn go_on(codes: &Codes, input: &mut BitIn, block: &mut Block, at: At) -> Result<At, ScanRefusal>
+    requires some { 0 < at.index }
+    requires left { at.index < 64 }
+    ensures ok { IfOk result
+        (λ next. (whole : Result (List ℤ × Cursor) Refusal)
+        → Going whole codes.now input.old.bytes block.old at.index at.loose input.old.cursor
+        → Going whole codes.now input.old.bytes block.new next.index next.loose input.new.cursor) }
+    ensures some { IfOk result (λ next. (0 < next.index) × (next.index ≤ 64)) }
+    ensures more { IfOk result (λ next. at.index < next.index) }
+    ensures err { IfErr result
+        (λ refusal. (whole : Result (List ℤ × Cursor) Refusal)
+        → Going whole codes.now input.old.bytes block.old at.index at.loose input.old.cursor
+        → whole ≡ Err refusal) }
+    ensures bytes { input.new.bytes ≡ input.old.bytes }
+{
+    let symbol = symbol(codes, input)?;
+    match step_of(64 - at.index, at.loose, symbol) {
+        Step::Value { zeros, size } => {
+            let value = extended(size, input)?;
+            let index = at.index + usize::from(zeros);
+            block.set(natural_position(index), value as i16);
+            Ok(At {
+                index: index + 1,
+                loose: false,
+            })
+        }
+        Step::Sixteen => Ok(At {
+            index: at.index + 16,
+            loose: true,
+        }),
+        Step::End => Ok(At {
+            index: 64,
+            loose: false,
+        }),
+        Step::Past => Err(ScanRefusal::RunPast {
+            place: input.place(),
+        }),
+        Step::Loose => Err(ScanRefusal::LooseZeros {
+            place: input.place(),
+        }),
+        Step::Unknown => Err(ScanRefusal::SymbolBad {
+            place: input.place(),
+        }),
+    }
+}
+
+/// The AC coefficients of a block that has none yet (ITU-T T.81, F.2.2.2).
+#[inline]
+pub(crate) fn acs(codes: &Codes, input: &mut BitIn, block: &mut Block) -> Result<(), ScanRefusal>
+    requires long { length block.old ≡ 64 }
+    requires zeros { ac_values block.old ≡ replicate 63 (pos 0) }
+    ensures is { values_at_cursor result (in_zigzag block.new) input.new.cursor
+        ≡ prefixed_values (coefficient_at block.old 0 ∷ [])
+        (acs_at 63 codes.now 63 false input.old.bytes input.old.cursor) }
+    ensures bytes { input.new.bytes ≡ input.old.bytes }
+{
+    let mut at = At {
+        index: 1,
+        loose: false,
+    };
+    while at.index < 64 {
+        at = go_on(codes, input, block, at)?;
+    }
+    Ok(())
+}

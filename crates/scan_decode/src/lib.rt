@@ -1,0 +1,23 @@
+//! A scan read MCU by MCU: its blocks, or the first refusal with its place (ITU-T T.81, B.2.1, E.1.4, F.2.2).
+//!
+//!     header | 3f         ff d0    3f         | ff d9
+//!            | block pads RST0     block pads | trailer
+//!            start        -- next_mcu --      end
+//!
+//! What each call reads is stated by the definitions of `scan_text`. It takes no memory, and no reading leaves the
+//! bytes. Writing is `scan_write`'s.
+#![tactic(auto)]
+
+mod acs;
+mod block;
+mod blocks;
+mod dc;
+mod pads;
+mod reader;
+mod refusals;
+mod values;
+
+pub use reader::Reader;
+
+#[cfg(test)]
+mod tests;

@@ -1,0 +1,177 @@
+// A scan, MCU by MCU.
+ghost use Rattle.std.specs.Prelude.{◌≡◌, ◌+◌, ◌<◌, ◌≤◌, ◌==◌, length, map};
+ghost use Rattle.scan_text.specs.ScanCalls.{McuIsRead, reader_at, resume_place};
+ghost use Rattle.scan_text.specs.Slots.{shape_of};
+ghost use Rattle.scan_text.specs.ShapeInside.{most_slots};
+ghost use Rattle.huff_table.specs.PlanWords.{tables_of};
+ghost use Rattle.scan_text.specs.ScanReading.{and_then, in_zigzag, mcu_at, pads_at, after_pads};
+ghost use Rattle.scan_text.specs.Scans.{no_dcs};
+ghost use Rattle.scan_decode.specs.ReadResults.{mcu_read, standing_read};
+
+use crate::blocks::blocks;
+use crate::pads::{pads, restart};
+use bit_list::BitIn;
+use coef_block::Block;
+use huff_table::PlanCodes;
+use jpeg_marker::Plan;
+use scan_text::{ScanRefusal, ScanShape};
+use std::marker::Model;
+
+/// A scan that is read MCU by MCU (ITU-T T.81, F.2.2). It keeps the first refusal, and takes no memory.
+///
+/// Clauses see the scan's shape, its bytes, where the reader stands, and its refusal.
+#[derive(Drop)]
+pub struct Reader<'a> {
+    shape: ScanShape,
+    input: BitIn<'a>,
+    bytes: &'a [u8],
+    // The last DC of each component in this interval.
+    before: [i16; 4],
+    // How many MCUs were read.
+    count: u32,
+    pad: Option<bool>,
+    stop: Option<ScanRefusal>,
+}
+
+impl<'a> Model for Reader<'a> {
+    ghost use Rattle.scan_text.specs.ScanCalls.{ScanReader};
+    ghost use Rattle.scan_decode.specs.ReaderInside.{reader_of, IsReader};
+
+    ghost Value = { ScanReader };
+
+    ghost view = { reader_of };
+
+    ghost invariant = { IsReader };
+}
+
+impl<'a> Reader<'a> {
+    /// Before the first MCU of the scan at a place of these bytes.
+    pub fn start(plan: &Plan, codes: &PlanCodes, bytes: &'a [u8], place: usize) -> Self
+        requires { codes.now ≡ map tables_of plan.now.components }
+        ensures { result ≡ reader_at (shape_of plan.now) bytes.now place }
+    {
+        Reader {
+            shape: ScanShape::of(plan, codes),
+            input: BitIn::at(bytes, place, 0),
+            bytes,
+            before: [0; 4],
+            count: 0,
+            pad: None,
+            stop: None,
+        }
+    }
+
+    /// McuIsRead the next MCU into `out`, a block for each of its blocks (A.2.3), in natural order. Refused with the first
+    /// item that doesn't stand or can't stand there, by its place; that refusal is answered from then on. On a refusal
+    /// `out` holds nothing of worth.
+    pub fn next_mcu(&mut self, out: &mut [Block]) -> Result<(), ScanRefusal>
+        requires more { self.old.at.count < self.old.shape.mcus }
+        requires room { length out.old ≡ length self.old.shape.slots }
+        ensures { McuIsRead self.old.stop self.old result self.new out.new }
+    {
+        if let Some(refusal) = self.stop {
+            return Err(refusal);
+        }
+        match self.mcu(out) {
+            Ok(()) => Ok(()),
+            Err(refusal) => {
+                self.stop = Some(refusal);
+                Err(refusal)
+            }
+        }
+    }
+
+    /// Blocks of an MCU, at most ten.
+    pub fn mcu_blocks(&self) -> usize
+        ensures value { result ≡ length self.now.shape.slots }
+        ensures few { result ≤ most_slots }
+    {
+        self.shape.blocks()
+    }
+
+    /// Whether each MCU was read.
+    pub fn at_end(&self) -> bool
+        ensures value { result ≡ (self.now.at.count == self.now.shape.mcus) }
+        ensures within { self.now.at.count ≤ self.now.shape.mcus }
+    {
+        self.count == self.shape.mcus()
+    }
+
+    /// The place where a reader that begins here starts: that of the unit whose bits were read in part, or else of the
+    /// next one.
+    pub fn place(&self) -> usize
+        ensures { result ≡ resume_place self.now.at.cursor }
+    {
+        let (_, left) = self.input.left();
+        if left == 0 {
+            self.input.next_place()
+        } else {
+            self.input.place()
+        }
+    }
+
+    /// After the last MCU: the pad bit, if a bit was padded, and the place after the scan's last byte.
+    pub fn end(&self) -> (Option<bool>, usize)
+        ensures pad { result.0 ≡ self.now.at.pad }
+        ensures place { result.1 ≡ self.now.at.cursor.next }
+    {
+        (self.pad, self.input.next_place())
+    }
+
+    fn mcu(&mut self, out: &mut [Block]) -> Result<(), ScanRefusal>
+        requires more { self.old.at.count < self.old.shape.mcus }
+        requires room { length out.old ≡ length self.old.shape.slots }
+        ensures same { self.new ≡ record self.old { at = self.new.at } }
+        ensures is { mcu_read result (map in_zigzag out.new) self.new.at
+            ≡ mcu_at self.old.shape self.old.bytes self.old.at }
+    {
+        let (codes, slots) = self.shape.slots();
+        blocks(codes, slots, &mut self.before, &mut self.input, out)?;
+        if self.shape.is_closed(self.count + 1) {
+            return self.close();
+        }
+        self.count += 1;
+        Ok(())
+    }
+
+    // The pad bits of an interval, and the marker after it, if another one follows.
+    fn close(&mut self) -> Result<(), ScanRefusal>
+        requires { self.old.at.count < self.old.shape.mcus }
+        ensures same { self.new ≡ record self.old { at = self.new.at } }
+        ensures is { standing_read result self.new.at
+            ≡ and_then (pads_at self.old.at.pad self.old.at.cursor)
+            (after_pads self.old.shape self.old.bytes self.old.at.count) }
+    {
+        let last = self.input.place();
+        let (number, count) = self.input.rest_of_byte();
+        let pad = match pads(self.pad, number, count) {
+            Some(pad) => pad,
+            None => return Err(ScanRefusal::MixedPad { place: last }),
+        };
+        if self.count + 1 == self.shape.mcus() {
+            self.begin(pad);
+            return Ok(());
+        }
+        let number = self.shape.interval_number(self.count);
+        let place = restart(self.bytes, number, self.input.next_place())?;
+        self.input = BitIn::at(self.bytes, place, 0);
+        self.begin(pad);
+        Ok(())
+    }
+
+    // Counts an MCU, and begins an interval.
+    fn begin(&mut self, pad: Option<bool>)
+        requires { self.old.at.count < self.old.shape.mcus }
+        ensures { self.new ≡ record self.old {
+          at = record self.old.at {
+            before = no_dcs;
+            count = self.old.at.count + 1;
+            pad = pad;
+          };
+        } }
+    {
+        self.before = [0; 4];
+        self.pad = pad;
+        self.count += 1;
+    }
+}

@@ -1,0 +1,58 @@
+// Symbols, and values by their category.
+ghost use Rattle.std.specs.Prelude.{◌≡◌, ◌^◌, ◌<◌, ◌≤◌, IfOk, unsigned_abs};
+ghost use Rattle.bit_list.specs.Bits.{low_bits};
+ghost use Rattle.scan_text.specs.ValueBits.{extend};
+ghost use Rattle.scan_text.specs.ScanReading.{symbol_at, extended_at};
+ghost use Rattle.scan_decode.specs.ReadResults.{at_cursor};
+
+use crate::refusals::{of_bits, of_code};
+use bit_list::BitIn;
+use huff_table::Codes;
+use scan_text::ScanRefusal;
+
+/// The symbol whose code word stands next.
+#[inline]
+pub(crate) fn symbol(codes: &Codes, input: &mut BitIn) -> Result<u8, ScanRefusal>
+    ensures is { at_cursor result input.new.cursor
+        ≡ symbol_at codes.now input.old.bytes input.old.cursor }
+    ensures bytes { input.new.bytes ≡ input.old.bytes }
+{
+    match codes.next(input) {
+        Ok(value) => Ok(value),
+        Err(fault) => Err(of_code(fault)),
+    }
+}
+
+/// The value of a category whose bits stand next.
+#[inline]
+pub(crate) fn extended(size: u8, input: &mut BitIn) -> Result<i32, ScanRefusal>
+    requires { size ≤ 11 }
+    ensures is { at_cursor result input.new.cursor
+        ≡ extended_at size input.old.bytes input.old.cursor }
+    ensures small { IfOk result (λ value. unsigned_abs value < 2 ^ size) }
+    ensures bytes { input.new.bytes ≡ input.old.bytes }
+{
+    match input.take(size) {
+        Ok(bits) => Ok(value_of(bits, size)),
+        Err(fault) => Err(of_bits(fault)),
+    }
+}
+
+// The value of a category's bits (Figure F.12, EXTEND).
+#[inline(always)]
+fn value_of(bits: u16, size: u8) -> i32
+    requires few { size ≤ 11 }
+    requires below { bits < 2 ^ size }
+    ensures is { result ≡ extend (low_bits size bits) }
+    ensures small { unsigned_abs result < 2 ^ size }
+{
+    if size == 0 {
+        return 0;
+    }
+    let number = i32::from(bits);
+    if bits < 1 << (size - 1) {
+        number - ((1 << size) - 1)
+    } else {
+        number
+    }
+}
