@@ -42,15 +42,21 @@ TookAll old new bytes = Consumes old new bytes × IsAtEnd new
 -- rest nothing is made; of decode's nothing is made
 abbrev pub IsRefused : Command → Refusal → List ℕ → Type 0
 IsRefused command TooLong bytes = limit_of command < length bytes
-IsRefused Encode (Header refusal) bytes = (length bytes ≤ limit_of Encode) × HeaderRefuses bytes refusal
-IsRefused Encode Outside bytes = (length bytes ≤ limit_of Encode) × ((plan : PlanFields) × Accepts bytes plan) × ((made : List ℕ) → ¬ Gives Encode bytes made)
+IsRefused Encode (Header refusal) bytes =
+    (length bytes ≤ limit_of Encode) × HeaderRefuses bytes refusal
+IsRefused Encode Outside bytes =
+    (length bytes ≤ limit_of Encode) × ((plan : PlanFields) × Accepts bytes plan)
+    × ((made : List ℕ) → ¬ Gives Encode bytes made)
 IsRefused Decode (Header refusal) bytes = ⊥
-IsRefused Decode Outside bytes = (length bytes ≤ limit_of Decode) × ((made : List ℕ) → ¬ Gives Decode bytes made)
+IsRefused Decode Outside bytes =
+    (length bytes ≤ limit_of Decode) × ((made : List ℕ) → ¬ Gives Decode bytes made)
 
 -- what of a source's bytes was taken where they are refused: one past the limit, else all of them
 abbrev pub Refuses : Command → Refusal → Option (List ℕ) → Option (List ℕ) → Type 0
-Refuses command TooLong old new = (taken : List ℕ) × (length taken ≡ limit_of command + 1) × Consumes old new taken
-Refuses command refusal old new = (bytes : List ℕ) × TookAll old new bytes × IsRefused command refusal bytes
+Refuses command TooLong old new =
+    (taken : List ℕ) × (length taken ≡ limit_of command + 1) × Consumes old new taken
+Refuses command refusal old new =
+    (bytes : List ℕ) × TookAll old new bytes × IsRefused command refusal bytes
 
 -- a proper prefix of these bytes was appended
 abbrev pub AppendsPart : Option (List ℕ) → Option (List ℕ) → List ℕ → Type 0
@@ -67,7 +73,11 @@ status_of NoMemory = 5
 
 -- the line of a status that isn't a refusal's: nothing for 0
 abbrev pub line_at : ℕ → List ℕ
-line_at status = if status == 2 then line (codes "words refused") else (if status == 3 then line (codes "read failed") else (if status == 4 then line (codes "write failed") else (if status == 5 then line (codes "no memory") else [])))
+line_at status =
+    if status == 2 then line (codes "words refused")
+    else (if status == 3 then line (codes "read failed")
+    else (if status == 4 then line (codes "write failed")
+    else (if status == 5 then line (codes "no memory") else [])))
 
 -- the line of an ending
 abbrev pub line_of : Ending → List ℕ
@@ -79,6 +89,7 @@ line_of WriteFailed = line_at 4
 line_of NoMemory = line_at 5
 
 -- a note got a prefix of this line, and all of it where its count of faults didn't rise
-pub record Notes {Note : Type 0} (held : Note → Option (List ℕ)) (faults : Note → ℕ) (full : Note → Type 0) (old new : Note) (line : List ℕ) : Type 0 where
+pub record Notes {Note : Type 0} (held : Note → Option (List ℕ)) (faults : Note → ℕ)
+        (full : Note → Type 0) (old new : Note) (line : List ℕ) : Type 0 where
   pub prefix : (n : ℕ) × Appends (held old) (held new) (take n line)
   pub whole : ¬ Rose faults full old new → Appends (held old) (held new) line

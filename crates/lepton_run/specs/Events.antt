@@ -9,7 +9,8 @@ use Rattle.coef_block.specs.Categories.{category as size}
 abbrev pub value_bits : ℕ → ℤ → List Bool
 value_bits steps value =
     let bits = size (unsigned_abs value) in
-    replicate bits true ++ (if bits == steps then [] else false ∷ []) ++ (if bits == 0 then [] else int_lt value (pos 0) ∷ low_bits (bits - 1) (unsigned_abs value))
+    replicate bits true ++ (if bits == steps then [] else false ∷ [])
+    ++ (if bits == 0 then [] else int_lt value (pos 0) ∷ low_bits (bits - 1) (unsigned_abs value))
 
 -- a block with a DC alone: no inner coefficient in 6 bits, none at the edges in 3 bits each, and the DC in 16 steps
 abbrev pub block_events : ℤ → List Bool

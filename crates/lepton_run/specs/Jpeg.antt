@@ -39,7 +39,8 @@ tail table = frame_end ++ dc_segment table ++ ac_segment ++ scan_segment
 
 -- a header with this height and width in samples (B.2.2)
 abbrev pub header_bytes : DcTable → ℕ → ℕ → List ℕ
-header_bytes table height width = frame_start ++ to_be_bytes w16 height ++ to_be_bytes w16 width ++ tail table
+header_bytes table height width =
+    frame_start ++ to_be_bytes w16 height ++ to_be_bytes w16 width ++ tail table
 
 -- how many blocks of eight samples cover so many (A.2.2)
 abbrev pub blocks_across : ℕ → ℕ
@@ -68,7 +69,8 @@ pub record IsWithinProfile (jpeg : Jpeg) : Type 0 where
 
 -- its bytes, where each block has its code words
 abbrev pub text_of : Jpeg → Option (List ℕ)
-text_of jpeg = option_map (λ scan. header_of jpeg ++ scan ++ jpeg.trailer) (scan_bytes jpeg.table jpeg.blocks)
+text_of jpeg =
+    option_map (λ scan. header_of jpeg ++ scan ++ jpeg.trailer) (scan_bytes jpeg.table jpeg.blocks)
 
 -- the bytes are the file with these parts
 pub record IsFile (jpeg : Jpeg) (bytes : List ℕ) : Type 0 where

@@ -45,7 +45,8 @@ fields_of TooManyBlocks = []
 -- number and name of a refusal, and what it holds
 abbrev pub refusal_text : Refusal → List ℕ
 refusal_text Outside = codes "0 Outside"
-refusal_text (Header refusal) = decimal (number_of refusal) ++ codes " " ++ name_of refusal ++ fields_of refusal
+refusal_text (Header refusal) =
+    decimal (number_of refusal) ++ codes " " ++ name_of refusal ++ fields_of refusal
 refusal_text TooLong = codes "50 TooLong"
 
 -- a line

@@ -35,7 +35,8 @@ pub const MOST_BLOCKS: u64 = 4_194_304;
 /// The container of a file.
 pub fn recode(alloc: Global, bytes: &[u8]) -> Result<Vec<u8>, RecodeError>
     requires { length bytes.now ≤ 67108864 }
-    ensures file { IfOk result (λ made. ((jpeg : Jpeg) × IsFile jpeg bytes.now × (made.items ≡ container_of jpeg))) }
+    ensures file { IfOk result
+            (λ made. ((jpeg : Jpeg) × IsFile jpeg bytes.now × (made.items ≡ container_of jpeg))) }
     ensures outside { IsErrOf result RecodeError.Outside → (jpeg : Jpeg) → ¬ IsFile jpeg bytes.now }
 {
     let Some(header) = read_header(bytes) else {

@@ -27,7 +27,8 @@ pub enum Stop {
 /// The command that the words mean, if they mean one.
 pub fn command_of(words: &[String]) -> Option<Command>
     ensures some { IfSome result (λ command. Means (map string_bytes words.now) command) }
-    ensures none { IfNone result ((command : Command) → ¬ Means (map string_bytes words.now) command) }
+    ensures none { IfNone result
+            ((command : Command) → ¬ Means (map string_bytes words.now) command) }
 {
     match words {
         [_, word] if word.as_str() == "encode" => Some(Command::Encode),
@@ -51,7 +52,8 @@ impl Command {
     pub fn carry_out(self, alloc: Global, bytes: &[u8]) -> Result<Vec<u8>, Stop>
         requires { length bytes.now ≤ limit_of self }
         ensures made { IfOk result (λ made. Gives self bytes.now made.items) }
-        ensures refused { (refusal : Refusal) → IsErrOf result (Stop.Refused refusal) → IsRefused self refusal bytes.now }
+        ensures refused { (refusal : Refusal) → IsErrOf result (Stop.Refused refusal)
+            → IsRefused self refusal bytes.now }
     {
         match self {
             Command::Encode => encode(alloc, bytes),
@@ -64,7 +66,8 @@ impl Command {
 fn encode(alloc: Global, bytes: &[u8]) -> Result<Vec<u8>, Stop>
     requires { length bytes.now ≤ limit_of Command.Encode }
     ensures made { IfOk result (λ made. Gives Command.Encode bytes.now made.items) }
-    ensures refused { (refusal : Refusal) → IsErrOf result (Stop.Refused refusal) → IsRefused Command.Encode refusal bytes.now }
+    ensures refused { (refusal : Refusal) → IsErrOf result (Stop.Refused refusal)
+        → IsRefused Command.Encode refusal bytes.now }
 {
     match read_header(bytes) {
         Ok(_) => recode(alloc, bytes).map_err(stop_of),

@@ -10,7 +10,8 @@ ghost use Rattle.lepton_run.specs.declared.refusal.Refusal.{Refusal};
 /// What was encoded is decoded: of a container that encode makes of a file within its limit, decode makes that file,
 /// and the container is within decode's limit.
 pub fn decode_undoes_encode()
-    ensures file { (file made : List ℕ) → length file ≤ limit_of Encode → Gives Encode file made → Gives Decode made file }
+    ensures file { (file made : List ℕ) → length file ≤ limit_of Encode → Gives Encode file made
+        → Gives Decode made file }
     ensures within { (file made : List ℕ) → length file ≤ limit_of Encode → Gives Encode file made
         → length made ≤ limit_of Decode }
 {}
@@ -28,14 +29,18 @@ pub fn one_spelling_a_file()
 /// Bytes have one answer: at most one container is made of a file, at most one cause refuses bytes, and of bytes that
 /// are refused nothing is made within the limit.
 pub fn one_answer()
-    ensures made { (command : Command) (bytes a b : List ℕ) → Gives command bytes a → Gives command bytes b → a ≡ b }
-    ensures cause { (command : Command) (refusal other : Refusal) (bytes : List ℕ) → IsRefused command refusal bytes
+    ensures made { (command : Command) (bytes a b : List ℕ) → Gives command bytes a
+        → Gives command bytes b → a ≡ b }
+    ensures cause { (command : Command) (refusal other : Refusal) (bytes : List ℕ)
+        → IsRefused command refusal bytes
         → IsRefused command other bytes → refusal ≡ other }
-    ensures apart { (command : Command) (refusal : Refusal) (bytes made : List ℕ) → length bytes ≤ limit_of command
+    ensures apart { (command : Command) (refusal : Refusal) (bytes made : List ℕ)
+        → length bytes ≤ limit_of command
         → IsRefused command refusal bytes → ¬ Gives command bytes made }
 {}
 
 /// Each file begins with a header that is taken.
 pub fn a_file_has_a_header()
-    ensures { (bytes made : List ℕ) → Gives Encode bytes made → ((plan : PlanFields) × Accepts bytes plan) }
+    ensures { (bytes made : List ℕ) → Gives Encode bytes made
+        → ((plan : PlanFields) × Accepts bytes plan) }
 {}

@@ -14,7 +14,8 @@ use std::alloc::{AllocError, Global};
 /// The file of a container.
 pub fn restore(alloc: Global, bytes: &[u8]) -> Result<Vec<u8>, RecodeError>
     ensures made { IfOk result (λ made. Gives Decode bytes.now made.items) }
-    ensures outside { IsErrOf result RecodeError.Outside → (made : List ℕ) → ¬ Gives Decode bytes.now made }
+    ensures outside { IsErrOf result RecodeError.Outside → (made : List ℕ)
+        → ¬ Gives Decode bytes.now made }
 {
     let Some(parts) = open(bytes) else {
         return Err(RecodeError::Outside);

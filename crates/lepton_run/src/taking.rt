@@ -14,9 +14,11 @@ const MOST_BITS: u32 = 15;
 
 /// The DC of a block that has no other coefficient.
 pub fn take_block(decoder: &mut Decoder) -> Option<i32>
-    ensures took { (bits : List Bool) → Took bits decoder.old → IfSome result (λ dc. Took (bits ++ block_events dc) decoder.new) }
+    ensures took { (bits : List Bool) → Took bits decoder.old
+        → IfSome result (λ dc. Took (bits ++ block_events dc) decoder.new) }
     ensures small { IfSome result (λ dc. unsigned_abs dc ≤ 32767) }
-    ensures again { (dc : ℤ) (rest : List Bool) → unsigned_abs dc ≤ 32767 → Ahead (block_events dc ++ rest) decoder.old
+    ensures again { (dc : ℤ) (rest : List Bool) → unsigned_abs dc ≤ 32767
+        → Ahead (block_events dc ++ rest) decoder.old
         → (result ≡ Some dc) × Ahead rest decoder.new }
     ensures bytes { decoder.new.bytes ≡ decoder.old.bytes }
 {
@@ -31,9 +33,11 @@ pub fn take_block(decoder: &mut Decoder) -> Option<i32>
 
 // The size in steps, the sign, and the bits below the top one.
 fn take_dc(decoder: &mut Decoder) -> Option<i32>
-    ensures took { (bits : List Bool) → Took bits decoder.old → IfSome result (λ dc. Took (bits ++ value_bits 16 dc) decoder.new) }
+    ensures took { (bits : List Bool) → Took bits decoder.old
+        → IfSome result (λ dc. Took (bits ++ value_bits 16 dc) decoder.new) }
     ensures small { IfSome result (λ dc. unsigned_abs dc ≤ 32767) }
-    ensures again { (dc : ℤ) (rest : List Bool) → unsigned_abs dc ≤ 32767 → Ahead (value_bits 16 dc ++ rest) decoder.old
+    ensures again { (dc : ℤ) (rest : List Bool) → unsigned_abs dc ≤ 32767
+        → Ahead (value_bits 16 dc ++ rest) decoder.old
         → (result ≡ Some dc) × Ahead rest decoder.new }
     ensures bytes { decoder.new.bytes ≡ decoder.old.bytes }
 {
@@ -62,7 +66,8 @@ fn take_ones(decoder: &mut Decoder) -> Option<u32>
     ensures took { (bits : List Bool) → Took bits decoder.old
         → IfSome result (λ ones. Took (bits ++ (replicate ones true ++ false ∷ [])) decoder.new) }
     ensures few { IfSome result (λ ones. ones ≤ 15) }
-    ensures again { (ones : ℕ) (rest : List Bool) → ones ≤ 15 → Ahead (replicate ones true ++ false ∷ rest) decoder.old
+    ensures again { (ones : ℕ) (rest : List Bool) → ones ≤ 15
+        → Ahead (replicate ones true ++ false ∷ rest) decoder.old
         → (result ≡ Some ones) × Ahead rest decoder.new }
     ensures bytes { decoder.new.bytes ≡ decoder.old.bytes }
 {
@@ -77,9 +82,11 @@ fn take_ones(decoder: &mut Decoder) -> Option<u32>
 // A number of so many bits, the highest first.
 fn take_low_bits(decoder: &mut Decoder, count: u32) -> u32
     requires { count ≤ 16 }
-    ensures took { (bits : List Bool) → Took bits decoder.old → Took (bits ++ low_bits count result) decoder.new }
+    ensures took { (bits : List Bool) → Took bits decoder.old
+        → Took (bits ++ low_bits count result) decoder.new }
     ensures small { result < 2 ^ count }
-    ensures again { (number : ℕ) (rest : List Bool) → number < 2 ^ count → Ahead (low_bits count number ++ rest) decoder.old
+    ensures again { (number : ℕ) (rest : List Bool) → number < 2 ^ count
+        → Ahead (low_bits count number ++ rest) decoder.old
         → (result ≡ number) × Ahead rest decoder.new }
     ensures bytes { decoder.new.bytes ≡ decoder.old.bytes }
 {
@@ -92,8 +99,10 @@ fn take_low_bits(decoder: &mut Decoder, count: u32) -> u32
 
 #[inline(always)]
 fn take_bit(decoder: &mut Decoder) -> bool
-    ensures took { (bits : List Bool) → Took bits decoder.old → Took (bits ++ result ∷ []) decoder.new }
-    ensures again { (bit : Bool) (rest : List Bool) → Ahead (bit ∷ rest) decoder.old → (result ≡ bit) × Ahead rest decoder.new }
+    ensures took { (bits : List Bool) → Took bits decoder.old
+        → Took (bits ++ result ∷ []) decoder.new }
+    ensures again { (bit : Bool) (rest : List Bool) → Ahead (bit ∷ rest) decoder.old
+        → (result ≡ bit) × Ahead rest decoder.new }
     ensures bytes { decoder.new.bytes ≡ decoder.old.bytes }
 {
     decoder.take(EVEN)

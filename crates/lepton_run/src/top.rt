@@ -47,12 +47,14 @@ pub fn run<R: Threads + Wait + Sync, S: Source, K: Sink + Send, N: Sink + Send, 
         × Appends (K.held sink.old) (K.held sink.new) made) }
 
     // 1: the cause of the refusal, and its line.
-    ensures refused { result ≡ 1 → ((command : Command) × (refusal : Refusal) × Means (map string_bytes words.now) command
+    ensures refused { result ≡ 1
+        → ((command : Command) × (refusal : Refusal) × Means (map string_bytes words.now) command
         × Refuses command refusal (S.left source.old) (S.left source.new)
         × Notes N.held N.faults N.full note.old note.new (refusal_line refusal)) }
 
     // 2: exactly where the words mean no command; nothing is read then.
-    ensures words { (result ≡ 2) ↔ ((command : Command) → ¬ Means (map string_bytes words.now) command) }
+    ensures words { (result ≡ 2)
+        ↔ ((command : Command) → ¬ Means (map string_bytes words.now) command) }
     ensures unread { result ≡ 2 → source.new ≡ source.old }
 
     // 3 and 4: only where that end's count rose in this call.
@@ -88,16 +90,19 @@ pub fn run<R: Threads + Wait + Sync, S: Source, K: Sink + Send, N: Sink + Send, 
         → ¬ Gives command bytes made) → (result ≡ 1) ⊎ (result ≡ 5)) }
 
     // Each refusal comes exactly where the bytes have its cause, unless the source failed or there was no memory.
-    ensures caused { (command : Command) (refusal : Refusal) → Means (map string_bytes words.now) command
+    ensures caused { (command : Command) (refusal : Refusal)
+        → Means (map string_bytes words.now) command
         → ¬ Rose S.faults S.full source.old source.new
         → IfSome (S.left source.old) (λ bytes. IsRefused command refusal bytes
-        → ((result ≡ 1) × Notes N.held N.faults N.full note.old note.new (refusal_line refusal)) ⊎ (result ≡ 5)) }
+        → ((result ≡ 1) × Notes N.held N.faults N.full note.old note.new (refusal_line refusal))
+        ⊎ (result ≡ 5)) }
 
     // What was encoded is decoded: of the container of a file within the limit, exactly that file is appended.
     ensures back { Means (map string_bytes words.now) Decode
         → ¬ Rose S.faults S.full source.old source.new → ¬ Rose K.faults K.full sink.old sink.new
         → IfSome (S.left source.old) (λ bytes. (file : List ℕ) → length file ≤ limit_of Encode
-        → Gives Encode file bytes → ((result ≡ 0) × Appends (K.held sink.old) (K.held sink.new) file) ⊎ (result ≡ 5)) }
+        → Gives Encode file bytes
+        → ((result ≡ 0) × Appends (K.held sink.old) (K.held sink.new) file) ⊎ (result ≡ 5)) }
 
     ensures source_lasting { S.faults source.old ≤ S.faults source.new }
     ensures sink_lasting { K.faults sink.old ≤ K.faults sink.new }
@@ -133,13 +138,16 @@ fn answer<S: Source, K: Sink>(
     ensures refused { (refusal : Refusal) → result ≡ Ending.Refused refusal → ((command : Command)
         × Means (map string_bytes words.now) command
         × Refuses command refusal (S.left source.old) (S.left source.new)) }
-    ensures words { (result ≡ Ending.WordsRefused) ↔ ((command : Command) → ¬ Means (map string_bytes words.now) command) }
+    ensures words { (result ≡ Ending.WordsRefused)
+        ↔ ((command : Command) → ¬ Means (map string_bytes words.now) command) }
     ensures unread { result ≡ Ending.WordsRefused → source.new ≡ source.old }
     ensures read_failed { result ≡ Ending.ReadFailed → Rose S.faults S.full source.old source.new }
     ensures write_failed { result ≡ Ending.WriteFailed → Rose K.faults K.full sink.old sink.new }
-    ensures source_unfailed { result ≢ Ending.ReadFailed → S.faults source.new ≡ S.faults source.old }
+    ensures source_unfailed { result ≢ Ending.ReadFailed
+        → S.faults source.new ≡ S.faults source.old }
     ensures sink_unfailed { result ≢ Ending.WriteFailed → K.faults sink.new ≡ K.faults sink.old }
-    ensures cut { result ≡ Ending.WriteFailed → ((command : Command) × (bytes : List ℕ) × (made : List ℕ)
+    ensures cut { result ≡ Ending.WriteFailed
+        → ((command : Command) × (bytes : List ℕ) × (made : List ℕ)
         × Means (map string_bytes words.now) command × (length bytes ≤ limit_of command)
         × TookAll (S.left source.old) (S.left source.new) bytes × Gives command bytes made
         × AppendsPart (K.held sink.old) (K.held sink.new) made) }
@@ -160,7 +168,8 @@ fn transfer<S: Source, K: Sink>(
     source: &mut S,
     sink: &mut K,
 ) -> Ending
-    ensures done { result ≡ Ending.Done → ((bytes : List ℕ) × (made : List ℕ) × (length bytes ≤ limit_of command)
+    ensures done { result ≡ Ending.Done
+        → ((bytes : List ℕ) × (made : List ℕ) × (length bytes ≤ limit_of command)
         × TookAll (S.left source.old) (S.left source.new) bytes × Gives command bytes made
         × Appends (K.held sink.old) (K.held sink.new) made) }
     ensures refused { (refusal : Refusal) → result ≡ Ending.Refused refusal
@@ -168,7 +177,8 @@ fn transfer<S: Source, K: Sink>(
     ensures words { result ≢ Ending.WordsRefused }
     ensures read_failed { result ≡ Ending.ReadFailed → Rose S.faults S.full source.old source.new }
     ensures write_failed { result ≡ Ending.WriteFailed → Rose K.faults K.full sink.old sink.new }
-    ensures source_unfailed { result ≢ Ending.ReadFailed → S.faults source.new ≡ S.faults source.old }
+    ensures source_unfailed { result ≢ Ending.ReadFailed
+        → S.faults source.new ≡ S.faults source.old }
     ensures sink_unfailed { result ≢ Ending.WriteFailed → K.faults sink.new ≡ K.faults sink.old }
     ensures cut { result ≡ Ending.WriteFailed → ((bytes : List ℕ) × (made : List ℕ)
         × (length bytes ≤ limit_of command) × TookAll (S.left source.old) (S.left source.new) bytes

@@ -68,4 +68,7 @@ shared_prefix xs ys = common_prefix_len (λ x y. x == y) xs ys
 abbrev pub after_bytes : Match → List ℕ → Match
 after_bytes old bytes =
     let same = shared_prefix old.rest bytes in
-    record { rest = if same == length bytes then drop same old.rest else []; agreed = old.agreed + same }
+    record {
+      rest = if same == length bytes then drop same old.rest else [];
+      agreed = old.agreed + same;
+    }

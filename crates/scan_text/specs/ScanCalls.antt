@@ -33,7 +33,8 @@ abbrev pub resume_place : Cursor → ℕ
 resume_place cursor = if length cursor.left == 0 then cursor.next else cursor.last
 
 -- the next MCU, or the refusal that it comes to
-abbrev pub McuIsReadOn : {A : Type 0} → ScanReader → Result A ScanRefusal → ScanReader → List (List ℤ)
+abbrev pub McuIsReadOn : {A : Type 0} → ScanReader → Result A ScanRefusal → ScanReader
+    → List (List ℤ)
     → Type 0
 McuIsReadOn old (Ok done) new out =
     (mcu_at old.shape old.bytes old.at ≡ Ok (map in_zigzag out, new.at))
@@ -81,14 +82,16 @@ McuIsPutOn old mcu out (Ok done) new out_new =
     × (new ≡ record old {
       spot = new.spot;
       padded =
-          old.padded || is_padded old.shape old.spot (blocks_text old.shape.slots old.spot.before mcu);
+          old.padded || is_padded old.shape old.spot
+              (blocks_text old.shape.slots old.spot.before mcu);
     })
 McuIsPutOn old mcu out (Err stop) new out_new =
     (mcu_put old.shape (λ n. old.pad) old.spot mcu ≡ Err stop) × (out_new ≡ out)
     × (new ≡ record old { stop = Some stop })
 
 -- a stop is answered again, and changes nothing
-abbrev pub McuIsPut : {A : Type 0} → Option WriteStop → ScanWriter → Mcu → List ℕ → Result A WriteStop
+abbrev pub McuIsPut : {A : Type 0} → Option WriteStop → ScanWriter → Mcu → List ℕ
+    → Result A WriteStop
     → ScanWriter → List ℕ → Type 0
 McuIsPut None old mcu out result new out_new = McuIsPutOn old mcu out result new out_new
 McuIsPut (Some stop) old mcu out result new out_new =

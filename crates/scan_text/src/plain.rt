@@ -81,7 +81,8 @@ fn put_block(
     bits: &mut Vec<bool>,
 ) -> Result<(), PlainError>
     requires { IsDc before }
-    ensures { IsWritten result bits.old.items bits.new.items (block_text codes.now before block.now) }
+    ensures { IsWritten result bits.old.items bits.new.items
+            (block_text codes.now before block.now) }
 {
     put_dc(&codes.dc, i32::from(before), i32::from(block.get(0)), bits)?;
     put_acs(&codes.ac, block, bits)
@@ -140,7 +141,8 @@ fn put_coefficient(
     bits: &mut Vec<bool>,
 ) -> Result<(), PlainError>
     requires { IsAc value }
-    ensures { IsWritten result bits.old.items bits.new.items (coefficient_text codes.now zeros value) }
+    ensures { IsWritten result bits.old.items bits.new.items
+            (coefficient_text codes.now zeros value) }
 {
     put_zeros(codes, zeros / 16, bits)?;
     put_value(codes, 16 * (zeros % 16) + size(value), value, bits)
