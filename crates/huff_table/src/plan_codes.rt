@@ -34,8 +34,7 @@ impl Model for PlanCodes {
 
     ghost inverse = { inside_of };
 
-    ghost inverse_ok =
-        { λ a h. ap₂ (λ all n. record { components = all; count = n }) (sym h.blank) h.long };
+    ghost inverse_ok = { λ a h. ap₂ (λ all n. record { components = all; count = n }) (sym h.blank) h.long };
 }
 
 ghost use Rattle.huff_table.specs.PlanWords.{tables_of};

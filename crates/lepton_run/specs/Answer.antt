@@ -90,6 +90,6 @@ line_of NoMemory = line_at 5
 
 -- a note got a prefix of this line, and all of it where its count of faults didn't rise
 pub record Notes {Note : Type 0} (held : Note → Option (List ℕ)) (faults : Note → ℕ)
-        (full : Note → Type 0) (old new : Note) (line : List ℕ) : Type 0 where
+    (full : Note → Type 0) (old new : Note) (line : List ℕ) : Type 0 where
   pub prefix : (n : ℕ) × Appends (held old) (held new) (take n line)
   pub whole : ¬ Rose faults full old new → Appends (held old) (held new) line

@@ -33,7 +33,7 @@ first_segment bytes = record { handover = replicate 14 0; stream = bytes }
 abbrev pub container_of : Jpeg → List ℕ
 container_of jpeg =
     layout 0 1 (first_segment (stream (coded (priced (segment_events jpeg.blocks)))) ∷ [])
-        (header_of jpeg) jpeg.trailer
+    (header_of jpeg) jpeg.trailer
 
 -- the bytes are the container of a file with these parts, whatever the file's length
 pub record IsContainer (jpeg : Jpeg) (bytes : List ℕ) : Type 0 where

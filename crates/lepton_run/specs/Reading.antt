@@ -28,12 +28,12 @@ unfoldable pub blocks_at : DcTable → ℕ → ℤ → List Bool → Option (Lis
 blocks_at table zero before bits = Some ([], bits)
 blocks_at table (suc count) before bits =
     option_and_then (λ first. option_map
-        (λ rest. (first.0 ∷ rest.0, rest.1)) (blocks_at table count first.0 first.1))
-        (dc_at table before bits)
+    (λ rest. (first.0 ∷ rest.0, rest.1)) (blocks_at table count first.0 first.1))
+    (dc_at table before bits)
 
 -- these bytes are the scan of so many blocks, and then the rest
 pub record IsScanOf (table : DcTable) (count : ℕ) (bytes : List ℕ) (blocks : List ℤ)
-        (rest : List ℕ) : Type 0 where
+    (rest : List ℕ) : Type 0 where
   pub many : length blocks ≡ count
   pub dcs : AllByRecursion IsDc blocks
   pub text : option_map (λ made. made ++ rest) (scan_bytes table blocks) ≡ Some bytes

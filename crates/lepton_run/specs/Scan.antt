@@ -21,14 +21,14 @@ end_of_block = false ∷ []
 abbrev pub block_bits : DcTable → ℤ → Option (List Bool)
 block_bits table difference =
     option_map (λ word. word ++ mag difference ++ end_of_block)
-        (dc_word table (size (unsigned_abs difference)))
+    (dc_word table (size (unsigned_abs difference)))
 
 -- the bits of blocks by their DC, after a block with the DC before (F.1.1.5.1)
 abbrev pub scan_bits : DcTable → ℤ → List ℤ → Option (List Bool)
 scan_bits table before [] = Some []
 scan_bits table before (dc ∷ dcs) =
     option_and_then (λ block. option_map
-        (λ rest. block ++ rest) (scan_bits table dc dcs)) (block_bits table (dc -ℤ before))
+    (λ rest. block ++ rest) (scan_bits table dc dcs)) (block_bits table (dc -ℤ before))
 
 -- the bytes of a scan with these blocks, padded with ones (F.1.2.3)
 abbrev pub scan_bytes : DcTable → List ℤ → Option (List ℕ)

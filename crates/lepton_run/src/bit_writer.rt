@@ -8,7 +8,7 @@ use std::marker::Model;
 
 /// The bits written so far: whole bytes, and the bits of a byte begun.
 #[derive(Drop)]
-pub struct BitWriter {
+pub(crate) struct BitWriter {
     bytes: Vec<u8>,
     begun: u8,
     // How many bits are begun.
@@ -27,7 +27,7 @@ impl Model for BitWriter {
 }
 
 impl BitWriter {
-    pub fn new(alloc: Global) -> Self
+    pub(crate) fn new(alloc: Global) -> Self
         ensures { result ≡ [] }
     {
         BitWriter {
@@ -38,7 +38,7 @@ impl BitWriter {
     }
 
     /// Adds a bit at the end. An error changes nothing.
-    pub fn push(&mut self, bit: bool) -> Result<(), AllocError>
+    pub(crate) fn push(&mut self, bit: bool) -> Result<(), AllocError>
         ensures ok { OnOk result (self.new ≡ self.old ++ bit ∷ []) }
         ensures err { OnErr result (self.new ≡ self.old) }
     {
@@ -55,7 +55,7 @@ impl BitWriter {
     }
 
     /// The bytes, the last of them filled with ones.
-    pub fn finish(self) -> Result<Vec<u8>, AllocError>
+    pub(crate) fn finish(self) -> Result<Vec<u8>, AllocError>
         ensures { IfOk result (λ bytes. bits_of bytes.items ≡ padded self) }
     {
         let BitWriter {

@@ -5,6 +5,8 @@ ghost use Rattle.lepton_run.specs.Events.{priced, segment_events};
 ghost use Rattle.lepton_run.specs.Reading.{IsScanOf};
 ghost use Rattle.lepton_run.specs.Jpeg.{Jpeg, IsFile};
 ghost use Rattle.lepton_run.specs.Container.{container_of};
+ghost use Rattle.lepton_run.specs.Answer.{limit_of};
+ghost use Rattle.lepton_run.specs.declared.command.Command.TheVariants.{Encode};
 ghost use Rattle.lepton_run.specs.declared.coding.RecodeError.TheVariants.{NoMemory};
 
 use crate::header::{DcTable, read_header};
@@ -15,7 +17,7 @@ use std::alloc::{AllocError, Global};
 
 /// Why there is no container.
 #[derive(Clone, Copy, Debug, PartialEq, Eq)]
-pub enum RecodeError {
+pub(crate) enum RecodeError {
     /// The bytes aren't a file of the profile.
     Outside,
     NoMemory,
@@ -30,13 +32,13 @@ impl From<AllocError> for RecodeError {
 }
 
 /// The most blocks of a frame.
-pub const MOST_BLOCKS: u64 = 4_194_304;
+pub(crate) const MOST_BLOCKS: u64 = 4_194_304;
 
 /// The container of a file.
-pub fn recode(alloc: Global, bytes: &[u8]) -> Result<Vec<u8>, RecodeError>
-    requires { length bytes.now ≤ 67108864 }
+pub(crate) fn recode(alloc: Global, bytes: &[u8]) -> Result<Vec<u8>, RecodeError>
+    requires { length bytes.now ≤ limit_of Encode }
     ensures file { IfOk result
-            (λ made. ((jpeg : Jpeg) × IsFile jpeg bytes.now × (made.items ≡ container_of jpeg))) }
+        (λ made. ((jpeg : Jpeg) × IsFile jpeg bytes.now × (made.items ≡ container_of jpeg))) }
     ensures outside { IsErrOf result RecodeError.Outside → (jpeg : Jpeg) → ¬ IsFile jpeg bytes.now }
 {
     let Some(header) = read_header(bytes) else {

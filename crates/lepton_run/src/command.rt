@@ -25,10 +25,10 @@ pub enum Stop {
 }
 
 /// The command that the words mean, if they mean one.
-pub fn command_of(words: &[String]) -> Option<Command>
+pub(crate) fn command_of(words: &[String]) -> Option<Command>
     ensures some { IfSome result (λ command. Means (map string_bytes words.now) command) }
     ensures none { IfNone result
-            ((command : Command) → ¬ Means (map string_bytes words.now) command) }
+        ((command : Command) → ¬ Means (map string_bytes words.now) command) }
 {
     match words {
         [_, word] if word.as_str() == "encode" => Some(Command::Encode),

@@ -34,7 +34,7 @@ impl Ending {
 
 impl Ending {
     /// What is noted of it.
-    pub fn line(self) -> Line
+    pub(crate) fn line(self) -> Line
         ensures { result ≡ line_of self }
     {
         let mut line = Line::new();

@@ -11,7 +11,7 @@ use std::alloc::AllocError;
 const EVEN: u8 = 128;
 
 /// Codes a block whose DC is its only coefficient.
-pub fn put_block(encoder: &mut Encoder, dc: i32) -> Result<(), AllocError>
+pub(crate) fn put_block(encoder: &mut Encoder, dc: i32) -> Result<(), AllocError>
     requires { unsigned_abs dc ≤ 32767 }
     ensures { OnOk result (encoder.new ≡ coded_from encoder.old (block_events dc)) }
 {

@@ -15,14 +15,14 @@ pub enum DcTable {
 
 /// What a header says.
 #[derive(Clone, Copy)]
-pub struct Header {
-    pub table: DcTable,
+pub(crate) struct Header {
+    pub(crate) table: DcTable,
     /// In samples, at least 1.
-    pub height: u16,
+    pub(crate) height: u16,
     /// In samples, at least 1.
-    pub width: u16,
+    pub(crate) width: u16,
     /// Of the header, in bytes.
-    pub length: usize,
+    pub(crate) length: usize,
 }
 
 // The start of the image, and a frame of one component up to its height.
@@ -44,14 +44,14 @@ const STEPS_TAIL: [u8; 59] = [
 ];
 
 /// The header at the front of the bytes, if one stands there.
-pub fn read_header(bytes: &[u8]) -> Option<Header>
+pub(crate) fn read_header(bytes: &[u8]) -> Option<Header>
     ensures header { IfSome result (λ header. bytes.now
         ≡ header_bytes header.table header.height header.width ++ drop header.length bytes.now) }
     ensures length { IfSome result (λ header. header.length ≤ length bytes.now) }
     ensures high { IfSome result (λ header. 0 < header.height) }
     ensures wide { IfSome result (λ header. 0 < header.width) }
     ensures none { IfNone result
-            ((table : DcTable) (height width : ℕ) (rest : List ℕ) → 0 < height → height < 2 ^ 16
+        ((table : DcTable) (height width : ℕ) (rest : List ℕ) → 0 < height → height < 2 ^ 16
         → 0 < width → width < 2 ^ 16 → ¬ (bytes.now ≡ header_bytes table height width ++ rest)) }
 {
     let after_start = bytes.strip_prefix(&FRAME_START)?;
@@ -87,9 +87,9 @@ fn number_at(bytes: &[u8]) -> Option<(u16, &[u8])>
 // The tables and the scan of the header, by what differs between the two.
 fn table_at(bytes: &[u8]) -> Option<DcTable>
     ensures found { IfSome result
-            (λ table. bytes.now ≡ tail table ++ drop (length (tail table)) bytes.now) }
+        (λ table. bytes.now ≡ tail table ++ drop (length (tail table)) bytes.now) }
     ensures none { IfNone result
-            ((table : DcTable) (rest : List ℕ) → ¬ (bytes.now ≡ tail table ++ rest)) }
+        ((table : DcTable) (rest : List ℕ) → ¬ (bytes.now ≡ tail table ++ rest)) }
 {
     if bytes.starts_with(&LEVEL_TAIL) {
         Some(DcTable::Level)
@@ -102,7 +102,7 @@ fn table_at(bytes: &[u8]) -> Option<DcTable>
 
 impl Header {
     /// How many blocks the frame has.
-    pub fn blocks(&self) -> u64
+    pub(crate) fn blocks(&self) -> u64
         ensures { result ≡ blocks_across self.now.height * blocks_across self.now.width }
     {
         u64::from(self.height).div_ceil(8) * u64::from(self.width).div_ceil(8)

@@ -6,16 +6,16 @@ ghost use Rattle.lepton_run.specs.Container.{layout, magic, first_segment};
 use std::alloc::{AllocError, Global};
 
 /// The bytes up to the header's length: `LPSG`, version 0, pads of ones, one segment.
-pub const FRONT: [u8; 7] = [0x4c, 0x50, 0x53, 0x47, 0, 1, 1];
+pub(crate) const FRONT: [u8; 7] = [0x4c, 0x50, 0x53, 0x47, 0, 1, 1];
 
 /// What the segment starts from, where the scan does: nothing is begun, no block and no restart was before.
-pub const START: [u8; 14] = [0; 14];
+pub(crate) const START: [u8; 14] = [0; 14];
 
 /// Bytes before the header.
 const FIELDS: usize = 37;
 
 /// The container of a header, a trailer, and the stream of the one segment.
-pub fn container(
+pub(crate) fn container(
     alloc: Global,
     header: &[u8],
     trailer: &[u8],

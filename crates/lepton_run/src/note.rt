@@ -9,7 +9,7 @@ const ROOM: usize = 96;
 
 /// The bytes of a line so far, at most `ROOM`.
 #[derive(Drop)]
-pub struct Line {
+pub(crate) struct Line {
     bytes: [u8; ROOM],
     length: usize,
 }
@@ -25,7 +25,7 @@ impl Model for Line {
 }
 
 impl Line {
-    pub fn new() -> Self
+    pub(crate) fn new() -> Self
         ensures { result ≡ [] }
     {
         Line {
@@ -35,7 +35,7 @@ impl Line {
     }
 
     /// Adds the text at the end.
-    pub fn push(&mut self, text: &[u8])
+    pub(crate) fn push(&mut self, text: &[u8])
         requires { length self.old + length text.now ≤ 96 }
         ensures { self.new ≡ self.old ++ text.now }
     {
@@ -45,7 +45,7 @@ impl Line {
     }
 
     /// Adds a number at the end, in decimal.
-    pub fn push_number(&mut self, number: usize)
+    pub(crate) fn push_number(&mut self, number: usize)
         requires { length self.old + 20 ≤ 96 }
         ensures text { self.new ≡ self.old ++ decimal number }
         ensures short { length self.new ≤ length self.old + 20 }
@@ -54,7 +54,7 @@ impl Line {
         self.push(digits.format(number).as_bytes());
     }
 
-    pub fn bytes(&self) -> &[u8]
+    pub(crate) fn bytes(&self) -> &[u8]
         ensures { result.now ≡ self.now }
     {
         &self.bytes[..self.length]

@@ -7,20 +7,20 @@ use crate::layout::{FRONT, START};
 
 /// A container by its parts.
 #[derive(Clone, Copy)]
-pub struct Parts<'a> {
-    pub header: &'a [u8],
-    pub trailer: &'a [u8],
-    pub stream: &'a [u8],
+pub(crate) struct Parts<'a> {
+    pub(crate) header: &'a [u8],
+    pub(crate) trailer: &'a [u8],
+    pub(crate) stream: &'a [u8],
 }
 
 /// The parts of the container that the bytes are, if they are one.
-pub fn open(bytes: &[u8]) -> Option<Parts<'_>>
+pub(crate) fn open(bytes: &[u8]) -> Option<Parts<'_>>
     ensures parts { IfSome result (λ parts. bytes.now
         ≡ layout 0 1 (first_segment parts.stream.now ∷ []) parts.header.now parts.trailer.now) }
     ensures header { IfSome result (λ parts. length parts.header.now < 2 ^ 32) }
     ensures trailer { IfSome result (λ parts. length parts.trailer.now < 2 ^ 32) }
     ensures none { IfNone result
-            ((header trailer stream : List ℕ) → length header < 2 ^ 32 → length trailer < 2 ^ 32
+        ((header trailer stream : List ℕ) → length header < 2 ^ 32 → length trailer < 2 ^ 32
         → ¬ (bytes.now ≡ layout 0 1 (first_segment stream ∷ []) header trailer)) }
 {
     let rest = bytes.strip_prefix(&FRONT)?;

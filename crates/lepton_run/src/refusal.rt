@@ -18,7 +18,7 @@ pub enum Refusal {
 
 impl Refusal {
     /// Adds its number, its name and what it holds.
-    pub fn note(self, line: &mut Line)
+    pub(crate) fn note(self, line: &mut Line)
         requires { length line.old ≤ 16 }
         ensures text { line.new ≡ line.old ++ refusal_text self }
         ensures short { length line.new ≤ 95 }

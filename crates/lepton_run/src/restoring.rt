@@ -12,7 +12,7 @@ use crate::scan_writing::write_scan;
 use std::alloc::{AllocError, Global};
 
 /// The file of a container.
-pub fn restore(alloc: Global, bytes: &[u8]) -> Result<Vec<u8>, RecodeError>
+pub(crate) fn restore(alloc: Global, bytes: &[u8]) -> Result<Vec<u8>, RecodeError>
     ensures made { IfOk result (λ made. Gives Decode bytes.now made.items) }
     ensures outside { IsErrOf result RecodeError.Outside → (made : List ℕ)
         → ¬ Gives Decode bytes.now made }

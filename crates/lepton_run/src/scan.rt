@@ -14,7 +14,7 @@ use bool_coder::Encoder;
 const MOST_DC: u32 = 32_767;
 
 /// Codes the first blocks of a scan, so many of them, and answers the place after them, in bits.
-pub fn code_blocks(
+pub(crate) fn code_blocks(
     encoder: &mut Encoder,
     table: DcTable,
     scan: &[u8],
@@ -51,7 +51,7 @@ fn code_block(
     ensures block { IfOk result (λ next. dc_at table before (drop place (bits_of scan.now))
         ≡ Some (next.0, drop next.1 (bits_of scan.now))) }
     ensures events { IfOk result
-            (λ next. encoder.new ≡ coded_from encoder.old (block_events next.0)) }
+        (λ next. encoder.new ≡ coded_from encoder.old (block_events next.0)) }
     ensures dc { IfOk result (λ next. unsigned_abs next.0 ≤ 32767) }
     ensures within { IfOk result (λ next. next.1 ≤ 8 * length scan.now) }
     ensures outside { IsErrOf result RecodeError.Outside
@@ -95,7 +95,7 @@ fn read_difference(table: DcTable, scan: &[u8], place: usize) -> Option<(i32, us
 }
 
 /// The place after a byte begun, in bytes, where every bit of it from a place on is a one.
-pub fn padded_end(scan: &[u8], place: usize) -> Option<usize>
+pub(crate) fn padded_end(scan: &[u8], place: usize) -> Option<usize>
     requires place { place ≤ 8 * length scan.now }
     requires fits { length scan.now < 2 ^ 32 }
     ensures end { IfSome result (λ end. end ≡ (place + 7) / 8) }

@@ -18,14 +18,14 @@ use bool_coder::Decoder;
 use std::alloc::{AllocError, Global};
 
 /// The scan of the blocks, so many of them, whose stream this is.
-pub fn write_scan(
+pub(crate) fn write_scan(
     alloc: Global,
     table: DcTable,
     stream: &[u8],
     count: u64,
 ) -> Result<Vec<u8>, RecodeError>
     ensures scan { IfOk result
-            (λ made. ((blocks : List ℤ) × (length blocks ≡ count) × AllByRecursion IsDc blocks
+        (λ made. ((blocks : List ℤ) × (length blocks ≡ count) × AllByRecursion IsDc blocks
         × (option_map padded (scan_bits table (pos 0) blocks) ≡ Some (bits_of made.items))
         × (stream.now ≡ stream_of (coded (priced (segment_events blocks)))))) }
     ensures outside { IsErrOf result RecodeError.Outside → (blocks : List ℤ) (made : List ℕ)
@@ -51,13 +51,13 @@ fn write_blocks(
     count: u64,
 ) -> Result<(), RecodeError>
     ensures blocks { OnOk result
-            ((blocks : List ℤ) × (length blocks ≡ count) × AllByRecursion IsDc blocks
+        ((blocks : List ℤ) × (length blocks ≡ count) × AllByRecursion IsDc blocks
         × ((bits : List Bool) → Took bits decoder.old
         → Took (bits ++ segment_events blocks) decoder.new)
         × (option_map (λ front. writer.old ++ front) (scan_bits table (pos 0) blocks)
         ≡ Some writer.new)) }
     ensures again { OnOk result
-            ((blocks : List ℤ) → length blocks ≡ count → AllByRecursion IsDc blocks
+        ((blocks : List ℤ) → length blocks ≡ count → AllByRecursion IsDc blocks
         → Ahead (segment_events blocks) decoder.old → Ahead [] decoder.new) }
     ensures outside { IsErrOf result RecodeError.Outside → (blocks : List ℤ) → length blocks ≡ count
         → AllByRecursion IsDc blocks → Ahead (segment_events blocks) decoder.old
@@ -80,11 +80,11 @@ fn write_block(
 ) -> Result<i32, RecodeError>
     requires { unsigned_abs before ≤ 32767 }
     ensures took { IfOk result
-            (λ dc. (bits : List Bool) → Took bits decoder.old
+        (λ dc. (bits : List Bool) → Took bits decoder.old
         → Took (bits ++ block_events dc) decoder.new) }
     ensures small { IfOk result (λ dc. unsigned_abs dc ≤ 32767) }
     ensures written { IfOk result
-            (λ dc. option_map (λ block. writer.old ++ block) (block_bits table (dc -ℤ before))
+        (λ dc. option_map (λ block. writer.old ++ block) (block_bits table (dc -ℤ before))
         ≡ Some writer.new) }
     ensures again { IfOk result (λ dc. (other : ℤ) (rest : List Bool) → unsigned_abs other ≤ 32767
         → Ahead (block_events other ++ rest) decoder.old → (dc ≡ other) × Ahead rest decoder.new) }
@@ -110,8 +110,8 @@ fn put_difference(
     difference: i32,
 ) -> Result<bool, AllocError>
     ensures written { IfOk result
-            (λ has. OnTrue has (option_map
-            (λ block. writer.old ++ block) (block_bits table difference)
+        (λ has. OnTrue has (option_map
+        (λ block. writer.old ++ block) (block_bits table difference)
         ≡ Some writer.new)) }
     ensures none { IfOk result (λ has. OnFalse has (block_bits table difference ≡ None)) }
 {

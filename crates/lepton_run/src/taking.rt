@@ -13,7 +13,7 @@ const EVEN: u8 = 128;
 const MOST_BITS: u32 = 15;
 
 /// The DC of a block that has no other coefficient.
-pub fn take_block(decoder: &mut Decoder) -> Option<i32>
+pub(crate) fn take_block(decoder: &mut Decoder) -> Option<i32>
     ensures took { (bits : List Bool) → Took bits decoder.old
         → IfSome result (λ dc. Took (bits ++ block_events dc) decoder.new) }
     ensures small { IfSome result (λ dc. unsigned_abs dc ≤ 32767) }

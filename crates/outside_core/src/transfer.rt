@@ -33,7 +33,7 @@ const FIRST_PIECE: usize = 1 << 16;
 pub fn read_all<S: Source>(alloc: Global, source: &mut S, limit: u64) -> Result<Vec<u8>, ReadAll>
     // All that was left is taken, and nothing is left.
     ensures whole { IfOk result
-            (λ bytes. Consumes (S.left source.old) (S.left source.new) bytes.items) }
+        (λ bytes. Consumes (S.left source.old) (S.left source.new) bytes.items) }
     ensures end { OnOk result (IsAtEnd (S.left source.new)) }
     ensures within { IfOk result (λ bytes. length bytes.items ≤ limit) }
 
@@ -77,7 +77,7 @@ pub fn read_all<S: Source>(alloc: Global, source: &mut S, limit: u64) -> Result<
 pub fn write_all<K: Sink>(sink: &mut K, bytes: &[u8]) -> Result<(), WriteFault>
     ensures whole { OnOk result (Appends (K.held sink.old) (K.held sink.new) bytes.now) }
     ensures part { IfErr result
-            (λ fault. Appends (K.held sink.old) (K.held sink.new) (take fault.written bytes.now)) }
+        (λ fault. Appends (K.held sink.old) (K.held sink.new) (take fault.written bytes.now)) }
     ensures short { IfErr result (λ fault. fault.written < length bytes.now) }
     ensures failed { OnErr result (Rose K.faults K.full sink.old sink.new) }
     ensures unfailed { OnOk result (K.faults sink.new ≡ K.faults sink.old) }
@@ -119,7 +119,7 @@ fn make_room(bytes: &mut Vec<u8>, filled: usize, limit: u64) -> Result<(), ReadA
     ensures kept { OnOk result (take filled bytes.new.items ≡ take filled bytes.old.items) }
     ensures room { OnOk result (filled < length bytes.new.items) }
     ensures within { OnOk result
-            (length bytes.old.items ≤ limit + 1 → length bytes.new.items ≤ limit + 1) }
+        (length bytes.old.items ≤ limit + 1 → length bytes.new.items ≤ limit + 1) }
     ensures memory { IfErr result (λ error. error ≡ ReadAll.NoMemory) }
 {
     if filled < bytes.len() {

@@ -83,7 +83,7 @@ McuIsPutOn old mcu out (Ok done) new out_new =
       spot = new.spot;
       padded =
           old.padded || is_padded old.shape old.spot
-              (blocks_text old.shape.slots old.spot.before mcu);
+          (blocks_text old.shape.slots old.spot.before mcu);
     })
 McuIsPutOn old mcu out (Err stop) new out_new =
     (mcu_put old.shape (λ n. old.pad) old.spot mcu ≡ Err stop) × (out_new ≡ out)

@@ -82,7 +82,7 @@ fn put_block(
 ) -> Result<(), PlainError>
     requires { IsDc before }
     ensures { IsWritten result bits.old.items bits.new.items
-            (block_text codes.now before block.now) }
+        (block_text codes.now before block.now) }
 {
     put_dc(&codes.dc, i32::from(before), i32::from(block.get(0)), bits)?;
     put_acs(&codes.ac, block, bits)
@@ -142,7 +142,7 @@ fn put_coefficient(
 ) -> Result<(), PlainError>
     requires { IsAc value }
     ensures { IsWritten result bits.old.items bits.new.items
-            (coefficient_text codes.now zeros value) }
+        (coefficient_text codes.now zeros value) }
 {
     put_zeros(codes, zeros / 16, bits)?;
     put_value(codes, 16 * (zeros % 16) + size(value), value, bits)

@@ -2,10 +2,10 @@
 use std::alloc::{AllocError, Global};
 
 /// From the start of the image up to the height.
-pub const START: [u8; 7] = [0xff, 0xd8, 0xff, 0xc0, 0, 11, 8];
+pub(crate) const START: [u8; 7] = [0xff, 0xd8, 0xff, 0xc0, 0, 11, 8];
 
 /// After the width: code words for the DC category 0 and the end of a block, each `0`.
-pub const LEVEL: [u8; 58] = [
+pub(crate) const LEVEL: [u8; 58] = [
     1, 1, 0x11, 0, //
     0xff, 0xc4, 0, 20, 0x00, 1, 0, 0, 0, 0, 0, 0, 0, 0, 0, 0, 0, 0, 0, 0, 0, 0, //
     0xff, 0xc4, 0, 20, 0x10, 1, 0, 0, 0, 0, 0, 0, 0, 0, 0, 0, 0, 0, 0, 0, 0, 0, //
@@ -13,7 +13,7 @@ pub const LEVEL: [u8; 58] = [
 ];
 
 /// After the width: code words for the DC categories 0 and 1, `0` and `1`, and the end of a block.
-pub const STEPS: [u8; 59] = [
+pub(crate) const STEPS: [u8; 59] = [
     1, 1, 0x11, 0, //
     0xff, 0xc4, 0, 21, 0x00, 2, 0, 0, 0, 0, 0, 0, 0, 0, 0, 0, 0, 0, 0, 0, 0, 0, 1, //
     0xff, 0xc4, 0, 20, 0x10, 1, 0, 0, 0, 0, 0, 0, 0, 0, 0, 0, 0, 0, 0, 0, 0, 0, //
@@ -21,10 +21,10 @@ pub const STEPS: [u8; 59] = [
 ];
 
 /// End of the image.
-pub const END: [u8; 2] = [0xff, 0xd9];
+pub(crate) const END: [u8; 2] = [0xff, 0xd9];
 
 /// The parts, one after another.
-pub fn joined(alloc: Global, parts: &[&[u8]]) -> Result<Vec<u8>, AllocError> {
+pub(crate) fn joined(alloc: Global, parts: &[&[u8]]) -> Result<Vec<u8>, AllocError> {
     let mut all = Vec::new(alloc);
     for part in parts {
         all.extend_from_slice(part)?;

@@ -4,10 +4,10 @@ use crate::lines::{COMPONENTS_BAD, FRAME_TWICE, HEADER_CUT, NOT_JPEG, PRECISION_
 use crate::segments::{AC, DC, FRAME, IMAGE, SCAN};
 
 /// A header that is refused: what is wrong with it, its parts, and the line.
-pub type Refused<'a> = (&'a str, &'a [&'a [u8]], &'a str);
+pub(crate) type Refused<'a> = (&'a str, &'a [&'a [u8]], &'a str);
 
 /// Codes that a marker first may not have (ITU-T T.81, Table B.1), and the lines.
-pub const CODES: &[(u8, &str)] = &[
+pub(crate) const CODES: &[(u8, &str)] = &[
     (0x01, "lepton: refused 3 MarkerBad at 3"),
     (0x02, "lepton: refused 3 MarkerBad at 3"),
     (0xbf, "lepton: refused 3 MarkerBad at 3"),
@@ -37,7 +37,7 @@ pub const CODES: &[(u8, &str)] = &[
 ];
 
 /// Where a marker and its length belong.
-pub const MARKERS: &[Refused<'static>] = &[
+pub(crate) const MARKERS: &[Refused<'static>] = &[
     ("no byte", &[], NOT_JPEG),
     ("one byte of the start", &[b"\xff"], NOT_JPEG),
     ("another marker than the start", &[b"\xff\xd9"], NOT_JPEG),
@@ -134,7 +134,7 @@ pub const MARKERS: &[Refused<'static>] = &[
 ];
 
 /// What a frame says.
-pub const FRAMES: &[Refused<'static>] = &[
+pub(crate) const FRAMES: &[Refused<'static>] = &[
     (
         "a frame without a number of components",
         &[IMAGE, b"\xff\xc0\0\x07\x08\0\x08\0\x08"],

@@ -9,7 +9,7 @@ use crate::segments::{
 };
 
 /// What tables and a scan say.
-pub const SCANS: &[Refused<'static>] = &[
+pub(crate) const SCANS: &[Refused<'static>] = &[
     (
         "a table without all its counts",
         &[IMAGE, b"\xff\xc4\0\x12\0\x01\0\0\0\0\0\0\0\0\0\0\0\0\0\0"],
@@ -226,7 +226,7 @@ pub const SCANS: &[Refused<'static>] = &[
 ];
 
 /// Two checks fail: the line is that of the first.
-pub const PAIRS: &[Refused<'static>] = &[
+pub(crate) const PAIRS: &[Refused<'static>] = &[
     ("no start and no marker", &[b"\0\0"], NOT_JPEG),
     (
         "progressive and cut",

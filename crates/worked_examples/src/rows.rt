@@ -4,16 +4,16 @@ use std::alloc::{AllocError, Global};
 
 /// A file by its height and width, what stands after them, its scan and its trailer; and its stream.
 #[derive(Clone, Copy)]
-pub struct Row<'a> {
-    pub name: &'a str,
-    pub size: [u8; 4],
-    pub tail: &'a [u8],
-    pub scan: &'a [u8],
-    pub trailer: &'a [u8],
-    pub stream: &'a [u8],
+pub(crate) struct Row<'a> {
+    pub(crate) name: &'a str,
+    pub(crate) size: [u8; 4],
+    pub(crate) tail: &'a [u8],
+    pub(crate) scan: &'a [u8],
+    pub(crate) trailer: &'a [u8],
+    pub(crate) stream: &'a [u8],
 }
 
-pub const ROWS: [Row<'static>; 9] = [
+pub(crate) const ROWS: [Row<'static>; 9] = [
     Row {
         name: "least file",
         size: [0, 8, 0, 8],
@@ -89,21 +89,21 @@ pub const ROWS: [Row<'static>; 9] = [
 ];
 
 impl Row<'_> {
-    pub fn header(&self, alloc: Global) -> Result<Vec<u8>, AllocError> {
+    pub(crate) fn header(&self, alloc: Global) -> Result<Vec<u8>, AllocError> {
         let mut header = Vec::from_slice(alloc, &START)?;
         header.extend_from_slice(&self.size)?;
         header.extend_from_slice(self.tail)?;
         Ok(header)
     }
 
-    pub fn file(&self, alloc: Global) -> Result<Vec<u8>, AllocError> {
+    pub(crate) fn file(&self, alloc: Global) -> Result<Vec<u8>, AllocError> {
         let mut file = self.header(alloc)?;
         file.extend_from_slice(self.scan)?;
         file.extend_from_slice(self.trailer)?;
         Ok(file)
     }
 
-    pub fn container(&self, alloc: Global) -> Result<Vec<u8>, AllocError> {
+    pub(crate) fn container(&self, alloc: Global) -> Result<Vec<u8>, AllocError> {
         let header = self.header(alloc)?;
         let mut made = Vec::from_slice(alloc, b"LPSG")?;
         made.extend_from_slice(&[0, 1, 1, 0, 0, 0])?;

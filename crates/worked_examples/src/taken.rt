@@ -6,10 +6,10 @@ use crate::segments::{
 use crate::tables::{K3, K4, K5, K6};
 
 /// A header that is taken, by its parts.
-pub type Taken<'a> = (&'a str, &'a [&'a [u8]]);
+pub(crate) type Taken<'a> = (&'a str, &'a [&'a [u8]]);
 
 /// As cameras and programs write them.
-pub const PHOTOGRAPHS: &[Taken<'static>] = &[
+pub(crate) const PHOTOGRAPHS: &[Taken<'static>] = &[
     (
         "grey, JFIF",
         &[
@@ -224,7 +224,7 @@ pub const PHOTOGRAPHS: &[Taken<'static>] = &[
 ];
 
 /// Near the least file's, and at the edges of what is taken.
-pub const EDGES: &[Taken<'static>] = &[
+pub(crate) const EDGES: &[Taken<'static>] = &[
     (
         "fill before the frame",
         &[IMAGE, b"\xff\xff", FRAME, DC, AC, SCAN],

@@ -10,16 +10,16 @@ use std::thread::Threads;
 
 /// What a trial left.
 #[derive(Drop)]
-pub struct Trial {
-    pub status: u8,
-    pub written: Vec<u8>,
-    pub noted: Vec<u8>,
-    pub left: Vec<u8>,
+pub(crate) struct Trial {
+    pub(crate) status: u8,
+    pub(crate) written: Vec<u8>,
+    pub(crate) noted: Vec<u8>,
+    pub(crate) left: Vec<u8>,
 }
 
 impl Trial {
     /// Whether all was read and it was refused with exactly this line and its end, and nothing written.
-    pub fn is_refused(&self, line: &str) -> bool {
+    pub(crate) fn is_refused(&self, line: &str) -> bool {
         self.status == 1
             && self.written.is_empty()
             && self.left.is_empty()
@@ -27,12 +27,12 @@ impl Trial {
     }
 
     /// Whether it was so with Outside.
-    pub fn is_outside(&self) -> bool {
+    pub(crate) fn is_outside(&self) -> bool {
         self.is_refused(OUTSIDE)
     }
 
     /// Whether all was read, exactly these bytes were written, and nothing noted.
-    pub fn is_done(&self, bytes: &[u8]) -> bool {
+    pub(crate) fn is_done(&self, bytes: &[u8]) -> bool {
         self.status == 0
             && self.written.as_slice() == bytes
             && self.left.is_empty()
@@ -42,13 +42,13 @@ impl Trial {
 
 /// The calls that fail, by number.
 #[derive(Clone, Copy)]
-pub struct Faults<'a> {
-    pub reads: &'a [u64],
-    pub writes: &'a [u64],
-    pub notes: &'a [u64],
+pub(crate) struct Faults<'a> {
+    pub(crate) reads: &'a [u64],
+    pub(crate) writes: &'a [u64],
+    pub(crate) notes: &'a [u64],
 }
 
-pub const NONE: Faults<'static> = Faults {
+pub(crate) const NONE: Faults<'static> = Faults {
     reads: &[],
     writes: &[],
     notes: &[],
@@ -56,7 +56,7 @@ pub const NONE: Faults<'static> = Faults {
 
 /// Calls `run` with these words after the program's name, over a source of pieces of 16 bytes and a sink of pieces
 /// of 7.
-pub fn run_over<R: Threads + Wait + Sync>(
+pub(crate) fn run_over<R: Threads + Wait + Sync>(
     rt: &R,
     alloc: Global,
     words: &[&str],
