@@ -22,8 +22,8 @@ pub trait Source {
     /// or nothing is left.
     fn read(&mut self, buf: &mut [u8]) -> Result<usize, Failed>
         ensures count { IfOk result (λ n. n ≤ length buf.old) }
-        ensures moved { IfOk result
-            (λ n. Consumes (left self.old) (left self.new) (take n buf.new)) }
+        ensures moved { IfOk result (λ n.
+            Consumes (left self.old) (left self.new) (take n buf.new)) }
         ensures rest { IfOk result (λ n. drop n buf.new ≡ drop n buf.old) }
         ensures end { IfOk result (λ n. n ≡ 0 → 0 < length buf.old → IsAtEnd (left self.new)) }
         ensures stays { OnErr result (Keeps (left self.old) (left self.new)) }
@@ -47,8 +47,8 @@ pub trait Sink {
     fn write(&mut self, bytes: &[u8]) -> Result<usize, Failed>
         ensures count { IfOk result (λ n. n ≤ length bytes.now) }
         ensures some { IfOk result (λ n. 0 < length bytes.now → 0 < n) }
-        ensures appended { IfOk result
-            (λ n. Appends (held self.old) (held self.new) (take n bytes.now)) }
+        ensures appended { IfOk result (λ n.
+            Appends (held self.old) (held self.new) (take n bytes.now)) }
         ensures stays { OnErr result (Keeps (held self.old) (held self.new)) }
         ensures failed { OnErr result (Rose faults full self.old self.new) }
         ensures unfailed { OnOk result (faults self.new ≡ faults self.old) }

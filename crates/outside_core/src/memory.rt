@@ -24,12 +24,8 @@ impl<'a> Model for MemSource<'a> {
 
     ghost Value = { Supply };
 
-    ghost view = { λ s. record {
-      left = s.bytes.now;
-      piece = s.piece;
-      fails = s.fails.now;
-      calls = s.calls;
-    } };
+    ghost view = { λ s. record { left = s.bytes.now; piece = s.piece; fails = s.fails.now;
+        calls = s.calls } };
 
     ghost invariant = { λ s. 0 < s.piece };
 }
@@ -37,12 +33,8 @@ impl<'a> Model for MemSource<'a> {
 impl<'a> MemSource<'a> {
     pub fn new(bytes: &'a [u8], piece: usize, fails: &'a [u64]) -> Self
         requires { 0 < piece }
-        ensures { result ≡ record {
-          left = bytes.now;
-          piece = piece;
-          fails = fails.now;
-          calls = 0;
-        } }
+        ensures { result ≡ record { left = bytes.now; piece = piece; fails = fails.now;
+            calls = 0 } }
     {
         MemSource {
             bytes,
@@ -62,8 +54,8 @@ impl<'a> Source for MemSource<'a> {
 
     fn read(&mut self, buf: &mut [u8]) -> Result<usize, Failed>
         ensures count { IfOk result (λ n. n ≤ length buf.old) }
-        ensures moved { IfOk result
-            (λ n. Consumes (Some self.old.left) (Some self.new.left) (take n buf.new)) }
+        ensures moved { IfOk result (λ n.
+            Consumes (Some self.old.left) (Some self.new.left) (take n buf.new)) }
         ensures rest { IfOk result (λ n. drop n buf.new ≡ drop n buf.old) }
         ensures end { IfOk result (λ n. n ≡ 0 → 0 < length buf.old → IsAtEnd (Some self.new.left)) }
         ensures stays { OnErr result (Keeps (Some self.old.left) (Some self.new.left)) }
@@ -76,8 +68,8 @@ impl<'a> Source for MemSource<'a> {
         ensures gives { IfOk result (λ n. n ≡ given self.old (length buf.old)) }
         ensures after { IfOk result (λ n. self.new
             ≡ record self.old { left = drop n self.old.left; calls = counted self.old.calls }) }
-        ensures at_failure { OnErr result
-            (self.new ≡ record self.old { calls = counted self.old.calls }) }
+        ensures at_failure { OnErr result (self.new
+            ≡ record self.old { calls = counted self.old.calls }) }
         ensures untouched { OnErr result (buf.new ≡ buf.old) }
     {
         if count_call(&mut self.calls, self.fails) {
@@ -109,16 +101,11 @@ impl<'a> Model for MemSink<'a> {
 
     ghost Value = { Store };
 
-    ghost view = { λ s. record {
-      held = s.held.items;
-      room = s.room;
-      piece = s.piece;
-      fails = s.fails.now;
-      calls = s.calls;
-      refused = s.refused;
-    } };
+    ghost view = { λ s. record { held = s.held.items; room = s.room; piece = s.piece;
+        fails = s.fails.now; calls = s.calls; refused = s.refused } };
 
-    ghost invariant = { λ s. (0 < s.piece) × (vec_len s.held ≤ s.room) × (s.room ≤ vec_capacity s.held) };
+    ghost invariant = { λ s. (0 < s.piece) × (vec_len s.held ≤ s.room)
+        × (s.room ≤ vec_capacity s.held) };
 }
 
 impl<'a> MemSink<'a> {
@@ -130,14 +117,8 @@ impl<'a> MemSink<'a> {
     ) -> Result<MemSink<'a>, AllocError>
         requires { 0 < piece }
         ensures { IfOk result (λ sink. sink
-            ≡ record {
-              held = [];
-              room = room;
-              piece = piece;
-              fails = fails.now;
-              calls = 0;
-              refused = 0;
-            }) }
+            ≡ record { held = []; room = room; piece = piece; fails = fails.now; calls = 0;
+            refused = 0 }) }
     {
         Ok(MemSink {
             held: Vec::with_capacity(alloc, room)?,
@@ -167,8 +148,8 @@ impl<'a> Sink for MemSink<'a> {
     fn write(&mut self, bytes: &[u8]) -> Result<usize, Failed>
         ensures count { IfOk result (λ n. n ≤ length bytes.now) }
         ensures some { IfOk result (λ n. 0 < length bytes.now → 0 < n) }
-        ensures appended { IfOk result
-            (λ n. Appends (Some self.old.held) (Some self.new.held) (take n bytes.now)) }
+        ensures appended { IfOk result (λ n.
+            Appends (Some self.old.held) (Some self.new.held) (take n bytes.now)) }
         ensures stays { OnErr result (Keeps (Some self.old.held) (Some self.new.held)) }
         ensures failed { OnErr result (Rose store_faults StoreFull self.old self.new) }
         ensures unfailed { OnOk result (store_faults self.new ≡ store_faults self.old) }
@@ -179,17 +160,13 @@ impl<'a> Sink for MemSink<'a> {
             ↔ (FailsNext self.old.fails self.old.calls ⊎ Refuses self.old bytes.now) }
         ensures takes { IfOk result (λ n. n ≡ accepted self.old bytes.now) }
         ensures after { IfOk result (λ n. self.new
-            ≡ record self.old {
-              held = self.old.held ++ take n bytes.now;
-              calls = counted self.old.calls;
-            }) }
+            ≡ record self.old { held = self.old.held
+            ++ take n bytes.now; calls = counted self.old.calls }) }
         ensures at_failure { FailsNext self.old.fails self.old.calls
             → self.new ≡ record self.old { calls = counted self.old.calls } }
         ensures at_refusal { OnErr result (¬ FailsNext self.old.fails self.old.calls
-            → self.new ≡ record self.old {
-              calls = counted self.old.calls;
-              refused = counted self.old.refused;
-            }) }
+            → self.new ≡ record self.old { calls = counted self.old.calls;
+            refused = counted self.old.refused }) }
     {
         if count_call(&mut self.calls, self.fails) {
             return Err(Failed);
@@ -210,8 +187,8 @@ fn count_call(calls: &mut u64, fails: &[u64]) -> bool
     ensures fails { IsTrue result ↔ FailsNext fails.now calls.old }
     ensures risen { IsTrue result
         → past_calls fails.now calls.old < past_calls fails.now calls.new }
-    ensures unrisen { ¬ IsTrue result
-        → past_calls fails.now calls.new ≡ past_calls fails.now calls.old }
+    ensures unrisen { ¬ IsTrue result → past_calls fails.now calls.new
+        ≡ past_calls fails.now calls.old }
     ensures lasting { past_calls fails.now calls.old ≤ past_calls fails.now calls.new }
 {
     if *calls == u64::MAX {

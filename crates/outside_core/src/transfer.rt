@@ -32,8 +32,8 @@ const FIRST_PIECE: usize = 1 << 16;
 /// grow, and asked for no more once it gave a byte past the limit.
 pub fn read_all<S: Source>(alloc: Global, source: &mut S, limit: u64) -> Result<Vec<u8>, ReadAll>
     // All that was left is taken, and nothing is left.
-    ensures whole { IfOk result
-        (λ bytes. Consumes (S.left source.old) (S.left source.new) bytes.items) }
+    ensures whole { IfOk result (λ bytes.
+        Consumes (S.left source.old) (S.left source.new) bytes.items) }
     ensures end { OnOk result (IsAtEnd (S.left source.new)) }
     ensures within { IfOk result (λ bytes. length bytes.items ≤ limit) }
 
@@ -49,8 +49,8 @@ pub fn read_all<S: Source>(alloc: Global, source: &mut S, limit: u64) -> Result<
         → Rose S.faults S.full source.old source.new }
 
     // But for that answer no read failed.
-    ensures unfailed { ¬ IsErrOf result ReadAll.ReadFault
-        → S.faults source.new ≡ S.faults source.old }
+    ensures unfailed { ¬ IsErrOf result ReadAll.ReadFault → S.faults source.new
+        ≡ S.faults source.old }
 
     // Whatever comes, no more than a prefix is gone, at most one byte past the limit.
     ensures prefix { (taken : List ℕ) × (length taken ≤ limit + 1)
@@ -76,8 +76,8 @@ pub fn read_all<S: Source>(alloc: Global, source: &mut S, limit: u64) -> Result<
 /// Appends the bytes, whole or up to where the sink fails.
 pub fn write_all<K: Sink>(sink: &mut K, bytes: &[u8]) -> Result<(), WriteFault>
     ensures whole { OnOk result (Appends (K.held sink.old) (K.held sink.new) bytes.now) }
-    ensures part { IfErr result
-        (λ fault. Appends (K.held sink.old) (K.held sink.new) (take fault.written bytes.now)) }
+    ensures part { IfErr result (λ fault.
+        Appends (K.held sink.old) (K.held sink.new) (take fault.written bytes.now)) }
     ensures short { IfErr result (λ fault. fault.written < length bytes.now) }
     ensures failed { OnErr result (Rose K.faults K.full sink.old sink.new) }
     ensures unfailed { OnOk result (K.faults sink.new ≡ K.faults sink.old) }
@@ -118,8 +118,8 @@ fn make_room(bytes: &mut Vec<u8>, filled: usize, limit: u64) -> Result<(), ReadA
     requires below { filled ≤ limit }
     ensures kept { OnOk result (take filled bytes.new.items ≡ take filled bytes.old.items) }
     ensures room { OnOk result (filled < length bytes.new.items) }
-    ensures within { OnOk result
-        (length bytes.old.items ≤ limit + 1 → length bytes.new.items ≤ limit + 1) }
+    ensures within { OnOk result (length bytes.old.items ≤ limit + 1
+        → length bytes.new.items ≤ limit + 1) }
     ensures memory { IfErr result (λ error. error ≡ ReadAll.NoMemory) }
 {
     if filled < bytes.len() {

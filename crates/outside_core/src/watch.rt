@@ -38,8 +38,8 @@ impl<'a> Source for NeverSource<'a> {
 
     fn read(&mut self, buf: &mut [u8]) -> Result<usize, Failed>
         ensures count { IfOk result (λ n. n ≤ length buf.old) }
-        ensures moved { IfOk result
-            (λ n. Consumes (Some self.old) (Some self.new) (take n buf.new)) }
+        ensures moved { IfOk result (λ n.
+            Consumes (Some self.old) (Some self.new) (take n buf.new)) }
         ensures rest { IfOk result (λ n. drop n buf.new ≡ drop n buf.old) }
         ensures end { IfOk result (λ n. n ≡ 0 → 0 < length buf.old → IsAtEnd (Some self.new)) }
         ensures stays { OnErr result (Keeps (Some self.old) (Some self.new)) }
