@@ -74,10 +74,10 @@ status_of NoMemory = 5
 -- the line of a status that isn't a refusal's: nothing for 0
 abbrev pub line_at : ℕ → List ℕ
 line_at status =
-    if status == 2 then line (codes "words refused")
-    else (if status == 3 then line (codes "read failed")
-    else (if status == 4 then line (codes "write failed")
-    else (if status == 5 then line (codes "no memory") else [])))
+    if status == 2 then line (codes "words refused") else
+    (if status == 3 then line (codes "read failed") else
+    (if status == 4 then line (codes "write failed") else
+    (if status == 5 then line (codes "no memory") else [])))
 
 -- the line of an ending
 abbrev pub line_of : Ending → List ℕ

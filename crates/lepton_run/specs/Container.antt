@@ -21,8 +21,9 @@ record_of segment = segment.handover ++ to_be_bytes w64 (length segment.stream)
 -- the fields, the records, and then header, trailer and streams
 abbrev pub layout : ℕ → ℕ → List Segment → List ℕ → List ℕ → List ℕ
 layout version pad segments header trailer =
-    magic ++ version ∷ pad ∷ length segments ∷ to_be_bytes w32 (length header)
-    ++ to_be_bytes w32 (length trailer) ++ flat_map record_of segments ++ header ++ trailer
+    magic ++ version ∷ pad ∷ length segments
+    ∷ to_be_bytes w32 (length header) ++ to_be_bytes w32 (length trailer)
+    ++ flat_map record_of segments ++ header ++ trailer
     ++ flat_map (λ segment. segment.stream) segments
 
 -- a segment that starts where the scan does
@@ -32,8 +33,8 @@ first_segment bytes = record { handover = replicate 14 0; stream = bytes }
 -- the container of a file: version 0, pads of ones, and one segment
 abbrev pub container_of : Jpeg → List ℕ
 container_of jpeg =
-    layout 0 1 (first_segment (stream (coded (priced (segment_events jpeg.blocks)))) ∷ [])
-    (header_of jpeg) jpeg.trailer
+    let segment = first_segment (stream (coded (priced (segment_events jpeg.blocks)))) in
+    layout 0 1 (segment ∷ []) (header_of jpeg) jpeg.trailer
 
 -- the bytes are the container of a file with these parts, whatever the file's length
 pub record IsContainer (jpeg : Jpeg) (bytes : List ℕ) : Type 0 where

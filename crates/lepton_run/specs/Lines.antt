@@ -6,6 +6,10 @@ use Rattle.jpeg_marker.specs.declared.refusal.HeaderRefusal.TheVariants.{NotJpeg
 use Rattle.lepton_run.specs.declared.refusal.Refusal.{Refusal}
 use Rattle.lepton_run.specs.declared.refusal.Refusal.TheVariants.{Outside, Header, TooLong}
 
+-- room for every line
+abbrev pub line_room : ℕ
+line_room = 96
+
 -- the name of a header's refusal
 abbrev pub name_of : HeaderRefusal → List ℕ
 name_of NotJpeg = codes "NotJpeg"
@@ -53,5 +57,6 @@ refusal_text TooLong = codes "50 TooLong"
 abbrev pub line : List ℕ → List ℕ
 line text = codes "lepton: " ++ text ++ 10 ∷ []
 
+-- the line of a refusal
 abbrev pub refusal_line : Refusal → List ℕ
 refusal_line refusal = line (codes "refused " ++ refusal_text refusal)

@@ -20,16 +20,15 @@ difference_at table bits = None
 -- the DC of the block at the front, after a block with the DC before
 unfoldable pub dc_at : DcTable → ℤ → List Bool → Option (ℤ × List Bool)
 dc_at table before bits =
-    option_and_then (λ found. let dc = before +ℤ found.0 in if nat_le (unsigned_abs dc) 32767
-    then Some (dc, found.1) else None) (difference_at table bits)
+    option_and_then (λ found. let dc = before +ℤ found.0 in
+    if nat_le (unsigned_abs dc) 32767 then Some (dc, found.1) else None) (difference_at table bits)
 
 -- the DCs of so many blocks
 unfoldable pub blocks_at : DcTable → ℕ → ℤ → List Bool → Option (List ℤ × List Bool)
 blocks_at table zero before bits = Some ([], bits)
 blocks_at table (suc count) before bits =
-    option_and_then (λ first. option_map
-    (λ rest. (first.0 ∷ rest.0, rest.1)) (blocks_at table count first.0 first.1))
-    (dc_at table before bits)
+    option_and_then (λ first. option_map (λ rest. (first.0 ∷ rest.0, rest.1))
+    (blocks_at table count first.0 first.1)) (dc_at table before bits)
 
 -- these bytes are the scan of so many blocks, and then the rest
 pub record IsScanOf (table : DcTable) (count : ℕ) (bytes : List ℕ) (blocks : List ℤ)

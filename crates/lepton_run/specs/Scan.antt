@@ -11,7 +11,8 @@ use Rattle.lepton_run.specs.declared.header.DcTable.TheVariants.{Level, Steps}
 abbrev pub dc_word : DcTable → ℕ → Option (List Bool)
 dc_word Level category = if category == 0 then Some (false ∷ []) else None
 dc_word Steps category =
-    if category == 0 then Some (false ∷ []) else (if category == 1 then Some (true ∷ []) else None)
+    if category == 0 then Some (false ∷ []) else
+    (if category == 1 then Some (true ∷ []) else None)
 
 -- the code word of the end of a block, the only one of the AC table (F.1.2.2)
 abbrev pub end_of_block : List Bool
@@ -27,8 +28,8 @@ block_bits table difference =
 abbrev pub scan_bits : DcTable → ℤ → List ℤ → Option (List Bool)
 scan_bits table before [] = Some []
 scan_bits table before (dc ∷ dcs) =
-    option_and_then (λ block. option_map
-    (λ rest. block ++ rest) (scan_bits table dc dcs)) (block_bits table (dc -ℤ before))
+    option_and_then (λ block. option_map (λ rest. block ++ rest) (scan_bits table dc dcs))
+    (block_bits table (dc -ℤ before))
 
 -- the bytes of a scan with these blocks, padded with ones (F.1.2.3)
 abbrev pub scan_bytes : DcTable → List ℤ → Option (List ℕ)

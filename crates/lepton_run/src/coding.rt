@@ -2,10 +2,10 @@
 ghost use Rattle.std.specs.Prelude.{◌≡◌, ◌<◌, ◌≤◌, ◌^◌, ℕ, ℤ, List, length, drop, IfOk, IsErrOf};
 ghost use Rattle.bool_coder.specs.BoolStream.{coded, stream};
 ghost use Rattle.lepton_run.specs.Events.{priced, segment_events};
+ghost use Rattle.lepton_run.specs.Answer.{limit_of};
 ghost use Rattle.lepton_run.specs.Reading.{IsScanOf};
 ghost use Rattle.lepton_run.specs.Jpeg.{Jpeg, IsFile};
 ghost use Rattle.lepton_run.specs.Container.{container_of};
-ghost use Rattle.lepton_run.specs.Answer.{limit_of};
 ghost use Rattle.lepton_run.specs.declared.command.Command.TheVariants.{Encode};
 ghost use Rattle.lepton_run.specs.declared.coding.RecodeError.TheVariants.{NoMemory};
 
@@ -37,8 +37,8 @@ pub(crate) const MOST_BLOCKS: u64 = 4_194_304;
 /// The container of a file.
 pub(crate) fn recode(alloc: Global, bytes: &[u8]) -> Result<Vec<u8>, RecodeError>
     requires { length bytes.now ≤ limit_of Encode }
-    ensures file { IfOk result
-        (λ made. ((jpeg : Jpeg) × IsFile jpeg bytes.now × (made.items ≡ container_of jpeg))) }
+    ensures file { IfOk result (λ made.
+        ((jpeg : Jpeg) × IsFile jpeg bytes.now × (made.items ≡ container_of jpeg))) }
     ensures outside { IsErrOf result RecodeError.Outside → (jpeg : Jpeg) → ¬ IsFile jpeg bytes.now }
 {
     let Some(header) = read_header(bytes) else {

@@ -10,6 +10,12 @@ use crate::restoring::restore;
 use jpeg_marker::read_header;
 use std::alloc::Global;
 
+/// The most bytes of a file that is encoded: 64 MiB.
+const MOST_OF_A_FILE: u64 = 67_108_864;
+
+/// The most bytes of a container that is decoded: 8 GiB.
+const MOST_OF_A_CONTAINER: u64 = 8_589_934_592;
+
 /// What the words ask for.
 #[derive(Clone, Copy, Debug, PartialEq, Eq)]
 pub enum Command {
@@ -19,7 +25,7 @@ pub enum Command {
 
 /// Why a command makes nothing of bytes.
 #[derive(Clone, Copy, Debug, PartialEq, Eq)]
-pub enum Stop {
+pub(crate) enum Stop {
     Refused(Refusal),
     NoMemory,
 }
@@ -27,8 +33,8 @@ pub enum Stop {
 /// The command that the words mean, if they mean one.
 pub(crate) fn command_of(words: &[String]) -> Option<Command>
     ensures some { IfSome result (λ command. Means (map string_bytes words.now) command) }
-    ensures none { IfNone result
-        ((command : Command) → ¬ Means (map string_bytes words.now) command) }
+    ensures none { IfNone result ((command : Command)
+        → ¬ Means (map string_bytes words.now) command) }
 {
     match words {
         [_, word] if word.as_str() == "encode" => Some(Command::Encode),
@@ -39,17 +45,17 @@ pub(crate) fn command_of(words: &[String]) -> Option<Command>
 
 impl Command {
     /// The most bytes that it reads.
-    pub fn limit(self) -> u64
+    pub(crate) fn limit(self) -> u64
         ensures { result ≡ limit_of self }
     {
         match self {
-            Command::Encode => 67_108_864,
-            Command::Decode => 8_589_934_592,
+            Command::Encode => MOST_OF_A_FILE,
+            Command::Decode => MOST_OF_A_CONTAINER,
         }
     }
 
     /// What it makes of the bytes.
-    pub fn carry_out(self, alloc: Global, bytes: &[u8]) -> Result<Vec<u8>, Stop>
+    pub(crate) fn carry_out(self, alloc: Global, bytes: &[u8]) -> Result<Vec<u8>, Stop>
         requires { length bytes.now ≤ limit_of self }
         ensures made { IfOk result (λ made. Gives self bytes.now made.items) }
         ensures refused { (refusal : Refusal) → IsErrOf result (Stop.Refused refusal)

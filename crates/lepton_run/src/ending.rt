@@ -7,7 +7,7 @@ use crate::refusal::Refusal;
 
 /// How a command ended.
 #[derive(Clone, Copy, Debug, PartialEq, Eq)]
-pub enum Ending {
+pub(crate) enum Ending {
     Done,
     Refused(Refusal),
     WordsRefused,
@@ -18,7 +18,7 @@ pub enum Ending {
 
 impl Ending {
     /// The status of the program.
-    pub fn status(self) -> u8
+    pub(crate) fn status(self) -> u8
         ensures { result ≡ status_of self }
     {
         match self {

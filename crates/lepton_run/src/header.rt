@@ -6,7 +6,7 @@ ghost use Rattle.lepton_run.specs.declared.header.DcTable.{DcTable};
 
 /// The categories of DC differences that a header's DC table has a code word for.
 #[derive(Clone, Copy, Debug, PartialEq, Eq)]
-pub enum DcTable {
+pub(crate) enum DcTable {
     /// 0 alone, coded `0`.
     Level,
     /// 0 and 1, coded `0` and `1`.
@@ -50,8 +50,8 @@ pub(crate) fn read_header(bytes: &[u8]) -> Option<Header>
     ensures length { IfSome result (λ header. header.length ≤ length bytes.now) }
     ensures high { IfSome result (λ header. 0 < header.height) }
     ensures wide { IfSome result (λ header. 0 < header.width) }
-    ensures none { IfNone result
-        ((table : DcTable) (height width : ℕ) (rest : List ℕ) → 0 < height → height < 2 ^ 16
+    ensures none { IfNone result ((table : DcTable) (height width : ℕ) (rest : List ℕ) → 0 < height
+        → height < 2 ^ 16
         → 0 < width → width < 2 ^ 16 → ¬ (bytes.now ≡ header_bytes table height width ++ rest)) }
 {
     let after_start = bytes.strip_prefix(&FRAME_START)?;
@@ -86,10 +86,10 @@ fn number_at(bytes: &[u8]) -> Option<(u16, &[u8])>
 
 // The tables and the scan of the header, by what differs between the two.
 fn table_at(bytes: &[u8]) -> Option<DcTable>
-    ensures found { IfSome result
-        (λ table. bytes.now ≡ tail table ++ drop (length (tail table)) bytes.now) }
-    ensures none { IfNone result
-        ((table : DcTable) (rest : List ℕ) → ¬ (bytes.now ≡ tail table ++ rest)) }
+    ensures found { IfSome result (λ table. bytes.now ≡ tail table
+        ++ drop (length (tail table)) bytes.now) }
+    ensures none { IfNone result ((table : DcTable) (rest : List ℕ)
+        → ¬ (bytes.now ≡ tail table ++ rest)) }
 {
     if bytes.starts_with(&LEVEL_TAIL) {
         Some(DcTable::Level)

@@ -41,8 +41,8 @@ pub(crate) fn container(
 }
 
 fn put_fields(made: &mut Vec<u8>, header: u32, trailer: u32, stream: u64) -> Result<(), AllocError>
-    ensures { OnOk result (made.new.items
-        ≡ made.old.items ++ (magic ++ 0 ∷ 1 ∷ 1 ∷ to_be_bytes w32 header
+    ensures { OnOk result (made.new.items ≡ made.old.items
+        ++ (magic ++ 0 ∷ 1 ∷ 1 ∷ to_be_bytes w32 header
         ++ to_be_bytes w32 trailer ++ replicate 14 0 ++ to_be_bytes w64 stream)) }
 {
     made.extend_from_slice(&FRONT)?;

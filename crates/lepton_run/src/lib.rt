@@ -25,9 +25,7 @@ mod scan_writing;
 mod taking;
 mod top;
 
-pub use command::{Command, Stop};
-pub use ending::Ending;
-pub use header::DcTable;
+pub use command::Command;
 pub use laws::{
     a_file_has_a_header, decode_undoes_encode, one_answer, one_file_a_container,
     one_spelling_a_file,

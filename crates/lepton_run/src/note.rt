@@ -1,5 +1,6 @@
 // A line, made in a buffer of its own.
 ghost use Rattle.std.specs.Prelude.{◌≡◌, ◌+◌, ◌≤◌, [], ◌++◌, length, decimal};
+ghost use Rattle.lepton_run.specs.Lines.{line_room};
 
 use itoa::Buffer;
 use std::marker::Model;
@@ -16,12 +17,13 @@ pub(crate) struct Line {
 
 impl Model for Line {
     ghost use Rattle.std.specs.Prelude.{List, ℕ, ◌≤◌, take};
+    ghost use Rattle.lepton_run.specs.Lines.{line_room};
 
     ghost Value = { List ℕ };
 
     ghost view = { λ line. take line.length line.bytes };
 
-    ghost invariant = { λ line. line.length ≤ 96 };
+    ghost invariant = { λ line. line.length ≤ line_room };
 }
 
 impl Line {
@@ -36,7 +38,7 @@ impl Line {
 
     /// Adds the text at the end.
     pub(crate) fn push(&mut self, text: &[u8])
-        requires { length self.old + length text.now ≤ 96 }
+        requires { length self.old + length text.now ≤ line_room }
         ensures { self.new ≡ self.old ++ text.now }
     {
         let end = self.length + text.len();
@@ -46,7 +48,7 @@ impl Line {
 
     /// Adds a number at the end, in decimal.
     pub(crate) fn push_number(&mut self, number: usize)
-        requires { length self.old + 20 ≤ 96 }
+        requires { length self.old + 20 ≤ line_room }
         ensures text { self.new ≡ self.old ++ decimal number }
         ensures short { length self.new ≤ length self.old + 20 }
     {

@@ -19,8 +19,8 @@ pub(crate) fn open(bytes: &[u8]) -> Option<Parts<'_>>
         ≡ layout 0 1 (first_segment parts.stream.now ∷ []) parts.header.now parts.trailer.now) }
     ensures header { IfSome result (λ parts. length parts.header.now < 2 ^ 32) }
     ensures trailer { IfSome result (λ parts. length parts.trailer.now < 2 ^ 32) }
-    ensures none { IfNone result
-        ((header trailer stream : List ℕ) → length header < 2 ^ 32 → length trailer < 2 ^ 32
+    ensures none { IfNone result ((header trailer stream : List ℕ) → length header < 2 ^ 32
+        → length trailer < 2 ^ 32
         → ¬ (bytes.now ≡ layout 0 1 (first_segment stream ∷ []) header trailer)) }
 {
     let rest = bytes.strip_prefix(&FRONT)?;

@@ -50,8 +50,8 @@ fn code_block(
     requires before { unsigned_abs before ≤ 32767 }
     ensures block { IfOk result (λ next. dc_at table before (drop place (bits_of scan.now))
         ≡ Some (next.0, drop next.1 (bits_of scan.now))) }
-    ensures events { IfOk result
-        (λ next. encoder.new ≡ coded_from encoder.old (block_events next.0)) }
+    ensures events { IfOk result (λ next. encoder.new
+        ≡ coded_from encoder.old (block_events next.0)) }
     ensures dc { IfOk result (λ next. unsigned_abs next.0 ≤ 32767) }
     ensures within { IfOk result (λ next. next.1 ≤ 8 * length scan.now) }
     ensures outside { IsErrOf result RecodeError.Outside
@@ -102,8 +102,8 @@ pub(crate) fn padded_end(scan: &[u8], place: usize) -> Option<usize>
     ensures ones { IfSome result (λ end. drop place (bits_of scan.now)
         ≡ replicate (8 * end - place) true ++ drop (8 * end) (bits_of scan.now)) }
     ensures none { IfNone result ((rest : List Bool)
-        → ¬ (drop place (bits_of scan.now)
-        ≡ replicate (8 * ((place + 7) / 8) - place) true ++ rest)) }
+        → ¬ (drop place (bits_of scan.now) ≡ replicate (8 * ((place + 7) / 8) - place) true
+        ++ rest)) }
 {
     let end = place.div_ceil(8);
     for at in place..8 * end {

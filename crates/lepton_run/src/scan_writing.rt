@@ -24,8 +24,8 @@ pub(crate) fn write_scan(
     stream: &[u8],
     count: u64,
 ) -> Result<Vec<u8>, RecodeError>
-    ensures scan { IfOk result
-        (λ made. ((blocks : List ℤ) × (length blocks ≡ count) × AllByRecursion IsDc blocks
+    ensures scan { IfOk result (λ made.
+        ((blocks : List ℤ) × (length blocks ≡ count) × AllByRecursion IsDc blocks
         × (option_map padded (scan_bits table (pos 0) blocks) ≡ Some (bits_of made.items))
         × (stream.now ≡ stream_of (coded (priced (segment_events blocks)))))) }
     ensures outside { IsErrOf result RecodeError.Outside → (blocks : List ℤ) (made : List ℕ)
@@ -50,14 +50,14 @@ fn write_blocks(
     table: DcTable,
     count: u64,
 ) -> Result<(), RecodeError>
-    ensures blocks { OnOk result
-        ((blocks : List ℤ) × (length blocks ≡ count) × AllByRecursion IsDc blocks
+    ensures blocks { OnOk result ((blocks : List ℤ) × (length blocks ≡ count)
+        × AllByRecursion IsDc blocks
         × ((bits : List Bool) → Took bits decoder.old
         → Took (bits ++ segment_events blocks) decoder.new)
         × (option_map (λ front. writer.old ++ front) (scan_bits table (pos 0) blocks)
         ≡ Some writer.new)) }
-    ensures again { OnOk result
-        ((blocks : List ℤ) → length blocks ≡ count → AllByRecursion IsDc blocks
+    ensures again { OnOk result ((blocks : List ℤ) → length blocks ≡ count
+        → AllByRecursion IsDc blocks
         → Ahead (segment_events blocks) decoder.old → Ahead [] decoder.new) }
     ensures outside { IsErrOf result RecodeError.Outside → (blocks : List ℤ) → length blocks ≡ count
         → AllByRecursion IsDc blocks → Ahead (segment_events blocks) decoder.old
@@ -79,12 +79,11 @@ fn write_block(
     before: i32,
 ) -> Result<i32, RecodeError>
     requires { unsigned_abs before ≤ 32767 }
-    ensures took { IfOk result
-        (λ dc. (bits : List Bool) → Took bits decoder.old
+    ensures took { IfOk result (λ dc. (bits : List Bool) → Took bits decoder.old
         → Took (bits ++ block_events dc) decoder.new) }
     ensures small { IfOk result (λ dc. unsigned_abs dc ≤ 32767) }
-    ensures written { IfOk result
-        (λ dc. option_map (λ block. writer.old ++ block) (block_bits table (dc -ℤ before))
+    ensures written { IfOk result (λ dc.
+        option_map (λ block. writer.old ++ block) (block_bits table (dc -ℤ before))
         ≡ Some writer.new) }
     ensures again { IfOk result (λ dc. (other : ℤ) (rest : List Bool) → unsigned_abs other ≤ 32767
         → Ahead (block_events other ++ rest) decoder.old → (dc ≡ other) × Ahead rest decoder.new) }
@@ -109,9 +108,8 @@ fn put_difference(
     table: DcTable,
     difference: i32,
 ) -> Result<bool, AllocError>
-    ensures written { IfOk result
-        (λ has. OnTrue has (option_map
-        (λ block. writer.old ++ block) (block_bits table difference)
+    ensures written { IfOk result (λ has.
+        OnTrue has (option_map (λ block. writer.old ++ block) (block_bits table difference)
         ≡ Some writer.new)) }
     ensures none { IfOk result (λ has. OnFalse has (block_bits table difference ≡ None)) }
 {
