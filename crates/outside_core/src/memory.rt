@@ -24,8 +24,12 @@ impl<'a> Model for MemSource<'a> {
 
     ghost Value = { Supply };
 
-    ghost view = { λ s. record { left = s.bytes.now; piece = s.piece; fails = s.fails.now;
-        calls = s.calls } };
+    ghost view = { λ s. record {
+      left = s.bytes.now;
+      piece = s.piece;
+      fails = s.fails.now;
+      calls = s.calls;
+    } };
 
     ghost invariant = { λ s. 0 < s.piece };
 }
@@ -33,8 +37,12 @@ impl<'a> Model for MemSource<'a> {
 impl<'a> MemSource<'a> {
     pub fn new(bytes: &'a [u8], piece: usize, fails: &'a [u64]) -> Self
         requires { 0 < piece }
-        ensures { result ≡ record { left = bytes.now; piece = piece; fails = fails.now;
-            calls = 0 } }
+        ensures { result ≡ record {
+          left = bytes.now;
+          piece = piece;
+          fails = fails.now;
+          calls = 0;
+        } }
     {
         MemSource {
             bytes,
@@ -101,8 +109,14 @@ impl<'a> Model for MemSink<'a> {
 
     ghost Value = { Store };
 
-    ghost view = { λ s. record { held = s.held.items; room = s.room; piece = s.piece;
-        fails = s.fails.now; calls = s.calls; refused = s.refused } };
+    ghost view = { λ s. record {
+      held = s.held.items;
+      room = s.room;
+      piece = s.piece;
+      fails = s.fails.now;
+      calls = s.calls;
+      refused = s.refused;
+    } };
 
     ghost invariant = { λ s. (0 < s.piece) × (vec_len s.held ≤ s.room)
         × (s.room ≤ vec_capacity s.held) };
@@ -117,8 +131,14 @@ impl<'a> MemSink<'a> {
     ) -> Result<MemSink<'a>, AllocError>
         requires { 0 < piece }
         ensures { IfOk result (λ sink. sink
-            ≡ record { held = []; room = room; piece = piece; fails = fails.now; calls = 0;
-            refused = 0 }) }
+            ≡ record {
+              held = [];
+              room = room;
+              piece = piece;
+              fails = fails.now;
+              calls = 0;
+              refused = 0;
+            }) }
     {
         Ok(MemSink {
             held: Vec::with_capacity(alloc, room)?,
@@ -160,13 +180,18 @@ impl<'a> Sink for MemSink<'a> {
             ↔ (FailsNext self.old.fails self.old.calls ⊎ Refuses self.old bytes.now) }
         ensures takes { IfOk result (λ n. n ≡ accepted self.old bytes.now) }
         ensures after { IfOk result (λ n. self.new
-            ≡ record self.old { held = self.old.held
-            ++ take n bytes.now; calls = counted self.old.calls }) }
+            ≡ record self.old {
+              held = self.old.held
+                  ++ take n bytes.now;
+              calls = counted self.old.calls;
+            }) }
         ensures at_failure { FailsNext self.old.fails self.old.calls
             → self.new ≡ record self.old { calls = counted self.old.calls } }
         ensures at_refusal { OnErr result (¬ FailsNext self.old.fails self.old.calls
-            → self.new ≡ record self.old { calls = counted self.old.calls;
-            refused = counted self.old.refused }) }
+            → self.new ≡ record self.old {
+              calls = counted self.old.calls;
+              refused = counted self.old.refused;
+            }) }
     {
         if count_call(&mut self.calls, self.fails) {
             return Err(Failed);
