@@ -1,0 +1,2 @@
+pub mod Handovers
+pub mod HandoverInside

@@ -1,0 +1,33 @@
+// How the stream of a segment ends.
+use crate::handover::Handover;
+
+/// Why a segment's stream is refused, by the numbers of the refusals.
+#[derive(Clone, Copy)]
+pub enum StreamCause {
+    /// 40: the count of a block's inner coefficients is above 49.
+    BlockCount,
+    /// 41: a predicted DC and its residue add up to a DC beyond +-32767.
+    DcRange,
+    /// 42: a DC differs from the one before by more than 2047.
+    DiffRange,
+    /// 43: a symbol has no code word.
+    NoCode,
+    /// 44: the handover `found` at the segment's end differs from the one `kept` for the next segment.
+    Seam { found: Handover, kept: Handover },
+    /// 45: the stream isn't the one of the bits that were read from it.
+    StreamBad,
+}
+
+/// A segment whose stream is refused, by its number from 0, and why.
+#[derive(Clone, Copy)]
+pub struct StreamFault {
+    pub segment: u8,
+    pub cause: StreamCause,
+}
+
+/// How a segment ends: complete, and whether its last byte took pad bits, or refused.
+#[derive(Clone, Copy)]
+pub enum Outcome {
+    Good { padded: bool },
+    Bad(StreamFault),
+}
