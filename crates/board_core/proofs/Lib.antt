@@ -1,0 +1,10 @@
+pub mod EachSegment
+pub mod SegmentsAt
+pub mod KeptSteps
+pub mod OpeningBoard
+pub mod HandedBytes
+pub mod SpentSteps
+pub mod NextEvents
+pub mod CoreSegments
+pub mod StepFrames
+pub mod CopiedBytes

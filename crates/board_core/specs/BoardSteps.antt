@@ -1,0 +1,143 @@
+-- The events of the board: their conditions, and what they change (this project's own).
+use Rattle.std.specs.Prelude.{◌≡◌, ℕ, ◌+◌, ◌^◌, ◌<◌, ◌≤◌, ◌⊎◌, true, false, List, [], ◌++◌, length, drop, map, ◌==◌, if◌then◌else◌, Option, Some, None, slice_set}
+use Rattle.board_core.specs.declared.actor.Actor.{Actor}
+use Rattle.board_core.specs.declared.actor.Actor.TheVariants.{Worker, Emitter}
+use Rattle.handover.specs.declared.outcome.Outcome.{Outcome}
+use Rattle.board_core.specs.BoardStates.{SegmentState, BoardState, segment_at, with_segment, Owns, OwnsNothing, IsPresent, IsGood}
+
+-- an event; the bytes that are put are a list
+pub data BoardEvent : Type 0 where
+  Claim : (who : Actor) → BoardEvent
+  Put : (worker : ℕ) → (bytes : List ℕ) → BoardEvent
+  Pass : (count : ℕ) → BoardEvent
+  Finish : (who : Actor) → (outcome : Outcome) → BoardEvent
+  Take : (count : ℕ) → BoardEvent
+  Advance : BoardEvent
+  Stop : BoardEvent
+  Leave : (worker : ℕ) → BoardEvent
+
+-- the condition of Claim: an idle actor that is present, and the emitter only where the segment is the one emitted
+pub record CanClaim (b : BoardState) (a : Actor) : Type 0 where
+  pub going : b.stopped ≡ false
+  pub more : b.next < length b.segments
+  pub present : IsPresent b a
+  pub idle : OwnsNothing b a
+  pub turn : a ≡ Emitter → b.next ≡ b.cur
+
+-- the condition of Put: the ring of the worker's segment has room for all bytes, and there is one
+pub record CanPut (b : BoardState) (w count i : ℕ) : Type 0 where
+  pub going : b.stopped ≡ false
+  pub own : Owns b (Worker w) i
+  pub some : 1 ≤ count
+  pub room : length (segment_at b i).ring + count ≤ b.capacity
+
+-- the condition of Pass: the emitter owns the segment that is emitted
+pub record CanPass (b : BoardState) (count : ℕ) : Type 0 where
+  pub going : b.stopped ≡ false
+  pub own : Owns b Emitter b.cur
+  pub some : 1 ≤ count
+
+-- the condition of Finish: the segment has this owner
+pub record CanFinish (b : BoardState) (a : Actor) (i : ℕ) : Type 0 where
+  pub going : b.stopped ≡ false
+  pub own : Owns b a i
+
+-- the condition of Take: as many bytes wait
+pub record CanTake (b : BoardState) (count : ℕ) : Type 0 where
+  pub going : b.stopped ≡ false
+  pub more : b.cur < length b.segments
+  pub some : 1 ≤ count
+  pub within : count ≤ length (segment_at b b.cur).ring
+
+-- the condition of Advance: the segment that is emitted is complete, and no byte of it waits
+pub record CanAdvance (b : BoardState) : Type 0 where
+  pub going : b.stopped ≡ false
+  pub more : b.cur < length b.segments
+  pub good : IsGood (segment_at b b.cur).done
+  pub empty : (segment_at b b.cur).ring ≡ []
+
+-- the condition of Leave: nothing is left that the worker could do
+pub record CanLeave (b : BoardState) (w : ℕ) : Type 0 where
+  pub present : IsPresent b (Worker w)
+  pub over : (b.stopped ≡ true) ⊎ ((b.next ≡ length b.segments) × OwnsNothing b (Worker w))
+
+-- the condition of an event
+abbrev pub IsEnabled : BoardState → BoardEvent → Type 0
+IsEnabled b (Claim a) = CanClaim b a
+IsEnabled b (Put w bytes) = (i : ℕ) × CanPut b w (length bytes) i
+IsEnabled b (Pass n) = CanPass b n
+IsEnabled b (Finish a o) = (i : ℕ) × CanFinish b a i
+IsEnabled b (Take n) = CanTake b n
+IsEnabled b Advance = CanAdvance b
+IsEnabled b Stop = b.stopped ≡ false
+IsEnabled b (Leave w) = CanLeave b w
+
+-- the number of bytes put stays below 2^64
+abbrev pub CountsFit : BoardState → BoardEvent → Type 0
+CountsFit b (Put w bytes) =
+    (i : ℕ) → Owns b (Worker w) i → (segment_at b i).put + length bytes < 2 ^ 64
+CountsFit b (Pass n) = (segment_at b b.cur).put + n < 2 ^ 64
+CountsFit b _ = Unit {0}
+
+-- a segment that an actor claimed
+abbrev pub owned_by : Actor → SegmentState → SegmentState
+owned_by a s = record s { owner = Some a }
+
+-- a segment with bytes more in its ring
+abbrev pub with_put : List ℕ → SegmentState → SegmentState
+with_put bytes s = record s { put = s.put + length bytes; ring = s.ring ++ bytes }
+
+-- a segment with n bytes more that went past its ring
+abbrev pub with_passed : ℕ → SegmentState → SegmentState
+with_passed n s = record s { put = s.put + n; taken = s.taken + n }
+
+-- a segment that ended, which nobody owns
+abbrev pub finished : Outcome → SegmentState → SegmentState
+finished o s = record s { owner = None; done = Some o }
+
+-- a segment without the first n bytes of its ring
+abbrev pub with_taken : ℕ → SegmentState → SegmentState
+with_taken n s = record s { taken = s.taken + n; ring = drop n s.ring }
+
+-- the owner once a worker left: the same, or none in the worker's stead
+abbrev pub owner_without : ℕ → Option Actor → Option Actor
+owner_without w None = None
+owner_without w (Some Emitter) = Some Emitter
+owner_without w (Some (Worker v)) = if v == w then None else Some (Worker v)
+
+-- a segment once a worker left
+abbrev pub without : ℕ → SegmentState → SegmentState
+without w s = record s { owner = owner_without w s.owner }
+
+-- the board with one segment changed
+abbrev pub changed_at : BoardState → ℕ → (SegmentState → SegmentState) → BoardState
+changed_at b i f = with_segment b i (f (segment_at b i))
+
+-- the board after Claim
+abbrev pub claimed : BoardState → Actor → BoardState
+claimed b a = record (changed_at b b.next (owned_by a)) { next = b.next + 1 }
+
+-- the board after Advance
+abbrev pub advanced : BoardState → BoardState
+advanced b = record b { cur = b.cur + 1 }
+
+-- the board after Stop
+abbrev pub stopped_board : BoardState → BoardState
+stopped_board b = record b { stopped = true }
+
+-- the board after Leave
+abbrev pub left_by : BoardState → ℕ → BoardState
+left_by b w = record b { segments = map (without w) b.segments; left = slice_set b.left w true }
+
+-- one event: its condition holds of the old board, and the new board is the old one with the event's change
+abbrev pub BoardStep : BoardState → BoardEvent → BoardState → Type 0
+BoardStep old (Claim a) new = CanClaim old a × (new ≡ claimed old a)
+BoardStep old (Put w bytes) new =
+    (i : ℕ) × CanPut old w (length bytes) i × (new ≡ changed_at old i (with_put bytes))
+BoardStep old (Pass n) new = CanPass old n × (new ≡ changed_at old old.cur (with_passed n))
+BoardStep old (Finish a o) new =
+    (i : ℕ) × CanFinish old a i × (new ≡ changed_at old i (finished o))
+BoardStep old (Take n) new = CanTake old n × (new ≡ changed_at old old.cur (with_taken n))
+BoardStep old Advance new = CanAdvance old × (new ≡ advanced old)
+BoardStep old Stop new = (old.stopped ≡ false) × (new ≡ stopped_board old)
+BoardStep old (Leave w) new = CanLeave old w × (new ≡ left_by old w)

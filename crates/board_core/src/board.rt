@@ -1,0 +1,195 @@
+// The board, and its events.
+ghost use Rattle.std.specs.Prelude.{◌≡◌, ◌≤◌, IfOk};
+ghost use Rattle.board_core.specs.BoardStates.{opening};
+ghost use Rattle.board_core.specs.BoardSteps.{BoardStep, Put, Pass, Finish, IsEnabled, CountsFit, CanClaim, CanPass, CanTake, CanAdvance, CanLeave, claimed, changed_at, with_passed, with_taken, advanced, stopped_board, left_by};
+ghost use Rattle.board_core.specs.EventValues.{board_event, answer};
+
+use crate::actor::Actor;
+use crate::event::{Event, Took};
+use crate::ring::Ring;
+use crate::segment::{Segment, index_of};
+use handover::Outcome;
+use std::alloc::{AllocError, Global};
+use std::marker::Model;
+
+/// The segments of a file, who owns each of them, and which of its bytes wait. Clauses see a `BoardState`.
+///
+/// All memory is taken by `new`.
+#[derive(Drop)]
+pub struct Core {
+    pub(crate) capacity: usize,
+    pub(crate) next: u8,
+    pub(crate) cur: u8,
+    pub(crate) segments: Vec<Segment>,
+    pub(crate) stopped: bool,
+    pub(crate) left: Vec<bool>,
+}
+
+impl Model for Core {
+    ghost use Rattle.board_core.specs.BoardStates.{BoardState};
+    ghost use Rattle.board_core.specs.CoreInside.{states_of, IsCore};
+
+    ghost Value = { BoardState };
+
+    ghost view = { λ b. record {
+      capacity = b.capacity;
+      next = b.next;
+      cur = b.cur;
+      segments = states_of b.segments.items;
+      stopped = b.stopped;
+      left = b.left.items;
+    } };
+
+    ghost invariant = { λ b. IsCore b.capacity b.segments.items };
+}
+
+impl Core {
+    /// The board of `k` segments and `workers` workers before the first event. Each ring holds at most `capacity`
+    /// bytes.
+    pub fn new(alloc: Global, k: u8, capacity: usize, workers: u8) -> Result<Core, AllocError>
+        requires { 1 ≤ capacity }
+        ensures { IfOk result (λ b. b ≡ opening k capacity workers) }
+    {
+        let mut segments = Vec::new(alloc);
+        for _ in 0..k {
+            segments.push(Segment {
+                owner: None,
+                put: 0,
+                taken: 0,
+                ring: Ring::new(alloc, capacity)?,
+                done: None,
+            })?;
+        }
+        let left = vec![in alloc; false; workers as usize]?;
+        Ok(Core {
+            capacity,
+            next: 0,
+            cur: 0,
+            segments,
+            stopped: false,
+            left,
+        })
+    }
+
+    /// Lets an event happen, which has to be enabled.
+    pub fn step(&mut self, event: &Event) -> Took
+        requires can { IsEnabled self.old (board_event event.now) }
+        requires small { CountsFit self.old (board_event event.now) }
+        ensures step { BoardStep self.old (board_event event.now) self.new }
+        ensures took { result ≡ answer self.old event.now }
+    {
+        match *event {
+            Event::Claim(actor) => {
+                let next = self.next;
+                self.claim(actor);
+                Took::Segment(next)
+            }
+            Event::Put(worker, bytes) => {
+                self.put(worker, bytes);
+                Took::Nothing
+            }
+            Event::Pass(count) => {
+                self.pass(count);
+                Took::Nothing
+            }
+            Event::Finish(actor, outcome) => {
+                self.finish(actor, outcome);
+                Took::Nothing
+            }
+            Event::Take(count) => {
+                self.take(count);
+                Took::Gone(count)
+            }
+            Event::Advance => {
+                self.advance();
+                Took::Nothing
+            }
+            Event::Stop => {
+                self.stop();
+                Took::Nothing
+            }
+            Event::Leave(worker) => {
+                self.leave(worker);
+                Took::Nothing
+            }
+        }
+    }
+
+    fn claim(&mut self, actor: Actor)
+        requires { CanClaim self.old actor }
+        ensures { self.new ≡ claimed self.old actor }
+    {
+        self.segments[self.next as usize].owner = Some(actor);
+        self.next += 1;
+    }
+
+    fn put(&mut self, worker: u8, bytes: &[u8])
+        requires can { IsEnabled self.old (Put worker bytes.now) }
+        requires small { CountsFit self.old (Put worker bytes.now) }
+        ensures { BoardStep self.old (Put worker bytes.now) self.new }
+    {
+        let Some(index) = index_of(&self.segments, Actor::Worker(worker)) else {
+            unreachable!()
+        };
+        let segment = &mut self.segments[index];
+        segment.put += bytes.len() as u64;
+        segment.ring.append(bytes);
+    }
+
+    fn stop(&mut self)
+        ensures { self.new ≡ stopped_board self.old }
+    {
+        self.stopped = true;
+    }
+
+    fn advance(&mut self)
+        requires { CanAdvance self.old }
+        ensures { self.new ≡ advanced self.old }
+    {
+        self.cur += 1;
+    }
+
+    fn pass(&mut self, count: u64)
+        requires can { CanPass self.old count }
+        requires small { CountsFit self.old (Pass count) }
+        ensures { self.new ≡ changed_at self.old self.old.cur (with_passed count) }
+    {
+        let segment = &mut self.segments[self.cur as usize];
+        segment.put += count;
+        segment.taken += count;
+    }
+
+    fn finish(&mut self, actor: Actor, outcome: Outcome)
+        requires { IsEnabled self.old (Finish actor outcome) }
+        ensures { BoardStep self.old (Finish actor outcome) self.new }
+    {
+        let Some(index) = index_of(&self.segments, actor) else {
+            unreachable!()
+        };
+        let segment = &mut self.segments[index];
+        segment.owner = None;
+        segment.done = Some(outcome);
+    }
+
+    fn take(&mut self, count: u64)
+        requires { CanTake self.old count }
+        ensures { self.new ≡ changed_at self.old self.old.cur (with_taken count) }
+    {
+        let segment = &mut self.segments[self.cur as usize];
+        // No more is taken than was put, which fits.
+        let _put = segment.put;
+        segment.taken += count;
+        segment.ring.remove_front(count as usize);
+    }
+
+    fn leave(&mut self, worker: u8)
+        requires { CanLeave self.old worker }
+        ensures { self.new ≡ left_by self.old worker }
+    {
+        match index_of(&self.segments, Actor::Worker(worker)) {
+            Some(index) => self.segments[index].owner = None,
+            None => {}
+        }
+        self.left[worker as usize] = true;
+    }
+}

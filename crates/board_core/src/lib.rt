@@ -1,0 +1,39 @@
+//! The board on which workers and an emitter share the segments of a file (this project's own). No threads.
+//!
+//!     segment      0        1        2        3        4
+//!               emitted  emitted   taken    claimed   free
+//!                                  ^ cur              ^ next
+//!
+//!     Claim     an actor owns segment `next`, and `next` is one more
+//!     Put       a worker's bytes go to the end of its segment's ring
+//!     Take      the first bytes of the ring of segment `cur` go to the output
+//!     Pass      bytes of the emitter's own segment go to the output, past its ring
+//!     Finish    a segment has an outcome, and nobody owns it
+//!     Advance   `cur` is one more, where its segment is good and its ring empty
+//!     Stop      nothing but Leave happens from then on
+//!     Leave     a worker is gone
+//!
+//! These events are all that happens, each where its condition holds. `laws` says what every list of them comes to.
+//! What the bytes are is left to others, and so is who waits for whom.
+#![tactic(auto)]
+
+mod actor;
+mod board;
+mod conditions;
+mod event;
+mod laws;
+mod readers;
+mod ring;
+mod segment;
+
+pub use actor::Actor;
+pub use board::Core;
+pub use event::{Event, Took};
+pub use laws::{
+    advance_frame, bytes_come_in_order, claim_frame, events_are_few, events_keep_the_board,
+    events_leave_others, finish_frame, leave_frame, no_board_is_stuck, pass_frame, put_frame,
+    stop_frame, take_frame, the_board_is_kept, workers_leave_the_emitted,
+};
+
+#[cfg(test)]
+mod tests;
