@@ -1,5 +1,5 @@
 -- A board that isn't ended can go on.
-use Rattle.std.proofs.Common.{◌≡◌, ◌≢◌, ℕ, zero, suc, ◌<◌, ◌≤◌, Bool, true, false, List, [], ◌∷◌, length, take, drop, ap, subst, refl, ⊎_elim, ◌⊎◌, inl, inr, Some, None, Option, arith, length-drop, length-take}
+use Rattle.std.proofs.Common.{◌∙◌, sym, ap, ◌≡◌, ◌≢◌, ℕ, zero, suc, ◌<◌, ◌≤◌, Bool, true, false, List, [], ◌∷◌, length, take, drop, subst, refl, ⊎_elim, ◌⊎◌, inl, inr, Some, None, Option, arith, length-drop, length-take}
 use Rattle.std.specs.Prelude.{slice_get}
 use mathlib.Core.Logic.{dite}
 use native.Mathlib.Decide.{ℕ_discrete, dec_le}
@@ -54,6 +54,34 @@ happens b (Take n) can = (changed_at b b.cur (with_taken n), (can, refl))
 happens b Advance can = (advanced b, (can, refl))
 happens b Stop can = (stopped_board b, (can, refl))
 happens b (Leave w) can = (left_by b w, (can, refl))
+
+-- and an event with a step is enabled
+pub was_enabled : (b : BoardState) (e : BoardEvent) (new : BoardState) → BoardStep b e new → IsEnabled b e
+was_enabled b (Claim a) new step = step.0
+was_enabled b (Put w bytes) new step = (step.0, step.1)
+was_enabled b (Pass n) new step = step.0
+was_enabled b (Finish a o) new step = (step.0, step.1)
+was_enabled b (Take n) new step = step.0
+was_enabled b Advance new step = step.0
+was_enabled b Stop new step = step.0
+was_enabled b (Leave w) new step = step.0
+
+-- no actor owns two segments
+abbrev IsSingle : BoardState → Type 0
+IsSingle b = (a : Actor) (i j : ℕ) → Owns b a i → Owns b a j → i ≡ j
+
+-- two steps of one event leave the same board
+pub one_step : (b : BoardState) (e : BoardEvent) (one two : BoardState) → IsSingle b → BoardStep b e one → BoardStep b e two → one ≡ two
+one_step b (Claim a) one two single x y = x.1 ∙ sym y.1
+one_step b (Put w bytes) one two single x y =
+    x.2 ∙ (ap (λ i. changed_at b i (with_put bytes)) (single (Worker w) x.0 y.0 x.1.own y.1.own) ∙ sym y.2)
+one_step b (Pass n) one two single x y = x.1 ∙ sym y.1
+one_step b (Finish a o) one two single x y =
+    x.2 ∙ (ap (λ i. changed_at b i (finished o)) (single a x.0 y.0 x.1.own y.1.own) ∙ sym y.2)
+one_step b (Take n) one two single x y = x.1 ∙ sym y.1
+one_step b Advance one two single x y = x.1 ∙ sym y.1
+one_step b Stop one two single x y = x.1 ∙ sym y.1
+one_step b (Leave w) one two single x y = x.1 ∙ sym y.1
 
 module _ (ss : List (List ℕ)) (os : List Outcome) (b : BoardState) (h : IsBoard ss os b) where
   other : (e : BoardEvent) → e ≢ Stop → IsEnabled b e → MatchesLists ss os b e → GoesOn ss os b

@@ -58,7 +58,8 @@ NextIsFree b = (segment_at b b.next).owner ≡ None
 pub record LeavesOthers (a : Actor) (old new : BoardState) : Type 0 where
   pub still : (b : Actor) (i : ℕ) → b ≢ a → Owns old b i → Owns new b i
   pub before : (b : Actor) (i : ℕ) → b ≢ a → Owns new b i → Owns old b i
-  pub put : (b : Actor) (i : ℕ) → b ≢ a → Owns old b i → (segment_at new i).put ≡ (segment_at old i).put
+  pub put : (b : Actor) (i : ℕ) → b ≢ a → Owns old b i
+      → (segment_at new i).put ≡ (segment_at old i).put
   pub left : (w : ℕ) → Worker w ≢ a → slice_get new.left w ≡ slice_get old.left w
   pub stopped : old.stopped ≡ true → new.stopped ≡ true
   pub next : old.next ≤ new.next

@@ -49,28 +49,35 @@ pub record BoardInvariant (ss : List (List ℕ)) (os : List Outcome) (b : BoardS
   pub between : (i : ℕ) → IsBetween (bytes_at ss i) b.capacity (segment_at b i)
   pub below : (i : ℕ) → i < b.cur → IsEmitted (bytes_at ss i) (segment_at b i)
   pub above : (i : ℕ) → b.cur < i → (segment_at b i).taken ≡ 0
-  pub done : (i : ℕ) (o : Outcome) → (segment_at b i).done ≡ Some o → IsDoneBy (bytes_at ss i) (slice_get os i) (segment_at b i)
-  pub owned : b.stopped ≡ false → (i : ℕ) → i < b.next → (segment_at b i).done ≡ None → (a : Actor) × Owns b a i
+  pub done : (i : ℕ) (o : Outcome) → (segment_at b i).done ≡ Some o
+      → IsDoneBy (bytes_at ss i) (slice_get os i) (segment_at b i)
+  pub owned : b.stopped ≡ false → (i : ℕ) → i < b.next → (segment_at b i).done ≡ None
+      → (a : Actor) × Owns b a i
   pub present : (a : Actor) (i : ℕ) → Owns b a i → IsPresent b a
   pub single : (a : Actor) (i j : ℕ) → Owns b a i → Owns b a j → i ≡ j
-  pub emitter : (i : ℕ) → Owns b Emitter i → (i ≡ b.cur) × ((segment_at b i).taken ≡ (segment_at b i).put)
+  pub emitter : (i : ℕ) → Owns b Emitter i
+      → (i ≡ b.cur) × ((segment_at b i).taken ≡ (segment_at b i).put)
 
--- bytes and outcome of an event are those of the lists: bytes the next ones of the segment, an outcome only at its end
+-- bytes and outcome of an event are those of the lists: the next bytes of the segment, an outcome at its end
 abbrev pub MatchesLists : List (List ℕ) → List Outcome → BoardState → BoardEvent → Type 0
 MatchesLists ss os b (Put w bytes) =
-    (i : ℕ) → Owns b (Worker w) i → take (length bytes) (drop (segment_at b i).put (bytes_at ss i)) ≡ bytes
+    (i : ℕ) → Owns b (Worker w) i
+    → take (length bytes) (drop (segment_at b i).put (bytes_at ss i)) ≡ bytes
 MatchesLists ss os b (Pass n) = (segment_at b b.cur).put + n ≤ length (bytes_at ss b.cur)
 MatchesLists ss os b (Finish a o) =
-    (i : ℕ) → Owns b a i → ((segment_at b i).put ≡ length (bytes_at ss i)) × (slice_get os i ≡ Some o)
+    (i : ℕ) → Owns b a i
+    → ((segment_at b i).put ≡ length (bytes_at ss i)) × (slice_get os i ≡ Some o)
 MatchesLists ss os b _ = Unit {0}
 
 -- an event that happens, with bytes and outcome of the lists
-pub record LawfulStep (ss : List (List ℕ)) (os : List Outcome) (old : BoardState) (e : BoardEvent) (new : BoardState) : Type 0 where
+pub record LawfulStep (ss : List (List ℕ)) (os : List Outcome)
+    (old : BoardState) (e : BoardEvent) (new : BoardState) : Type 0 where
   pub step : BoardStep old e new
   pub lists : MatchesLists ss os old e
 
 -- one lawful event after another
-abbrev pub LawfulRun : List (List ℕ) → List Outcome → BoardState → List BoardEvent → BoardState → Type 0
+abbrev pub LawfulRun : List (List ℕ) → List Outcome
+    → BoardState → List BoardEvent → BoardState → Type 0
 LawfulRun ss os old [] new = new ≡ old
 LawfulRun ss os old (e ∷ es) new =
     (mid : BoardState) × LawfulStep ss os old e mid × LawfulRun ss os mid es new
@@ -82,12 +89,15 @@ handed ss b (Pass n) = take n (drop (segment_at b b.cur).put (bytes_at ss b.cur)
 handed ss b _ = []
 
 -- the bytes that the events of a run give to the output, in order
-abbrev pub handed_out : (ss : List (List ℕ)) (os : List Outcome) (old : BoardState) (es : List BoardEvent) (new : BoardState) → LawfulRun ss os old es new → List ℕ
+abbrev pub handed_out : (ss : List (List ℕ)) (os : List Outcome)
+    (old : BoardState) (es : List BoardEvent) (new : BoardState)
+    → LawfulRun ss os old es new → List ℕ
 handed_out ss os old [] new run = []
 handed_out ss os old (e ∷ es) new run = handed ss old e ++ handed_out ss os run.0 es new run.2
 
 -- a lawful event other than Stop, and the board that it leaves
-pub record IsNextStep (ss : List (List ℕ)) (os : List Outcome) (b : BoardState) (e : BoardEvent) (new : BoardState) : Type 0 where
+pub record IsNextStep (ss : List (List ℕ)) (os : List Outcome)
+    (b : BoardState) (e : BoardEvent) (new : BoardState) : Type 0 where
   pub other : e ≢ Stop
   pub step : LawfulStep ss os b e new
 
@@ -100,7 +110,8 @@ pub record IsFaultDue (b : BoardState) (fault : StreamFault) : Type 0 where
 -- a board that can go on
 abbrev pub GoesOn : List (List ℕ) → List Outcome → BoardState → Type 0
 GoesOn ss os b =
-    ((e : BoardEvent) × (new : BoardState) × IsNextStep ss os b e new) ⊎ ((fault : StreamFault) × IsFaultDue b fault)
+    ((e : BoardEvent) × (new : BoardState) × IsNextStep ss os b e new)
+    ⊎ ((fault : StreamFault) × IsFaultDue b fault)
 
 -- the most events of a board: 2B + 3K + W + 1
 abbrev pub most_events : List (List ℕ) → ℕ → ℕ

@@ -1,22 +1,45 @@
--- What lawful events come to, over every list of them (this project's own).
-use Rattle.std.specs.Prelude.{◌≡◌, ℕ, ◌≤◌, List, ◌++◌, length}
+-- What lawful events come to, over every list of them from the opening board (this project's own).
+use Rattle.std.specs.Prelude.{◌≡◌, ℕ, ◌≤◌, ◌↔◌, List, ◌++◌, length}
 use Rattle.std.specs.List.{concat}
 use Rattle.handover.specs.declared.outcome.Outcome.{Outcome}
 use Rattle.board_core.specs.BoardStates.{BoardState, opening, IsEnded}
-use Rattle.board_core.specs.BoardSteps.{BoardEvent}
+use Rattle.board_core.specs.BoardSteps.{BoardEvent, IsEnabled, BoardStep}
 use Rattle.board_core.specs.BoardInvariants.{BoardInvariant, LawfulStep, LawfulRun, handed_out, GoesOn, most_events}
 
--- lawful events from the opening board of as many segments as the lists have, and the board after them
-pub record IsRun (ss : List (List ℕ)) (os : List Outcome) (capacity workers : ℕ) (es : List BoardEvent) (new : BoardState) : Type 0 where
-  pub outcomes : length os ≡ length ss
-  pub events : LawfulRun ss os (opening (length ss) capacity workers) es new
+-- events on a board, the lists that its bytes and outcomes come from, and the board after the last event
+pub record Run : Type 0 where
+  pub bytes : List (List ℕ)
+  pub outcomes : List Outcome
+  pub capacity : ℕ
+  pub workers : ℕ
+  pub events : List BoardEvent
+  pub after : BoardState
+
+-- the board before the first event, with as many segments as the lists have
+abbrev pub before : Run → BoardState
+before r = opening (length r.bytes) r.capacity r.workers
+
+-- one lawful event after another, and an outcome for each segment
+pub record IsLawful (r : Run) : Type 0 where
+  pub outcomes : length r.outcomes ≡ length r.bytes
+  pub events : LawfulRun r.bytes r.outcomes (before r) r.events r.after
 
 -- the bytes that the events of a run give to the output, in order
-abbrev pub output : (ss : List (List ℕ)) (os : List Outcome) (capacity workers : ℕ) (es : List BoardEvent) (new : BoardState) → IsRun ss os capacity workers es new → List ℕ
-output ss os capacity workers es new run =
-    handed_out ss os (opening (length ss) capacity workers) es new run.events
+abbrev pub output : (r : Run) → IsLawful r → List ℕ
+output r lawful = handed_out r.bytes r.outcomes (before r) r.events r.after lawful.events
 
--- a lawful event leaves what always holds
+-- an event is enabled where it has a step
+abbrev pub EnabledEventsHappen : Type 0
+EnabledEventsHappen =
+    (b : BoardState) (e : BoardEvent) → IsEnabled b e ↔ ((new : BoardState) × BoardStep b e new)
+
+-- an event leaves one board
+abbrev pub EventsHaveOneStep : Type 0
+EventsHaveOneStep =
+    (ss : List (List ℕ)) (os : List Outcome) (old : BoardState) (e : BoardEvent) (one two : BoardState)
+    → BoardInvariant ss os old → BoardStep old e one → BoardStep old e two → one ≡ two
+
+-- what always holds of the board holds after a lawful event
 abbrev pub EventsKeepTheBoard : Type 0
 EventsKeepTheBoard =
     (ss : List (List ℕ)) (os : List Outcome) (old : BoardState) (e : BoardEvent) (new : BoardState)
@@ -24,25 +47,18 @@ EventsKeepTheBoard =
 
 -- what always holds of the board holds after each list of lawful events, the empty one too
 abbrev pub TheBoardIsKept : Type 0
-TheBoardIsKept =
-    (ss : List (List ℕ)) (os : List Outcome) (capacity workers : ℕ) (es : List BoardEvent) (new : BoardState)
-    → IsRun ss os capacity workers es new → BoardInvariant ss os new
+TheBoardIsKept = (r : Run) → IsLawful r → BoardInvariant r.bytes r.outcomes r.after
 
 -- the output is a prefix of all segments, one after another
 abbrev pub BytesComeInOrder : Type 0
 BytesComeInOrder =
-    (ss : List (List ℕ)) (os : List Outcome) (capacity workers : ℕ) (es : List BoardEvent) (new : BoardState)
-    (run : IsRun ss os capacity workers es new)
-    → (rest : List ℕ) × (output ss os capacity workers es new run ++ rest ≡ concat ss)
+    (r : Run) (lawful : IsLawful r) → (rest : List ℕ) × (output r lawful ++ rest ≡ concat r.bytes)
 
 -- a board that isn't ended can go on
 abbrev pub NoBoardIsStuck : Type 0
 NoBoardIsStuck =
-    (ss : List (List ℕ)) (os : List Outcome) (capacity workers : ℕ) (es : List BoardEvent) (new : BoardState)
-    → 1 ≤ capacity → IsRun ss os capacity workers es new → ¬ IsEnded new → GoesOn ss os new
+    (r : Run) → 1 ≤ r.capacity → IsLawful r → ¬ IsEnded r.after → GoesOn r.bytes r.outcomes r.after
 
--- a list of lawful events is no longer than their bound
+-- a list of lawful events is no longer than the bound
 abbrev pub EventsAreFew : Type 0
-EventsAreFew =
-    (ss : List (List ℕ)) (os : List Outcome) (capacity workers : ℕ) (es : List BoardEvent) (new : BoardState)
-    → IsRun ss os capacity workers es new → length es ≤ most_events ss workers
+EventsAreFew = (r : Run) → IsLawful r → length r.events ≤ most_events r.bytes r.workers

@@ -5,7 +5,8 @@ use Rattle.board_core.specs.declared.actor.Actor.TheVariants.{Worker, Emitter}
 use Rattle.handover.specs.declared.outcome.Outcome.{Outcome}
 use Rattle.handover.specs.declared.outcome.Outcome.TheVariants.{Good}
 
--- a segment: its owner, how many of its bytes were put and taken so far, those that wait in its ring, and how it ended
+-- a segment: its owner, how many of its bytes were put and taken so far, the bytes that wait in its ring, and its
+-- outcome once it has one
 pub record SegmentState : Type 0 where
   pub owner : Option Actor
   pub put : ℕ
@@ -66,4 +67,6 @@ IsGood done = (padded : Bool) × (done ≡ Some (Good padded))
 
 -- all workers left, and nothing is to be emitted any more
 abbrev pub IsEnded : BoardState → Type 0
-IsEnded b = ((w : ℕ) → slice_get b.left w ≢ Some false) × ((b.stopped ≡ true) ⊎ (b.cur ≡ length b.segments))
+IsEnded b =
+    ((w : ℕ) → slice_get b.left w ≢ Some false)
+    × ((b.stopped ≡ true) ⊎ (b.cur ≡ length b.segments))

@@ -6,7 +6,8 @@ use Rattle.board_core.specs.BoardStates.{SegmentState, unclaimed}
 
 -- a segment as clauses see it
 abbrev pub state_of : Segment → SegmentState
-state_of s = record { owner = s.owner; put = s.put; taken = s.taken; ring = s.ring.items; done = s.done }
+state_of s =
+    record { owner = s.owner; put = s.put; taken = s.taken; ring = s.ring.items; done = s.done }
 
 -- all segments as clauses see them
 abbrev pub states_of : List Segment → List SegmentState
@@ -26,4 +27,5 @@ pub record IsKept (capacity : ℕ) (s : Segment) : Type 0 where
 pub record IsCore (capacity : ℕ) (l : List Segment) : Type 0 where
   pub few : length l ≤ 255
   pub each : All (IsKept capacity) l
-  pub single : (a : Actor) (i j : ℕ) → (kept_at l i).owner ≡ Some a → (kept_at l j).owner ≡ Some a → i ≡ j
+  pub single : (a : Actor) (i j : ℕ)
+      → (kept_at l i).owner ≡ Some a → (kept_at l j).owner ≡ Some a → i ≡ j

@@ -1,7 +1,7 @@
 // The board, and its events.
 ghost use Rattle.std.specs.Prelude.{◌≡◌, ◌≤◌, IfOk};
 ghost use Rattle.board_core.specs.BoardStates.{opening};
-ghost use Rattle.board_core.specs.BoardSteps.{BoardStep, Put, Pass, Finish, IsEnabled, CountsFit, CanClaim, CanPass, CanTake, CanAdvance, CanLeave, claimed, changed_at, with_passed, with_taken, advanced, stopped_board, left_by};
+ghost use Rattle.board_core.specs.BoardSteps.{BoardStep, IsEnabled, CountsFit, Claim, Put, Pass, Finish, Take, Advance, Stop, Leave};
 ghost use Rattle.board_core.specs.EventValues.{board_event, answer};
 
 use crate::actor::Actor;
@@ -116,8 +116,8 @@ impl Core {
     }
 
     fn claim(&mut self, actor: Actor)
-        requires { CanClaim self.old actor }
-        ensures { self.new ≡ claimed self.old actor }
+        requires { IsEnabled self.old (Claim actor) }
+        ensures { BoardStep self.old (Claim actor) self.new }
     {
         self.segments[self.next as usize].owner = Some(actor);
         self.next += 1;
@@ -136,23 +136,10 @@ impl Core {
         segment.ring.append(bytes);
     }
 
-    fn stop(&mut self)
-        ensures { self.new ≡ stopped_board self.old }
-    {
-        self.stopped = true;
-    }
-
-    fn advance(&mut self)
-        requires { CanAdvance self.old }
-        ensures { self.new ≡ advanced self.old }
-    {
-        self.cur += 1;
-    }
-
     fn pass(&mut self, count: u64)
-        requires can { CanPass self.old count }
+        requires can { IsEnabled self.old (Pass count) }
         requires small { CountsFit self.old (Pass count) }
-        ensures { self.new ≡ changed_at self.old self.old.cur (with_passed count) }
+        ensures { BoardStep self.old (Pass count) self.new }
     {
         let segment = &mut self.segments[self.cur as usize];
         segment.put += count;
@@ -172,8 +159,8 @@ impl Core {
     }
 
     fn take(&mut self, count: u64)
-        requires { CanTake self.old count }
-        ensures { self.new ≡ changed_at self.old self.old.cur (with_taken count) }
+        requires { IsEnabled self.old (Take count) }
+        ensures { BoardStep self.old (Take count) self.new }
     {
         let segment = &mut self.segments[self.cur as usize];
         // No more is taken than was put, which fits.
@@ -182,9 +169,23 @@ impl Core {
         segment.ring.remove_front(count as usize);
     }
 
+    fn advance(&mut self)
+        requires { IsEnabled self.old Advance }
+        ensures { BoardStep self.old Advance self.new }
+    {
+        self.cur += 1;
+    }
+
+    fn stop(&mut self)
+        requires { IsEnabled self.old Stop }
+        ensures { BoardStep self.old Stop self.new }
+    {
+        self.stopped = true;
+    }
+
     fn leave(&mut self, worker: u8)
-        requires { CanLeave self.old worker }
-        ensures { self.new ≡ left_by self.old worker }
+        requires { IsEnabled self.old (Leave worker) }
+        ensures { BoardStep self.old (Leave worker) self.new }
     {
         match index_of(&self.segments, Actor::Worker(worker)) {
             Some(index) => self.segments[index].owner = None,

@@ -5,8 +5,18 @@ ghost use Rattle.board_core.specs.declared.actor.Actor.{Actor};
 ghost use Rattle.board_core.specs.declared.actor.Actor.TheVariants.{Worker};
 ghost use Rattle.board_core.specs.BoardStates.{BoardState, Owns};
 ghost use Rattle.board_core.specs.BoardSteps.{BoardStep, Claim, Put, Pass, Finish, Take, Advance, Stop, Leave, with_put, with_passed, finished, with_taken, advanced, stopped_board};
-ghost use Rattle.board_core.specs.BoardLaws.{EventsKeepTheBoard, TheBoardIsKept, BytesComeInOrder, NoBoardIsStuck, EventsAreFew};
+ghost use Rattle.board_core.specs.BoardLaws.{EnabledEventsHappen, EventsHaveOneStep, EventsKeepTheBoard, TheBoardIsKept, BytesComeInOrder, NoBoardIsStuck, EventsAreFew};
 ghost use Rattle.board_core.specs.BoardFrames.{ChangesOnly, IsAfterClaim, IsAfterLeave, EventsLeaveOthers, WorkersLeaveTheEmitted};
+
+/// An event is enabled exactly where it has a step.
+pub fn enabled_events_happen()
+    ensures { EnabledEventsHappen }
+{}
+
+/// An event has one step at most, on a board of which holds what always does.
+pub fn events_have_one_step()
+    ensures { EventsHaveOneStep }
+{}
 
 /// What always holds of the board holds after a lawful event.
 pub fn events_keep_the_board()

@@ -30,9 +30,10 @@ pub use actor::Actor;
 pub use board::Core;
 pub use event::{Event, Took};
 pub use laws::{
-    advance_frame, bytes_come_in_order, claim_frame, events_are_few, events_keep_the_board,
-    events_leave_others, finish_frame, leave_frame, no_board_is_stuck, pass_frame, put_frame,
-    stop_frame, take_frame, the_board_is_kept, workers_leave_the_emitted,
+    advance_frame, bytes_come_in_order, claim_frame, enabled_events_happen, events_are_few,
+    events_have_one_step, events_keep_the_board, events_leave_others, finish_frame, leave_frame,
+    no_board_is_stuck, pass_frame, put_frame, stop_frame, take_frame, the_board_is_kept,
+    workers_leave_the_emitted,
 };
 
 #[cfg(test)]

@@ -23,6 +23,8 @@ returns c =
     let can = subst (λ (b : BoardState). CanClaim b c.args.actor) (sym c.self.view_is) c.requires in
     let few = length-map b.segments.items state_of in
     let more = can.more in
-    let lt : b.next < length b.segments.items = omega arith in
-    ap (board b.capacity (b.next + 1) b.cur b.stopped b.left.items) (states_set (owned_by c.args.actor) b.segments.items b.next c.index_mut.result.now _ lt c.index_mut.ensures.value refl)
-    ∙ ap (λ (v : BoardState). claimed v c.args.actor) c.self.view_is
+    let lt : b.next < length b.segments.items = omega arith in (
+      c.requires,
+      ap (board b.capacity (b.next + 1) b.cur b.stopped b.left.items) (states_set (owned_by c.args.actor) b.segments.items b.next c.index_mut.result.now _ lt c.index_mut.ensures.value refl)
+          ∙ ap (λ (v : BoardState). claimed v c.args.actor) c.self.view_is,
+    )

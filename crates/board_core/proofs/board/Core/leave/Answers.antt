@@ -19,13 +19,15 @@ invariant_of-self c =
 
 pub returns : goal.returns
 returns c =
-    let b = c.self.inside in
-    elim c.match-index_of.branch [
-      | in-Some w ↦
-          let found = rw c.deref.ensures.value at w.in-Some.ensures in
-          rw w.self-inside-is (ap (board b.capacity b.next b.cur b.stopped (set b.left.items c.args.worker true)) (sym (leave_one b.capacity c.args.worker b.segments.items w.in-Some.index w.index_mut.result.now found.0 w.index_mut.ensures.value c.self.invariant found.1)))
-      | in-None w ↦
-          let none = rw c.deref.ensures.value at w.in-None.ensures in
-          rw w.self-inside-is (ap (board b.capacity b.next b.cur b.stopped (set b.left.items c.args.worker true)) (sym (leave_none c.args.worker b.segments.items none)))
-    ]
-    ∙ ap (λ (v : BoardState). left_by v c.args.worker) c.self.view_is
+    let b = c.self.inside in (
+      c.requires,
+      elim c.match-index_of.branch [
+        | in-Some w ↦
+            let found = rw c.deref.ensures.value at w.in-Some.ensures in
+            rw w.self-inside-is (ap (board b.capacity b.next b.cur b.stopped (set b.left.items c.args.worker true)) (sym (leave_one b.capacity c.args.worker b.segments.items w.in-Some.index w.index_mut.result.now found.0 w.index_mut.ensures.value c.self.invariant found.1)))
+        | in-None w ↦
+            let none = rw c.deref.ensures.value at w.in-None.ensures in
+            rw w.self-inside-is (ap (board b.capacity b.next b.cur b.stopped (set b.left.items c.args.worker true)) (sym (leave_none c.args.worker b.segments.items none)))
+      ]
+          ∙ ap (λ (v : BoardState). left_by v c.args.worker) c.self.view_is,
+    )

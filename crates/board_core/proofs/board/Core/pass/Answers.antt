@@ -20,6 +20,8 @@ pub returns : goal.returns
 returns c =
     let b = c.self.inside in
     let can = subst (λ (b : BoardState). CanPass b c.args.count) (sym c.self.view_is) c.requires.can in
-    let lt = kept_within b.segments.items b.cur Emitter can.own in
-    ap (board b.capacity b.next b.cur b.stopped b.left.items) (states_set (with_passed c.args.count) b.segments.items b.cur c.index_mut-segment.result.now _ lt c.index_mut-segment.ensures.value refl)
-    ∙ ap (λ (v : BoardState). changed_at v v.cur (with_passed c.args.count)) c.self.view_is
+    let lt = kept_within b.segments.items b.cur Emitter can.own in (
+      c.requires.can,
+      ap (board b.capacity b.next b.cur b.stopped b.left.items) (states_set (with_passed c.args.count) b.segments.items b.cur c.index_mut-segment.result.now _ lt c.index_mut-segment.ensures.value refl)
+          ∙ ap (λ (v : BoardState). changed_at v v.cur (with_passed c.args.count)) c.self.view_is,
+    )

@@ -46,6 +46,8 @@ returns c =
     let few = length-map b.segments.items state_of in
     let more = can.more in
     let lt : b.cur < length b.segments.items = omega arith in
-    let old = c.index_mut-segment.result.now in
-    ap (board b.capacity b.next b.cur b.stopped b.left.items) (states_set (with_taken c.args.count) b.segments.items b.cur old _ lt c.index_mut-segment.ensures.value (ap (λ (w : RingBytes). state_of (record { owner = old.owner; put = old.put; taken = old.taken + c.args.count; ring = w; done = old.done })) c.remove_front.ensures))
-    ∙ ap (λ (v : BoardState). changed_at v v.cur (with_taken c.args.count)) c.self.view_is
+    let old = c.index_mut-segment.result.now in (
+      c.requires,
+      ap (board b.capacity b.next b.cur b.stopped b.left.items) (states_set (with_taken c.args.count) b.segments.items b.cur old _ lt c.index_mut-segment.ensures.value (ap (λ (w : RingBytes). state_of (record { owner = old.owner; put = old.put; taken = old.taken + c.args.count; ring = w; done = old.done })) c.remove_front.ensures))
+          ∙ ap (λ (v : BoardState). changed_at v v.cur (with_taken c.args.count)) c.self.view_is,
+    )
