@@ -7,15 +7,20 @@ use Rattle.std.proofs.lemmas.Slice.{drop-append-drop}
 use Rattle.std.proofs.Math.Seq.{take-append_seam, take-append-add, take-length}
 
 -- the first n bytes of one slice, and the first m of the next, where m isn't 0 only after all of the first
-taken_twice : (f k : List ℕ) (n m : ℕ) → n ≤ length f → (1 ≤ m → n ≡ length f) → take n f ++ take m k ≡ take (n + m) (f ++ k)
+taken_twice : (f k : List ℕ) (n m : ℕ) → n ≤ length f → (1 ≤ m → n ≡ length f)
+    → take n f ++ take m k ≡ take (n + m) (f ++ k)
 taken_twice f k n m within full = dite {C = take n f ++ take m k ≡ take (n + m) (f ++ k)} (dec_le 1 m)
     (λ (some : 1 ≤ m).
     let e = full some in
-    ap (λ i. take i f ++ take m k) e ∙ (ap (λ l. l ++ take m k) (take-length f) ∙ (sym (take-append-add f k m) ∙ ap (λ i. take (i + m) (f ++ k)) (sym e))))
+    ap (λ i. take i f ++ take m k) e
+    ∙ (ap (λ l. l ++ take m k) (take-length f)
+    ∙ (sym (take-append-add f k m) ∙ ap (λ i. take (i + m) (f ++ k)) (sym e))))
     (λ (none : ¬ (1 ≤ m)).
     let m_is : m ≡ 0 = omega arith in
     let n_is : n ≡ n + m = omega arith in
-    ap (λ i. take n f ++ take i k) m_is ∙ (append-nil (take n f) ∙ (sym (take-append-le n f k within) ∙ ap (λ i. take i (f ++ k)) n_is)))
+    ap (λ i. take n f ++ take i k) m_is
+    ∙ (append-nil (take n f)
+    ∙ (sym (take-append-le n f k within) ∙ ap (λ i. take i (f ++ k)) n_is)))
 
 -- bytes copied to the beginning of a slice, and more bytes to the index after them
 pub copied_twice : (f k b one two : List ℕ) (n m : ℕ)

@@ -8,7 +8,8 @@ use Rattle.board_core.specs.BoardStates.{SegmentState, BoardState, segment_at, O
 use Rattle.board_core.specs.BoardInvariants.{bytes_at, BoardInvariant}
 
 -- what always holds of the segment at an index, over the parts of the board that it depends on
-pub record IsSegment (ss : List (List ℕ)) (os : List Outcome) (capacity next cur : ℕ) (stopped : Bool) (left : List Bool) (i : ℕ) (s : SegmentState) : Type 0 where
+pub record IsSegment (ss : List (List ℕ)) (os : List Outcome) (capacity next cur : ℕ)
+    (stopped : Bool) (left : List Bool) (i : ℕ) (s : SegmentState) : Type 0 where
   pub fresh : next ≤ i → (s.owner ≡ None) × (s.put ≡ 0) × (s.ring ≡ []) × (s.done ≡ None)
   pub order : s.taken ≤ s.put
   pub within : s.put ≤ length (bytes_at ss i)
@@ -16,7 +17,8 @@ pub record IsSegment (ss : List (List ℕ)) (os : List Outcome) (capacity next c
   pub room : length s.ring ≤ capacity
   pub below : i < cur → IsGood s.done × (s.taken ≡ length (bytes_at ss i))
   pub above : cur < i → s.taken ≡ 0
-  pub done : (o : Outcome) → s.done ≡ Some o → (s.done ≡ slice_get os i) × (s.put ≡ length (bytes_at ss i)) × (s.owner ≡ None)
+  pub done : (o : Outcome) → s.done ≡ Some o → (s.done ≡ slice_get os i)
+      × (s.put ≡ length (bytes_at ss i)) × (s.owner ≡ None)
   pub owned : stopped ≡ false → i < next → s.done ≡ None → (a : Actor) × (s.owner ≡ Some a)
   pub here : (w : ℕ) → s.owner ≡ Some (Worker w) → slice_get left w ≡ Some false
   pub emitter : s.owner ≡ Some Emitter → (i ≡ cur) × (s.taken ≡ s.put)
@@ -30,7 +32,8 @@ pub record IsBoard (ss : List (List ℕ)) (os : List Outcome) (b : BoardState) :
   pub each : (i : ℕ) → IsSegment ss os b.capacity b.next b.cur b.stopped b.left i (segment_at b i)
   pub single : (a : Actor) (i j : ℕ) → Owns b a i → Owns b a j → i ≡ j
 
-pub is_board : (ss : List (List ℕ)) (os : List Outcome) (b : BoardState) → BoardInvariant ss os b → IsBoard ss os b
+pub is_board : (ss : List (List ℕ)) (os : List Outcome) (b : BoardState) → BoardInvariant ss os b
+    → IsBoard ss os b
 is_board ss os b h = record {
   bytes = h.bytes;
   outcomes = h.outcomes;
@@ -52,14 +55,17 @@ is_board ss os b h = record {
   single = h.single;
 }
 
-pub from_board : (ss : List (List ℕ)) (os : List Outcome) (b : BoardState) → IsBoard ss os b → BoardInvariant ss os b
+pub from_board : (ss : List (List ℕ)) (os : List Outcome) (b : BoardState) → IsBoard ss os b
+    → BoardInvariant ss os b
 from_board ss os b h = record {
   bytes = h.bytes;
   outcomes = h.outcomes;
   claims = h.claims;
   within = h.within;
-  fresh = λ i late. let k = (h.each i).fresh late in record { owner = k.0; put = k.1; ring = k.2; done = k.3 };
-  between = λ i. let f = h.each i in record { order = f.order; within = f.within; ring = f.ring; room = f.room };
+  fresh = λ i late. let k = (h.each i).fresh late in
+      record { owner = k.0; put = k.1; ring = k.2; done = k.3 };
+  between = λ i. let f = h.each i in
+      record { order = f.order; within = f.within; ring = f.ring; room = f.room };
   below = λ i l. let k = (h.each i).below l in record { good = k.0; all = k.1 };
   above = λ i. (h.each i).above;
   done = λ i o e. let k = (h.each i).done o e in record { own = k.0; all = k.1; free = k.2 };

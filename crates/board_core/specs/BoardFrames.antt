@@ -3,7 +3,7 @@ use Rattle.std.specs.Prelude.{◌≡◌, ◌≢◌, ℕ, ◌+◌, ◌≤◌, len
 use Rattle.board_core.specs.declared.actor.Actor.{Actor}
 use Rattle.board_core.specs.declared.actor.Actor.TheVariants.{Worker, Emitter}
 use Rattle.board_core.specs.BoardStates.{SegmentState, BoardState, segment_at, Owns}
-use Rattle.board_core.specs.BoardSteps.{BoardEvent, Claim, Put, Pass, Finish, Take, Advance, Stop, Leave, BoardStep, owned_by, without}
+use Rattle.board_core.specs.BoardSteps.{BoardEvent, Claim, Put, Pass, Finish, Take, Advance, Stop, Leave, BoardStep, with_owner, without_owner}
 
 -- one segment is changed by f, and all else is as it was
 pub record ChangesOnly (i : ℕ) (f : SegmentState → SegmentState) (old new : BoardState) : Type 0 where
@@ -18,7 +18,7 @@ pub record ChangesOnly (i : ℕ) (f : SegmentState → SegmentState) (old new : 
 
 -- an actor owns the next segment, of which nothing else is changed, and all else but the count is as it was
 pub record IsAfterClaim (a : Actor) (old new : BoardState) : Type 0 where
-  pub changed : segment_at new old.next ≡ owned_by a (segment_at old old.next)
+  pub changed : segment_at new old.next ≡ with_owner a (segment_at old old.next)
   pub others : (j : ℕ) → j ≢ old.next → segment_at new j ≡ segment_at old j
   pub size : length new.segments ≡ length old.segments
   pub next : new.next ≡ old.next + 1
@@ -29,7 +29,7 @@ pub record IsAfterClaim (a : Actor) (old new : BoardState) : Type 0 where
 
 -- a worker left, each segment is as it was but that the worker doesn't own it, and all else is as it was
 pub record IsAfterLeave (w : ℕ) (old new : BoardState) : Type 0 where
-  pub segments : (i : ℕ) → segment_at new i ≡ without w (segment_at old i)
+  pub segments : (i : ℕ) → segment_at new i ≡ without_owner w (segment_at old i)
   pub gone : slice_get new.left w ≡ Some true
   pub others : (v : ℕ) → v ≢ w → slice_get new.left v ≡ slice_get old.left v
   pub workers : length new.left ≡ length old.left

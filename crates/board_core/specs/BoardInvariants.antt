@@ -83,17 +83,17 @@ LawfulRun ss os old (e ∷ es) new =
     (mid : BoardState) × LawfulStep ss os old e mid × LawfulRun ss os mid es new
 
 -- the bytes that an event gives to the output: those taken, and those passed
-abbrev pub handed : List (List ℕ) → BoardState → BoardEvent → List ℕ
-handed ss b (Take n) = take n (segment_at b b.cur).ring
-handed ss b (Pass n) = take n (drop (segment_at b b.cur).put (bytes_at ss b.cur))
-handed ss b _ = []
+abbrev pub bytes_handed : List (List ℕ) → BoardState → BoardEvent → List ℕ
+bytes_handed ss b (Take n) = take n (segment_at b b.cur).ring
+bytes_handed ss b (Pass n) = take n (drop (segment_at b b.cur).put (bytes_at ss b.cur))
+bytes_handed ss b _ = []
 
 -- the bytes that the events of a run give to the output, in order
-abbrev pub handed_out : (ss : List (List ℕ)) (os : List Outcome)
+abbrev pub bytes_handed_out : (ss : List (List ℕ)) (os : List Outcome)
     (old : BoardState) (es : List BoardEvent) (new : BoardState)
     → LawfulRun ss os old es new → List ℕ
-handed_out ss os old [] new run = []
-handed_out ss os old (e ∷ es) new run = handed ss old e ++ handed_out ss os run.0 es new run.2
+bytes_handed_out ss os old [] new run = []
+bytes_handed_out ss os old (e ∷ es) new run = bytes_handed ss old e ++ bytes_handed_out ss os run.0 es new run.2
 
 -- a lawful event other than Stop, and the board that it leaves
 pub record IsNextStep (ss : List (List ℕ)) (os : List Outcome)
@@ -108,8 +108,8 @@ pub record IsFaultDue (b : BoardState) (fault : StreamFault) : Type 0 where
   pub going : b.stopped ≡ false
 
 -- a board that can go on
-abbrev pub GoesOn : List (List ℕ) → List Outcome → BoardState → Type 0
-GoesOn ss os b =
+abbrev pub CanGoOn : List (List ℕ) → List Outcome → BoardState → Type 0
+CanGoOn ss os b =
     ((e : BoardEvent) × (new : BoardState) × IsNextStep ss os b e new)
     ⊎ ((fault : StreamFault) × IsFaultDue b fault)
 

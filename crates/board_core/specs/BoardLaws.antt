@@ -1,10 +1,10 @@
 -- What lawful events come to, over every list of them from the opening board (this project's own).
-use Rattle.std.specs.Prelude.{◌≡◌, ℕ, ◌≤◌, ◌↔◌, List, ◌++◌, length}
+use Rattle.std.specs.Prelude.{◌≡◌, ℕ, ◌^◌, ◌<◌, ◌≤◌, ◌↔◌, List, ◌++◌, length}
 use Rattle.std.specs.List.{concat}
 use Rattle.handover.specs.declared.outcome.Outcome.{Outcome}
-use Rattle.board_core.specs.BoardStates.{BoardState, opening, IsEnded}
-use Rattle.board_core.specs.BoardSteps.{BoardEvent, IsEnabled, BoardStep}
-use Rattle.board_core.specs.BoardInvariants.{BoardInvariant, LawfulStep, LawfulRun, handed_out, GoesOn, most_events}
+use Rattle.board_core.specs.BoardStates.{BoardState, opening_board, IsEnded}
+use Rattle.board_core.specs.BoardSteps.{BoardEvent, IsEnabled, CountsFit, BoardStep}
+use Rattle.board_core.specs.BoardInvariants.{bytes_at, BoardInvariant, MatchesLists, LawfulStep, LawfulRun, bytes_handed_out, CanGoOn, most_events}
 
 -- events on a board, the lists that its bytes and outcomes come from, and the board after the last event
 pub record Run : Type 0 where
@@ -16,17 +16,17 @@ pub record Run : Type 0 where
   pub after : BoardState
 
 -- the board before the first event, with as many segments as the lists have
-abbrev pub before : Run → BoardState
-before r = opening (length r.bytes) r.capacity r.workers
+abbrev pub board_before : Run → BoardState
+board_before r = opening_board (length r.bytes) r.capacity r.workers
 
 -- one lawful event after another, and an outcome for each segment
 pub record IsLawful (r : Run) : Type 0 where
   pub outcomes : length r.outcomes ≡ length r.bytes
-  pub events : LawfulRun r.bytes r.outcomes (before r) r.events r.after
+  pub events : LawfulRun r.bytes r.outcomes (board_before r) r.events r.after
 
 -- the bytes that the events of a run give to the output, in order
 abbrev pub output : (r : Run) → IsLawful r → List ℕ
-output r lawful = handed_out r.bytes r.outcomes (before r) r.events r.after lawful.events
+output r lawful = bytes_handed_out r.bytes r.outcomes (board_before r) r.events r.after lawful.events
 
 -- an event is enabled where it has a step
 abbrev pub EnabledEventsHappen : Type 0
@@ -38,6 +38,13 @@ abbrev pub EventsHaveOneStep : Type 0
 EventsHaveOneStep =
     (ss : List (List ℕ)) (os : List Outcome) (old : BoardState) (e : BoardEvent) (one two : BoardState)
     → BoardInvariant ss os old → BoardStep old e one → BoardStep old e two → one ≡ two
+
+-- a lawful event keeps the number of bytes put below 2^64, where no segment is as long
+abbrev pub LawfulEventsFit : Type 0
+LawfulEventsFit =
+    (ss : List (List ℕ)) (os : List Outcome) (b : BoardState) (e : BoardEvent)
+    → ((i : ℕ) → length (bytes_at ss i) < 2 ^ 64)
+    → BoardInvariant ss os b → MatchesLists ss os b e → CountsFit b e
 
 -- what always holds of the board holds after a lawful event
 abbrev pub EventsKeepTheBoard : Type 0
@@ -57,7 +64,7 @@ BytesComeInOrder =
 -- a board that isn't ended can go on
 abbrev pub NoBoardIsStuck : Type 0
 NoBoardIsStuck =
-    (r : Run) → 1 ≤ r.capacity → IsLawful r → ¬ IsEnded r.after → GoesOn r.bytes r.outcomes r.after
+    (r : Run) → 1 ≤ r.capacity → IsLawful r → ¬ IsEnded r.after → CanGoOn r.bytes r.outcomes r.after
 
 -- a list of lawful events is no longer than the bound
 abbrev pub EventsAreFew : Type 0

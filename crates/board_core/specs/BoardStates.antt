@@ -25,24 +25,24 @@ pub record BoardState : Type 0 where
   pub left : List Bool
 
 -- a segment that nobody has claimed
-abbrev pub unclaimed : SegmentState
-unclaimed = record { owner = None; put = 0; taken = 0; ring = []; done = None }
+abbrev pub unclaimed_segment : SegmentState
+unclaimed_segment = record { owner = None; put = 0; taken = 0; ring = []; done = None }
 
 -- the board before the first event, with k segments
-abbrev pub opening : ℕ → ℕ → ℕ → BoardState
-opening k capacity workers =
+abbrev pub opening_board : ℕ → ℕ → ℕ → BoardState
+opening_board k capacity workers =
     record {
       capacity = capacity;
       next = 0;
       cur = 0;
-      segments = replicate k unclaimed;
+      segments = replicate k unclaimed_segment;
       stopped = false;
       left = replicate workers false;
     }
 
 -- the segment at an index; after the last one stands an unclaimed one
 abbrev pub segment_at : BoardState → ℕ → SegmentState
-segment_at b i = slice_index_or b.segments i unclaimed
+segment_at b i = slice_index_or b.segments i unclaimed_segment
 
 -- the board with another segment at an index
 abbrev pub with_segment : BoardState → ℕ → SegmentState → BoardState

@@ -80,8 +80,8 @@ CountsFit b (Pass n) = (segment_at b b.cur).put + n < 2 ^ 64
 CountsFit b _ = Unit {0}
 
 -- a segment that an actor claimed
-abbrev pub owned_by : Actor → SegmentState → SegmentState
-owned_by a s = record s { owner = Some a }
+abbrev pub with_owner : Actor → SegmentState → SegmentState
+with_owner a s = record s { owner = Some a }
 
 -- a segment with bytes more in its ring
 abbrev pub with_put : List ℕ → SegmentState → SegmentState
@@ -92,8 +92,8 @@ abbrev pub with_passed : ℕ → SegmentState → SegmentState
 with_passed n s = record s { put = s.put + n; taken = s.taken + n }
 
 -- a segment that ended, which nobody owns
-abbrev pub finished : Outcome → SegmentState → SegmentState
-finished o s = record s { owner = None; done = Some o }
+abbrev pub with_outcome : Outcome → SegmentState → SegmentState
+with_outcome o s = record s { owner = None; done = Some o }
 
 -- a segment without the first n bytes of its ring
 abbrev pub with_taken : ℕ → SegmentState → SegmentState
@@ -106,38 +106,38 @@ owner_without w (Some Emitter) = Some Emitter
 owner_without w (Some (Worker v)) = if v == w then None else Some (Worker v)
 
 -- a segment once a worker left
-abbrev pub without : ℕ → SegmentState → SegmentState
-without w s = record s { owner = owner_without w s.owner }
+abbrev pub without_owner : ℕ → SegmentState → SegmentState
+without_owner w s = record s { owner = owner_without w s.owner }
 
 -- the board with one segment changed
 abbrev pub changed_at : BoardState → ℕ → (SegmentState → SegmentState) → BoardState
 changed_at b i f = with_segment b i (f (segment_at b i))
 
 -- the board after Claim
-abbrev pub claimed : BoardState → Actor → BoardState
-claimed b a = record (changed_at b b.next (owned_by a)) { next = b.next + 1 }
+abbrev pub with_claim : BoardState → Actor → BoardState
+with_claim b a = record (changed_at b b.next (with_owner a)) { next = b.next + 1 }
 
 -- the board after Advance
-abbrev pub advanced : BoardState → BoardState
-advanced b = record b { cur = b.cur + 1 }
+abbrev pub with_advance : BoardState → BoardState
+with_advance b = record b { cur = b.cur + 1 }
 
 -- the board after Stop
-abbrev pub stopped_board : BoardState → BoardState
-stopped_board b = record b { stopped = true }
+abbrev pub with_stop : BoardState → BoardState
+with_stop b = record b { stopped = true }
 
 -- the board after Leave
-abbrev pub left_by : BoardState → ℕ → BoardState
-left_by b w = record b { segments = map (without w) b.segments; left = slice_set b.left w true }
+abbrev pub with_leave : BoardState → ℕ → BoardState
+with_leave b w = record b { segments = map (without_owner w) b.segments; left = slice_set b.left w true }
 
 -- one event: its condition holds of the old board, and the new board is the old one with the event's change
 abbrev pub BoardStep : BoardState → BoardEvent → BoardState → Type 0
-BoardStep old (Claim a) new = CanClaim old a × (new ≡ claimed old a)
+BoardStep old (Claim a) new = CanClaim old a × (new ≡ with_claim old a)
 BoardStep old (Put w bytes) new =
     (i : ℕ) × CanPut old w (length bytes) i × (new ≡ changed_at old i (with_put bytes))
 BoardStep old (Pass n) new = CanPass old n × (new ≡ changed_at old old.cur (with_passed n))
 BoardStep old (Finish a o) new =
-    (i : ℕ) × CanFinish old a i × (new ≡ changed_at old i (finished o))
+    (i : ℕ) × CanFinish old a i × (new ≡ changed_at old i (with_outcome o))
 BoardStep old (Take n) new = CanTake old n × (new ≡ changed_at old old.cur (with_taken n))
-BoardStep old Advance new = CanAdvance old × (new ≡ advanced old)
-BoardStep old Stop new = (old.stopped ≡ false) × (new ≡ stopped_board old)
-BoardStep old (Leave w) new = CanLeave old w × (new ≡ left_by old w)
+BoardStep old Advance new = CanAdvance old × (new ≡ with_advance old)
+BoardStep old Stop new = (old.stopped ≡ false) × (new ≡ with_stop old)
+BoardStep old (Leave w) new = CanLeave old w × (new ≡ with_leave old w)

@@ -2,7 +2,7 @@
 use Rattle.std.specs.Prelude.{◌≡◌, ℕ, ◌+◌, ◌≤◌, List, length, map, All, Some, slice_index_or}
 use Rattle.board_core.specs.declared.actor.Actor.{Actor}
 use Rattle.board_core.specs.declared.segment.Segment.{Segment}
-use Rattle.board_core.specs.BoardStates.{SegmentState, unclaimed}
+use Rattle.board_core.specs.BoardStates.{SegmentState, unclaimed_segment}
 
 -- a segment as clauses see it
 abbrev pub state_of : Segment → SegmentState
@@ -15,7 +15,7 @@ states_of l = map state_of l
 
 -- the segment at an index as clauses see it
 abbrev pub kept_at : List Segment → ℕ → SegmentState
-kept_at l i = slice_index_or (states_of l) i unclaimed
+kept_at l i = slice_index_or (states_of l) i unclaimed_segment
 
 -- what always holds of a segment: its ring has the board's capacity, and what was put and not taken waits
 pub record IsKept (capacity : ℕ) (s : Segment) : Type 0 where

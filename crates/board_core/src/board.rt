@@ -1,6 +1,6 @@
 // The board, and its events.
 ghost use Rattle.std.specs.Prelude.{◌≡◌, ◌≤◌, IfOk};
-ghost use Rattle.board_core.specs.BoardStates.{opening};
+ghost use Rattle.board_core.specs.BoardStates.{opening_board};
 ghost use Rattle.board_core.specs.BoardSteps.{BoardStep, IsEnabled, CountsFit, Claim, Put, Pass, Finish, Take, Advance, Stop, Leave};
 ghost use Rattle.board_core.specs.EventValues.{board_event, answer};
 
@@ -48,7 +48,7 @@ impl Core {
     /// bytes.
     pub fn new(alloc: Global, k: u8, capacity: usize, workers: u8) -> Result<Core, AllocError>
         requires { 1 ≤ capacity }
-        ensures { IfOk result (λ b. b ≡ opening k capacity workers) }
+        ensures { IfOk result (λ b. b ≡ opening_board k capacity workers) }
     {
         let mut segments = Vec::new(alloc);
         for _ in 0..k {

@@ -11,7 +11,7 @@ use crate::event::Event;
 use crate::segment::{index_of, is_good, is_owned};
 
 impl Core {
-    /// Whether an event may happen: any event, also one that names a worker that the board doesn't have.
+    /// Whether an event may happen. It may name a worker that the board doesn't have, or any number of bytes.
     pub fn enabled(&self, event: &Event) -> bool
         ensures { IsTrue result ↔ IsEnabled self.now (board_event event.now) }
     {
@@ -27,7 +27,7 @@ impl Core {
         }
     }
 
-    /// Whether the number of bytes put stays below 2^64.
+    /// Whether the number of bytes put of a segment stays below 2^64 with an event.
     pub fn fits(&self, event: &Event) -> bool
         ensures { IsTrue result ↔ CountsFit self.now (board_event event.now) }
     {

@@ -2,16 +2,16 @@
 use crate::actor::Actor;
 use handover::Outcome;
 
-/// An event. Its condition and what it changes are `BoardStep`.
+/// An event. `BoardStep` has its condition and what it changes.
 #[derive(Clone, Copy)]
 pub enum Event<'a> {
     /// The actor claims the next segment; the emitter only the one that is emitted.
     Claim(Actor),
     /// The worker puts these bytes, one at least, into the ring of its segment, which has room for all of them.
     Put(u8, &'a [u8]),
-    /// The emitter passes n bytes of its own segment to the output, 1 at least.
+    /// The emitter passes n bytes of its own segment, 1 at least, to the output.
     Pass(u64),
-    /// The actor's segment ends so.
+    /// The actor's segment ends with this outcome, and nobody owns it.
     Finish(Actor, Outcome),
     /// The emitter takes the first n bytes, 1 at least, of the ring of the segment that is emitted.
     Take(u64),

@@ -4,8 +4,8 @@ ghost use Rattle.handover.specs.declared.outcome.Outcome.{Outcome};
 ghost use Rattle.board_core.specs.declared.actor.Actor.{Actor};
 ghost use Rattle.board_core.specs.declared.actor.Actor.TheVariants.{Worker};
 ghost use Rattle.board_core.specs.BoardStates.{BoardState, Owns};
-ghost use Rattle.board_core.specs.BoardSteps.{BoardStep, Claim, Put, Pass, Finish, Take, Advance, Stop, Leave, with_put, with_passed, finished, with_taken, advanced, stopped_board};
-ghost use Rattle.board_core.specs.BoardLaws.{EnabledEventsHappen, EventsHaveOneStep, EventsKeepTheBoard, TheBoardIsKept, BytesComeInOrder, NoBoardIsStuck, EventsAreFew};
+ghost use Rattle.board_core.specs.BoardSteps.{BoardStep, Claim, Put, Pass, Finish, Take, Advance, Stop, Leave, with_put, with_passed, with_outcome, with_taken, with_advance, with_stop};
+ghost use Rattle.board_core.specs.BoardLaws.{EnabledEventsHappen, EventsHaveOneStep, LawfulEventsFit, EventsKeepTheBoard, TheBoardIsKept, BytesComeInOrder, NoBoardIsStuck, EventsAreFew};
 ghost use Rattle.board_core.specs.BoardFrames.{ChangesOnly, IsAfterClaim, IsAfterLeave, EventsLeaveOthers, WorkersLeaveTheEmitted};
 
 /// An event is enabled exactly where it has a step.
@@ -13,22 +13,28 @@ pub fn enabled_events_happen()
     ensures { EnabledEventsHappen }
 {}
 
-/// An event has one step at most, on a board of which holds what always does.
+/// On a board on which `BoardInvariant` holds, an event has at most one step.
 pub fn events_have_one_step()
     ensures { EventsHaveOneStep }
 {}
 
-/// What always holds of the board holds after a lawful event.
+/// A lawful event keeps the number of bytes put of a segment below 2^64, where no segment is as long. So `step` may be
+/// called.
+pub fn lawful_events_fit()
+    ensures { LawfulEventsFit }
+{}
+
+/// `BoardInvariant` holds after a lawful event where it held before.
 pub fn events_keep_the_board()
     ensures { EventsKeepTheBoard }
 {}
 
-/// What always holds of the board holds after every list of lawful events.
+/// `BoardInvariant` holds after every list of lawful events from the opening board.
 pub fn the_board_is_kept()
     ensures { TheBoardIsKept }
 {}
 
-/// The bytes taken and passed, in order, are a prefix of all segments, one after another.
+/// The bytes taken and passed, in order, are a prefix of the bytes of all segments, one after another.
 pub fn bytes_come_in_order()
     ensures { BytesComeInOrder }
 {}
@@ -43,7 +49,7 @@ pub fn events_are_few()
     ensures { EventsAreFew }
 {}
 
-/// An event leaves to all other actors what they own.
+/// An event leaves all other actors what they own.
 pub fn events_leave_others()
     ensures { EventsLeaveOthers }
 {}
@@ -74,7 +80,7 @@ pub fn pass_frame()
 /// What Finish changes and leaves.
 pub fn finish_frame()
     ensures { (a : Actor) (o : Outcome) (old new : BoardState) → BoardStep old (Finish a o) new
-        → (i : ℕ) × Owns old a i × ChangesOnly i (finished o) old new }
+        → (i : ℕ) × Owns old a i × ChangesOnly i (with_outcome o) old new }
 {}
 
 /// What Take changes and leaves.
@@ -85,12 +91,12 @@ pub fn take_frame()
 
 /// What Advance changes and leaves.
 pub fn advance_frame()
-    ensures { (old new : BoardState) → BoardStep old Advance new → new ≡ advanced old }
+    ensures { (old new : BoardState) → BoardStep old Advance new → new ≡ with_advance old }
 {}
 
 /// What Stop changes and leaves.
 pub fn stop_frame()
-    ensures { (old new : BoardState) → BoardStep old Stop new → new ≡ stopped_board old }
+    ensures { (old new : BoardState) → BoardStep old Stop new → new ≡ with_stop old }
 {}
 
 /// What Leave changes and leaves.

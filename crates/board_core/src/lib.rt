@@ -1,8 +1,8 @@
 //! The board on which workers and an emitter share the segments of a file (this project's own). No threads.
 //!
-//!     segment      0        1        2        3        4
-//!               emitted  emitted   taken    claimed   free
-//!                                  ^ cur              ^ next
+//!     segment      0          1          2          3          4
+//!               emitted    emitted    claimed    claimed   unclaimed
+//!                                     ^ cur                ^ next
 //!
 //!     Claim     an actor owns segment `next`, and `next` is one more
 //!     Put       a worker's bytes go to the end of its segment's ring
@@ -13,8 +13,8 @@
 //!     Stop      nothing but Leave happens from then on
 //!     Leave     a worker is gone
 //!
-//! These events are all that happens, each where its condition holds. `laws` says what every list of them comes to.
-//! What the bytes are is left to others, and so is who waits for whom.
+//! Nothing else happens, and each event only where its condition holds. The laws in `laws.rt` say what every list of
+//! events comes to. What the bytes are is left to others, and so is who waits for whom.
 #![tactic(auto)]
 
 mod actor;
@@ -31,9 +31,9 @@ pub use board::Core;
 pub use event::{Event, Took};
 pub use laws::{
     advance_frame, bytes_come_in_order, claim_frame, enabled_events_happen, events_are_few,
-    events_have_one_step, events_keep_the_board, events_leave_others, finish_frame, leave_frame,
-    no_board_is_stuck, pass_frame, put_frame, stop_frame, take_frame, the_board_is_kept,
-    workers_leave_the_emitted,
+    events_have_one_step, events_keep_the_board, events_leave_others, finish_frame,
+    lawful_events_fit, leave_frame, no_board_is_stuck, pass_frame, put_frame, stop_frame,
+    take_frame, the_board_is_kept, workers_leave_the_emitted,
 };
 
 #[cfg(test)]

@@ -1,5 +1,5 @@
 use Rattle.std.proofs.Common.{length, refl}
-use Rattle.board_core.specs.BoardLaws.{before}
+use Rattle.board_core.specs.BoardLaws.{board_before}
 use Rattle.board_core.proofs.EachSegment.{from_board}
 use Rattle.board_core.proofs.OpeningBoard.{opens}
 use Rattle.board_core.proofs.HandedBytes.{keeps_all}
@@ -9,4 +9,4 @@ pub returns : goal.returns
 returns c = λ r lawful.
     let first = opens r.bytes r.outcomes (length r.bytes) r.capacity r.workers refl lawful.outcomes in
     from_board r.bytes r.outcomes r.after
-    (keeps_all r.bytes r.outcomes (before r) r.events r.after first lawful.events)
+    (keeps_all r.bytes r.outcomes (board_before r) r.events r.after first lawful.events)
