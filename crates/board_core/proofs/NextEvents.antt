@@ -1,5 +1,5 @@
 -- A board that isn't ended can go on.
-use Rattle.std.proofs.Common.{◌∙◌, sym, ap, ◌≡◌, ◌≢◌, ℕ, ◌+◌, ◌^◌, zero, suc, ◌<◌, ◌≤◌, Bool, true, false, List, [], ◌∷◌, length, take, drop, subst, refl, ⊎_elim, ◌⊎◌, inl, inr, Some, None, Option, arith, length-drop, length-take}
+use Rattle.std.proofs.Common.{◌∙◌, sym, ap, ◌≡◌, ◌≢◌, ℕ, ◌+◌, zero, suc, ◌<◌, ◌≤◌, Bool, true, false, List, [], ◌∷◌, length, take, drop, subst, refl, ⊎_elim, ◌⊎◌, inl, inr, Some, None, Option, arith, length-drop, length-take}
 use Rattle.std.specs.Prelude.{slice_get}
 use mathlib.Core.Logic.{dite}
 use native.Mathlib.Decide.{ℕ_discrete, dec_le}
@@ -9,7 +9,7 @@ use Rattle.handover.specs.declared.outcome.Outcome.{Outcome}
 use Rattle.handover.specs.declared.outcome.Outcome.TheVariants.{Good, Bad}
 use Rattle.handover.specs.declared.outcome.StreamFault.{StreamFault}
 use Rattle.board_core.specs.BoardStates.{BoardState, segment_at, Owns, IsEnded}
-use Rattle.board_core.specs.BoardSteps.{BoardEvent, Claim, Put, Pass, Finish, Take, Advance, Stop, Leave, IsEnabled, CountsFit, BoardStep, with_claim, changed_at, with_put, with_passed, with_outcome, with_taken, with_advance, with_stop, with_leave}
+use Rattle.board_core.specs.BoardSteps.{BoardEvent, Claim, Put, Pass, Finish, Take, Advance, Stop, Leave, IsEnabled, count_limit, CountsFit, BoardStep, with_claim, changed_at, with_put, with_passed, with_outcome, with_taken, with_advance, with_stop, with_leave}
 use Rattle.board_core.specs.BoardInvariants.{bytes_at, MatchesLists, CanGoOn}
 use Rattle.board_core.proofs.EachSegment.{IsBoard}
 use Rattle.board_core.proofs.SegmentsAt.{owned_within}
@@ -68,8 +68,8 @@ was_enabled b Stop new step = step.0
 was_enabled b (Leave w) new step = step.0
 
 -- the bytes put of a segment are no more than it has
-counts_fit_at : (bytes s : List ℕ) (put : ℕ) → length s < 2 ^ 64 → put ≤ length s
-    → take (length bytes) (drop put s) ≡ bytes → put + length bytes < 2 ^ 64
+counts_fit_at : (bytes s : List ℕ) (put : ℕ) → length s < count_limit → put ≤ length s
+    → take (length bytes) (drop put s) ≡ bytes → put + length bytes < count_limit
 counts_fit_at bytes s put short within e =
     let a = ap length e in
     let b = length-take (length bytes) (drop put s) in
@@ -77,7 +77,7 @@ counts_fit_at bytes s put short within e =
     omega arith
 
 pub counts_fit : (ss : List (List ℕ)) (os : List Outcome) (b : BoardState) (e : BoardEvent)
-    → ((i : ℕ) → length (bytes_at ss i) < 2 ^ 64)
+    → ((i : ℕ) → length (bytes_at ss i) < count_limit)
     → ((i : ℕ) → (segment_at b i).put ≤ length (bytes_at ss i))
     → MatchesLists ss os b e → CountsFit b e
 counts_fit ss os b (Put w bytes) short within lists =

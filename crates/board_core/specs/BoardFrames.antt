@@ -6,7 +6,8 @@ use Rattle.board_core.specs.BoardStates.{SegmentState, BoardState, segment_at, O
 use Rattle.board_core.specs.BoardSteps.{BoardEvent, Claim, Put, Pass, Finish, Take, Advance, Stop, Leave, BoardStep, with_owner, without_owner}
 
 -- one segment is changed by f, and all else is as it was
-pub record ChangesOnly (i : ℕ) (f : SegmentState → SegmentState) (old new : BoardState) : Type 0 where
+pub record ChangesOnly (i : ℕ) (f : SegmentState → SegmentState)
+    (old new : BoardState) : Type 0 where
   pub changed : segment_at new i ≡ f (segment_at old i)
   pub others : (j : ℕ) → j ≢ i → segment_at new j ≡ segment_at old j
   pub size : length new.segments ≡ length old.segments
@@ -16,7 +17,7 @@ pub record ChangesOnly (i : ℕ) (f : SegmentState → SegmentState) (old new : 
   pub left : new.left ≡ old.left
   pub capacity : new.capacity ≡ old.capacity
 
--- an actor owns the next segment, of which nothing else is changed, and all else but the count is as it was
+-- an actor owns the segment that was next, the one after it is next, and all else is as it was
 pub record IsAfterClaim (a : Actor) (old new : BoardState) : Type 0 where
   pub changed : segment_at new old.next ≡ with_owner a (segment_at old old.next)
   pub others : (j : ℕ) → j ≢ old.next → segment_at new j ≡ segment_at old j
@@ -27,7 +28,7 @@ pub record IsAfterClaim (a : Actor) (old new : BoardState) : Type 0 where
   pub left : new.left ≡ old.left
   pub capacity : new.capacity ≡ old.capacity
 
--- a worker left, each segment is as it was but that the worker doesn't own it, and all else is as it was
+-- a worker left and owns nothing, and all else is as it was
 pub record IsAfterLeave (w : ℕ) (old new : BoardState) : Type 0 where
   pub segments : (i : ℕ) → segment_at new i ≡ without_owner w (segment_at old i)
   pub gone : slice_get new.left w ≡ Some true
@@ -54,7 +55,8 @@ actor_of (Leave w) = Worker w
 abbrev pub NextIsFree : BoardState → Type 0
 NextIsFree b = (segment_at b b.next).owner ≡ None
 
--- all actors but one own what they owned, with as many bytes put, and have left or not; what is over stays over
+-- all actors but one own what they owned, with as many bytes put, and have left or not as before; a stopped board
+-- stays stopped
 pub record LeavesOthers (a : Actor) (old new : BoardState) : Type 0 where
   pub still : (b : Actor) (i : ℕ) → b ≢ a → Owns old b i → Owns new b i
   pub before : (b : Actor) (i : ℕ) → b ≢ a → Owns new b i → Owns old b i

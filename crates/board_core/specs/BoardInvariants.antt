@@ -14,14 +14,14 @@ use Rattle.board_core.specs.BoardSteps.{BoardEvent, Put, Pass, Finish, Take, Sto
 abbrev pub bytes_at : List (List ℕ) → ℕ → List ℕ
 bytes_at ss i = slice_index_or ss i []
 
--- a segment of which nothing was claimed
+-- a segment without an owner, bytes and an outcome
 pub record IsUntouched (s : SegmentState) : Type 0 where
   pub owner : s.owner ≡ None
   pub put : s.put ≡ 0
   pub ring : s.ring ≡ []
   pub done : s.done ≡ None
 
--- what waits of a segment's bytes: those from the last one taken to the last one put, within the capacity
+-- the bytes of a segment that wait: those put and not taken, and no more than the capacity
 pub record IsBetween (bytes : List ℕ) (capacity : ℕ) (s : SegmentState) : Type 0 where
   pub order : s.taken ≤ s.put
   pub within : s.put ≤ length bytes
@@ -33,13 +33,13 @@ pub record IsEmitted (bytes : List ℕ) (s : SegmentState) : Type 0 where
   pub good : IsGood s.done
   pub all : s.taken ≡ length bytes
 
--- a segment that ended as its list says, all of it put
+-- a segment that ended with its listed outcome, all of it put, and that nobody owns
 pub record IsDoneBy (bytes : List ℕ) (outcome : Option Outcome) (s : SegmentState) : Type 0 where
   pub own : s.done ≡ outcome
   pub all : s.put ≡ length bytes
   pub free : s.owner ≡ None
 
--- what always holds of the board
+-- what always holds of the board, for segments with these bytes and outcomes
 pub record BoardInvariant (ss : List (List ℕ)) (os : List Outcome) (b : BoardState) : Type 0 where
   pub bytes : length ss ≡ length b.segments
   pub outcomes : length os ≡ length b.segments
@@ -82,7 +82,7 @@ LawfulRun ss os old [] new = new ≡ old
 LawfulRun ss os old (e ∷ es) new =
     (mid : BoardState) × LawfulStep ss os old e mid × LawfulRun ss os mid es new
 
--- the bytes that an event gives to the output: those taken, and those passed
+-- the bytes that an event gives to the output: the ones taken, or the ones passed
 abbrev pub bytes_handed : List (List ℕ) → BoardState → BoardEvent → List ℕ
 bytes_handed ss b (Take n) = take n (segment_at b b.cur).ring
 bytes_handed ss b (Pass n) = take n (drop (segment_at b b.cur).put (bytes_at ss b.cur))
@@ -93,7 +93,8 @@ abbrev pub bytes_handed_out : (ss : List (List ℕ)) (os : List Outcome)
     (old : BoardState) (es : List BoardEvent) (new : BoardState)
     → LawfulRun ss os old es new → List ℕ
 bytes_handed_out ss os old [] new run = []
-bytes_handed_out ss os old (e ∷ es) new run = bytes_handed ss old e ++ bytes_handed_out ss os run.0 es new run.2
+bytes_handed_out ss os old (e ∷ es) new run =
+    bytes_handed ss old e ++ bytes_handed_out ss os run.0 es new run.2
 
 -- a lawful event other than Stop, and the board that it leaves
 pub record IsNextStep (ss : List (List ℕ)) (os : List Outcome)
@@ -107,7 +108,7 @@ pub record IsFaultDue (b : BoardState) (fault : StreamFault) : Type 0 where
   pub empty : (segment_at b b.cur).ring ≡ []
   pub going : b.stopped ≡ false
 
--- a board that can go on
+-- a board that has a next step, or that may be stopped for a fault
 abbrev pub CanGoOn : List (List ℕ) → List Outcome → BoardState → Type 0
 CanGoOn ss os b =
     ((e : BoardEvent) × (new : BoardState) × IsNextStep ss os b e new)

@@ -1,9 +1,9 @@
 -- What lawful events come to, over every list of them from the opening board (this project's own).
-use Rattle.std.specs.Prelude.{◌≡◌, ℕ, ◌^◌, ◌<◌, ◌≤◌, ◌↔◌, List, ◌++◌, length}
+use Rattle.std.specs.Prelude.{◌≡◌, ℕ, ◌<◌, ◌≤◌, ◌↔◌, List, ◌++◌, length}
 use Rattle.std.specs.List.{concat}
 use Rattle.handover.specs.declared.outcome.Outcome.{Outcome}
 use Rattle.board_core.specs.BoardStates.{BoardState, opening_board, IsEnded}
-use Rattle.board_core.specs.BoardSteps.{BoardEvent, IsEnabled, CountsFit, BoardStep}
+use Rattle.board_core.specs.BoardSteps.{BoardEvent, IsEnabled, count_limit, CountsFit, BoardStep}
 use Rattle.board_core.specs.BoardInvariants.{bytes_at, BoardInvariant, MatchesLists, LawfulStep, LawfulRun, bytes_handed_out, CanGoOn, most_events}
 
 -- events on a board, the lists that its bytes and outcomes come from, and the board after the last event
@@ -26,7 +26,8 @@ pub record IsLawful (r : Run) : Type 0 where
 
 -- the bytes that the events of a run give to the output, in order
 abbrev pub output : (r : Run) → IsLawful r → List ℕ
-output r lawful = bytes_handed_out r.bytes r.outcomes (board_before r) r.events r.after lawful.events
+output r lawful =
+    bytes_handed_out r.bytes r.outcomes (board_before r) r.events r.after lawful.events
 
 -- an event is enabled where it has a step
 abbrev pub EnabledEventsHappen : Type 0
@@ -36,14 +37,15 @@ EnabledEventsHappen =
 -- an event leaves one board
 abbrev pub EventsHaveOneStep : Type 0
 EventsHaveOneStep =
-    (ss : List (List ℕ)) (os : List Outcome) (old : BoardState) (e : BoardEvent) (one two : BoardState)
+    (ss : List (List ℕ)) (os : List Outcome) (old : BoardState) (e : BoardEvent)
+    (one two : BoardState)
     → BoardInvariant ss os old → BoardStep old e one → BoardStep old e two → one ≡ two
 
 -- a lawful event keeps the number of bytes put below 2^64, where no segment is as long
 abbrev pub LawfulEventsFit : Type 0
 LawfulEventsFit =
     (ss : List (List ℕ)) (os : List Outcome) (b : BoardState) (e : BoardEvent)
-    → ((i : ℕ) → length (bytes_at ss i) < 2 ^ 64)
+    → ((i : ℕ) → length (bytes_at ss i) < count_limit)
     → BoardInvariant ss os b → MatchesLists ss os b e → CountsFit b e
 
 -- what always holds of the board holds after a lawful event

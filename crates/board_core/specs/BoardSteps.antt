@@ -24,7 +24,7 @@ pub record CanClaim (b : BoardState) (a : Actor) : Type 0 where
   pub idle : OwnsNothing b a
   pub turn : a ≡ Emitter → b.next ≡ b.cur
 
--- the condition of Put: the ring of the worker's segment has room for all bytes, and there is one
+-- the condition of Put: there is a byte, and the ring of the worker's segment has room for all of them
 pub record CanPut (b : BoardState) (w count i : ℕ) : Type 0 where
   pub going : b.stopped ≡ false
   pub own : Owns b (Worker w) i
@@ -42,7 +42,7 @@ pub record CanFinish (b : BoardState) (a : Actor) (i : ℕ) : Type 0 where
   pub going : b.stopped ≡ false
   pub own : Owns b a i
 
--- the condition of Take: as many bytes wait
+-- the condition of Take: as many bytes of the segment that is emitted wait
 pub record CanTake (b : BoardState) (count : ℕ) : Type 0 where
   pub going : b.stopped ≡ false
   pub more : b.cur < length b.segments
@@ -72,22 +72,26 @@ IsEnabled b Advance = CanAdvance b
 IsEnabled b Stop = b.stopped ≡ false
 IsEnabled b (Leave w) = CanLeave b w
 
--- the number of bytes put stays below 2^64
+-- counts of bytes stay below this number
+abbrev pub count_limit : ℕ
+count_limit = 2 ^ 64
+
+-- the number of bytes put of the event's segment fits
 abbrev pub CountsFit : BoardState → BoardEvent → Type 0
 CountsFit b (Put w bytes) =
-    (i : ℕ) → Owns b (Worker w) i → (segment_at b i).put + length bytes < 2 ^ 64
-CountsFit b (Pass n) = (segment_at b b.cur).put + n < 2 ^ 64
+    (i : ℕ) → Owns b (Worker w) i → (segment_at b i).put + length bytes < count_limit
+CountsFit b (Pass n) = (segment_at b b.cur).put + n < count_limit
 CountsFit b _ = Unit {0}
 
 -- a segment that an actor claimed
 abbrev pub with_owner : Actor → SegmentState → SegmentState
 with_owner a s = record s { owner = Some a }
 
--- a segment with bytes more in its ring
+-- a segment with more bytes in its ring
 abbrev pub with_put : List ℕ → SegmentState → SegmentState
 with_put bytes s = record s { put = s.put + length bytes; ring = s.ring ++ bytes }
 
--- a segment with n bytes more that went past its ring
+-- a segment of which n more bytes went past its ring
 abbrev pub with_passed : ℕ → SegmentState → SegmentState
 with_passed n s = record s { put = s.put + n; taken = s.taken + n }
 
@@ -127,7 +131,8 @@ with_stop b = record b { stopped = true }
 
 -- the board after Leave
 abbrev pub with_leave : BoardState → ℕ → BoardState
-with_leave b w = record b { segments = map (without_owner w) b.segments; left = slice_set b.left w true }
+with_leave b w =
+    record b { segments = map (without_owner w) b.segments; left = slice_set b.left w true }
 
 -- one event: its condition holds of the old board, and the new board is the old one with the event's change
 abbrev pub BoardStep : BoardState → BoardEvent → BoardState → Type 0

@@ -7,7 +7,7 @@ use Rattle.board_core.specs.declared.event.Event.TheVariants.{Claim, Put, Pass, 
 use Rattle.board_core.specs.declared.event.Took.{Took}
 use Rattle.board_core.specs.declared.event.Took.TheVariants.{Nothing, Segment, Gone}
 
--- the board's event that an event of the program is
+-- an event of the program as an event of the board
 abbrev pub board_event : Event → BoardEvent
 board_event (Claim a) = board.Claim a
 board_event (Put w bytes) = board.Put w bytes.now
@@ -18,7 +18,7 @@ board_event Advance = board.Advance
 board_event Stop = board.Stop
 board_event (Leave w) = board.Leave w
 
--- what an event answers: Claim the segment, Take how many bytes are gone
+-- what an event answers: Claim the segment claimed, Take how many bytes are gone
 abbrev pub answer : BoardState → Event → Took
 answer old (Claim a) = Segment old.next
 answer old (Take n) = Gone n

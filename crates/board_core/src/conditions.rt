@@ -1,8 +1,8 @@
 // Whether an event may happen.
-ghost use Rattle.std.specs.Prelude.{◌≡◌, ℕ, ◌+◌, ◌^◌, ◌<◌, ◌↔◌, IsTrue};
+ghost use Rattle.std.specs.Prelude.{◌≡◌, ℕ, ◌+◌, ◌<◌, ◌↔◌, IsTrue};
 ghost use Rattle.board_core.specs.declared.actor.Actor.TheVariants.{Worker};
 ghost use Rattle.board_core.specs.BoardStates.{segment_at, Owns, OwnsNothing, IsPresent};
-ghost use Rattle.board_core.specs.BoardSteps.{IsEnabled, CountsFit, CanClaim, CanPut, CanPass, CanFinish, CanTake, CanAdvance, CanLeave};
+ghost use Rattle.board_core.specs.BoardSteps.{IsEnabled, count_limit, CountsFit, CanClaim, CanPut, CanPass, CanFinish, CanTake, CanAdvance, CanLeave};
 ghost use Rattle.board_core.specs.EventValues.{board_event};
 
 use crate::actor::Actor;
@@ -135,7 +135,7 @@ impl Core {
 
     fn fits_put(&self, worker: u8, count: usize) -> bool
         ensures { IsTrue result ↔ ((i : ℕ) → Owns self.now (Worker worker) i
-            → (segment_at self.now i).put + count < 2 ^ 64) }
+            → (segment_at self.now i).put + count < count_limit) }
     {
         match index_of(&self.segments, Actor::Worker(worker)) {
             Some(index) => count as u64 <= u64::MAX - self.segments[index].put,
@@ -144,7 +144,7 @@ impl Core {
     }
 
     fn fits_pass(&self, count: u64) -> bool
-        ensures { IsTrue result ↔ ((segment_at self.now self.now.cur).put + count < 2 ^ 64) }
+        ensures { IsTrue result ↔ ((segment_at self.now self.now.cur).put + count < count_limit) }
     {
         if self.cur as usize >= self.segments.len() {
             return true;

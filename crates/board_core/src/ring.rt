@@ -79,7 +79,8 @@ impl Ring {
 fn copy_at(buf: &mut [u8], at: usize, bytes: &[u8]) -> usize
     requires { at ≤ length buf.old }
     ensures count { result ≡ min (length buf.old - at) (length bytes.now) }
-    ensures copied { buf.new ≡ take at buf.old ++ (take result bytes.now ++ drop (at + result) buf.old) }
+    ensures copied { buf.new
+        ≡ take at buf.old ++ (take result bytes.now ++ drop (at + result) buf.old) }
 {
     let count = (buf.len() - at).min(bytes.len());
     buf[at..at + count].copy_from_slice(&bytes[..count]);

@@ -13,9 +13,13 @@ pub record HandoverFields : Type 0 where
 abbrev pub start : HandoverFields
 start = record { partial = 0; bits = 0; preds = replicate 4 (pos 0); restarts = 0 }
 
+-- how far a block's DC may be from zero
+abbrev pub dc_limit : ℕ
+dc_limit = 32767
+
 -- a DC that a block can have
 abbrev pub IsDc : ℤ → Type 0
-IsDc dc = unsigned_abs dc ≤ 32767
+IsDc dc = unsigned_abs dc ≤ dc_limit
 
 -- what the type keeps: at most seven bits, zeros after them, four DCs, and numbers of 8 and 32 bits
 pub record IsHandover (h : HandoverFields) : Type 0 where

@@ -50,10 +50,17 @@ returns c =
     × CanPut b c.args.worker (length c.args.bytes.now) i) (sym c.self.view_is) c.requires.can in
     let found = rw c.deref.ensures.value at c.in-Some.ensures in
     let here : can.0 ≡ index =
-    kept.single (Worker c.args.worker) can.0 index can.1.own found.1 in (
+    kept.single (Worker c.args.worker) can.0 index can.1.own found.1 in
+    let ring = λ (w : RingBytes). state_of (record {
+      owner = old.owner;
+      put = old.put + length c.args.bytes.now;
+      taken = old.taken;
+      ring = w;
+      done = old.done;
+    }) in (
       index,
       subst (CanPut c.args.self.now c.args.worker (length c.args.bytes.now)) here (c.requires.can.1),
       ap (board b.capacity b.next b.cur b.stopped b.left.items)
-          (states_set (with_put c.args.bytes.now) l index old _ found.0 at_index (ap (λ (w : RingBytes). state_of (record { owner = old.owner; put = old.put + length c.args.bytes.now; taken = old.taken; ring = w; done = old.done })) c.append.ensures))
+          (states_set (with_put c.args.bytes.now) l index old _ found.0 at_index (ap ring c.append.ensures))
           ∙ ap (λ (v : BoardState). changed_at v index (with_put c.args.bytes.now)) c.self.view_is,
     )

@@ -61,9 +61,16 @@ returns c =
     let can = subst (λ (b : BoardState). CanTake b c.args.count) (sym c.self.view_is) c.requires in
     let few = length-map l state_of in
     let more = can.more in
-    let lt : b.cur < length l = omega arith in (
+    let lt : b.cur < length l = omega arith in
+    let ring = λ (w : RingBytes). state_of (record {
+      owner = old.owner;
+      put = old.put;
+      taken = old.taken + c.args.count;
+      ring = w;
+      done = old.done;
+    }) in (
       c.requires,
       ap (board b.capacity b.next b.cur b.stopped b.left.items)
-          (states_set (with_taken c.args.count) l b.cur old _ lt at_index (ap (λ (w : RingBytes). state_of (record { owner = old.owner; put = old.put; taken = old.taken + c.args.count; ring = w; done = old.done })) c.remove_front.ensures))
+          (states_set (with_taken c.args.count) l b.cur old _ lt at_index (ap ring c.remove_front.ensures))
           ∙ ap (λ (v : BoardState). changed_at v v.cur (with_taken c.args.count)) c.self.view_is,
     )
