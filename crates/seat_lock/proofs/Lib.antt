@@ -1,0 +1,2 @@
+pub mod SeatLists
+pub mod TurnKept

@@ -1,0 +1,4 @@
+pub mod TurnRule
+pub mod Passes
+pub mod Holding
+pub mod Sums

@@ -1,0 +1,155 @@
+-- What holds of the table under a lock between any two steps (this project's own). The table has two words, the turn
+-- and the bell, one slot, where the value is at home, and a seat for each pass.
+use Rattle.std.specs.Prelude.{◌≡◌, ◌≢◌, ℕ, ◌+◌, List, [], ◌∷◌, ◌⊎◌, map, length, slice_index, slice_set, Option, Some, None}
+use mathlib.Core.Option.{none, some}
+use lib.ListN.{get_elem?}
+use Rattle.atomic_table.specs.Table.{State, Me, Step, rest}
+use Rattle.seat_lock.specs.declared.known.Known.{Known}
+use Rattle.seat_lock.specs.declared.known.Slot.{Slot}
+use Rattle.seat_lock.specs.declared.known.Slot.TheVariants.{Home, Note}
+use Rattle.seat_lock.specs.declared.known.Stage.{Stage}
+use Rattle.seat_lock.specs.declared.known.Stage.TheVariants.{Idle, Holds, Told}
+
+-- what is known of a seat: what it knows, and the slots that it has taken
+abbrev pub Seated : Type 0 → Type 0 → Type 0 → Type 0
+Seated V X E = Me (Slot X E) (Known V X E)
+
+-- the value that a seat found
+abbrev pub found_in : {V X : Type 0} → Stage V X → Option X
+found_in Idle = None
+found_in (Holds found) = Some found
+found_in (Told found _) = Some found
+
+-- some views that a value fits have this one at a number
+pub record FitsAmong {V X : Type 0} (fits : X → List V → Type 0) (value : X) (number : ℕ) (view : V) : Type 0 where
+  pub views : List V
+  pub fitted : fits value views
+  pub at : get_elem? views number ≡ some view
+
+-- where the value found fits views with the old one at a number, the value left fits them with the new one there
+abbrev pub FitsAgain : {V X : Type 0} → (X → List V → Type 0) → ℕ → V → V → X → X → Type 0
+FitsAgain {V} fits number old new found left =
+    (views : List V) → fits found views → get_elem? views number ≡ some old → fits left (slice_set views number new)
+
+module _ {V X E : Type 0} where
+  -- the view of a seat
+  abbrev pub seen_by : Known V X E → V
+  seen_by k = k.view
+
+  -- the views of all seats
+  abbrev pub views_of : List (Known V X E) → List V
+  views_of ks = map seen_by ks
+
+  -- the holder's view as it was when it took the turn
+  abbrev pub view_before : Known V X E → Stage V X → V
+  view_before k (Told _ view) = view
+  view_before k _ = k.view
+
+  -- the number of the turn: 0 is free, 1 is taken
+  abbrev pub turn_of : State (Slot X E) (Known V X E) → ℕ
+  turn_of s = slice_index s.words 0
+
+  -- no seat has the turn
+  abbrev pub AllIdle : List (Known V X E) → Type 0
+  AllIdle ks = (j : ℕ) (k : Known V X E) → get_elem? ks j ≡ some k → k.stage ≡ Idle
+
+  -- no seat but the one with this number has the turn
+  abbrev pub OthersIdle : ℕ → List (Known V X E) → Type 0
+  OthersIdle number ks = (j : ℕ) (k : Known V X E) → get_elem? ks j ≡ some k → j ≢ number → k.stage ≡ Idle
+
+  -- each seat's number is its index
+  abbrev pub IsNumbered : List (Known V X E) → Type 0
+  IsNumbered ks = (j : ℕ) (k : Known V X E) → get_elem? ks j ≡ some k → k.number ≡ j
+
+  -- the seats other than the first are as many as it has split off
+  abbrev pub IsCounted : List (Known V X E) → Type 0
+  IsCounted ks = (k : Known V X E) → get_elem? ks 0 ≡ some k → length ks ≡ k.splits + 1
+
+-- the turn is free: no seat has it, and the value at home fits all views
+pub record AtHome {V X E : Type 0} (fits : X → List V → Type 0) (s : State (Slot X E) (Known V X E)) : Type 0 where
+  pub turn : turn_of s ≡ 0
+  pub value : X
+  pub home : s.homes ≡ some (Home value) ∷ []
+  pub fitted : fits value (views_of s.views)
+  pub idle : AllIdle s.views
+
+-- one seat has the turn, and the slot: the value that it found fits all views, with its own as it was
+pub record Away {V X E : Type 0} (fits : X → List V → Type 0) (s : State (Slot X E) (Known V X E)) : Type 0 where
+  pub turn : turn_of s ≡ 1
+  pub number : ℕ
+  pub holder : Known V X E
+  pub found : X
+  pub at : get_elem? s.views number ≡ some holder
+  pub finds : found_in holder.stage ≡ Some found
+  pub out : s.homes ≡ none ∷ []
+  pub fitted : fits found (slice_set (views_of s.views) number (view_before holder holder.stage))
+  pub others : OthersIdle number s.views
+
+-- the rule of the table
+pub record IsKept {V X E : Type 0} (fits : X → List V → Type 0) (s : State (Slot X E) (Known V X E)) : Type 0 where
+  pub words : length s.words ≡ 2
+  pub numbered : IsNumbered s.views
+  pub counted : IsCounted s.views
+  pub kept : AtHome fits s ⊎ Away fits s
+
+module _ {V X E : Type 0} where
+  -- the first seat of a lock
+  abbrev pub opening : V → Known V X E
+  opening view = record { view = view; stage = Idle; holds = 0; last = None; number = 0; splits = 0 }
+
+  -- a seat that took the turn
+  abbrev pub holding : Known V X E → X → Known V X E
+  holding k found = record k { stage = Holds found }
+
+  -- a seat that gave the turn
+  abbrev pub idle : Known V X E → Known V X E
+  idle k = record k { stage = Idle }
+
+  -- a seat that told of its change: one hold more, and what it told last
+  abbrev pub changed : (V → ℕ → ℕ → E → X → V) → Known V X E → ℕ → ℕ → E → X → Known V X E
+  changed after k kind amount entry found = record k {
+    view = after k.view kind amount entry found;
+    stage = Told found k.view;
+    holds = k.holds + 1;
+    last = Some (kind, amount, entry);
+  }
+
+  -- a seat that took the turn and the slot, and what it knows of the value found
+  pub record HasTaken (fits : X → List V → Type 0) (before now : Seated V X E) : Type 0 where
+    pub found : X
+    pub seat : now ≡ (holding before.0 found, (0, Home found) ∷ before.1)
+    pub among : FitsAmong fits found before.0.number before.0.view
+
+  -- what a try of the turn tells, where the turn had this number
+  pub record HasTried (fits : X → List V → Type 0) (before : Seated V X E) (turn : ℕ) (now : Seated V X E) : Type 0 where
+    pub free : turn ≡ 0 → HasTaken fits before now
+    pub taken : turn ≢ 0 → now ≡ before
+
+  -- kind 1: the turn is tried
+  abbrev pub tried : (X → List V → Type 0) → Step (Slot X E) → Seated V X E → ℕ → Seated V X E → Type 0
+  tried fits step before turn now = HasTried fits before turn now
+
+  -- a seat after the note in its slot was told
+  abbrev pub after_note : (V → ℕ → ℕ → E → X → V) → Known V X E → List (ℕ × Slot X E) → Stage V X → Known V X E
+  after_note after k ((_, Note kind amount entry) ∷ _) (Holds found) = changed after k kind amount entry found
+  after_note after k _ _ = k
+
+  -- kind 3: the change is told, while the value is out
+  abbrev pub told : (V → ℕ → ℕ → E → X → V) → Step (Slot X E) → Seated V X E → ℕ → Seated V X E → Type 0
+  told after step before turn now = now ≡ (after_note after before.0 before.1 before.0.stage, before.1)
+
+  -- kind 5: the turn is given, and the slot with it
+  abbrev pub given : Step (Slot X E) → Seated V X E → ℕ → Seated V X E → Type 0
+  given step before turn now = now ≡ (idle before.0, rest before.1)
+
+  -- kind 6: the first seat, from which another is split off
+  abbrev pub giver : (V → V) → Known V X E → Known V X E
+  giver left k = record k { view = left k.view; splits = k.splits + 1 }
+
+  -- kind 6: the seat that is split off
+  abbrev pub newcomer : (V → V) → Known V X E → Known V X E
+  newcomer right k = record { view = right k.view; stage = Idle; holds = 0; last = None; number = k.splits + 1; splits = 0 }
+
+  -- kind 7: the bell is raised
+  abbrev pub rung : Step (Slot X E) → Seated V X E → ℕ → Seated V X E → Type 0
+  rung step before bell now = now ≡ before

@@ -1,0 +1,34 @@
+// What the table under a lock holds, and what a seat of it knows.
+
+// What lies in the slot, or what a seat has in its place.
+#[derive(Drop)]
+pub enum Slot<X, E> {
+    // The value.
+    Home(X),
+    // What the holder is about to tell: kind, amount and entry.
+    Note(u64, u64, E),
+    // Nothing: the holder has the value.
+    Out,
+}
+
+// Whether a seat has the turn.
+pub enum Stage<V, X> {
+    Idle,
+    // It has, and found this value.
+    Holds(X),
+    // It has, and told of its change: the value found, and its view as it was.
+    Told(X, V),
+}
+
+// What a seat knows. No value of it is made.
+pub struct Known<V, X, E> {
+    pub view: V,
+    pub stage: Stage<V, X>,
+    // How often the pass was released, and what it told last: kind, amount and entry.
+    pub holds: u64,
+    pub last: Option<(u64, u64, E)>,
+    // Its index among the seats.
+    pub number: u64,
+    // How many seats were split off from it.
+    pub splits: u64,
+}

@@ -1,0 +1,35 @@
+// The lock itself.
+ghost use Rattle.std.specs.Prelude.{◌≡◌};
+
+use crate::known::{Known, Slot};
+use crate::rule::Rule;
+use crate::steps::TurnLaw;
+use atomic_table::Table;
+use std::alloc::Global;
+
+// The words of the table, and its slot.
+pub(crate) const TURN: usize = 0;
+
+pub(crate) const BELL: usize = 1;
+
+pub(crate) const VALUE: usize = 0;
+
+// The turn's numbers.
+pub(crate) const FREE: u64 = 0;
+
+pub(crate) const TAKEN: u64 = 1;
+
+/// A lock. Whenever its turn is free, its value fits the views of all its passes (`specs/TurnRule.antt`).
+#[derive(Drop)]
+pub struct Lock<L: Rule> {
+    pub(crate) table: Table<
+        Slot<L::Value, L::Entry>,
+        Known<L::View, L::Value, L::Entry>,
+        L::View,
+        TurnLaw<L>,
+        Global,
+    >,
+    pub(crate) seats: u32,
+    ghost words: { table.shared.table_id.words ≡ 2 },
+    ghost slots: { table.shared.table_id.slots ≡ 1 },
+}

@@ -1,0 +1,72 @@
+// A lock is made, its passes are split off, and it is closed.
+ghost use Rattle.std.specs.Prelude.{◌≡◌, ◌<◌, ◌+◌, ℕ, IfOk, [], ◌∷◌};
+ghost use Rattle.seat_lock.specs.Passes.{IsFor, IsReady, IsFirst, IsSamePass, HasSameHolds, IsNewPass, view_of, splits_of};
+
+use crate::known::Slot;
+use crate::lock::{FREE, Lock, VALUE};
+use crate::pass::Pass;
+use crate::rule::Rule;
+use crate::steps::Part;
+use atomic_table::{Refused, Table};
+use std::alloc::{AllocError, Global};
+
+impl<L: Rule> Lock<L> {
+    /// A lock over a value, and its first pass, with a view that the value fits. `seats` is how many passes there are
+    /// to be: the bell wakes so many threads.
+    pub fn new(
+        alloc: Global,
+        value: L::Value,
+        view: L::View,
+        seats: u32,
+    ) -> Result<(Lock<L>, Pass<L>), AllocError>
+        requires seats { 0 < seats }
+        requires fits { L.fits value (view ∷ []) }
+        ensures first { IfOk result (λ made. IsNewPass made.0 made.1 0 view) }
+    {
+        let mut slots = Vec::with_capacity(alloc, 1)?;
+        slots.push_reserved(Slot::Home(value));
+        match Table::new(alloc, &[FREE, 0], slots, &view) {
+            Ok((table, seat)) => Ok((Lock { table, seats }, Pass { seat, bell: 0 })),
+            Err(Refused { slots: _ }) => Err(AllocError),
+        }
+    }
+
+    /// Splits a pass off from the first one.
+    pub fn split(&self, pass: &mut Pass<L>) -> Pass<L>
+        requires own { IsFor self.now pass.old }
+        requires first { IsFirst pass.old }
+        requires ready { IsReady pass.old }
+        requires allowed { L.may_split (view_of pass.old) }
+        ensures pass { IsSamePass pass.old pass.new }
+        ensures ready { IsReady pass.new }
+        ensures view { view_of pass.new ≡ L.left (view_of pass.old) }
+        ensures counted { splits_of pass.new ≡ splits_of pass.old + 1 }
+        ensures holds { HasSameHolds pass.old pass.new }
+        ensures given { IsNewPass self.now result (splits_of pass.old + 1) (L.right (view_of pass.old)) }
+    {
+        let bell = pass.bell;
+        Pass {
+            seat: self.table.shared.split_seat::<Part<L>>(&mut pass.seat),
+            bell,
+        }
+    }
+
+    /// The value, by the first pass, where no other was split off.
+    pub fn close(self, pass: Pass<L>) -> L::Value
+        requires own { IsFor self pass }
+        requires first { IsFirst pass }
+        requires alone { splits_of pass ≡ 0 }
+        requires ready { IsReady pass }
+        ensures fits { L.fits result (view_of pass ∷ []) }
+    {
+        let Lock { table, seats: _ } = self;
+        let Pass { seat, bell: _ } = pass;
+        let mut closed = table.close_with(seat);
+        let slot = closed.take(VALUE);
+        closed.free();
+        let Slot::Home(value) = slot else {
+            unreachable!()
+        };
+        value
+    }
+}

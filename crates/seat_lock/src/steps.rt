@@ -1,0 +1,63 @@
+// The rule of the table, and what each kind of step tells. A step that takes the value out of the slot or puts it in
+// changes no word and no view, and so needs no play.
+ghost use Rattle.seat_lock.specs.TurnRule.{IsKept, opening, tried, told, given, rung, giver, newcomer};
+
+use crate::known::{Known, Slot};
+use crate::rule::Rule;
+use atomic_table::{Play, Split, TableRule};
+use std::marker::PhantomData;
+
+// The rule of the table under a lock.
+pub struct TurnLaw<L> {
+    rule: PhantomData<L>,
+}
+
+impl<L: Rule> TableRule<Slot<L::Value, L::Entry>, Known<L::View, L::Value, L::Entry>, L::View>
+    for TurnLaw<L> {
+    ghost holds = { λ _. IsKept L.fits };
+
+    ghost first = { opening };
+}
+
+// Tries the turn.
+pub struct Try<L> {
+    rule: PhantomData<L>,
+}
+
+impl<L: Rule> Play<Slot<L::Value, L::Entry>, Known<L::View, L::Value, L::Entry>> for Try<L> {
+    ghost then = { tried L.fits };
+}
+
+// Tells of the change that lies in the slot.
+pub struct Tell<L> {
+    rule: PhantomData<L>,
+}
+
+impl<L: Rule> Play<Slot<L::Value, L::Entry>, Known<L::View, L::Value, L::Entry>> for Tell<L> {
+    ghost then = { told L.after };
+}
+
+// Gives the turn.
+pub struct Give;
+
+impl<V, X, E> Play<Slot<X, E>, Known<V, X, E>> for Give {
+    ghost then = { given };
+}
+
+// Raises the bell.
+pub struct Ring;
+
+impl<V, X, E> Play<Slot<X, E>, Known<V, X, E>> for Ring {
+    ghost then = { rung };
+}
+
+// Splits the first seat.
+pub struct Part<L> {
+    rule: PhantomData<L>,
+}
+
+impl<L: Rule> Split<Known<L::View, L::Value, L::Entry>> for Part<L> {
+    ghost left = { giver L.left };
+
+    ghost right = { newcomer L.right };
+}

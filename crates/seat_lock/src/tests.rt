@@ -1,0 +1,182 @@
+// A number under a lock, which is the sum of what its passes have added.
+ghost use Rattle.std.specs.Prelude.{◌≡◌, ◌+◌, ◌<◌, All, IfOk, IfSome};
+ghost use Rattle.seat_lock.specs.Passes.{IsFor, IsReady, IsFirst, IsSamePass, holds_of, last_of, splits_of};
+ghost use Rattle.seat_lock.specs.Sums.{sum_splits};
+
+use super::*;
+use std::alloc::{AllocError, Global};
+use std::sync::Wait;
+use std::test::Fail;
+use std::thread;
+use std::thread::Threads;
+
+struct Sums;
+
+impl Rule for Sums {
+    ghost use Rattle.std.specs.Prelude.{sum};
+
+    // What the pass has added.
+    type View = u64;
+
+    type Value = u64;
+
+    // The value found.
+    type Entry = u64;
+
+    ghost fits = { λ x views. x ≡ sum views };
+
+    ghost may_split = { λ _. Unit {0} };
+
+    ghost left = { λ v. v };
+
+    ghost right = { λ _. 0 };
+
+    ghost after = { λ v _ amount _ _. v + amount };
+
+    ghost tells = { λ _ _ amount entry x y. (entry ≡ x) × (y ≡ x + amount) };
+
+    ghost splits = { sum_splits };
+}
+
+// Adds an amount, or nothing where the sum is too large, and answers what was found.
+fn add<R: Wait>(rt: &R, lock: &Lock<Sums>, pass: &mut Pass<Sums>, amount: u64) -> u64
+    requires own { IsFor lock.now pass.old }
+    requires ready { IsReady pass.old }
+    ensures pass { IsSamePass pass.old pass.new }
+    ensures ready { IsReady pass.new }
+    ensures splits { splits_of pass.new ≡ splits_of pass.old }
+    ensures holds { holds_of pass.new ≡ holds_of pass.old + 1 }
+    ensures told { IfSome (last_of pass.new) (λ last. last.2 ≡ result) }
+{
+    let mut held = lock.hold(rt, pass);
+    let found = *held.value();
+    if found <= u64::MAX - amount {
+        *held.value() = found + amount;
+        held.release(lock, 1, amount, &found);
+    } else {
+        held.release(lock, 1, 0, &found);
+    }
+    found
+}
+
+// Adds 1, and again.
+fn add_ones<R: Wait>(rt: &R, lock: &Lock<Sums>, pass: &mut Pass<Sums>, times: u32)
+    requires own { IsFor lock.now pass.old }
+    requires ready { IsReady pass.old }
+    ensures own { IsFor lock.now pass.new }
+    ensures ready { IsReady pass.new }
+{
+    for _ in 0..times {
+        add(rt, lock, pass, 1);
+    }
+}
+
+// Passes that are split off from the first one.
+fn split_off(
+    alloc: Global,
+    lock: &Lock<Sums>,
+    first: &mut Pass<Sums>,
+    count: usize,
+) -> Result<Vec<Pass<Sums>>, AllocError>
+    requires own { IsFor lock.now first.old }
+    requires ready { IsReady first.old }
+    requires first { IsFirst first.old }
+    ensures own { IsFor lock.now first.new }
+    ensures ready { IsReady first.new }
+    ensures all { IfOk result (λ passes. All (λ pass. IsFor lock.now pass × IsReady pass) passes.items) }
+{
+    let mut passes = Vec::new(alloc);
+    for _ in 0..count {
+        let pass = lock.split(first);
+        passes.push(pass)?;
+    }
+    Ok(passes)
+}
+
+// What a last hold finds after each of some threads has added 1 so many times.
+fn sum_of_threads<R: Threads + Wait + Sync>(
+    rt: &R,
+    alloc: Global,
+    threads: u32,
+    times: u32,
+) -> Result<u64, AllocError>
+    requires some { 0 < threads }
+{
+    let (lock, mut first) = Lock::<Sums>::new(alloc, 0, 0, threads)?;
+    let mut passes = split_off(alloc, &lock, &mut first, threads as usize)?;
+    thread::for_each_mut(
+        rt,
+        passes.as_mut_slice(),
+        threads as usize,
+        &|_, pass| add_ones(rt, &lock, pass, times),
+    );
+    Ok(add(rt, &lock, &mut first, 0))
+}
+
+#[test]
+fn threads_add_ones(rt: HostRuntime) -> Result<(), Fail> {
+    for (threads, times) in [(2, 1000), (8, 12_500)] {
+        let sum = sum_of_threads(&rt, rt.alloc(), threads, times)?;
+        assert_eq!(rt; sum, u64::from(threads) * u64::from(times));
+    }
+    Ok(())
+}
+
+#[test]
+fn closes_with_what_was_added(rt: HostRuntime) -> Result<(), Fail> {
+    let (lock, mut first) = Lock::<Sums>::new(rt.alloc(), 5, 5, 1)?;
+    assert_eq!(rt; add(&rt, &lock, &mut first, 30), 5);
+    assert_eq!(rt; add(&rt, &lock, &mut first, 7), 35);
+    assert_eq!(rt; lock.close(first), 42);
+    Ok(())
+}
+
+// Waits until something was added.
+fn wait_for_some<R: Wait>(rt: &R, lock: &Lock<Sums>, pass: &mut Pass<Sums>) -> u64
+    requires own { IsFor lock.now pass.old }
+    requires ready { IsReady pass.old }
+{
+    for _ in rt.forever() {
+        let found = add(rt, lock, pass, 0);
+        if found > 0 {
+            return found;
+        }
+        lock.wait(rt, pass);
+    }
+    unreachable!()
+}
+
+// One thread waits until the other has added something.
+fn wait_and_ring<R: Threads + Wait + Sync>(
+    rt: &R,
+    lock: &Lock<Sums>,
+    mut one: Pass<Sums>,
+    mut two: Pass<Sums>,
+) -> u64
+    requires one { IsFor lock.now one × IsReady one }
+    requires two { IsFor lock.now two × IsReady two }
+{
+    let (found, ()) = thread::join(
+        rt,
+        || -> u64
+            requires { IsFor lock.now one × IsReady one }
+        { wait_for_some(rt, lock, &mut one) },
+        || -> ()
+            requires { IsFor lock.now two × IsReady two }
+        {
+            add(rt, lock, &mut two, 3);
+            lock.ring_bell(&mut two);
+        },
+    );
+    found
+}
+
+#[test]
+fn a_ring_ends_a_wait(rt: HostRuntime) -> Result<(), Fail> {
+    for _ in 0..1000 {
+        let (lock, mut first) = Lock::<Sums>::new(rt.alloc(), 0, 0, 2)?;
+        let second = lock.split(&mut first);
+        assert_eq!(rt; wait_and_ring(&rt, &lock, first, second), 3);
+    }
+    Ok(())
+}

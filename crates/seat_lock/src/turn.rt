@@ -1,0 +1,44 @@
+// The turn of a lock.
+ghost use Rattle.std.specs.Prelude.{◌≡◌};
+ghost use Rattle.seat_lock.specs.TurnRule.{FitsAmong};
+ghost use Rattle.seat_lock.specs.Passes.{IsFor, IsReady, IsSamePass, KnowsSame, view_of, number_of};
+ghost use Rattle.seat_lock.specs.Holding.{Borrows, IsHolding, pass_of, found_of, value_of};
+
+use crate::held::Held;
+use crate::known::Slot;
+use crate::lock::{BELL, FREE, Lock, TAKEN, TURN, VALUE};
+use crate::pass::Pass;
+use crate::rule::Rule;
+use crate::steps::Try;
+use std::snapshot::Snapshot;
+use std::sync::Wait;
+
+impl<L: Rule> Lock<L> {
+    /// Waits for the turn and takes it. The bell's number is noted before the turn is tried.
+    pub fn hold<'a, R: Wait>(&self, rt: &R, pass: &'a mut Pass<L>) -> Held<'a, L>
+        requires own { IsFor self.now pass.old }
+        requires ready { IsReady pass.old }
+        ensures borrows { Borrows result pass.entry }
+        ensures pass { IsSamePass pass.old (pass_of result) }
+        ensures knows { KnowsSame pass.old (pass_of result) }
+        ensures holds { IsHolding result }
+        ensures found { value_of result ≡ found_of result }
+        ensures fits { FitsAmong L.fits (found_of result) (number_of pass.old) (view_of pass.old) }
+    {
+        let shared = &self.table.shared;
+        for _ in rt.forever() {
+            pass.bell = shared.peek(BELL);
+            let turn = shared.compare_exchange::<Try<L>>(&mut pass.seat, TURN, FREE, TAKEN);
+            if turn == FREE {
+                let slot = shared.exchange(&mut pass.seat, VALUE, Slot::Out);
+                let Slot::Home(value) = slot else {
+                    unreachable!()
+                };
+                let found = Snapshot::of(&value);
+                return Held { pass, found, value };
+            }
+            shared.park(rt, TURN, TAKEN as u32);
+        }
+        unreachable!()
+    }
+}
