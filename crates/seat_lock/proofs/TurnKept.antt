@@ -32,6 +32,10 @@ value_or d None = d
 abbrev pub pair_of : {A B : Type 0} → A → B → A × B
 pair_of a b = (a, b)
 
+-- the slot taken last is the first of those taken
+pub again_at : {S : Type 0} (slots : List (ℕ × S)) (x : S) → slots ≡ (0, x) ∷ [] → (old : S) × (slots ≡ (0, old) ∷ rest slots)
+again_at slots x at = (x, at ∙ ap (λ l. (0, x) ∷ rest l) (sym at))
+
 -- what holds of all seats after one of them changes
 module _ {V X : Type 0} (E : Type 0) (ks : List (Known V X E)) (id : ℕ) (k w : Known V X E) (at : get_elem? ks id ≡ some k) where
   others_set : OthersIdle id ks → OthersIdle id (set ks id w)

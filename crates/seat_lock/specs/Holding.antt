@@ -27,16 +27,21 @@ module _ {L V X E : Type 0} where
 
   -- the hold has the turn and the value
   abbrev pub IsHolding : Held L V X E → Type 0
-  IsHolding held = ((pass_of held).seat.me.0.stage ≡ Holds (found_of held)) × ((pass_of held).seat.me.1 ≡ (0, Out) ∷ [])
+  IsHolding held =
+      ((pass_of held).seat.me.0.stage ≡ Holds (found_of held))
+      × ((pass_of held).seat.me.1 ≡ (0, Out) ∷ [])
 
   -- the view that a release makes of the pass's
   abbrev pub view_after : (V → ℕ → ℕ → E → X → V) → Held L V X E → ℕ → ℕ → E → V
-  view_after after held kind amount entry = after (view_of (pass_of held)) kind amount entry (found_of held)
+  view_after after held kind amount entry =
+      after (view_of (pass_of held)) kind amount entry (found_of held)
 
-  -- with this view in place of the pass's own, the value as it stands fits each list of views that the one found fits
+  -- the value as it stands fits each list of views that the one found fits, with this view in place of
+  -- the pass's own
   abbrev pub Refits : (X → List V → Type 0) → Held L V X E → V → Type 0
   Refits fits held view =
-      FitsAgain fits (number_of (pass_of held)) (view_of (pass_of held)) view (found_of held) (value_of held)
+      let pass = pass_of held in
+      FitsAgain fits (number_of pass) (view_of pass) view (found_of held) (value_of held)
 
   -- a hold once the borrow of its value has ended
   abbrev pub with_value : Held L V X E → X → Held L V X E

@@ -64,7 +64,8 @@ module _ {L V X E : Type 0} where
     pub splits : splits_of new ≡ splits_of old
 
   -- a pass for a lock, with its number and view, by which the lock was never held
-  pub record IsNewPass (lock : Lock L V X E) (pass : Pass L V X E) (number : ℕ) (view : V) : Type 0 where
+  pub record IsNewPass (lock : Lock L V X E) (pass : Pass L V X E) (number : ℕ) (view : V)
+      : Type 0 where
     pub own : IsFor lock pass
     pub ready : IsReady pass
     pub numbered : number_of pass ≡ number

@@ -1,5 +1,5 @@
--- What holds of the table under a lock between any two steps (this project's own). The table has two words, the turn
--- and the bell, one slot, where the value is at home, and a seat for each pass.
+-- What holds of the table under a lock between any two steps (this project's own). The table has
+-- two words, the turn and the bell, one slot, where the value is at home, and a seat for each pass.
 use Rattle.std.specs.Prelude.{◌≡◌, ◌≢◌, ℕ, ◌+◌, List, [], ◌∷◌, ◌⊎◌, map, length, slice_index, slice_set, Option, Some, None}
 use mathlib.Core.Option.{none, some}
 use lib.ListN.{get_elem?}
@@ -21,15 +21,18 @@ found_in (Holds found) = Some found
 found_in (Told found _) = Some found
 
 -- some views that a value fits have this one at a number
-pub record FitsAmong {V X : Type 0} (fits : X → List V → Type 0) (value : X) (number : ℕ) (view : V) : Type 0 where
+pub record FitsAmong {V X : Type 0} (fits : X → List V → Type 0) (value : X) (number : ℕ) (view : V)
+    : Type 0 where
   pub views : List V
   pub fitted : fits value views
   pub at : get_elem? views number ≡ some view
 
--- where the value found fits views with the old one at a number, the value left fits them with the new one there
+-- where the value found fits views with the old one at a number, the value left fits them with the
+-- new one there
 abbrev pub FitsAgain : {V X : Type 0} → (X → List V → Type 0) → ℕ → V → V → X → X → Type 0
 FitsAgain {V} fits number old new found left =
-    (views : List V) → fits found views → get_elem? views number ≡ some old → fits left (slice_set views number new)
+    (views : List V) → fits found views → get_elem? views number ≡ some old
+    → fits left (slice_set views number new)
 
 module _ {V X E : Type 0} where
   -- the view of a seat
@@ -55,7 +58,8 @@ module _ {V X E : Type 0} where
 
   -- no seat but the one with this number has the turn
   abbrev pub OthersIdle : ℕ → List (Known V X E) → Type 0
-  OthersIdle number ks = (j : ℕ) (k : Known V X E) → get_elem? ks j ≡ some k → j ≢ number → k.stage ≡ Idle
+  OthersIdle number ks =
+      (j : ℕ) (k : Known V X E) → get_elem? ks j ≡ some k → j ≢ number → k.stage ≡ Idle
 
   -- each seat's number is its index
   abbrev pub IsNumbered : List (Known V X E) → Type 0
@@ -66,15 +70,17 @@ module _ {V X E : Type 0} where
   IsCounted ks = (k : Known V X E) → get_elem? ks 0 ≡ some k → length ks ≡ k.splits + 1
 
 -- the turn is free: no seat has it, and the value at home fits all views
-pub record AtHome {V X E : Type 0} (fits : X → List V → Type 0) (s : State (Slot X E) (Known V X E)) : Type 0 where
+pub record AtHome {V X E : Type 0} (fits : X → List V → Type 0) (s : State (Slot X E) (Known V X E))
+    : Type 0 where
   pub turn : turn_of s ≡ 0
   pub value : X
   pub home : s.homes ≡ some (Home value) ∷ []
   pub fitted : fits value (views_of s.views)
   pub idle : AllIdle s.views
 
--- one seat has the turn, and the slot: the value that it found fits all views, with its own as it was
-pub record Away {V X E : Type 0} (fits : X → List V → Type 0) (s : State (Slot X E) (Known V X E)) : Type 0 where
+-- one seat has the turn and the slot: the value that it found fits all views, with its own as it was
+pub record Away {V X E : Type 0} (fits : X → List V → Type 0) (s : State (Slot X E) (Known V X E))
+    : Type 0 where
   pub turn : turn_of s ≡ 1
   pub number : ℕ
   pub holder : Known V X E
@@ -86,7 +92,8 @@ pub record Away {V X E : Type 0} (fits : X → List V → Type 0) (s : State (Sl
   pub others : OthersIdle number s.views
 
 -- the rule of the table
-pub record IsKept {V X E : Type 0} (fits : X → List V → Type 0) (s : State (Slot X E) (Known V X E)) : Type 0 where
+pub record IsKept {V X E : Type 0} (fits : X → List V → Type 0) (s : State (Slot X E) (Known V X E))
+    : Type 0 where
   pub words : length s.words ≡ 2
   pub numbered : IsNumbered s.views
   pub counted : IsCounted s.views
@@ -95,7 +102,8 @@ pub record IsKept {V X E : Type 0} (fits : X → List V → Type 0) (s : State (
 module _ {V X E : Type 0} where
   -- the first seat of a lock
   abbrev pub opening : V → Known V X E
-  opening view = record { view = view; stage = Idle; holds = 0; last = None; number = 0; splits = 0 }
+  opening view =
+      record { view = view; stage = Idle; holds = 0; last = None; number = 0; splits = 0 }
 
   -- a seat that took the turn
   abbrev pub holding : Known V X E → X → Known V X E
@@ -121,22 +129,28 @@ module _ {V X E : Type 0} where
     pub among : FitsAmong fits found before.0.number before.0.view
 
   -- what a try of the turn tells, where the turn had this number
-  pub record HasTried (fits : X → List V → Type 0) (before : Seated V X E) (turn : ℕ) (now : Seated V X E) : Type 0 where
+  pub record HasTried (fits : X → List V → Type 0) (turn : ℕ) (before now : Seated V X E)
+      : Type 0 where
     pub free : turn ≡ 0 → HasTaken fits before now
     pub taken : turn ≢ 0 → now ≡ before
 
   -- kind 1: the turn is tried
-  abbrev pub tried : (X → List V → Type 0) → Step (Slot X E) → Seated V X E → ℕ → Seated V X E → Type 0
-  tried fits step before turn now = HasTried fits before turn now
+  abbrev pub tried : (X → List V → Type 0)
+      → Step (Slot X E) → Seated V X E → ℕ → Seated V X E → Type 0
+  tried fits step before turn now = HasTried fits turn before now
 
   -- a seat after the note in its slot was told
-  abbrev pub after_note : (V → ℕ → ℕ → E → X → V) → Known V X E → List (ℕ × Slot X E) → Stage V X → Known V X E
-  after_note after k ((_, Note kind amount entry) ∷ _) (Holds found) = changed after k kind amount entry found
+  abbrev pub after_note : (V → ℕ → ℕ → E → X → V)
+      → Known V X E → List (ℕ × Slot X E) → Stage V X → Known V X E
+  after_note after k ((_, Note kind amount entry) ∷ _) (Holds found) =
+      changed after k kind amount entry found
   after_note after k _ _ = k
 
   -- kind 3: the change is told, while the value is out
-  abbrev pub told : (V → ℕ → ℕ → E → X → V) → Step (Slot X E) → Seated V X E → ℕ → Seated V X E → Type 0
-  told after step before turn now = now ≡ (after_note after before.0 before.1 before.0.stage, before.1)
+  abbrev pub told : (V → ℕ → ℕ → E → X → V)
+      → Step (Slot X E) → Seated V X E → ℕ → Seated V X E → Type 0
+  told after step before turn now =
+      now ≡ (after_note after before.0 before.1 before.0.stage, before.1)
 
   -- kind 5: the turn is given, and the slot with it
   abbrev pub given : Step (Slot X E) → Seated V X E → ℕ → Seated V X E → Type 0
@@ -148,7 +162,7 @@ module _ {V X E : Type 0} where
 
   -- kind 6: the seat that is split off
   abbrev pub newcomer : (V → V) → Known V X E → Known V X E
-  newcomer right k = record { view = right k.view; stage = Idle; holds = 0; last = None; number = k.splits + 1; splits = 0 }
+  newcomer right k = record (opening (right k.view)) { number = k.splits + 1 }
 
   -- kind 7: the bell is raised
   abbrev pub rung : Step (Slot X E) → Seated V X E → ℕ → Seated V X E → Type 0

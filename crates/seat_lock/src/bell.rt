@@ -7,6 +7,7 @@ use crate::pass::Pass;
 use crate::rule::Rule;
 use crate::steps::Ring;
 use std::sync::Wait;
+use std::sync::atomic::Ordering::SeqCst;
 
 // The low bits of the bell, by which a change is seen.
 const LOW_BITS: u64 = 0xffff_ffff;
@@ -17,9 +18,11 @@ impl<L: Rule> Lock<L> {
         requires own { IsFor self.now pass.old }
         ensures same { pass.new ≡ pass.old }
     {
+        self.bell_waiters.fetch_add(1, SeqCst);
         self.table
             .shared
             .park(rt, BELL, (pass.bell & LOW_BITS) as u32);
+        self.bell_waiters.fetch_sub(1, SeqCst);
     }
 
     /// Raises the bell by one, and wakes as many threads that wait for it as there are seats.
@@ -31,10 +34,12 @@ impl<L: Rule> Lock<L> {
         self.wake_seats();
     }
 
-    // Wakes a thread that waits for the bell, for each seat.
+    // Wakes a thread for each seat, where any waits for the bell.
     fn wake_seats(&self) {
-        for _ in 0..self.seats {
-            self.table.shared.wake_one(BELL);
+        if self.bell_waiters.load(SeqCst) > 0 {
+            for _ in 0..self.seats {
+                self.table.shared.wake_one(BELL);
+            }
         }
     }
 }

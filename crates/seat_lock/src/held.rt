@@ -10,6 +10,7 @@ use crate::pass::Pass;
 use crate::rule::Rule;
 use crate::steps::{Give, Tell};
 use std::snapshot::Snapshot;
+use std::sync::atomic::Ordering::SeqCst;
 
 /// A hold of a lock: the value is with it. It can't be let go, and ends in `release` alone.
 pub struct Held<'a, L: Rule> {
@@ -26,7 +27,8 @@ impl<'a, L: Rule> Held<'a, L> {
     /// The value, to be read and changed. The hold has what was written to it.
     pub fn value(&mut self) -> &mut L::Value
         ensures* writes_back { sem 𝓛 (Lends (the_row (record { mir = named 1; lft = [] })
-            L.row L.View.row L.Value.row L.Entry.row) L.Value.row self.entry result (with_value self.old)) }
+            L.row L.View.row L.Value.row L.Entry.row)
+            L.Value.row self.entry result (with_value self.old)) }
         ensures value { result.now ≡ value_of self.old }
     {
         &mut self.value
@@ -37,11 +39,13 @@ impl<'a, L: Rule> Held<'a, L> {
     pub fn release(self, lock: &Lock<L>, kind: u64, amount: u64, entry: &L::Entry)
         requires own { IsFor lock.now (pass_of self) }
         requires holds { IsHolding self }
-        requires tells { L.tells (view_of (pass_of self)) kind amount entry.now (found_of self) (value_of self) }
+        requires tells { L.tells (view_of (pass_of self)) kind amount entry.now
+            (found_of self) (value_of self) }
         requires keeps { Refits L.fits self (view_after L.after self kind amount entry.now) }
         ensures pass { IsSamePass (pass_of self.entry) self.exit.0.now }
         ensures ready { IsReady self.exit.0.now }
-        ensures view { view_of self.exit.0.now ≡ view_after L.after self.entry kind amount entry.now }
+        ensures view { view_of self.exit.0.now
+            ≡ view_after L.after self.entry kind amount entry.now }
         ensures holds { holds_of self.exit.0.now ≡ holds_of (pass_of self.entry) + 1 }
         ensures last { last_of self.exit.0.now ≡ Some (kind, amount, entry.now) }
         ensures splits { splits_of self.exit.0.now ≡ splits_of (pass_of self.entry) }
@@ -61,6 +65,8 @@ impl<'a, L: Rule> Held<'a, L> {
             unreachable!()
         };
         shared.store::<Give>(&mut pass.seat, TURN, FREE);
-        shared.wake_one(TURN);
+        if lock.turn_waiters.load(SeqCst) > 0 {
+            shared.wake_one(TURN);
+        }
     }
 }

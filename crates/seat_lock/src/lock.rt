@@ -6,6 +6,7 @@ use crate::rule::Rule;
 use crate::steps::TurnLaw;
 use atomic_table::Table;
 use std::alloc::Global;
+use std::sync::atomic::AtomicU64;
 
 // The words of the table, and its slot.
 pub(crate) const TURN: usize = 0;
@@ -30,6 +31,11 @@ pub struct Lock<L: Rule> {
         Global,
     >,
     pub(crate) seats: u32,
+    // How many threads are about to sleep until the turn is given, or until the bell rings. A thread counts itself and
+    // then looks at the word; one that changes the word then looks at the count. So one of the two sees the other, and
+    // a wake, which is a system call, is left out where nobody sleeps.
+    pub(crate) turn_waiters: AtomicU64,
+    pub(crate) bell_waiters: AtomicU64,
     ghost words: { table.shared.table_id.words ≡ 2 },
     ghost slots: { table.shared.table_id.slots ≡ 1 },
 }

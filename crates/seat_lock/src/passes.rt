@@ -9,6 +9,7 @@ use crate::rule::Rule;
 use crate::steps::Part;
 use atomic_table::{Refused, Table};
 use std::alloc::{AllocError, Global};
+use std::sync::atomic::AtomicU64;
 
 impl<L: Rule> Lock<L> {
     /// A lock over a value, and its first pass, with a view that the value fits. `seats` is how many passes there are
@@ -26,7 +27,15 @@ impl<L: Rule> Lock<L> {
         let mut slots = Vec::with_capacity(alloc, 1)?;
         slots.push_reserved(Slot::Home(value));
         match Table::new(alloc, &[FREE, 0], slots, &view) {
-            Ok((table, seat)) => Ok((Lock { table, seats }, Pass { seat, bell: 0 })),
+            Ok((table, seat)) => {
+                let lock = Lock {
+                    table,
+                    seats,
+                    turn_waiters: AtomicU64::new(0),
+                    bell_waiters: AtomicU64::new(0),
+                };
+                Ok((lock, Pass { seat, bell: 0 }))
+            }
             Err(Refused { slots: _ }) => Err(AllocError),
         }
     }
@@ -42,12 +51,13 @@ impl<L: Rule> Lock<L> {
         ensures view { view_of pass.new ≡ L.left (view_of pass.old) }
         ensures counted { splits_of pass.new ≡ splits_of pass.old + 1 }
         ensures holds { HasSameHolds pass.old pass.new }
-        ensures given { IsNewPass self.now result (splits_of pass.old + 1) (L.right (view_of pass.old)) }
+        ensures given { IsNewPass self.now result (splits_of pass.new)
+            (L.right (view_of pass.old)) }
     {
-        let bell = pass.bell;
+        let seat = self.table.shared.split_seat::<Part<L>>(&mut pass.seat);
         Pass {
-            seat: self.table.shared.split_seat::<Part<L>>(&mut pass.seat),
-            bell,
+            seat,
+            bell: pass.bell,
         }
     }
 
@@ -59,7 +69,7 @@ impl<L: Rule> Lock<L> {
         requires ready { IsReady pass }
         ensures fits { L.fits result (view_of pass ∷ []) }
     {
-        let Lock { table, seats: _ } = self;
+        let Lock { table, .. } = self;
         let Pass { seat, bell: _ } = pass;
         let mut closed = table.close_with(seat);
         let slot = closed.take(VALUE);

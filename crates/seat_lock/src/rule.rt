@@ -33,7 +33,7 @@ pub trait Rule {
     ghost tells: { Self.View → ℕ → ℕ → Self.Entry → Self.Value → Self.Value → Type 0 };
 
     // A value that fits outlives each split that is allowed.
-    ghost splits: { (x : Self.Value) (views : List Self.View) (number : ℕ) (v : Self.View) → fits x views
-        → get_elem? views number ≡ some v → may_split v
+    ghost splits: { (x : Self.Value) (views : List Self.View) (number : ℕ) (v : Self.View)
+        → fits x views → get_elem? views number ≡ some v → may_split v
         → fits x (slice_set views number (left v) ++ right v ∷ []) };
 }

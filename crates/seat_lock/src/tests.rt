@@ -83,7 +83,8 @@ fn split_off(
     requires first { IsFirst first.old }
     ensures own { IsFor lock.now first.new }
     ensures ready { IsReady first.new }
-    ensures all { IfOk result (λ passes. All (λ pass. IsFor lock.now pass × IsReady pass) passes.items) }
+    ensures all { IfOk result (λ passes.
+        All (λ pass. IsFor lock.now pass × IsReady pass) passes.items) }
 {
     let mut passes = Vec::new(alloc);
     for _ in 0..count {

@@ -10,8 +10,13 @@ use crate::lock::{BELL, FREE, Lock, TAKEN, TURN, VALUE};
 use crate::pass::Pass;
 use crate::rule::Rule;
 use crate::steps::Try;
+use std::hint::spin_loop;
 use std::snapshot::Snapshot;
 use std::sync::Wait;
+use std::sync::atomic::Ordering::SeqCst;
+
+// How often a thread looks at the turn before it sleeps.
+const LOOKS: u32 = 100;
 
 impl<L: Rule> Lock<L> {
     /// Waits for the turn and takes it. The bell's number is noted before the turn is tried.
@@ -37,8 +42,21 @@ impl<L: Rule> Lock<L> {
                 let found = Snapshot::of(&value);
                 return Held { pass, found, value };
             }
-            shared.park(rt, TURN, TAKEN as u32);
+            self.await_turn(rt);
         }
         unreachable!()
+    }
+
+    // Looks at the turn for a while, and then sleeps until a wake, where it is still taken.
+    fn await_turn<R: Wait>(&self, rt: &R) {
+        for _ in 0..LOOKS {
+            if self.table.shared.peek(TURN) == FREE {
+                return;
+            }
+            spin_loop();
+        }
+        self.turn_waiters.fetch_add(1, SeqCst);
+        self.table.shared.park(rt, TURN, TAKEN as u32);
+        self.turn_waiters.fetch_sub(1, SeqCst);
     }
 }

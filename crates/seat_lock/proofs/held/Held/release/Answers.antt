@@ -1,26 +1,30 @@
-use Rattle.std.proofs.Common.{rules, ◌∷◌, sym, ap, ◌∙◌}
-use Rattle.atomic_table.specs.Table.{rest}
-use Rattle.seat_lock.specs.declared.known.Slot.TheVariants.{Note}
-use Rattle.seat_lock.proofs.TurnKept.{tells_note, told_is, gives_left}
+use Rattle.std.proofs.Common.{rules, ap}
+use Rattle.seat_lock.proofs.TurnKept.{tells_note, told_is, gives_left, again_at}
 use Rattle.seat_lock.proofs.held.Held.release.Goals as goal
 
 pub store-requires : goal.store-requires
-store-requires g c = (
-  search rules,
-  search rules,
-  tells_note _ g.L.Rule.fits g.L.Rule.after _ _ c.args.entry.now c.args.self.found.value _ _ _ _ c.exchange-slot.ensures.3 c.requires.holds.1 c.requires.holds.0,
-)
+store-requires g c =
+    let noted = c.exchange-slot.ensures.3 in
+    let holds = c.requires.holds in
+    (search rules, search rules, tells_note _ g.L.Rule.fits g.L.Rule.after _ _ _ _ _ _ _ _ noted holds.1 holds.0)
 
 pub exchange-slot-requires-2 : goal.exchange-slot-requires-2
 exchange-slot-requires-2 g c =
-    let t = told_is _ g.L.Rule.fits g.L.Rule.after c.args.kind c.args.amount c.args.entry.now c.args.self.found.value _ _ _ c.exchange-slot.ensures.3 c.requires.holds.1 c.requires.holds.0 c.store.ensures.2 in
-    let at = ap (λ m. m.1) t in
-    (search rules, (Note c.args.kind c.args.amount c.args.entry.now, at ∙ ap (λ l. (0, Note c.args.kind c.args.amount c.args.entry.now) ∷ rest l) (sym at)))
+    let noted = c.exchange-slot.ensures.3 in
+    let holds = c.requires.holds in
+    let told = told_is _ g.L.Rule.fits g.L.Rule.after _ _ _ _ _ _ _ noted holds.1 holds.0 c.store.ensures.2 in
+    (search rules, again_at _ _ (ap (λ m. m.1) told))
 
 pub store-requires-2 : goal.store-requires-2
 store-requires-2 g c =
-    let t = told_is _ g.L.Rule.fits g.L.Rule.after c.args.kind c.args.amount c.args.entry.now c.args.self.found.value _ _ _ c.exchange-slot.ensures.3 c.requires.holds.1 c.requires.holds.0 c.store.ensures.2 in (
+    let noted = c.exchange-slot.ensures.3 in
+    let holds = c.requires.holds in
+    let told = told_is _ g.L.Rule.fits g.L.Rule.after _ _ _ _ _ _ _ noted holds.1 holds.0 c.store.ensures.2 in
+    let me = c.args.self.pass.now.seat.me in
+    let at_told = c.store.new.seat.me in
+    let at_home = c.exchange-slot-2.new.seat.me in
+    let home = c.exchange-slot-2.ensures.3 in (
       search rules,
       search rules,
-      gives_left _ g.L.Rule.fits g.L.Rule.after c.args.kind c.args.amount c.args.entry.now c.args.self.found.value _ _ c.args.self.pass.now.seat.me _ _ c.args.self.value t c.exchange-slot-2.ensures.3 c.requires.keeps,
+      gives_left _ g.L.Rule.fits g.L.Rule.after _ _ _ _ _ _ me at_told at_home _ told home c.requires.keeps,
     )
