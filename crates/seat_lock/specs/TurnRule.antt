@@ -97,7 +97,7 @@ pub record IsKept {V X E : Type 0} (fits : X → List V → Type 0) (s : State (
   pub words : length s.words ≡ 2
   pub numbered : IsNumbered s.views
   pub counted : IsCounted s.views
-  pub kept : AtHome fits s ⊎ Away fits s
+  pub turn : AtHome fits s ⊎ Away fits s
 
 module _ {V X E : Type 0} where
   -- the first seat of a lock

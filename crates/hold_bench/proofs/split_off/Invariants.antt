@@ -4,4 +4,7 @@ use Rattle.hold_bench.proofs.split_off.Given as goal
 
 abbrev pub invariant-loop : goal.invariant-loop
 invariant-loop l =
-    IsFor l.lock l.first × IsReady l.first × IsFirst l.first × All (λ pass. IsFor l.lock pass × IsReady pass) l.passes.items
+    IsFor l.lock l.first
+    × IsReady l.first
+    × IsFirst l.first
+    × All (λ pass. IsFor l.lock pass × IsReady pass) l.passes.items

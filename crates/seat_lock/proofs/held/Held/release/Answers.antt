@@ -6,22 +6,30 @@ pub store-requires : goal.store-requires
 store-requires g c =
     let noted = c.exchange-slot.ensures.3 in
     let holds = c.requires.holds in
-    (search rules, search rules, tells_note _ g.L.Rule.fits g.L.Rule.after _ _ _ _ _ _ _ _ noted holds.1 holds.0)
+    let me = c.args.self.pass.now.seat.me in
+    let at_note = c.exchange-slot.new.seat.me in
+    (search rules, search rules, tells_note _ g.L.Rule.fits g.L.Rule.after _ _ _ _ _ _ me at_note noted holds.1 holds.0)
 
 pub exchange-slot-requires-2 : goal.exchange-slot-requires-2
 exchange-slot-requires-2 g c =
     let noted = c.exchange-slot.ensures.3 in
     let holds = c.requires.holds in
-    let told = told_is _ g.L.Rule.fits g.L.Rule.after _ _ _ _ _ _ _ noted holds.1 holds.0 c.store.ensures.2 in
+    let me = c.args.self.pass.now.seat.me in
+    let at_note = c.exchange-slot.new.seat.me in
+    let at_told = c.store.new.seat.me in
+    let stored = c.store.ensures.2 in
+    let told = told_is _ g.L.Rule.fits g.L.Rule.after _ _ _ _ me at_note at_told noted holds.1 holds.0 stored in
     (search rules, again_at _ _ (ap (λ m. m.1) told))
 
 pub store-requires-2 : goal.store-requires-2
 store-requires-2 g c =
     let noted = c.exchange-slot.ensures.3 in
     let holds = c.requires.holds in
-    let told = told_is _ g.L.Rule.fits g.L.Rule.after _ _ _ _ _ _ _ noted holds.1 holds.0 c.store.ensures.2 in
     let me = c.args.self.pass.now.seat.me in
+    let at_note = c.exchange-slot.new.seat.me in
     let at_told = c.store.new.seat.me in
+    let stored = c.store.ensures.2 in
+    let told = told_is _ g.L.Rule.fits g.L.Rule.after _ _ _ _ me at_note at_told noted holds.1 holds.0 stored in
     let at_home = c.exchange-slot-2.new.seat.me in
     let home = c.exchange-slot-2.ensures.3 in (
       search rules,

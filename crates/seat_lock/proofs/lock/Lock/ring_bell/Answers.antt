@@ -8,4 +8,6 @@ fetch_add-requires g c = (search rules, search rules, rings _ g.L.Rule.fits _ _ 
 pub returns : goal.returns
 returns g c =
     let rung = c.fetch_add.ensures in
-    record { same = λ i. record { seat = same_seat c.args.pass.now.seat c.fetch_add.new.seat rung.0 rung.1 rung.2 i; bell = c.args.pass.now.bell } }
+    let pass = c.args.pass.now in
+    let seat = same_seat pass.seat c.fetch_add.new.seat rung.0 rung.1 rung.2 in
+    record { same = λ i. record { seat = seat i; bell = pass.bell } }

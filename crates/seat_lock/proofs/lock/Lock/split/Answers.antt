@@ -3,8 +3,8 @@ use Rattle.seat_lock.proofs.TurnKept.{splits}
 use Rattle.seat_lock.proofs.lock.Lock.split.Goals as goal
 
 pub split_seat-seat-requires : goal.split_seat-seat-requires
-split_seat-seat-requires g c = (
-  search rules,
-  search rules,
-  splits _ g.L.Rule.fits g.L.Rule.left g.L.Rule.right g.L.Rule.may_split g.L.Rule.splits _ _ c.requires.first c.requires.ready.0 c.requires.allowed,
-)
+split_seat-seat-requires g c =
+    let rule = g.L.Rule in
+    let asked = c.requires in
+    let law = splits _ rule.fits rule.left rule.right rule.may_split rule.splits in
+    (search rules, search rules, law _ _ asked.first asked.ready.0 asked.allowed)
