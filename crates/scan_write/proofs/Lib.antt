@@ -1,0 +1,4 @@
+pub mod OutputLemmas
+pub mod AppendedTexts
+pub mod ValueCodes
+pub mod SmallNumbers

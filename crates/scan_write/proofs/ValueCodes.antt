@@ -1,0 +1,44 @@
+-- The numbers that values' bits spell, and two codes as one.
+use Rattle.std.proofs.Common.{◌≡◌, ℕ, ◌+◌, ◌-◌, ◌*◌, ◌/◌, ◌%◌, ◌^◌, ◌<◌, ◌≤◌, ◌++◌, Bool, List, ap, ◌∙◌, arith}
+use Rattle.std.proofs.lemmas.Nat.{one_shl, pow_pos, shl_whole}
+use Rattle.std.proofs.Math.Pow.{pow_mono}
+use Rattle.bit_list.specs.Bits.{low_bits}
+use Rattle.bit_list.proofs.LowBits.{low_bits-join}
+use Rattle.bit_list.proofs.Machine.{joined_below}
+use Rattle.coef_block.specs.Categories.{category as size}
+use Rattle.scan_text.proofs.ValueLemmas.{size_below, small_size}
+
+-- a small magnitude has eleven bits at most, and fits them
+pub record IsSmall (n count : ℕ) : Type 0 where
+  pub few : count ≤ 11
+  pub below : n < 2 ^ count
+  pub power : 2 ^ count ≤ 2048
+  pub shifted : 1 * 2 ^ count % 4294967296 ≡ 2 ^ count
+
+pub small : (n count : ℕ) → n ≤ 2047 → count ≡ size n → IsSmall n count
+small n count h is =
+    let few : count ≤ 11 = omega (arith, small_size 11 n (omega arith), is) in
+    let same = ap (λ (k : ℕ). 2 ^ k) is in
+    let power : 2 ^ count ≤ 2 ^ 11 = pow_mono few in record {
+      few = few;
+      below = omega (arith, same, size_below n);
+      power = power;
+      shifted = one_shl count 32 (omega (arith, few));
+    }
+
+-- two codes of sixteen bits at most
+pub record AreJoined (count size code next joined : ℕ) : Type 0 where
+  pub word : joined < 65536
+  pub below : joined < 2 ^ (count + size)
+  pub bits : low_bits (count + size) joined ≡ low_bits count code ++ low_bits size next
+
+pub are_joined : (count size code next joined : ℕ) → count + size ≤ 16 → code < 2 ^ count → next < 2 ^ size → joined ≡ code * 2 ^ size % 65536 + next
+    → AreJoined count size code next joined
+are_joined count size code next joined few a b f =
+    let is : joined ≡ code * 2 ^ size + next = f ∙ ap (λ (x : ℕ). x + next) (shl_whole code count size 16 a (omega arith)) in
+    let below : joined < 2 ^ (count + size) = rw is (joined_below count size code next a b) in
+    let most : 2 ^ (count + size) ≤ 2 ^ 16 = pow_mono few in record {
+      word = omega arith;
+      below = below;
+      bits = ap (low_bits (count + size)) is ∙ low_bits-join count size code next b;
+    }

@@ -1,0 +1,35 @@
+-- What a writer stands for, what always holds of it, and how it goes over an MCU (own).
+use Rattle.std.specs.Prelude.{ℕ, ◌≡◌, ◌^◌, ◌<◌, ◌≤◌, List, ◌++◌, length, Result, Ok, Err}
+use Rattle.std.specs.List.{All}
+use Rattle.coef_block.specs.Block.{IsDc}
+use Rattle.scan_text.specs.Scans.{Mcu}
+use Rattle.scan_text.specs.ScanCalls.{ScanWriter, McuIsPutOn}
+use Rattle.scan_text.specs.Spots.{mcu_put}
+use Rattle.scan_text.specs.declared.stop.WriteStop.{WriteStop}
+use Rattle.scan_write.specs.declared.writer.Writer.TheInside.{Inside}
+
+-- the scan, its pad bit, the spot between two MCUs, whether a bit was padded, and the stop
+abbrev pub writer_in : Inside → ScanWriter
+writer_in w = record {
+  shape = w.shape;
+  pad = w.pad;
+  spot = record { begun = w.output; before = w.before; count = w.count };
+  padded = w.padded;
+  stop = w.stop;
+}
+
+-- less than a byte is begun, the last DCs are some that blocks can have, and no more MCUs were written than there are
+pub record IsWriter (w : Inside) : Type 0 where
+  pub begun : length w.output < 8
+  pub before : All IsDc w.before
+  pub count : w.count ≤ w.shape.mcus
+  pub size : w.shape.mcus < 2 ^ 32
+  pub blocks : length w.shape.slots ≤ 10
+
+-- an MCU's bytes were appended, or some bytes, where it has a stop, and the writer is as before
+abbrev pub McuIsTried : {A : Type 0} → ScanWriter → Mcu → List ℕ → Result A WriteStop → ScanWriter
+    → List ℕ → Type 0
+McuIsTried old mcu out (Ok done) new out_new = McuIsPutOn old mcu out (Ok done) new out_new
+McuIsTried old mcu out (Err stop) new out_new =
+    (bytes : List ℕ) × (mcu_put old.shape (λ n. old.pad) old.spot mcu ≡ Err stop)
+    × (out_new ≡ out ++ bytes) × (new ≡ old)

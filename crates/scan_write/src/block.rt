@@ -1,0 +1,39 @@
+// A block.
+ghost use Rattle.std.specs.Prelude.{◌≡◌, ◌+◌, ◌<◌, ◌≤◌, length, IfOk};
+ghost use Rattle.coef_block.specs.Block.{IsDc};
+ghost use Rattle.scan_text.specs.BlockBits.{coefficient_at, block_text};
+ghost use Rattle.scan_write.specs.Outputs.{output_of, quarters, HasRoom, block_bits};
+ghost use Rattle.scan_write.specs.Appending.{IsWritten};
+
+use crate::acs::acs;
+use crate::dc::dc;
+use bit_list::{BitOut, Piece};
+use coef_block::Block;
+use huff_table::ComponentCodes;
+use scan_text::WriteStop;
+
+/// A block after one with the DC before. Answers its DC.
+#[inline]
+pub(crate) fn block(
+    codes: &ComponentCodes,
+    before: i16,
+    block: &Block,
+    output: &mut BitOut,
+    out: &mut Piece,
+) -> Result<i16, WriteStop>
+    requires before { IsDc before }
+    requires begun { length output.old < 8 }
+    requires room { HasRoom block_bits output.old out.old }
+    ensures is { IsWritten result (output_of output.old out.old) (output_of output.new out.new)
+        (block_text codes.now before block.now) }
+    ensures dc { IfOk result (λ dc. dc ≡ coefficient_at block.now 0) }
+    ensures small { IfOk result IsDc }
+    ensures begun { length output.new < 8 }
+    ensures spent { IfOk result
+        (λ dc. quarters output.new out.new ≤ block_bits + quarters output.old out.old) }
+{
+    let value = block.get(0);
+    dc(&codes.dc, before, value, output, out)?;
+    acs(&codes.ac, block, output, out)?;
+    Ok(value)
+}

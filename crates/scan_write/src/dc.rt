@@ -1,0 +1,41 @@
+// The DC of a block.
+ghost use Rattle.std.specs.Prelude.{◌≡◌, ◌+◌, ◌<◌, ◌≤◌, length};
+ghost use Rattle.coef_block.specs.Block.{IsDc};
+ghost use Rattle.scan_text.specs.BlockBits.{dc_text};
+ghost use Rattle.scan_write.specs.Outputs.{output_of, quarters, HasRoom, dc_bits};
+ghost use Rattle.scan_write.specs.Appending.{IsWritten};
+
+use crate::values::value;
+use bit_list::{BitOut, Piece};
+use coef_block::size;
+use huff_table::Codes;
+use scan_text::WriteStop;
+
+// The largest magnitude of a difference (ITU-T T.81, Table F.1): `most_difference` in clauses.
+const MOST_DIFFERENCE: u32 = 2_047;
+
+/// The DC after the one before (ITU-T T.81, F.1.2.1).
+#[inline]
+pub(crate) fn dc(
+    codes: &Codes,
+    before: i16,
+    dc: i16,
+    output: &mut BitOut,
+    out: &mut Piece,
+) -> Result<(), WriteStop>
+    requires before { IsDc before }
+    requires dc { IsDc dc }
+    requires begun { length output.old < 8 }
+    requires room { HasRoom dc_bits output.old out.old }
+    ensures is { IsWritten result (output_of output.old out.old) (output_of output.new out.new)
+        (dc_text codes.now before dc) }
+    ensures begun { length output.new < 8 }
+    ensures spent { quarters output.new out.new ≤ dc_bits + quarters output.old out.old }
+{
+    let difference = i32::from(dc) - i32::from(before);
+    if difference.unsigned_abs() > MOST_DIFFERENCE {
+        return Err(WriteStop::DiffRange);
+    }
+    let size = size(difference);
+    value(codes, size, difference, size, output, out)
+}

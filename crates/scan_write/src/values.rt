@@ -1,0 +1,114 @@
+// Code words, and values by their category.
+ghost use Rattle.std.specs.Prelude.{◌≡◌, ◌+◌, ◌^◌, ◌<◌, ◌≤◌, ◌++◌, length, unsigned_abs};
+ghost use Rattle.bit_list.specs.Bits.{low_bits};
+ghost use Rattle.coef_block.specs.Block.{most_difference};
+ghost use Rattle.coef_block.specs.Categories.{category};
+ghost use Rattle.scan_text.specs.ValueBits.{mag};
+ghost use Rattle.scan_text.specs.BlockBits.{word_text, value_text};
+ghost use Rattle.scan_write.specs.Outputs.{output_of, appended, quarters, HasRoom, word_bits};
+ghost use Rattle.scan_write.specs.Appending.{IsWritten};
+
+use bit_list::{BitOut, Piece};
+use huff_table::Codes;
+use scan_text::WriteStop;
+
+/// The code word of a symbol.
+#[inline]
+pub(crate) fn word(
+    codes: &Codes,
+    symbol: u8,
+    output: &mut BitOut,
+    out: &mut Piece,
+) -> Result<(), WriteStop>
+    requires begun { length output.old < 8 }
+    requires room { HasRoom word_bits output.old out.old }
+    ensures is { IsWritten result (output_of output.old out.old) (output_of output.new out.new)
+        (word_text codes.now symbol) }
+    ensures begun { length output.new < 8 }
+    ensures spent { quarters output.new out.new ≤ word_bits + quarters output.old out.old }
+{
+    let Some((code, size)) = codes.word(symbol) else {
+        return Err(WriteStop::NoCode);
+    };
+    put(code, size, output, out);
+    Ok(())
+}
+
+/// The code word of a symbol with the category of a value, and the value's bits. `size` is that category.
+#[inline]
+pub(crate) fn value(
+    codes: &Codes,
+    symbol: u8,
+    value: i32,
+    size: u8,
+    output: &mut BitOut,
+    out: &mut Piece,
+) -> Result<(), WriteStop>
+    requires small { unsigned_abs value ≤ most_difference }
+    requires size { size ≡ category (unsigned_abs value) }
+    requires begun { length output.old < 8 }
+    requires room { HasRoom (word_bits + size) output.old out.old }
+    ensures is { IsWritten result (output_of output.old out.old) (output_of output.new out.new)
+        (value_text codes.now symbol value) }
+    ensures begun { length output.new < 8 }
+    ensures spent { quarters output.new out.new ≤ word_bits + size + quarters output.old out.old }
+{
+    let Some((code, count)) = codes.word(symbol) else {
+        return Err(WriteStop::NoCode);
+    };
+    put_both(code, count, number_of(value, size), size, output, out);
+    Ok(())
+}
+
+// The number that a value's `size` bits spell.
+#[inline(always)]
+fn number_of(value: i32, size: u8) -> u16
+    requires small { unsigned_abs value ≤ most_difference }
+    requires size { size ≡ category (unsigned_abs value) }
+    ensures bits { mag value ≡ low_bits size result }
+    ensures below { result < 2 ^ size }
+    ensures few { size ≤ 11 }
+{
+    if value >= 0 {
+        value.unsigned_abs() as u16
+    } else {
+        ((1 << size) - 1 - value.unsigned_abs()) as u16
+    }
+}
+
+// Two codes, one after the other, at once where they have sixteen bits at most.
+#[inline(always)]
+fn put_both(code: u16, count: u8, next: u16, size: u8, output: &mut BitOut, out: &mut Piece)
+    requires count { count ≤ 16 }
+    requires code { code < 2 ^ count }
+    requires size { size ≤ 11 }
+    requires next { next < 2 ^ size }
+    requires begun { length output.old < 8 }
+    requires room { HasRoom (count + size) output.old out.old }
+    ensures is { output_of output.new out.new
+        ≡ appended (output_of output.old out.old) (low_bits count code ++ low_bits size next) }
+    ensures begun { length output.new < 8 }
+    ensures spent { quarters output.new out.new ≤ count + size + quarters output.old out.old }
+{
+    if count + size <= 16 {
+        put((code << size) + next, count + size, output, out);
+    } else {
+        put(code, count, output, out);
+        put(next, size, output, out);
+    }
+}
+
+// The low `count` bits of a code.
+#[inline(always)]
+fn put(code: u16, count: u8, output: &mut BitOut, out: &mut Piece)
+    requires count { count ≤ 16 }
+    requires code { code < 2 ^ count }
+    requires begun { length output.old < 8 }
+    requires room { HasRoom count output.old out.old }
+    ensures is { output_of output.new out.new
+        ≡ appended (output_of output.old out.old) (low_bits count code) }
+    ensures begun { length output.new < 8 }
+    ensures spent { quarters output.new out.new ≤ count + quarters output.old out.old }
+{
+    output.put(code, count, out);
+}

@@ -1,0 +1,149 @@
+// A scan, MCU by MCU.
+ghost use Rattle.std.specs.Prelude.{◌≡◌, ◌+◌, ◌<◌, ◌≤◌, ◌==◌, ◌||◌, ◌&&◌, not, ◌++◌, [], length, map};
+ghost use Rattle.bit_list.specs.Bits.{bytes_after, padding, stuffed};
+ghost use Rattle.bit_list.specs.Pieces.{piece_room};
+ghost use Rattle.huff_table.specs.PlanWords.{tables_of};
+ghost use Rattle.scan_text.specs.ScanCalls.{McuIsPut, writer_of};
+ghost use Rattle.scan_text.specs.Scans.{no_dcs};
+ghost use Rattle.scan_text.specs.Slots.{shape_of};
+ghost use Rattle.scan_text.specs.Spots.{marker_after};
+ghost use Rattle.scan_write.specs.Outputs.{mcu_room};
+ghost use Rattle.scan_write.specs.WriterInside.{McuIsTried};
+
+use crate::blocks::blocks;
+use crate::pads::restart;
+use bit_list::{BitOut, Piece};
+use coef_block::Block;
+use huff_table::PlanCodes;
+use jpeg_marker::Plan;
+use scan_text::{ScanShape, WriteStop};
+use std::marker::Model;
+
+/// How many free bytes of a piece are enough for any MCU: `mcu_room` in clauses.
+pub const MCU_ROOM: usize = 4_168;
+
+/// A scan that is written MCU by MCU (ITU-T T.81, F.1.2). It keeps the first stop, and takes no memory.
+///
+/// Clauses see the scan's shape, its pad bit, the spot that the writer came to, whether a bit was padded, and its stop.
+#[derive(Drop)]
+pub struct Writer {
+    shape: ScanShape,
+    pad: bool,
+    output: BitOut,
+    // The last DC of each component in this interval.
+    before: [i16; 4],
+    // How many MCUs were written.
+    count: u32,
+    padded: bool,
+    stop: Option<WriteStop>,
+}
+
+impl Model for Writer {
+    ghost use Rattle.scan_text.specs.ScanCalls.{ScanWriter};
+    ghost use Rattle.scan_write.specs.WriterInside.{writer_in, IsWriter};
+
+    ghost Value = { ScanWriter };
+
+    ghost view = { writer_in };
+
+    ghost invariant = { IsWriter };
+}
+
+impl Writer {
+    /// Before the first MCU of a plan's scan. `pad` is the bit that fills up the last byte of each interval.
+    pub fn start(plan: &Plan, codes: &PlanCodes, pad: bool) -> Writer
+        requires { codes.now ≡ map tables_of plan.now.components }
+        ensures { result ≡ writer_of (shape_of plan.now) pad }
+    {
+        Writer {
+            shape: ScanShape::of(plan, codes),
+            pad,
+            output: BitOut::at(0, 0),
+            before: [0; 4],
+            count: 0,
+            padded: false,
+            stop: None,
+        }
+    }
+
+    /// Appends the bytes of the next MCU, given a block for each of its blocks (A.2.3), each in natural order: those that
+    /// its bits complete, and after the last MCU of an interval or of the scan the padded byte, and the marker, if another
+    /// interval follows. Stopped by the first cause in writing order why it has no bits; then no byte of it is there, and
+    /// that stop is answered from then on.
+    pub fn mcu(&mut self, blocks: &[Block], out: &mut Piece) -> Result<(), WriteStop>
+        requires more { self.old.spot.count < self.old.shape.mcus }
+        requires long { length blocks.now ≡ length self.old.shape.slots }
+        requires room { length out.old + mcu_room ≤ piece_room }
+        ensures { McuIsPut self.old.stop self.old blocks.now out.old result self.new out.new }
+    {
+        if let Some(stop) = self.stop {
+            return Err(stop);
+        }
+        let len = out.len();
+        match self.try_mcu(blocks, out) {
+            Ok(()) => Ok(()),
+            Err(stop) => {
+                out.back_to(len);
+                self.stop = Some(stop);
+                Err(stop)
+            }
+        }
+    }
+
+    /// Whether a bit was padded.
+    pub fn padded(&self) -> bool
+        ensures { result ≡ self.now.padded }
+    {
+        self.padded
+    }
+
+    /// Whether each MCU was written.
+    pub fn at_end(&self) -> bool
+        ensures { result ≡ (self.now.spot.count == self.now.shape.mcus) }
+    {
+        self.count == self.shape.mcus()
+    }
+
+    fn try_mcu(&mut self, mcu: &[Block], out: &mut Piece) -> Result<(), WriteStop>
+        requires more { self.old.spot.count < self.old.shape.mcus }
+        requires long { length mcu.now ≡ length self.old.shape.slots }
+        requires room { length out.old + mcu_room ≤ piece_room }
+        ensures { McuIsTried self.old mcu.now out.old result self.new out.new }
+    {
+        let (codes, slots) = self.shape.slots();
+        let mut before = self.before;
+        let mut output = self.output;
+        blocks(codes, slots, &mut before, mcu, &mut output, out)?;
+        self.before = before;
+        self.output = output;
+        if self.shape.is_closed(self.count + 1) {
+            self.close(out);
+        }
+        self.count += 1;
+        Ok(())
+    }
+
+    // Pads the last byte of an interval, and puts the marker after it, if another interval follows.
+    fn close(&mut self, out: &mut Piece)
+        requires more { self.old.spot.count < self.old.shape.mcus }
+        requires room { length out.old + 4 ≤ piece_room }
+        ensures bytes { out.new ≡ (out.old
+            ++ stuffed (bytes_after self.old.spot.begun (padding self.old.spot.begun self.old.pad)))
+            ++ marker_after self.old.shape self.old.spot.count }
+        ensures is { self.new ≡ record self.old {
+          spot = record self.old.spot { begun = []; before = no_dcs };
+          padded = self.old.padded || not (length self.old.spot.begun == 0);
+        } }
+    {
+        let begun = self.output.pad(self.pad, out);
+        self.padded = self.padded || begun;
+        self.before = [0; 4];
+        if self.count + 1 != self.shape.mcus() {
+            restart(
+                self.shape.interval_number(self.count),
+                &mut self.output,
+                out,
+            );
+        }
+    }
+}
