@@ -2,3 +2,4 @@ pub mod OutputLemmas
 pub mod AppendedTexts
 pub mod ValueCodes
 pub mod SmallNumbers
+pub mod McuWriting
