@@ -3,3 +3,4 @@ pub mod AppendedTexts
 pub mod ValueCodes
 pub mod SmallNumbers
 pub mod McuWriting
+pub mod SpotWriting

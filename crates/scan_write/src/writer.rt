@@ -118,6 +118,7 @@ impl Writer {
         self.output = output;
         if self.shape.is_closed(self.count + 1) {
             self.close(out);
+            return Ok(());
         }
         self.count += 1;
         Ok(())
@@ -131,19 +132,21 @@ impl Writer {
             ++ stuffed (bytes_after self.old.spot.begun (padding self.old.spot.begun self.old.pad)))
             ++ marker_after self.old.shape self.old.spot.count }
         ensures is { self.new ≡ record self.old {
-          spot = record self.old.spot { begun = []; before = no_dcs };
+          spot = record {
+            begun = [];
+            before = no_dcs;
+            count = self.old.spot.count + 1;
+          };
           padded = self.old.padded || not (length self.old.spot.begun == 0);
         } }
     {
         let begun = self.output.pad(self.pad, out);
         self.padded = self.padded || begun;
-        self.before = [0; 4];
         if self.count + 1 != self.shape.mcus() {
-            restart(
-                self.shape.interval_number(self.count),
-                &mut self.output,
-                out,
-            );
+            let number = self.shape.interval_number(self.count);
+            restart(number, &mut self.output, out);
         }
+        self.before = [0; 4];
+        self.count += 1;
     }
 }
