@@ -8,3 +8,6 @@ pub mod Spaces
 pub mod TableLists
 pub mod Walking
 pub mod PlanGrids
+pub mod FramesTaken
+pub mod HeadersTaken
+pub mod TablesTaken

@@ -1,5 +1,6 @@
 // The header of a file (ITU-T T.81, B.2.1).
 ghost use Rattle.std.specs.Prelude.{◌≡◌, IfOk, IfErr};
+ghost use Rattle.jpeg_marker.specs.AcceptedPlans.{AcceptedHasPlan};
 ghost use Rattle.jpeg_marker.specs.HeaderPlan.{Accepts, Refuses};
 ghost use Rattle.jpeg_marker.specs.OneHeader.{OneList, OnePlan, OneRefusal, NeverBoth};
 
@@ -47,4 +48,10 @@ pub fn header_has_one_plan()
     ensures plan { OnePlan }
     ensures refusal { OneRefusal }
     ensures apart { NeverBoth }
+{}
+
+/// The plan of every header that is taken is one that `Plan` keeps. Its components have tables, the header is no longer
+/// than the bytes, and the header alone determines the plan, whatever follows it.
+pub fn an_accepted_header_has_a_plan()
+    ensures { AcceptedHasPlan }
 {}

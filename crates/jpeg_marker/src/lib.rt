@@ -22,7 +22,7 @@ mod table;
 mod tables;
 
 pub use component::Component;
-pub use header::{header_has_one_plan, read_header};
+pub use header::{an_accepted_header_has_a_plan, header_has_one_plan, read_header};
 pub use plan::Plan;
 pub use refusal::HeaderRefusal;
 pub use table::RawTable;

@@ -33,6 +33,7 @@ impl RawTable {
     ghost use Rattle.jpeg_marker.specs.HuffmanTables.{TableFields, IsTable};
     ghost use Rattle.jpeg_marker.specs.HuffmanTables.{no_table};
     ghost use Rattle.jpeg_marker.specs.TableFaults.{is_table};
+    ghost use Rattle.jpeg_marker.specs.AcceptedPlans.{AreBytes};
 
     /// How many code words there are of each length.
     pub fn counts(&self) -> &[u8; 16]
@@ -46,8 +47,9 @@ impl RawTable {
     pub fn values(&self) -> &[u8]
         ensures value { result.now ≡ self.now.values }
         ensures kept { IsTable self.now }
+        ensures bytes { AreBytes self.now.values }
     {
-        &self.values[..self.length]
+        first_values(&self.values, self.length)
     }
 
     /// A table without a code word.
@@ -80,8 +82,18 @@ impl RawTable {
     }
 }
 
-ghost use Rattle.std.specs.Prelude.{◌≡◌, ◌≤◌, ◌<◌, ◌++◌, ◌-◌, replicate, length, IsTrue};
+ghost use Rattle.std.specs.Prelude.{◌≡◌, ◌≤◌, ◌<◌, ◌++◌, ◌-◌, replicate, length, take, IsTrue};
 ghost use Rattle.jpeg_marker.specs.HuffmanTables.{distinct, code_space};
+ghost use Rattle.jpeg_marker.specs.AcceptedPlans.{AreBytes};
+
+// The first values, which are bytes.
+fn first_values(values: &[u8], count: usize) -> &[u8]
+    requires { count ≤ length values.now }
+    ensures value { result.now ≡ take count values.now }
+    ensures bytes { AreBytes result.now }
+{
+    &values[..count]
+}
 
 /// Whether no value stands twice.
 pub(crate) fn distinct(values: &[u8]) -> bool
