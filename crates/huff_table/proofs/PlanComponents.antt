@@ -1,6 +1,8 @@
 -- Filling an array of four with the tables of one component after the other.
-use Rattle.std.proofs.Common.{◌≡◌, ℕ, suc, ◌+◌, ◌-◌, ◌<◌, ◌≤◌, List, [], ◌∷◌, ◌++◌, length, map, take, set, get_or, replicate, refl, sym, ap, ap₂, ◌∙◌, arith}
+use Rattle.std.proofs.Common.{◌≡◌, ℕ, zero, suc, ◌+◌, ◌-◌, ◌<◌, ◌≤◌, List, [], ◌∷◌, ◌++◌, length, map, take, set, get_or, replicate, refl, sym, ap, ap₂, ◌∙◌, arith}
+use Rattle.std.specs.List.{AllByRecursion}
 use Rattle.jpeg_marker.specs.declared.component.Component.{Component}
+use Rattle.huff_table.specs.BuiltCodes.{AreTables}
 use Rattle.huff_table.specs.PlanWords.{tables_of, no_codes, filled, AreComponents}
 use Rattle.huff_table.specs.declared.plan_codes.ComponentCodes.{ComponentCodes}
 use Rattle.std.proofs.lemmas.List.{take_more, take_all, take-append-le, map-append, length-take, length-map}
@@ -33,6 +35,17 @@ pub first_is : (components : List Component) (c : Component) → 1 ≤ length co
 first_is [] c some is = absurd (omega arith)
 first_is (x ∷ xs) c some is = ap tables_of is
 
+all_take : (n : ℕ) (all : List ComponentCodes) → AllByRecursion AreTables all → AllByRecursion AreTables (take n all)
+all_take zero all tables = tt
+all_take (suc n) [] tables = tt
+all_take (suc n) (c ∷ all) tables = (tables.0, all_take n all tables.1)
+
+-- one of them set
+pub all_set : (all : List ComponentCodes) (i : ℕ) (c : ComponentCodes) → AllByRecursion AreTables all → AreTables c → AllByRecursion AreTables (set all i c)
+all_set [] i c tables one = tt
+all_set (d ∷ all) zero c tables one = (one, tables.1)
+all_set (d ∷ all) (suc i) c tables one = (tables.0, all_set all i c tables.1 one)
+
 -- what is kept of them
 pub prefix_is : (all : List ComponentCodes) (components : List Component) (first : ComponentCodes) → all ≡ map tables_of components ++ replicate (4 - length (map tables_of components)) first
     → take (length components) all ≡ map tables_of components
@@ -42,12 +55,13 @@ prefix_is all components first is =
     ∙ take_all (length components) (map tables_of components) (omega arith)
 
 pub are_components : (all : List ComponentCodes) (components : List Component) (first : ComponentCodes) → all ≡ map tables_of components ++ replicate (4 - length (map tables_of components)) first
-    → length components ≤ 4 → first ≡ get_or (map tables_of components) 0 no_codes → AreComponents (record { components = all; count = length components })
-are_components all components first is few begin =
+    → length components ≤ 4 → first ≡ get_or (map tables_of components) 0 no_codes → AllByRecursion AreTables all → AreComponents (record { components = all; count = length components })
+are_components all components first is few begin tables =
     let prefix = prefix_is all components first is in
     let size : length (map tables_of components) ≡ length components = length-map components tables_of in
     record {
       few = omega (arith, ap length prefix, size, few);
       long = ap length prefix ∙ size;
       blank = is ∙ ap (λ f. map tables_of components ++ replicate (4 - length (map tables_of components)) f) begin ∙ ap filled (sym prefix);
+      tables = all_take (length components) all tables;
     }

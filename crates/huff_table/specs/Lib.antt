@@ -4,3 +4,4 @@ pub mod Decoding
 pub mod Levels
 pub mod CodesInside
 pub mod PlanWords
+pub mod BuiltCodes

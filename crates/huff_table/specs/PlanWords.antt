@@ -1,7 +1,9 @@
 -- The tables of each component of a plan.
 use Rattle.std.specs.Prelude.{◌≡◌, ◌-◌, ◌≤◌, ◌++◌, List, length, take, replicate, get_or}
+use Rattle.std.specs.List.{AllByRecursion}
 use Rattle.jpeg_marker.specs.HuffmanTables.{no_table}
 use Rattle.jpeg_marker.specs.declared.component.Component.{Component}
+use Rattle.huff_table.specs.BuiltCodes.{AreTables}
 use Rattle.huff_table.specs.declared.plan_codes.ComponentCodes.{ComponentCodes}
 use Rattle.huff_table.specs.declared.plan_codes.PlanCodes.TheInside.{Inside}
 
@@ -26,6 +28,7 @@ pub record AreComponents (p : Inside) : Type 0 where
   pub few : length (components_of p) ≤ 4
   pub long : length (components_of p) ≡ p.count
   pub blank : p.components ≡ filled (components_of p)
+  pub tables : AllByRecursion AreTables (components_of p)
 
 -- what is kept of components
 abbrev pub inside_of : List ComponentCodes → Inside

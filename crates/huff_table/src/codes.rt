@@ -3,6 +3,7 @@ ghost use Rattle.std.specs.Prelude.{◌≡◌, ℕ, ◌+◌, ◌*◌, ◌-◌, �
 ghost use Rattle.bit_list.specs.Bits.{low_bits};
 ghost use Rattle.bit_list.specs.Units.{bits_at};
 ghost use Rattle.jpeg_marker.specs.HuffmanTables.{IsTable};
+ghost use Rattle.jpeg_marker.specs.AcceptedPlans.{AreBytes};
 ghost use Rattle.huff_table.specs.CodeWords.{word_of};
 ghost use Rattle.huff_table.specs.Decoding.{value_at};
 ghost use Rattle.huff_table.specs.CodesInside.{placed};
@@ -42,7 +43,9 @@ impl Model for Codes {
 impl Codes {
     /// The code words of a table.
     pub fn build(table: &RawTable) -> Codes
-        ensures { result ≡ table.now }
+        ensures value { result ≡ table.now }
+        ensures kept { IsTable result }
+        ensures bytes { AreBytes result.values }
     {
         let mut words = [NONE; 256];
         let counts = table.counts();

@@ -37,12 +37,15 @@ impl Model for PlanCodes {
     ghost inverse_ok = { λ a h. ap₂ (λ all n. record { components = all; count = n }) (sym h.blank) h.long };
 }
 
+ghost use Rattle.std.specs.List.{AllByRecursion};
+ghost use Rattle.huff_table.specs.BuiltCodes.{AreTables};
 ghost use Rattle.huff_table.specs.PlanWords.{tables_of};
 
 impl ComponentCodes {
     /// The code words of a component's tables.
     pub fn build(component: &Component) -> ComponentCodes
-        ensures { result ≡ tables_of component.now }
+        ensures value { result ≡ tables_of component.now }
+        ensures kept { AreTables result }
     {
         ComponentCodes {
             dc: Codes::build(component.dc()),
@@ -54,7 +57,8 @@ impl ComponentCodes {
 impl PlanCodes {
     /// The code words of a plan's tables.
     pub fn build(plan: &Plan) -> PlanCodes
-        ensures { result ≡ map tables_of plan.now.components }
+        ensures value { result ≡ map tables_of plan.now.components }
+        ensures kept { AllByRecursion AreTables result }
     {
         let components = plan.components();
         let first = ComponentCodes::build(&components[0]);
@@ -88,6 +92,7 @@ impl PlanCodes {
     pub fn components(&self) -> &[ComponentCodes]
         ensures value { result.now ≡ self.now }
         ensures few { length self.now ≤ 4 }
+        ensures kept { AllByRecursion AreTables self.now }
     {
         &self.components[..self.count]
     }
