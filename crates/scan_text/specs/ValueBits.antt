@@ -1,5 +1,5 @@
 -- Differences and coefficients as bits (ITU-T T.81, F.1.2.1, F.2.2.1).
-use Rattle.std.specs.Prelude.{ℕ, ◌+◌, ◌-◌, ◌^◌, Bool, true, false, List, [], ◌∷◌, length, ℤ, pos, negsuc, neg_ℤ}
+use Rattle.std.specs.Prelude.{◌+◌, ◌-◌, ◌^◌, Bool, true, false, List, [], ◌∷◌, length, ℤ, pos, negsuc, neg_ℤ}
 use Rattle.bit_list.specs.Bits.{low_bits, number_of}
 use Rattle.coef_block.specs.Categories.{category}
 

@@ -1,4 +1,4 @@
-use Rattle.std.proofs.Common.{◌≡◌, ◌≤◌, ◌+◌, ◌++◌, take, drop, length, map}
+use Rattle.std.proofs.Common.{◌≡◌, ◌≤◌, ◌+◌, ◌++◌, take, drop, map}
 use Rattle.std.specs.List.{sum_by}
 use Rattle.jpeg_marker.specs.Frames.{area}
 use Rattle.jpeg_marker.specs.Plans.{part_of}

@@ -1,11 +1,9 @@
-use Rattle.std.proofs.Common.{◌≡◌, ◌≤◌, ◌<◌, length, map, sym, subst, ap, ap₂, ◌∙◌, rules, take, ℕ, List, arith}
-use Rattle.std.specs.List.{All}
+use Rattle.std.proofs.Common.{◌≡◌, length, map, ap, ap₂, ◌∙◌, take, ℕ, List, arith}
 use Rattle.huff_table.specs.PlanWords.{tables_of}
 use Rattle.huff_table.specs.declared.plan_codes.ComponentCodes.{ComponentCodes}
 use Rattle.std.proofs.lemmas.List.{length-map}
-use Rattle.scan_text.specs.Slots.{Shape, shape_of}
+use Rattle.scan_text.specs.Slots.{shape_of}
 use Rattle.scan_text.specs.ShapeInside.{slot_in, component_indexes}
-use Rattle.scan_text.specs.declared.slot.Slot.{Slot}
 use Rattle.scan_text.proofs.ShapeLemmas.{slots_by_index, slots_within, shape_is}
 use Rattle.scan_text.proofs.scan_shape.ScanShape.of.Goals as goal
 
