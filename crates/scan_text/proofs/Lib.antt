@@ -18,3 +18,6 @@ pub mod Rests
 pub mod ScanTaken
 pub mod Short
 pub mod McuByMcu
+pub mod FilesOnce
+pub mod PlanShapes
+pub mod DoneBytes

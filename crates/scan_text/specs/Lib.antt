@@ -12,3 +12,4 @@ pub mod Items
 pub mod ScanLaws
 pub mod ScanRows
 pub mod ScanCalls
+pub mod FileLaws

@@ -1,5 +1,5 @@
 -- What holds of every scan.
-use Rattle.std.specs.Prelude.{ℕ, ◌≡◌, ◌+◌, ◌*◌, ◌<◌, ◌≤◌, Bool, true, List, ◌++◌, length, drop, map, Option, unwrap_or, slice_set, slice_index, Ok, Err, ℤ}
+use Rattle.std.specs.Prelude.{ℕ, ◌≡◌, ◌+◌, ◌*◌, ◌<◌, ◌≤◌, Bool, true, List, ◌++◌, length, take, drop, map, Option, unwrap_or, slice_set, slice_index, Ok, Err, ℤ}
 use Rattle.std.specs.List.{AllByRecursion}
 use Rattle.bit_list.specs.Bits.{IsByte}
 use Rattle.bit_list.specs.Units.{Cursor, starting, bits_at}
@@ -11,7 +11,7 @@ use Rattle.scan_text.specs.BlockBits.{block_text}
 use Rattle.scan_text.specs.Blocks.{last_dc, dcs_after, blocks_text}
 use Rattle.scan_text.specs.Slots.{Shape}
 use Rattle.scan_text.specs.Scans.{Mcu, Bytes, IsMcu, AreMcus, IsScan, scan_bytes}
-use Rattle.scan_text.specs.Spots.{Spot, Put, first_spot, then_put, mcu_put, mcus_put}
+use Rattle.scan_text.specs.Spots.{Spot, Put, first_spot, then_put, mcu_put, mcus_put, put_first, bytes_done, spot_at}
 use Rattle.scan_text.specs.ScanReading.{and_then, Standing, in_zigzag, block_at, BlocksRead, blocks_at, after_mcu, mcu_at, scan_at}
 use Rattle.scan_text.specs.Items.{Item, Stage, Path, IsStuck, first_stage, Refuses, Ends}
 use Rattle.scan_text.specs.declared.slot.Slot.{Slot}
@@ -205,3 +205,27 @@ IsPutInParts =
     (shape : Shape) (pads : ℕ → Bool) (spot : Spot) (mcus more : List Mcu)
     → mcus_put shape pads spot (mcus ++ more)
     ≡ then_put (mcus_put shape pads spot mcus) (λ next. mcus_put shape pads next more)
+
+-- all MCUs complete the whole scan
+abbrev pub IsDoneWhole : Type 0
+IsDoneWhole =
+    (shape : Shape) (pads : ℕ → Bool) (mcus : List Mcu) (scan : List ℕ) → IsShape shape
+    → AreMcus shape mcus → scan_bytes shape pads mcus ≡ Ok scan
+    → bytes_done shape pads mcus (length mcus) ≡ length scan
+
+-- the first MCUs put the scan's first bytes, and the others put the rest from the spot after them
+abbrev pub IsDoneInParts : Type 0
+IsDoneInParts =
+    (shape : Shape) (pads : ℕ → Bool) (mcus : List Mcu) (scan : List ℕ) (n : ℕ) → IsShape shape
+    → AreMcus shape mcus → scan_bytes shape pads mcus ≡ Ok scan
+    → (put_first shape pads mcus n
+    ≡ Ok (take (bytes_done shape pads mcus n) scan, spot_at shape pads mcus n))
+    × (bytes_in (mcus_put shape pads (spot_at shape pads mcus n) (drop n mcus))
+    ≡ Ok (drop (bytes_done shape pads mcus n) scan))
+
+-- more MCUs complete no fewer bytes
+abbrev pub IsDoneInOrder : Type 0
+IsDoneInOrder =
+    (shape : Shape) (pads : ℕ → Bool) (mcus : List Mcu) (scan : List ℕ) (n more : ℕ)
+    → IsShape shape → AreMcus shape mcus → scan_bytes shape pads mcus ≡ Ok scan
+    → bytes_done shape pads mcus n ≤ bytes_done shape pads mcus (n + more)

@@ -6,7 +6,7 @@ use Rattle.huff_table.specs.declared.plan_codes.ComponentCodes.{ComponentCodes}
 use Rattle.scan_text.specs.BlockRows.{level, level_table}
 use Rattle.scan_text.specs.Slots.{Shape, slots_of}
 use Rattle.scan_text.specs.Scans.{Mcu, no_dcs, scan_bytes, pad_count}
-use Rattle.scan_text.specs.Spots.{first_spot, mcu_put, mcus_put}
+use Rattle.scan_text.specs.Spots.{first_spot, mcu_put, mcus_put, put_first, bytes_done, spot_at}
 use Rattle.scan_text.specs.ScanReading.{scan_at}
 use Rattle.scan_text.specs.Items.{Refuses}
 use Rattle.scan_text.specs.declared.slot.Slot.{Slot}
@@ -81,6 +81,20 @@ put =
     × (mcu_put (grey level 2 1) (λ n. true) first_spot blank
     ≡ Ok (0x3f ∷ 0xff ∷ 0xd0 ∷ [], record { begun = []; before = no_dcs; count = 1 }))
 
+-- how many bytes are done: none before the fourth MCU of the byte, and the marker with the MCU that ends an interval
+abbrev pub done : Type 0
+done =
+    (bytes_done (grey ones 4 0) (λ n. true) (blank ∷ blank ∷ blank ∷ blank ∷ []) 1 ≡ 0)
+    × (bytes_done (grey ones 4 0) (λ n. true) (blank ∷ blank ∷ blank ∷ blank ∷ []) 2 ≡ 0)
+    × (bytes_done (grey ones 4 0) (λ n. true) (blank ∷ blank ∷ blank ∷ blank ∷ []) 3 ≡ 0)
+    × (bytes_done (grey ones 4 0) (λ n. true) (blank ∷ blank ∷ blank ∷ blank ∷ []) 4 ≡ 2)
+    × (spot_at (grey ones 4 0) (λ n. true) (blank ∷ blank ∷ blank ∷ blank ∷ []) 1
+    ≡ record { begun = true ∷ true ∷ []; before = no_dcs; count = 1 })
+    × (bytes_done (grey level 2 1) (λ n. true) (blank ∷ blank ∷ []) 1 ≡ 3)
+    × (bytes_done (grey level 2 1) (λ n. true) (blank ∷ blank ∷ []) 2 ≡ 4)
+    × (put_first (grey level 2 1) (λ n. true) (blank ∷ blank ∷ []) 1
+    ≡ Ok (0x3f ∷ 0xff ∷ 0xd0 ∷ [], record { begun = []; before = no_dcs; count = 1 }))
+
 -- scans that are read, and refusals with their places
 abbrev pub read : Type 0
 read =
@@ -126,4 +140,4 @@ stuck = Refuses (grey loose 1 0) (0x3f ∷ []) 0 (LooseZeros 0)
 
 -- all of them
 abbrev pub rows : Type 0
-rows = written × put × read × sampled × stuck
+rows = written × put × done × read × sampled × stuck

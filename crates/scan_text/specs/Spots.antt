@@ -1,5 +1,5 @@
 -- A scan's bytes MCU by MCU, from any of them on (ITU-T T.81, B.2.1, E.1.4, F.1.2.3): what a writer puts at a time.
-use Rattle.std.specs.Prelude.{ℕ, ◌+◌, ◌/◌, Bool, ◌||◌, ◌==◌, if◌then◌else◌, List, [], ◌∷◌, ◌++◌, ℤ, Result, Ok, Err}
+use Rattle.std.specs.Prelude.{ℕ, ◌+◌, ◌/◌, Bool, ◌||◌, ◌==◌, if◌then◌else◌, List, [], ◌∷◌, ◌++◌, length, take, ℤ, Result, Ok, Err}
 use Rattle.bit_list.specs.Bits.{bytes_after, begun_after, padding, stuffed}
 use Rattle.scan_text.specs.BlockBits.{Text}
 use Rattle.scan_text.specs.Blocks.{blocks_text, dcs_after}
@@ -80,3 +80,26 @@ unfoldable pub mcus_put : Shape → (ℕ → Bool) → Spot → List Mcu → Put
 mcus_put shape pads spot [] = Ok ([], spot)
 mcus_put shape pads spot (mcu ∷ mcus) =
     then_put (mcu_put shape pads spot mcu) (λ next. mcus_put shape pads next mcus)
+
+-- what the first n MCUs of a scan put (own)
+abbrev pub put_first : Shape → (ℕ → Bool) → List Mcu → ℕ → Put
+put_first shape pads mcus n = mcus_put shape pads first_spot (take n mcus)
+
+-- how many bytes were put, none where a cause stops them
+abbrev pub count_in : Put → ℕ
+count_in (Ok made) = length made.0
+count_in (Err stop) = 0
+
+-- the spot after them, the first one where a cause stops them
+abbrev pub spot_in : Put → Spot
+spot_in (Ok made) = made.1
+spot_in (Err stop) = first_spot
+
+-- how many bytes of a scan its first n MCUs complete (own): with the zeros that are stuffed and the marker after an MCU
+-- that ends an interval
+abbrev pub bytes_done : Shape → (ℕ → Bool) → List Mcu → ℕ → ℕ
+bytes_done shape pads mcus n = count_in (put_first shape pads mcus n)
+
+-- the spot after a scan's first n MCUs (own)
+abbrev pub spot_at : Shape → (ℕ → Bool) → List Mcu → ℕ → Spot
+spot_at shape pads mcus n = spot_in (put_first shape pads mcus n)

@@ -5,8 +5,9 @@ ghost use Rattle.scan_text.specs.ValueBits.{mag, extend};
 ghost use Rattle.scan_text.specs.BlockBits.{then_text};
 ghost use Rattle.scan_text.specs.Blocks.{blocks_text, dcs_after};
 ghost use Rattle.scan_text.specs.BlockRows.{rows};
-ghost use Rattle.scan_text.specs.ScanRows.{written, put, read, sampled, stuck};
-ghost use Rattle.scan_text.specs.ScanLaws.{IsPutInParts, IsBlockSpelled, IsBlockReadAgain, AreBlocksSpelled, AreBlocksReadAgain, IsMcuSpelled, IsMcuReadAgain, IsSpelled, IsReadAgain, OneScan, IsRefusalOfItems, IsEndOfItems, OneOutcome, IsLongest, IsPutWhole, ZigzagTells, IsSetInZigzag, TextsAreShort};
+ghost use Rattle.scan_text.specs.ScanRows.{written, put, done, read, sampled, stuck};
+ghost use Rattle.scan_text.specs.ScanLaws.{IsPutInParts, IsBlockSpelled, IsBlockReadAgain, AreBlocksSpelled, AreBlocksReadAgain, IsMcuSpelled, IsMcuReadAgain, IsSpelled, IsReadAgain, OneScan, IsRefusalOfItems, IsEndOfItems, OneOutcome, IsLongest, IsPutWhole, IsDoneWhole, IsDoneInParts, IsDoneInOrder, ZigzagTells, IsSetInZigzag, TextsAreShort};
+ghost use Rattle.scan_text.specs.FileLaws.{AcceptedIsShape, OneFile};
 ghost use Rattle.scan_text.specs.declared.slot.Slot.{Slot};
 
 /// EXTEND turns additional bits back into their value, and a value's bits are those it is read from (Figure F.12).
@@ -38,11 +39,20 @@ pub fn rows_of_the_definition()
 pub fn rows_of_scans()
     ensures written { written }
     ensures put { put }
+    ensures done { done }
     ensures read { read }
     ensures sampled { sampled }
     ensures stuck { stuck }
     ensures parts { IsPutInParts }
     ensures whole { IsPutWhole }
+{}
+
+/// The first MCUs of a scan complete its first bytes, the others complete the rest from the spot after them, and all of
+/// them the whole scan.
+pub fn first_mcus_are_first_bytes()
+    ensures whole { IsDoneWhole }
+    ensures parts { IsDoneInParts }
+    ensures order { IsDoneInOrder }
 {}
 
 /// A refusal is that of the item due after the longest list of items, and a scan that is read goes over all of them.
@@ -77,4 +87,11 @@ pub fn scans_are_text()
     ensures spelled { IsSpelled }
     ensures again { IsReadAgain }
     ensures one { OneScan }
+{}
+
+/// A header that is taken gives the shape of a scan. A file determines its header's plan, its MCUs, its pad bit and what
+/// follows the scan.
+pub fn a_file_has_one_reading()
+    ensures shape { AcceptedIsShape }
+    ensures one { OneFile }
 {}

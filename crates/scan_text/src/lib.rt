@@ -20,8 +20,9 @@ mod slot;
 mod stop;
 
 pub use laws::{
-    blocks_are_text, blocks_in_parts, items_are_read, rows_of_scans, rows_of_the_definition,
-    scans_are_text, values_are_bits, zigzag_tells_blocks,
+    a_file_has_one_reading, blocks_are_text, blocks_in_parts, first_mcus_are_first_bytes,
+    items_are_read, rows_of_scans, rows_of_the_definition, scans_are_text, values_are_bits,
+    zigzag_tells_blocks,
 };
 pub use plain::{PlainError, plain_block, plain_blocks};
 pub use refusal::ScanRefusal;

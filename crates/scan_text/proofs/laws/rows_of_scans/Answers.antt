@@ -23,6 +23,10 @@ pub returns-clause-put : goal.returns-clause-put
 unfolding block_text dc_text ac_text ac_values value_text zeros_text word_text word_of words_of blocks_text dcs_after mcu_put mcus_put
 returns-clause-put c = (refl, refl, refl)
 
+pub returns-clause-done : goal.returns-clause-done
+unfolding block_text dc_text ac_text ac_values value_text zeros_text word_text word_of words_of blocks_text dcs_after mcu_put mcus_put
+returns-clause-done c = (refl, refl, refl, refl, refl, refl, refl, refl)
+
 pub returns-clause-read : goal.returns-clause-read
 unfolding value_of words_of value_after unit_at filled bit_at bits_at dc_at acs_at block_at blocks_at restart_at mcu_at mcus_at ac_values
 returns-clause-read c = (refl, refl, refl, refl, refl, refl, refl, refl, refl, refl, refl)
