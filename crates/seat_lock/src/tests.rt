@@ -132,52 +132,75 @@ fn closes_with_what_was_added(rt: HostRuntime) -> Result<(), Fail> {
     Ok(())
 }
 
-// Waits until something was added.
-fn wait_for_some<R: Wait>(rt: &R, lock: &Lock<Sums>, pass: &mut Pass<Sums>) -> u64
+// Adds 1 where the number found leaves this rest by 2, and answers whether it does.
+fn add_in_turn<R: Wait>(rt: &R, lock: &Lock<Sums>, pass: &mut Pass<Sums>, rest: u64) -> bool
     requires own { IsFor lock.now pass.old }
     requires ready { IsReady pass.old }
+    ensures pass { IsSamePass pass.old pass.new }
+    ensures ready { IsReady pass.new }
+{
+    let mut held = lock.hold(rt, pass);
+    let found = *held.value();
+    let due = found % 2 == rest && found < u64::MAX;
+    if due {
+        *held.value() = found + 1;
+        held.release(lock, 1, 1, &found);
+    } else {
+        held.release(lock, 1, 0, &found);
+    }
+    due
+}
+
+// Waits until it is its turn, adds 1 and rings.
+fn add_when_due<R: Wait>(rt: &R, lock: &Lock<Sums>, pass: &mut Pass<Sums>, rest: u64)
+    requires own { IsFor lock.now pass.old }
+    requires ready { IsReady pass.old }
+    ensures own { IsFor lock.now pass.new }
+    ensures ready { IsReady pass.new }
 {
     for _ in rt.forever() {
-        let found = add(rt, lock, pass, 0);
-        if found > 0 {
-            return found;
+        if add_in_turn(rt, lock, pass, rest) {
+            lock.ring_bell(pass);
+            return;
         }
         lock.wait(rt, pass);
     }
     unreachable!()
 }
 
-// One thread waits until the other has added something.
-fn wait_and_ring<R: Threads + Wait + Sync>(
-    rt: &R,
-    lock: &Lock<Sums>,
-    mut one: Pass<Sums>,
-    mut two: Pass<Sums>,
-) -> u64
-    requires one { IsFor lock.now one × IsReady one }
-    requires two { IsFor lock.now two × IsReady two }
+// Adds 1 in turn, so many times.
+fn take_turns<R: Wait>(rt: &R, lock: &Lock<Sums>, mut pass: Pass<Sums>, rest: u64, times: u32)
+    requires own { IsFor lock.now pass }
+    requires ready { IsReady pass }
 {
-    let (found, ()) = thread::join(
+    for _ in 0..times {
+        add_when_due(rt, lock, &mut pass, rest);
+    }
+}
+
+// What is found after two threads have added 1 in turn, so many times each.
+fn sum_of_turns<R: Threads + Wait + Sync>(
+    rt: &R,
+    alloc: Global,
+    times: u32,
+) -> Result<u64, AllocError> {
+    let (lock, mut first) = Lock::<Sums>::new(alloc, 0, 0, 3)?;
+    let even = lock.split(&mut first);
+    let odd = lock.split(&mut first);
+    thread::join(
         rt,
-        || -> u64
-            requires { IsFor lock.now one × IsReady one }
-        { wait_for_some(rt, lock, &mut one) },
         || -> ()
-            requires { IsFor lock.now two × IsReady two }
-        {
-            add(rt, lock, &mut two, 3);
-            lock.ring_bell(&mut two);
-        },
+            requires { IsFor lock even × IsReady even }
+        { take_turns(rt, &lock, even, 0, times) },
+        || -> ()
+            requires { IsFor lock odd × IsReady odd }
+        { take_turns(rt, &lock, odd, 1, times) },
     );
-    found
+    Ok(add(rt, &lock, &mut first, 0))
 }
 
 #[test]
-fn a_ring_ends_a_wait(rt: HostRuntime) -> Result<(), Fail> {
-    for _ in 0..1000 {
-        let (lock, mut first) = Lock::<Sums>::new(rt.alloc(), 0, 0, 2)?;
-        let second = lock.split(&mut first);
-        assert_eq!(rt; wait_and_ring(&rt, &lock, first, second), 3);
-    }
+fn threads_take_turns_by_the_bell(rt: HostRuntime) -> Result<(), Fail> {
+    assert_eq!(rt; sum_of_turns(&rt, rt.alloc(), 20_000)?, 40_000);
     Ok(())
 }
