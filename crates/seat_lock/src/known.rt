@@ -2,7 +2,7 @@
 
 // What lies in the slot, or what a seat has in its place.
 #[derive(Drop)]
-pub enum Slot<X, E> {
+pub(crate) enum Slot<X, E> {
     // The value.
     Home(X),
     // What the holder is about to tell: kind, amount and entry.
@@ -12,7 +12,7 @@ pub enum Slot<X, E> {
 }
 
 // Whether a seat has the turn.
-pub enum Stage<V, X> {
+pub(crate) enum Stage<V, X> {
     Idle,
     // It has, and found this value.
     Holds(X),
@@ -21,7 +21,7 @@ pub enum Stage<V, X> {
 }
 
 // What a seat knows. No value of it is made.
-pub struct Known<V, X, E> {
+pub(crate) struct Known<V, X, E> {
     pub view: V,
     pub stage: Stage<V, X>,
     // How often the pass was released, and what it told last: kind, amount and entry.

@@ -8,7 +8,7 @@ use atomic_table::{Play, Split, TableRule};
 use std::marker::PhantomData;
 
 // The rule of the table under a lock.
-pub struct TurnLaw<L> {
+pub(crate) struct TurnLaw<L> {
     rule: PhantomData<L>,
 }
 
@@ -20,7 +20,7 @@ impl<L: Rule> TableRule<Slot<L::Value, L::Entry>, Known<L::View, L::Value, L::En
 }
 
 // Tries the turn.
-pub struct Try<L> {
+pub(crate) struct Try<L> {
     rule: PhantomData<L>,
 }
 
@@ -29,7 +29,7 @@ impl<L: Rule> Play<Slot<L::Value, L::Entry>, Known<L::View, L::Value, L::Entry>>
 }
 
 // Tells of the change that lies in the slot.
-pub struct Tell<L> {
+pub(crate) struct Tell<L> {
     rule: PhantomData<L>,
 }
 
@@ -38,21 +38,21 @@ impl<L: Rule> Play<Slot<L::Value, L::Entry>, Known<L::View, L::Value, L::Entry>>
 }
 
 // Gives the turn.
-pub struct Give;
+pub(crate) struct Give;
 
 impl<V, X, E> Play<Slot<X, E>, Known<V, X, E>> for Give {
     ghost then = { given };
 }
 
 // Raises the bell.
-pub struct Ring;
+pub(crate) struct Ring;
 
 impl<V, X, E> Play<Slot<X, E>, Known<V, X, E>> for Ring {
     ghost then = { rung };
 }
 
 // Splits the first seat.
-pub struct Part<L> {
+pub(crate) struct Part<L> {
     rule: PhantomData<L>,
 }
 
