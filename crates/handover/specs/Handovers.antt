@@ -1,5 +1,6 @@
 -- What a segment of a scan starts from, by its fields (this project's own).
-use Rattle.std.specs.Prelude.{ℕ, ◌-◌, ◌%◌, ◌^◌, ◌<◌, ◌≤◌, ◌≡◌, List, length, replicate, All, ℤ, pos, unsigned_abs}
+use Rattle.std.specs.Prelude.{ℕ, ◌-◌, ◌%◌, ◌^◌, ◌<◌, ◌≤◌, ◌≡◌, List, length, replicate, All, ℤ, pos}
+use Rattle.coef_block.specs.Block.{IsDc}
 
 -- the byte begun and how many of its bits are written, the last DC of each component in the order of the frame, and
 -- the number of restart markers before
@@ -12,14 +13,6 @@ pub record HandoverFields : Type 0 where
 -- the handover at the start of a scan
 abbrev pub start : HandoverFields
 start = record { partial = 0; bits = 0; preds = replicate 4 (pos 0); restarts = 0 }
-
--- how far a block's DC may be from zero
-abbrev pub dc_limit : ℕ
-dc_limit = 32767
-
--- a DC that a block can have
-abbrev pub IsDc : ℤ → Type 0
-IsDc dc = unsigned_abs dc ≤ dc_limit
 
 -- what the type keeps: at most seven bits, zeros after them, four DCs, and numbers of 8 and 32 bits
 pub record IsHandover (h : HandoverFields) : Type 0 where

@@ -1,4 +1,5 @@
-//! Files, containers and lines that were worked out apart from the program, tried through its top call.
+//! Files, containers and lines that were worked out apart from the program, tried through its top call; and scans of
+//! small pictures, read and written.
 #![tactic(auto)]
 
 #[cfg(test)]
@@ -16,11 +17,15 @@ mod lines;
 #[cfg(test)]
 mod notes;
 #[cfg(test)]
+mod pictures;
+#[cfg(test)]
 mod refused;
 #[cfg(test)]
 mod refused_scans;
 #[cfg(test)]
 mod rows;
+#[cfg(test)]
+mod scans;
 #[cfg(test)]
 mod segments;
 #[cfg(test)]

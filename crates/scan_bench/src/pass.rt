@@ -1,0 +1,112 @@
+// One pass over a scan.
+ghost use Rattle.std.specs.Prelude.{◌≡◌, map};
+ghost use Rattle.huff_table.specs.PlanWords.{tables_of};
+
+use bit_list::Piece;
+use coef_block::Block;
+use huff_table::PlanCodes;
+use jpeg_marker::Plan;
+use scan_decode::Reader;
+use scan_text::MOST_SLOTS;
+use scan_write::{MCU_ROOM, Writer};
+use std::alloc::Global;
+
+/// What a pass comes to: the bytes of the scan and its MCUs.
+#[derive(Clone, Copy)]
+pub(crate) struct Passed {
+    pub(crate) bytes: usize,
+    pub(crate) mcus: u32,
+}
+
+/// The bit that a scan is padded with, ones where no bit is padded.
+pub(crate) fn pad_of(plan: &Plan, codes: &PlanCodes, bytes: &[u8]) -> Option<bool>
+    requires { codes.now ≡ map tables_of plan.now.components }
+{
+    let mut reader = Reader::start(plan, codes, bytes, plan.header_length());
+    let mut blocks = [Block::zero(); MOST_SLOTS];
+    for _ in 0..plan.mcus() {
+        if reader.at_end() {
+            return None;
+        }
+        let count = reader.mcu_blocks();
+        reader.next_mcu(&mut blocks[..count]).ok()?;
+    }
+    Some(reader.end().0.unwrap_or(true))
+}
+
+/// Reads the scan of these bytes, unless it is refused.
+pub(crate) fn read(plan: &Plan, codes: &PlanCodes, bytes: &[u8]) -> Option<Passed>
+    requires { codes.now ≡ map tables_of plan.now.components }
+{
+    let start = plan.header_length();
+    let mut reader = Reader::start(plan, codes, bytes, start);
+    let mut blocks = [Block::zero(); MOST_SLOTS];
+    for _ in 0..plan.mcus() {
+        if reader.at_end() {
+            return None;
+        }
+        let count = reader.mcu_blocks();
+        reader.next_mcu(&mut blocks[..count]).ok()?;
+    }
+    Some(Passed {
+        bytes: reader.end().1.wrapping_sub(start),
+        mcus: plan.mcus(),
+    })
+}
+
+/// Reads and writes it, unless it is refused or what is written differs.
+pub(crate) fn both(
+    alloc: Global,
+    plan: &Plan,
+    codes: &PlanCodes,
+    bytes: &[u8],
+    pad: bool,
+) -> Option<Passed>
+    requires { codes.now ≡ map tables_of plan.now.components }
+{
+    let start = plan.header_length();
+    let mut reader = Reader::start(plan, codes, bytes, start);
+    let mut writer = Writer::start(plan, codes, pad);
+    let mut piece = Piece::new(alloc).ok()?;
+    let mut blocks = [Block::zero(); MOST_SLOTS];
+    let mut rest = bytes.get(start..)?;
+    for _ in 0..plan.mcus() {
+        if reader.at_end() {
+            return None;
+        }
+        if piece.free() < MCU_ROOM {
+            rest = after(rest, &mut piece)?;
+        }
+        let count = reader.mcu_blocks();
+        let out = &mut blocks[..count];
+        reader.next_mcu(out).ok()?;
+        put(&mut writer, out, &mut piece)?;
+    }
+    rest = after(rest, &mut piece)?;
+    let end = bytes.len() - rest.len();
+    (end == reader.end().1).then_some(Passed {
+        bytes: end.wrapping_sub(start),
+        mcus: plan.mcus(),
+    })
+}
+
+// Writes an MCU, where one is due and there is room for it.
+fn put(writer: &mut Writer, mcu: &[Block], piece: &mut Piece) -> Option<()> {
+    if writer.at_end() {
+        return None;
+    }
+    if writer.mcu_blocks() != mcu.len() {
+        return None;
+    }
+    if piece.free() < MCU_ROOM {
+        return None;
+    }
+    writer.mcu(mcu, piece).ok()
+}
+
+// What follows the bytes of a piece, where they are the next ones. The piece is empty then.
+fn after<'a>(bytes: &'a [u8], piece: &mut Piece) -> Option<&'a [u8]> {
+    let rest = bytes.strip_prefix(piece.bytes())?;
+    piece.clear();
+    Some(rest)
+}
