@@ -1,5 +1,5 @@
 -- Texts one after another: what was appended, and what is still to come.
-use Rattle.std.proofs.Common.{◌≡◌, Bool, List, [], ◌++◌, Result, Ok, Err, refl, sym, ap, ◌∙◌, append-nil}
+use Rattle.std.proofs.Common.{[], ◌++◌, Result, Ok, Err, sym, ap, ◌∙◌, append-nil}
 use Rattle.scan_text.specs.BlockBits.{Text, prefixed, then_text}
 use Rattle.scan_text.specs.declared.stop.WriteStop.{WriteStop}
 use Rattle.scan_text.proofs.Texts.{after_nothing, after_twice}

@@ -1,5 +1,5 @@
 -- The blocks of an MCU, one after the other.
-use Rattle.std.proofs.Common.{◌≡◌, ◌≤◌, ◌<◌, ◌+◌, ℕ, List, [], ◌∷◌, set, map, drop, length, get_or, ℤ, pos, unsigned_abs, Ok, refl, sym, ap, ap₂, ◌∙◌, arith, drop-cons, add-one}
+use Rattle.std.proofs.Common.{◌≡◌, ◌≤◌, ◌<◌, ◌+◌, ℕ, List, [], ◌∷◌, set, map, drop, length, get_or, ℤ, pos, unsigned_abs, Ok, sym, ap, ap₂, ◌∙◌, arith, drop-cons, add-one}
 use Rattle.std.proofs.lemmas.List.{drop_all, get_or_read}
 use Rattle.std.specs.Int.{w16}
 use mir.Val.{to_z, of_z}

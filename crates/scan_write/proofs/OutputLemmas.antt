@@ -1,5 +1,5 @@
 -- Bits that are appended, and how much room they take.
-use Rattle.std.proofs.Common.{◌≡◌, ℕ, ◌+◌, ◌*◌, ◌/◌, ◌%◌, ◌<◌, ◌≤◌, Bool, List, [], ◌++◌, length, refl, sym, ap, ap₂, ◌∙◌, arith, append_assoc, append-nil, length-append}
+use Rattle.std.proofs.Common.{◌≡◌, ℕ, ◌+◌, ◌<◌, ◌≤◌, Bool, List, [], ◌++◌, length, sym, ap, ap₂, ◌∙◌, arith, append_assoc, append-nil, length-append}
 use Rattle.bit_list.specs.Bits.{bytes_after, begun_after, stuffed}
 use Rattle.bit_list.proofs.Wholes.{bytes_cut, begun_cut, bytes_count, begun_count}
 use Rattle.bit_list.proofs.Stuffing.{stuffed-append}

@@ -8,11 +8,10 @@ use Rattle.scan_text.specs.BlockBits.{Text}
 use Rattle.scan_text.specs.Blocks.{blocks_text, dcs_after}
 use Rattle.scan_text.specs.ScanCalls.{ScanWriter, is_padded, McuIsPutOn}
 use Rattle.scan_text.specs.Scans.{Mcu, no_dcs}
-use Rattle.scan_text.specs.Slots.{Shape}
-use Rattle.scan_text.specs.Spots.{Spot, Put, is_closed, interval_number, marker_after, put_bits, put_text, mcu_put}
+use Rattle.scan_text.specs.Spots.{Spot, is_closed, marker_after, put_bits, put_text, mcu_put}
 use Rattle.scan_text.specs.declared.stop.WriteStop.{WriteStop}
 use Rattle.scan_write.specs.Outputs.{OutputState, output_of}
-use Rattle.scan_write.specs.Appending.{IsAppended, IsStopped}
+use Rattle.scan_write.specs.Appending.{IsAppended}
 
 -- an MCU whose blocks have no text
 pub no_put : (s : ScanWriter) (mcu : Mcu) (stop : WriteStop) → blocks_text s.shape.slots s.spot.before mcu ≡ Err stop → mcu_put s.shape (λ n. s.pad) s.spot mcu ≡ Err stop

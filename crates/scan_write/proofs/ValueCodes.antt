@@ -1,6 +1,6 @@
 -- The numbers that values' bits spell, and two codes as one.
-use Rattle.std.proofs.Common.{◌≡◌, ℕ, ◌+◌, ◌-◌, ◌*◌, ◌/◌, ◌%◌, ◌^◌, ◌<◌, ◌≤◌, ◌++◌, Bool, List, ap, ◌∙◌, arith}
-use Rattle.std.proofs.lemmas.Nat.{one_shl, pow_pos, shl_whole}
+use Rattle.std.proofs.Common.{◌≡◌, ℕ, ◌+◌, ◌*◌, ◌%◌, ◌^◌, ◌<◌, ◌≤◌, ◌++◌, ap, ◌∙◌, arith}
+use Rattle.std.proofs.lemmas.Nat.{one_shl, shl_whole}
 use Rattle.std.proofs.Math.Pow.{pow_mono}
 use Rattle.bit_list.specs.Bits.{low_bits}
 use Rattle.bit_list.proofs.LowBits.{low_bits-join}

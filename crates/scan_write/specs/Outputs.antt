@@ -1,5 +1,5 @@
 -- What was put out, bits in a byte begun and stuffed bytes, and the room for more (own).
-use Rattle.std.specs.Prelude.{ℕ, ◌+◌, ◌*◌, ◌/◌, ◌≤◌, Bool, List, ◌++◌, length}
+use Rattle.std.specs.Prelude.{ℕ, ◌+◌, ◌*◌, ◌/◌, ◌<◌, ◌≤◌, Bool, List, ◌++◌, length}
 use Rattle.bit_list.specs.Bits.{bytes_after, begun_after, stuffed}
 use Rattle.bit_list.specs.Pieces.{piece_room}
 
@@ -8,7 +8,11 @@ pub record OutputState : Type 0 where
   pub begun : List Bool
   pub bytes : List ℕ
 
--- a byte begun and bytes as one
+-- fewer bits than a byte has
+abbrev pub IsBegun : List Bool → Type 0
+IsBegun begun = length begun < 8
+
+-- a byte begun and the bytes before it
 abbrev pub output_of : List Bool → List ℕ → OutputState
 output_of begun bytes = record { begun = begun; bytes = bytes }
 
@@ -19,7 +23,7 @@ appended output bits = record {
   bytes = output.bytes ++ stuffed (bytes_after output.begun bits);
 }
 
--- how many quarters of a byte were put out, each bit of the byte begun being one: eight bits are two bytes at most
+-- how many quarters of a byte were put out, a bit of the byte begun being one: eight bits become two bytes at most
 abbrev pub quarters : List Bool → List ℕ → ℕ
 quarters begun bytes = length begun + 4 * length bytes
 
@@ -47,7 +51,6 @@ ac_bits = 63 * coefficient_bits
 abbrev pub block_bits : ℕ
 block_bits = dc_bits + ac_bits
 
--- how many free bytes are enough for an MCU: ten blocks after seven bits are 2,082 bytes, as many zeros are stuffed, and
--- a padded byte and a marker follow
+-- how many free bytes are enough for an MCU: those of 7 and then 16,650 bits, stuffed, of a padded byte and of a marker
 abbrev pub mcu_room : ℕ
 mcu_room = 4168

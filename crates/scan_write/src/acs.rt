@@ -2,7 +2,7 @@
 ghost use Rattle.std.specs.Prelude.{◌≡◌, ◌+◌, ◌*◌, ◌<◌, ◌≤◌, List, ℤ, ◌∷◌, length, IfOk, IfErr, OnOk};
 ghost use Rattle.coef_block.specs.Block.{IsAc};
 ghost use Rattle.scan_text.specs.BlockBits.{Text, zeros_text, coefficient_text, ac_text, ac_values};
-ghost use Rattle.scan_write.specs.Outputs.{OutputState, output_of, quarters, HasRoom, word_bits, coefficient_bits, ac_bits};
+ghost use Rattle.scan_write.specs.Outputs.{OutputState, output_of, quarters, HasRoom, word_bits, coefficient_bits, ac_bits, IsBegun};
 ghost use Rattle.scan_write.specs.Appending.{IsWritten, HasAppended, IsStopped};
 
 use crate::values::{value, word};
@@ -24,11 +24,11 @@ pub(crate) fn acs(
     output: &mut BitOut,
     out: &mut Piece,
 ) -> Result<(), WriteStop>
-    requires begun { length output.old < 8 }
+    requires begun { IsBegun output.old }
     requires room { HasRoom ac_bits output.old out.old }
     ensures is { IsWritten result (output_of output.old out.old) (output_of output.new out.new)
         (ac_text codes.now 0 (ac_values block.now)) }
-    ensures begun { length output.new < 8 }
+    ensures begun { IsBegun output.new }
     ensures spent { OnOk result
         (quarters output.new out.new ≤ ac_bits + quarters output.old out.old) }
 {
@@ -43,7 +43,7 @@ pub(crate) fn acs(
     word(codes, END_OF_BLOCK, output, out)
 }
 
-// What one coefficient adds after zeros; answers how many zeros stand before the next one.
+// The next coefficient after zeros. Answers how many zeros stand before the one after it.
 #[inline(always)]
 fn go_on(
     codes: &Codes,
@@ -54,7 +54,7 @@ fn go_on(
 ) -> Result<u8, WriteStop>
     requires value { IsAc value }
     requires zeros { zeros < 63 }
-    requires begun { length output.old < 8 }
+    requires begun { IsBegun output.old }
     requires room { HasRoom (coefficient_bits * (zeros + 1)) output.old out.old }
     ensures ok { IfOk result
         (λ next. (whole : Text) (old : OutputState) (values : List ℤ)
@@ -69,7 +69,7 @@ fn go_on(
     ensures few { IfOk result (λ next. next ≤ zeros + 1) }
     ensures spent { IfOk result (λ next. coefficient_bits * next + quarters output.new out.new
         ≤ coefficient_bits * (zeros + 1) + quarters output.old out.old) }
-    ensures begun { length output.new < 8 }
+    ensures begun { IsBegun output.new }
 {
     if value == 0 {
         return Ok(zeros + 1);
@@ -89,11 +89,11 @@ fn coefficient(
 ) -> Result<(), WriteStop>
     requires value { IsAc number }
     requires zeros { zeros < 63 }
-    requires begun { length output.old < 8 }
+    requires begun { IsBegun output.old }
     requires room { HasRoom (coefficient_bits * (zeros + 1)) output.old out.old }
     ensures is { IsWritten result (output_of output.old out.old) (output_of output.new out.new)
         (coefficient_text codes.now zeros number) }
-    ensures begun { length output.new < 8 }
+    ensures begun { IsBegun output.new }
     ensures spent { quarters output.new out.new
         ≤ coefficient_bits * (zeros + 1) + quarters output.old out.old }
 {
@@ -102,23 +102,18 @@ fn coefficient(
     value(codes, 16 * (zeros % 16) + size, number, size, output, out)
 }
 
-// Sixteen zeros, so many times.
+// The code word of sixteen zeros, `count` times.
 #[inline]
-fn sixteens(
-    codes: &Codes,
-    times: u8,
-    output: &mut BitOut,
-    out: &mut Piece,
-) -> Result<(), WriteStop>
-    requires begun { length output.old < 8 }
-    requires room { HasRoom (word_bits * times) output.old out.old }
+fn sixteens(codes: &Codes, count: u8, output: &mut BitOut, out: &mut Piece) -> Result<(), WriteStop>
+    requires begun { IsBegun output.old }
+    requires room { HasRoom (word_bits * count) output.old out.old }
     ensures is { IsWritten result (output_of output.old out.old) (output_of output.new out.new)
-        (zeros_text codes.now times) }
-    ensures begun { length output.new < 8 }
+        (zeros_text codes.now count) }
+    ensures begun { IsBegun output.new }
     ensures spent { quarters output.new out.new
-        ≤ word_bits * times + quarters output.old out.old }
+        ≤ word_bits * count + quarters output.old out.old }
 {
-    for _ in 0..times {
+    for _ in 0..count {
         word(codes, SIXTEEN_ZEROS, output, out)?;
     }
     Ok(())

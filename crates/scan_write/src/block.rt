@@ -2,7 +2,7 @@
 ghost use Rattle.std.specs.Prelude.{◌≡◌, ◌+◌, ◌<◌, ◌≤◌, length, IfOk};
 ghost use Rattle.coef_block.specs.Block.{IsDc};
 ghost use Rattle.scan_text.specs.BlockBits.{coefficient_at, block_text};
-ghost use Rattle.scan_write.specs.Outputs.{output_of, quarters, HasRoom, block_bits};
+ghost use Rattle.scan_write.specs.Outputs.{output_of, quarters, HasRoom, block_bits, IsBegun};
 ghost use Rattle.scan_write.specs.Appending.{IsWritten};
 
 use crate::acs::acs;
@@ -22,13 +22,13 @@ pub(crate) fn block(
     out: &mut Piece,
 ) -> Result<i16, WriteStop>
     requires before { IsDc before }
-    requires begun { length output.old < 8 }
+    requires begun { IsBegun output.old }
     requires room { HasRoom block_bits output.old out.old }
     ensures is { IsWritten result (output_of output.old out.old) (output_of output.new out.new)
         (block_text codes.now before block.now) }
     ensures dc { IfOk result (λ dc. dc ≡ coefficient_at block.now 0) }
     ensures small { IfOk result IsDc }
-    ensures begun { length output.new < 8 }
+    ensures begun { IsBegun output.new }
     ensures spent { IfOk result
         (λ dc. quarters output.new out.new ≤ block_bits + quarters output.old out.old) }
 {

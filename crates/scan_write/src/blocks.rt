@@ -4,7 +4,7 @@ ghost use Rattle.std.specs.List.{All};
 ghost use Rattle.coef_block.specs.Block.{IsDc};
 ghost use Rattle.scan_text.specs.Blocks.{blocks_text, dcs_after};
 ghost use Rattle.scan_text.specs.ShapeInside.{slot_in};
-ghost use Rattle.scan_write.specs.Outputs.{output_of, quarters, HasRoom, block_bits};
+ghost use Rattle.scan_write.specs.Outputs.{output_of, quarters, HasRoom, block_bits, IsBegun};
 ghost use Rattle.scan_write.specs.Appending.{IsWritten};
 
 use crate::block::block;
@@ -27,27 +27,21 @@ pub(crate) fn blocks(
     requires few { length codes.now ≤ 4 }
     requires slots { All (λ slot. slot < length codes.now) slots.now }
     requires before { All IsDc before.old }
-    requires begun { length output.old < 8 }
+    requires begun { IsBegun output.old }
     requires room { HasRoom (block_bits * length slots.now) output.old out.old }
     ensures is { IsWritten result (output_of output.old out.old) (output_of output.new out.new)
         (blocks_text (map (slot_in codes.now) slots.now) before.old mcu.now) }
     ensures dcs { OnOk result
         (before.new ≡ dcs_after (map (slot_in codes.now) slots.now) before.old mcu.now) }
     ensures small { All IsDc before.new }
-    ensures begun { length output.new < 8 }
+    ensures begun { IsBegun output.new }
     ensures spent { OnOk result
         (quarters output.new out.new
         ≤ block_bits * length slots.now + quarters output.old out.old) }
 {
     for (i, slot) in slots.iter().enumerate() {
         let component = usize::from(*slot);
-        before[component] = block(
-            &codes[component],
-            before[component],
-            &mcu[i],
-            output,
-            out,
-        )?;
+        before[component] = block(&codes[component], before[component], &mcu[i], output, out)?;
     }
     Ok(())
 }

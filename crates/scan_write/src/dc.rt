@@ -2,7 +2,7 @@
 ghost use Rattle.std.specs.Prelude.{◌≡◌, ◌+◌, ◌<◌, ◌≤◌, length};
 ghost use Rattle.coef_block.specs.Block.{IsDc};
 ghost use Rattle.scan_text.specs.BlockBits.{dc_text};
-ghost use Rattle.scan_write.specs.Outputs.{output_of, quarters, HasRoom, dc_bits};
+ghost use Rattle.scan_write.specs.Outputs.{output_of, quarters, HasRoom, dc_bits, IsBegun};
 ghost use Rattle.scan_write.specs.Appending.{IsWritten};
 
 use crate::values::value;
@@ -25,11 +25,11 @@ pub(crate) fn dc(
 ) -> Result<(), WriteStop>
     requires before { IsDc before }
     requires dc { IsDc dc }
-    requires begun { length output.old < 8 }
+    requires begun { IsBegun output.old }
     requires room { HasRoom dc_bits output.old out.old }
     ensures is { IsWritten result (output_of output.old out.old) (output_of output.new out.new)
         (dc_text codes.now before dc) }
-    ensures begun { length output.new < 8 }
+    ensures begun { IsBegun output.new }
     ensures spent { quarters output.new out.new ≤ dc_bits + quarters output.old out.old }
 {
     let difference = i32::from(dc) - i32::from(before);

@@ -18,3 +18,6 @@ mod values;
 mod writer;
 
 pub use writer::{MCU_ROOM, Writer};
+
+#[cfg(test)]
+mod tests;

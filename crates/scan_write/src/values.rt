@@ -5,7 +5,7 @@ ghost use Rattle.coef_block.specs.Block.{most_difference};
 ghost use Rattle.coef_block.specs.Categories.{category};
 ghost use Rattle.scan_text.specs.ValueBits.{mag};
 ghost use Rattle.scan_text.specs.BlockBits.{word_text, value_text};
-ghost use Rattle.scan_write.specs.Outputs.{output_of, appended, quarters, HasRoom, word_bits};
+ghost use Rattle.scan_write.specs.Outputs.{output_of, appended, quarters, HasRoom, word_bits, IsBegun};
 ghost use Rattle.scan_write.specs.Appending.{IsWritten};
 
 use bit_list::{BitOut, Piece};
@@ -20,11 +20,11 @@ pub(crate) fn word(
     output: &mut BitOut,
     out: &mut Piece,
 ) -> Result<(), WriteStop>
-    requires begun { length output.old < 8 }
+    requires begun { IsBegun output.old }
     requires room { HasRoom word_bits output.old out.old }
     ensures is { IsWritten result (output_of output.old out.old) (output_of output.new out.new)
         (word_text codes.now symbol) }
-    ensures begun { length output.new < 8 }
+    ensures begun { IsBegun output.new }
     ensures spent { quarters output.new out.new ≤ word_bits + quarters output.old out.old }
 {
     let Some((code, size)) = codes.word(symbol) else {
@@ -46,11 +46,11 @@ pub(crate) fn value(
 ) -> Result<(), WriteStop>
     requires small { unsigned_abs value ≤ most_difference }
     requires size { size ≡ category (unsigned_abs value) }
-    requires begun { length output.old < 8 }
+    requires begun { IsBegun output.old }
     requires room { HasRoom (word_bits + size) output.old out.old }
     ensures is { IsWritten result (output_of output.old out.old) (output_of output.new out.new)
         (value_text codes.now symbol value) }
-    ensures begun { length output.new < 8 }
+    ensures begun { IsBegun output.new }
     ensures spent { quarters output.new out.new ≤ word_bits + size + quarters output.old out.old }
 {
     let Some((code, count)) = codes.word(symbol) else {
@@ -76,18 +76,18 @@ fn number_of(value: i32, size: u8) -> u16
     }
 }
 
-// Two codes, one after the other, at once where they have sixteen bits at most.
+// Two codes, one after the other: at once where that is sixteen bits at most.
 #[inline(always)]
 fn put_both(code: u16, count: u8, next: u16, size: u8, output: &mut BitOut, out: &mut Piece)
     requires count { count ≤ 16 }
     requires code { code < 2 ^ count }
     requires size { size ≤ 11 }
     requires next { next < 2 ^ size }
-    requires begun { length output.old < 8 }
+    requires begun { IsBegun output.old }
     requires room { HasRoom (count + size) output.old out.old }
     ensures is { output_of output.new out.new
         ≡ appended (output_of output.old out.old) (low_bits count code ++ low_bits size next) }
-    ensures begun { length output.new < 8 }
+    ensures begun { IsBegun output.new }
     ensures spent { quarters output.new out.new ≤ count + size + quarters output.old out.old }
 {
     if count + size <= 16 {
@@ -98,16 +98,16 @@ fn put_both(code: u16, count: u8, next: u16, size: u8, output: &mut BitOut, out:
     }
 }
 
-// The low `count` bits of a code.
+// The low `count` bits of a code, which has no others.
 #[inline(always)]
 fn put(code: u16, count: u8, output: &mut BitOut, out: &mut Piece)
     requires count { count ≤ 16 }
     requires code { code < 2 ^ count }
-    requires begun { length output.old < 8 }
+    requires begun { IsBegun output.old }
     requires room { HasRoom count output.old out.old }
     ensures is { output_of output.new out.new
         ≡ appended (output_of output.old out.old) (low_bits count code) }
-    ensures begun { length output.new < 8 }
+    ensures begun { IsBegun output.new }
     ensures spent { quarters output.new out.new ≤ count + quarters output.old out.old }
 {
     output.put(code, count, out);

@@ -5,6 +5,7 @@ ghost use Rattle.bit_list.specs.Pieces.{piece_room};
 ghost use Rattle.huff_table.specs.PlanWords.{tables_of};
 ghost use Rattle.scan_text.specs.ScanCalls.{McuIsPut, writer_of};
 ghost use Rattle.scan_text.specs.Scans.{no_dcs};
+ghost use Rattle.scan_text.specs.ShapeInside.{most_slots};
 ghost use Rattle.scan_text.specs.Slots.{shape_of};
 ghost use Rattle.scan_text.specs.Spots.{marker_after};
 ghost use Rattle.scan_write.specs.Outputs.{mcu_room};
@@ -97,9 +98,18 @@ impl Writer {
         self.padded
     }
 
+    /// Blocks of an MCU, at most ten.
+    pub fn mcu_blocks(&self) -> usize
+        ensures value { result ≡ length self.now.shape.slots }
+        ensures few { result ≤ most_slots }
+    {
+        self.shape.blocks()
+    }
+
     /// Whether each MCU was written.
     pub fn at_end(&self) -> bool
-        ensures { result ≡ (self.now.spot.count == self.now.shape.mcus) }
+        ensures value { result ≡ (self.now.spot.count == self.now.shape.mcus) }
+        ensures within { self.now.spot.count ≤ self.now.shape.mcus }
     {
         self.count == self.shape.mcus()
     }

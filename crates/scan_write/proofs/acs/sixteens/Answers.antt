@@ -1,4 +1,4 @@
-use Rattle.std.proofs.Common.{◌≡◌, ◌<◌, ◌≤◌, ◌+◌, ◌-◌, ◌∙◌, length, ap, subst, arith}
+use Rattle.std.proofs.Common.{◌≡◌, ◌<◌, ◌+◌, ◌-◌, ◌∙◌, ap, subst, arith}
 use Rattle.std.proofs.lemmas.Result.{err_from_is_err_and}
 use Rattle.scan_text.specs.BlockBits.{Text, then_text, word_text, zeros_text}
 use Rattle.scan_text.proofs.Words.{zeros_none, zeros_more}
@@ -10,9 +10,9 @@ use Rattle.scan_write.proofs.acs.sixteens.Goals as goal
 pub returns-in_err-word-clause-is : goal.returns-in_err-word-clause-is
 returns-in_err-word-clause-is c =
     let codes = c.args.codes.now in
-    let left = c.args.times - c.loop.counter in
+    let left = c.args.count - c.loop.counter in
     let some : 0 < left = omega (arith, c.loop-test.true) in
-    let whole = zeros_text codes c.args.times in
+    let whole = zeros_text codes c.args.count in
     let old = output_of c.args.output.now c.args.out.now in
     let now = output_of c.loop.output c.loop.out in
     let at = subst (λ (t : Text). HasAppended whole old now t) (zeros_more codes left some) c.loop.invariant.going in
@@ -22,24 +22,24 @@ returns-in_err-word-clause-is c =
 pub loop-preserved : goal.loop-preserved
 loop-preserved c =
     let codes = c.args.codes.now in
-    let left = c.args.times - c.loop.counter in
+    let left = c.args.count - c.loop.counter in
     let some : 0 < left = omega (arith, c.loop-test.true) in
-    let next : left - 1 ≡ c.args.times - (c.loop.counter + 1) = omega arith in
-    let whole = zeros_text codes c.args.times in
+    let next : left - 1 ≡ c.args.count - (c.loop.counter + 1) = omega arith in
+    let whole = zeros_text codes c.args.count in
     let old = output_of c.args.output.now c.args.out.now in
     let now = output_of c.loop.output c.loop.out in
     let at = subst (λ (t : Text). HasAppended whole old now t) (zeros_more codes left some ∙ ap (λ n. then_text (word_text codes 240) (zeros_text codes n)) next) c.loop.invariant.going in
     record {
       begun = c.word.ensures.begun;
       spent = omega (arith, c.word.ensures.spent, c.loop.invariant.spent);
-      going = texts_more whole old now (output_of c.word.new.output c.word.new.out) (word_text codes 240) (zeros_text codes (c.args.times - (c.loop.counter + 1))) at c.in_ok-word.ensures.is;
+      going = texts_more whole old now (output_of c.word.new.output c.word.new.out) (word_text codes 240) (zeros_text codes (c.args.count - (c.loop.counter + 1))) at c.in_ok-word.ensures.is;
     }
 
 pub returns-clause-is : goal.returns-clause-is
 returns-clause-is c =
     let codes = c.args.codes.now in
-    let none : c.args.times - c.loop.counter ≡ 0 = omega (arith, c.loop-test.false) in
-    let whole = zeros_text codes c.args.times in
+    let none : c.args.count - c.loop.counter ≡ 0 = omega (arith, c.loop-test.false) in
+    let whole = zeros_text codes c.args.count in
     let old = output_of c.args.output.now c.args.out.now in
     let now = output_of c.loop.output c.loop.out in
     let at = subst (λ (t : Text). HasAppended whole old now t) (ap (zeros_text codes) none ∙ zeros_none codes) c.loop.invariant.going in

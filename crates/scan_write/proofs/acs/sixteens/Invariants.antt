@@ -8,5 +8,5 @@ abbrev pub invariant-loop : goal.invariant-loop
 invariant-loop l = record {
   begun : length l.output < 8;
   spent : quarters l.output l.out ≤ word_bits * l.counter + quarters l.fn.output l.fn.out;
-  going : HasAppended (zeros_text l.codes l.times) (output_of l.fn.output l.fn.out) (output_of l.output l.out) (zeros_text l.codes (l.times - l.counter));
+  going : HasAppended (zeros_text l.codes l.count) (output_of l.fn.output l.fn.out) (output_of l.output l.out) (zeros_text l.codes (l.count - l.counter));
 }

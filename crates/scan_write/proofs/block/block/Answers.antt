@@ -1,4 +1,4 @@
-use Rattle.std.proofs.Common.{◌≡◌, ap₂, sym, ◌∙◌, subst}
+use Rattle.std.proofs.Common.{ap₂, sym, ◌∙◌, subst}
 use Rattle.std.proofs.lemmas.Result.{err_from_is_err_and}
 use Rattle.scan_text.specs.BlockBits.{Text, dc_text, ac_text, ac_values, coefficient_at, block_text}
 use Rattle.scan_text.proofs.SignedValues.{kept_half}

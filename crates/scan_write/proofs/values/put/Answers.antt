@@ -1,5 +1,5 @@
-use Rattle.std.proofs.Common.{◌<◌, ◌≤◌, ◌+◌, ◌++◌, Bool, List, ℕ, length, sym, ap₂, ◌∙◌, subst, arith}
-use Rattle.bit_list.specs.Bits.{low_bits, begun_after, bytes_after, stuffed}
+use Rattle.std.proofs.Common.{◌<◌, Bool, List, length, sym, ap₂, subst, arith}
+use Rattle.bit_list.specs.Bits.{low_bits}
 use Rattle.bit_list.specs.NumbersOfBits.{length-low_bits}
 use Rattle.scan_write.specs.Outputs.{quarters}
 use Rattle.scan_write.proofs.OutputLemmas.{begun_few, bits_spent}

@@ -1,4 +1,4 @@
-use Rattle.std.proofs.Common.{◌≡◌, ◌++◌, ◌+◌, ◌*◌, ◌%◌, ◌^◌, Bool, List, refl, ap, ◌∙◌, rules, arith}
+use Rattle.std.proofs.Common.{◌+◌, ◌*◌, ◌%◌, ◌^◌, refl, ap, ◌∙◌, arith}
 use Rattle.bit_list.specs.Bits.{low_bits}
 use Rattle.scan_write.specs.Outputs.{OutputState, output_of, appended}
 use Rattle.scan_write.proofs.OutputLemmas.{appended_twice}
