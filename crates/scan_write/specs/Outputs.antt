@@ -23,7 +23,7 @@ appended output bits = record {
   bytes = output.bytes ++ stuffed (bytes_after output.begun bits);
 }
 
--- how many quarters of a byte were put out, a bit of the byte begun being one: eight bits become two bytes at most
+-- quarters of a byte that were put out, a bit being one at most: eight bits are two bytes at most
 abbrev pub quarters : List Bool → List ℕ → ℕ
 quarters begun bytes = length begun + 4 * length bytes
 
@@ -51,6 +51,6 @@ ac_bits = 63 * coefficient_bits
 abbrev pub block_bits : ℕ
 block_bits = dc_bits + ac_bits
 
--- how many free bytes are enough for an MCU: those of 7 and then 16,650 bits, stuffed, of a padded byte and of a marker
+-- free bytes that are enough for an MCU: for 7 and 16,650 bits, stuffed, a padded byte and a marker
 abbrev pub mcu_room : ℕ
 mcu_room = 4168

@@ -4,7 +4,6 @@ use Rattle.std.specs.List.{All}
 use Rattle.coef_block.specs.Block.{IsDc}
 use Rattle.scan_text.specs.Scans.{Mcu}
 use Rattle.scan_text.specs.ScanCalls.{ScanWriter, McuIsPutOn}
-use Rattle.scan_text.specs.ShapeInside.{most_slots}
 use Rattle.scan_text.specs.Spots.{mcu_put}
 use Rattle.scan_text.specs.declared.stop.WriteStop.{WriteStop}
 use Rattle.scan_write.specs.Outputs.{IsBegun}
@@ -20,13 +19,12 @@ writer_in w = record {
   stop = w.stop;
 }
 
--- a byte is begun at most, the last DCs are some that blocks can have, and no more MCUs were written than there are
+-- one byte at most is begun, the last DCs are DCs of blocks, and no more MCUs were written than there are
 pub record IsWriter (w : Inside) : Type 0 where
   pub begun : IsBegun w.output
   pub before : All IsDc w.before
   pub count : w.count ≤ w.shape.mcus
   pub size : w.shape.mcus < 2 ^ 32
-  pub blocks : length w.shape.slots ≤ most_slots
 
 -- an MCU's bytes were appended, or some bytes, where it has a stop, and the writer is as before
 abbrev pub McuIsTried : {A : Type 0} → ScanWriter → Mcu → List ℕ → Result A WriteStop → ScanWriter

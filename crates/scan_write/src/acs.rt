@@ -1,5 +1,5 @@
 // The AC coefficients of a block.
-ghost use Rattle.std.specs.Prelude.{◌≡◌, ◌+◌, ◌*◌, ◌<◌, ◌≤◌, List, ℤ, ◌∷◌, length, IfOk, IfErr, OnOk};
+ghost use Rattle.std.specs.Prelude.{◌+◌, ◌*◌, ◌<◌, ◌≤◌, List, ℤ, ◌∷◌, IfOk, IfErr, OnOk};
 ghost use Rattle.coef_block.specs.Block.{IsAc};
 ghost use Rattle.scan_text.specs.BlockBits.{Text, zeros_text, coefficient_text, ac_text, ac_values};
 ghost use Rattle.scan_write.specs.Outputs.{OutputState, output_of, quarters, HasRoom, word_bits, coefficient_bits, ac_bits, IsBegun};

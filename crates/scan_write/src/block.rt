@@ -1,5 +1,5 @@
 // A block.
-ghost use Rattle.std.specs.Prelude.{◌≡◌, ◌+◌, ◌<◌, ◌≤◌, length, IfOk};
+ghost use Rattle.std.specs.Prelude.{◌≡◌, ◌+◌, ◌≤◌, IfOk};
 ghost use Rattle.coef_block.specs.Block.{IsDc};
 ghost use Rattle.scan_text.specs.BlockBits.{coefficient_at, block_text};
 ghost use Rattle.scan_write.specs.Outputs.{output_of, quarters, HasRoom, block_bits, IsBegun};

@@ -1,5 +1,5 @@
 // The DC of a block.
-ghost use Rattle.std.specs.Prelude.{◌≡◌, ◌+◌, ◌<◌, ◌≤◌, length};
+ghost use Rattle.std.specs.Prelude.{◌+◌, ◌≤◌};
 ghost use Rattle.coef_block.specs.Block.{IsDc};
 ghost use Rattle.scan_text.specs.BlockBits.{dc_text};
 ghost use Rattle.scan_write.specs.Outputs.{output_of, quarters, HasRoom, dc_bits, IsBegun};

@@ -18,8 +18,8 @@ type Written<'a> = (&'a [u8], bool);
 // A name, the parts of a header, the pad bit, the coefficients that aren't 0, and what is written.
 type Row<'a> = (&'a str, &'a [&'a [u8]], bool, &'a [Value], Written<'a>);
 
-// A name, the parts of a header, the coefficients that aren't 0, how many MCUs are written, their bytes, and the stop of
-// the next one.
+// A name, the parts of a header, the coefficients that aren't 0, how many MCUs are written, their bytes, and the stop
+// of the next one.
 type Stop<'a> = (
     &'a str,
     &'a [&'a [u8]],
@@ -58,8 +58,8 @@ const RESTARTS: &[u8] = b"\xff\xdd\0\x04\0\x01";
 
 const RESTARTS_AFTER_TWO: &[u8] = b"\xff\xdd\0\x04\0\x02";
 
-// DC tables: `0` for category 0; `0` for 0 and `1` for 1; `0` for 1 and `1` for 0; `0` for 11; fifteen ones and `0` for
-// 11; Table K.3.
+// DC tables: `0` for category 0; `0` for 0 and `1` for 1; `0` for 1 and `1` for 0; `0` for 11; fifteen ones and `0`
+// for 11; Table K.3.
 const LEVEL: &[u8] = b"\xff\xc4\0\x14\0\x01\0\0\0\0\0\0\0\0\0\0\0\0\0\0\0\0";
 
 const STEPS: &[u8] = b"\xff\xc4\0\x15\0\x02\0\0\0\0\0\0\0\0\0\0\0\0\0\0\0\0\x01";
@@ -68,14 +68,21 @@ const ONES: &[u8] = b"\xff\xc4\0\x15\0\x02\0\0\0\0\0\0\0\0\0\0\0\0\0\0\0\x01\0";
 
 const ELEVEN: &[u8] = b"\xff\xc4\0\x14\0\x01\0\0\0\0\0\0\0\0\0\0\0\0\0\0\0\x0b";
 
-const LONG_ELEVEN: &[u8] =
-    b"\xff\xc4\0\x23\0\x01\x01\x01\x01\x01\x01\x01\x01\x01\x01\x01\x01\x01\x01\x01\x01\0\x01\x02\x03\x04\x05\x06\x07\x08\x09\x0a\x0c\x0d\x0e\x0f\x0b";
+const LONG_ELEVEN: &[u8] = &[
+    0xff, 0xc4, 0x00, 0x23, 0x00, 0x01, 0x01, 0x01, 0x01, 0x01, 0x01, 0x01, 0x01, 0x01, 0x01, 0x01,
+    0x01, 0x01, 0x01, 0x01, 0x01, 0x00, 0x01, 0x02, 0x03, 0x04, 0x05, 0x06, 0x07, 0x08, 0x09, 0x0a,
+    0x0c, 0x0d, 0x0e, 0x0f, 0x0b,
+];
 
-const TABLE_K3: &[u8] =
-    b"\xff\xc4\0\x1f\0\0\x01\x05\x01\x01\x01\x01\x01\x01\0\0\0\0\0\0\0\0\x01\x02\x03\x04\x05\x06\x07\x08\x09\x0a\x0b";
+const TABLE_K3: &[u8] = &[
+    0xff, 0xc4, 0x00, 0x1f, 0x00, 0x00, 0x01, 0x05, 0x01, 0x01, 0x01, 0x01, 0x01, 0x01, 0x00, 0x00,
+    0x00, 0x00, 0x00, 0x00, 0x00, 0x00, 0x01, 0x02, 0x03, 0x04, 0x05, 0x06, 0x07, 0x08, 0x09, 0x0a,
+    0x0b,
+];
 
-// AC tables: `0` for the end of a block; `0` for 01 and `1` for the end; `0` for 31 and `1` for the end; `0` for F0, `10`
-// for 01, `110` for E1 and `111` for the end; fifteen ones and `0` for 0A; the words of Table K.5 of up to five bits.
+// AC tables: `0` for the end of a block; `0` for 01 and `1` for the end; `0` for 31 and `1` for the end; `0` for F0,
+// `10` for 01, `110` for E1 and `111` for the end; fifteen ones and `0` for 0A; the words of Table K.5 of up to five
+// bits.
 const END: &[u8] = b"\xff\xc4\0\x14\x10\x01\0\0\0\0\0\0\0\0\0\0\0\0\0\0\0\0";
 
 const ONES_AND_END: &[u8] = b"\xff\xc4\0\x15\x10\x02\0\0\0\0\0\0\0\0\0\0\0\0\0\0\0\x01\0";
@@ -84,11 +91,16 @@ const THREE_ZEROS: &[u8] = b"\xff\xc4\0\x15\x10\x02\0\0\0\0\0\0\0\0\0\0\0\0\0\0\
 
 const RUNS: &[u8] = b"\xff\xc4\0\x17\x10\x01\x01\x02\0\0\0\0\0\0\0\0\0\0\0\0\0\xf0\x01\xe1\0";
 
-const LONG_TEN: &[u8] =
-    b"\xff\xc4\0\x23\x10\x01\x01\x01\x01\x01\x01\x01\x01\x01\x01\x01\x01\x01\x01\x01\x01\x01\x02\x03\x04\x05\x06\x07\x08\x09\xf0\0\x11\x12\x13\x14\x0a";
+const LONG_TEN: &[u8] = &[
+    0xff, 0xc4, 0x00, 0x23, 0x10, 0x01, 0x01, 0x01, 0x01, 0x01, 0x01, 0x01, 0x01, 0x01, 0x01, 0x01,
+    0x01, 0x01, 0x01, 0x01, 0x01, 0x01, 0x02, 0x03, 0x04, 0x05, 0x06, 0x07, 0x08, 0x09, 0xf0, 0x00,
+    0x11, 0x12, 0x13, 0x14, 0x0a,
+];
 
-const SHORT_K5: &[u8] =
-    b"\xff\xc4\0\x1c\x10\0\x02\x01\x03\x03\0\0\0\0\0\0\0\0\0\0\0\x01\x02\x03\0\x04\x11\x05\x12\x21";
+const SHORT_K5: &[u8] = &[
+    0xff, 0xc4, 0x00, 0x1c, 0x10, 0x00, 0x02, 0x01, 0x03, 0x03, 0x00, 0x00, 0x00, 0x00, 0x00, 0x00,
+    0x00, 0x00, 0x00, 0x00, 0x00, 0x01, 0x02, 0x03, 0x00, 0x04, 0x11, 0x05, 0x12, 0x21,
+];
 
 const SCANS: &[Row<'static>] = &[
     (
@@ -153,7 +165,10 @@ const SCANS: &[Row<'static>] = &[
         true,
         &[],
         (
-            b"\x3f\xff\xd0\x3f\xff\xd1\x3f\xff\xd2\x3f\xff\xd3\x3f\xff\xd4\x3f\xff\xd5\x3f\xff\xd6\x3f\xff\xd7\x3f\xff\xd0\x3f",
+            &[
+                0x3f, 0xff, 0xd0, 0x3f, 0xff, 0xd1, 0x3f, 0xff, 0xd2, 0x3f, 0xff, 0xd3, 0x3f, 0xff,
+                0xd4, 0x3f, 0xff, 0xd5, 0x3f, 0xff, 0xd6, 0x3f, 0xff, 0xd7, 0x3f, 0xff, 0xd0, 0x3f,
+            ],
             true,
         ),
     ),
@@ -372,7 +387,7 @@ fn stopped_scans(rt: HostRuntime) -> Result<(), Fail> {
     Ok(())
 }
 
-// Ten blocks of the most bits, in the least room: 2,082 bytes, of which 1,442 are 0xff. Before them stand 2,012 markers.
+// Ten blocks of the most bits, in the least room: 2,082 bytes, of which 1,442 are 0xff, after 2,012 markers.
 #[test]
 fn largest_mcu(rt: HostRuntime) -> Result<(), Fail> {
     let plan = planned(

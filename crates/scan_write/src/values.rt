@@ -1,5 +1,5 @@
 // Code words, and values by their category.
-ghost use Rattle.std.specs.Prelude.{◌≡◌, ◌+◌, ◌^◌, ◌<◌, ◌≤◌, ◌++◌, length, unsigned_abs};
+ghost use Rattle.std.specs.Prelude.{◌≡◌, ◌+◌, ◌^◌, ◌<◌, ◌≤◌, ◌++◌, unsigned_abs};
 ghost use Rattle.bit_list.specs.Bits.{low_bits};
 ghost use Rattle.coef_block.specs.Block.{most_difference};
 ghost use Rattle.coef_block.specs.Categories.{category};

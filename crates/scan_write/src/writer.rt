@@ -1,5 +1,5 @@
 // A scan, MCU by MCU.
-ghost use Rattle.std.specs.Prelude.{◌≡◌, ◌+◌, ◌<◌, ◌≤◌, ◌==◌, ◌||◌, ◌&&◌, not, ◌++◌, [], length, map};
+ghost use Rattle.std.specs.Prelude.{◌≡◌, ◌+◌, ◌<◌, ◌≤◌, ◌==◌, ◌||◌, not, ◌++◌, [], length, map};
 ghost use Rattle.bit_list.specs.Bits.{bytes_after, padding, stuffed};
 ghost use Rattle.bit_list.specs.Pieces.{piece_room};
 ghost use Rattle.huff_table.specs.PlanWords.{tables_of};
@@ -25,7 +25,7 @@ pub const MCU_ROOM: usize = 4_168;
 
 /// A scan that is written MCU by MCU (ITU-T T.81, F.1.2). It keeps the first stop, and takes no memory.
 ///
-/// Clauses see the scan's shape, its pad bit, the spot that the writer came to, whether a bit was padded, and its stop.
+/// Clauses see the scan's shape, its pad bit, the spot after the last MCU, whether a bit was padded, and the stop.
 #[derive(Drop)]
 pub struct Writer {
     shape: ScanShape,
@@ -67,10 +67,10 @@ impl Writer {
         }
     }
 
-    /// Appends the bytes of the next MCU, given a block for each of its blocks (A.2.3), each in natural order: those that
-    /// its bits complete, and after the last MCU of an interval or of the scan the padded byte, and the marker, if another
-    /// interval follows. Stopped by the first cause in writing order why it has no bits; then no byte of it is there, and
-    /// that stop is answered from then on.
+    /// Appends the bytes of the next MCU, given its blocks in their order (A.2.3): those that its bits complete, and
+    /// where an interval or the scan ends, the padded byte, and the marker, if another interval follows. An MCU that
+    /// has no bits is stopped by the first cause in writing order: then none of its bytes are there, and that stop is
+    /// answered from then on.
     pub fn mcu(&mut self, blocks: &[Block], out: &mut Piece) -> Result<(), WriteStop>
         requires more { self.old.spot.count < self.old.shape.mcus }
         requires long { length blocks.now ≡ length self.old.shape.slots }
@@ -114,6 +114,7 @@ impl Writer {
         self.count == self.shape.mcus()
     }
 
+    // Appends an MCU, or after a stop some bytes that don't count.
     fn try_mcu(&mut self, mcu: &[Block], out: &mut Piece) -> Result<(), WriteStop>
         requires more { self.old.spot.count < self.old.shape.mcus }
         requires long { length mcu.now ≡ length self.old.shape.slots }
