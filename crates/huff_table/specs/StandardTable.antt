@@ -3,6 +3,7 @@ use Rattle.std.specs.Prelude.{ℕ, List, [], ◌∷◌}
 use Rattle.jpeg_marker.specs.HuffmanTables.{TableFields}
 use Rattle.huff_table.specs.CodeWords.{CodeWord}
 
+-- DC differences of luminance (Table K.3)
 abbrev pub table_k3 : TableFields
 table_k3 = record {
   counts = 0 ∷ 1 ∷ 5 ∷ 1 ∷ 1 ∷ 1 ∷ 1 ∷ 1 ∷ 1 ∷ 0 ∷ 0 ∷ 0 ∷ 0 ∷ 0 ∷ 0 ∷ 0 ∷ [];

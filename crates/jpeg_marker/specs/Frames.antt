@@ -38,6 +38,7 @@ frames_in s = if s.code == 0xc0 then frame_at s.body ∷ [] else []
 abbrev pub frame_of : List Segment → Option FrameFields
 frame_of segments = last_of (flat_map frames_in segments)
 
+-- sampling factors from 1 to 4 (B.2.2)
 abbrev pub is_sampled : FrameComponent → Bool
 is_sampled p = nat_le 1 p.h && nat_le p.h 4 && nat_le 1 p.v && nat_le p.v 4
 

@@ -37,6 +37,7 @@ IsStuck before rest refusal =
     ⊎ ((s : Segment) × (after : List ℕ) × IsWhole s × (rest ≡ segment_text s ++ after)
     × (fault_of before (length_place before s) s ≡ Some refusal))
 
+-- the bytes begin as a header does, and stop being one with this refusal (own)
 pub record Stops (bytes : List ℕ) (refusal : HeaderRefusal) : Type 0 where
   pub before : List Segment
   pub rest : List ℕ

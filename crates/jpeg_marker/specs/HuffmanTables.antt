@@ -9,6 +9,7 @@ pub record TableFields : Type 0 where
   pub counts : List ℕ
   pub values : List ℕ
 
+-- a table without a code word (own)
 abbrev pub no_table : TableFields
 no_table = record { counts = replicate 16 0; values = [] }
 
@@ -37,9 +38,11 @@ tables_after zero (byte ∷ bytes) =
 abbrev pub tables_in : Segment → List Table
 tables_in s = if s.code == 0xc4 then tables_after 0 s.body else []
 
+-- those that several segments define, in their order
 abbrev pub tables_of : List Segment → List Table
 tables_of segments = flat_map tables_in segments
 
+-- whether a table has this class and number
 abbrev pub is_of : ℕ → ℕ → Table → Bool
 is_of class number t = t.class == class && t.number == number
 

@@ -4,6 +4,7 @@ use Rattle.jpeg_marker.specs.Plans.{PlanFields, IsPlan}
 use Rattle.jpeg_marker.specs.Components.{no_component}
 use Rattle.jpeg_marker.specs.declared.plan.Plan.TheInside.{Inside}
 
+-- a plan of the components that there are
 abbrev pub plan_fields : Inside → PlanFields
 plan_fields p = record {
   components = take p.count p.components;
@@ -20,6 +21,7 @@ pub record IsPlanInside (p : Inside) : Type 0 where
   pub long : length (take p.count p.components) ≡ p.count
   pub blank : p.components ≡ take p.count p.components ++ replicate (4 - p.count) no_component
 
+-- what is kept of it
 abbrev pub plan_inside : PlanFields → Inside
 plan_inside p = record {
   components = p.components ++ replicate (4 - length p.components) no_component;

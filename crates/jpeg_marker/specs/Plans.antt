@@ -31,6 +31,7 @@ selectors_of (id ∷ tables ∷ bytes) =
 abbrev pub scan_count : List ℕ → ℕ
 scan_count body = get_or body 0 0
 
+-- its components (B.2.3)
 abbrev pub scan_selectors : List ℕ → List ScanComponent
 scan_selectors body = selectors_of (take (2 * scan_count body) (drop 1 body))
 
@@ -41,6 +42,7 @@ names_all [] (s ∷ selectors) = false
 names_all (p ∷ parts) [] = false
 names_all (p ∷ parts) (s ∷ selectors) = p.id == s.id && names_all parts selectors
 
+-- numbers of tables from 0 to 3 (B.2.3)
 abbrev pub is_in_range : ScanComponent → Bool
 is_in_range s = nat_le s.dc 3 && nat_le s.ac 3
 
@@ -87,6 +89,7 @@ cover samples blocks = (samples + (8 * blocks - 1)) / (8 * blocks)
 abbrev pub across_of : FrameFields → ℕ
 across_of f = cover f.width (if length f.parts == 1 then 1 else largest (λ p. p.h) f.parts)
 
+-- rows of MCUs (A.2.2, A.2.3)
 abbrev pub down_of : FrameFields → ℕ
 down_of f = cover f.height (if length f.parts == 1 then 1 else largest (λ p. p.v) f.parts)
 
@@ -94,9 +97,11 @@ down_of f = cover f.height (if length f.parts == 1 then 1 else largest (λ p. p.
 abbrev pub blocks_in_mcu : List FrameComponent → ℕ
 blocks_in_mcu parts = if length parts == 1 then 1 else sum_by area parts
 
+-- blocks of the whole grid (A.2)
 abbrev pub blocks_of : FrameFields → ℕ
 blocks_of f = across_of f * down_of f * blocks_in_mcu f.parts
 
+-- the most blocks of a grid that is taken (own)
 abbrev pub most_blocks : ℕ
 most_blocks = 4194304
 

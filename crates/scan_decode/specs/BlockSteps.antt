@@ -8,6 +8,7 @@ use Rattle.scan_text.specs.declared.refusal.ScanRefusal.{ScanRefusal}
 use Rattle.scan_decode.specs.declared.acs.Step.{Step}
 use Rattle.scan_decode.specs.declared.acs.Step.TheVariants as steps
 
+-- what a step of the program says of a symbol
 abbrev pub step_symbol : Step → Symbol
 step_symbol (steps.Value zeros size) = reading.Value zeros size
 step_symbol steps.Sixteen = reading.Sixteen

@@ -84,6 +84,7 @@ symbol_of_none left loose zeros =
     else if zeros == 15 then (if nat_le left 16 then Past else Sixteen)
     else Unknown
 
+-- a symbol, by the coefficients left and whether sixteen zeros came before it (F.2.2.2)
 abbrev pub symbol_of : ℕ → Bool → ℕ → Symbol
 symbol_of left loose symbol =
     if symbol % 16 == 0 then symbol_of_none left loose (symbol / 16)
