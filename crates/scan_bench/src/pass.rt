@@ -83,7 +83,7 @@ pub(crate) fn both(
         put(&mut writer, out, &mut piece)?;
     }
     rest = after(rest, &mut piece)?;
-    let end = bytes.len() - rest.len();
+    let end = bytes.len().checked_sub(rest.len())?;
     (end == reader.end().1).then_some(Passed {
         bytes: end.wrapping_sub(start),
         mcus: plan.mcus(),
