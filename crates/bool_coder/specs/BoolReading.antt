@@ -36,7 +36,8 @@ pub record Seen : Type 0 where
   pub range : ℕ
   pub position : ℕ
 
--- one past the bit offset of the last byte's last bit (own): there each bit is a zero, and the stream of the bools longer
+-- one past the bit offset of the last byte's last bit (own): there each bit is a zero, and the stream of the bools
+-- longer
 abbrev pub end_position : List ℕ → ℕ
 end_position bytes = 8 * (length bytes - 1) + 1
 

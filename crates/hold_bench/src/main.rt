@@ -1,5 +1,5 @@
-//! `hold_bench HOLDS THREADS`, for `bench/holds`: threads that hold a lock HOLDS times in all, where THREADS divides it,
-//! and add 1 each time. Prints what a last hold finds. Ends with 2 where the words aren't two such numbers.
+//! `hold_bench HOLDS THREADS`, for `bench/holds`: threads that hold a lock HOLDS times in all, where THREADS divides
+//! it, and add 1 each time. Prints what a last hold finds. Ends with 2 where the words aren't two such numbers.
 #![tactic(auto)]
 
 ghost use Rattle.std.specs.Prelude.{◌≡◌, ◌<◌, All, IfOk};

@@ -10,7 +10,8 @@ pub record CodeWord : Type 0 where
   pub size : ℕ
   pub code : ℕ
 
--- how many bits each code word has, in turn, where the first count is of this size and each further one of the next (C.2)
+-- how many bits each code word has, in turn, where the first count is of this size and each further one of the next
+-- (C.2)
 abbrev pub sizes_from : ℕ → List ℕ → List ℕ
 sizes_from size [] = []
 sizes_from size (count ∷ counts) = replicate count size ++ sizes_from (size + 1) counts

@@ -81,7 +81,8 @@ impl Codes {
         Some((word.code, word.size))
     }
 
-    /// Takes the value whose code word stands next. A fault leaves the input after the bits that were looked at, 16 at most.
+    /// Takes the value whose code word stands next. A fault leaves the input after the bits that were looked at, 16
+    /// at most.
     pub fn next(&self, input: &mut BitIn) -> Result<u8, CodeFault>
         ensures ok { IfOk result
             (λ value. value_at self.now input.old.bytes input.old.cursor

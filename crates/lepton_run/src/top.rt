@@ -77,7 +77,8 @@ pub fn run<R: Threads + Wait + Sync, S: Source, K: Sink + Send, N: Sink + Send, 
     // The note of each status but 1.
     ensures said { result ≢ 1 → Notes N.held N.faults N.full note.old note.new (line_at result) }
 
-    // Bytes within the limit of which the command makes something are taken, unless an end failed or there was no memory.
+    // Bytes within the limit of which the command makes something are taken, unless an end failed or there was no
+    // memory.
     ensures complete { (command : Command) → Means (map string_bytes words.now) command
         → ¬ Rose S.faults S.full source.old source.new → ¬ Rose K.faults K.full sink.old sink.new
         → IfSome (S.left source.old) (λ bytes. length bytes ≤ limit_of command

@@ -1,6 +1,7 @@
-//! `scan_bench read TIMES` and `scan_bench both TIMES`, for `bench/scan`: reads a JPEG file on standard input, and then its
-//! scan TIMES times; with `both` it writes each MCU again too, and what it writes has to be the scan. Prints the bytes of
-//! the scan and its MCUs. Ends with 1 where the file is refused or doesn't come back, with 2 where the words are others.
+//! `scan_bench read TIMES` and `scan_bench both TIMES`, for `bench/scan`: reads a JPEG file on standard input, and
+//! then its scan TIMES times; with `both` it writes each MCU again too, and what it writes has to be the scan. Prints
+//! the bytes of the scan and its MCUs. Ends with 1 where the file is refused or doesn't come back, with 2 where the
+//! words are others.
 #![tactic(auto)]
 
 mod pass;

@@ -9,6 +9,7 @@ use Rattle.std.proofs.Math.Pow.{pow_mono}
 use mir.Val.{to_z, of_z}
 use Rattle.bit_list.specs.Bits.{low_bits, number_of}
 use Rattle.bit_list.specs.NumbersOfBits.{length-low_bits, number_again}
+use Rattle.scan_text.proofs.ValueLemmas.{extend_high, extend_low}
 use Rattle.scan_text.specs.ValueBits.{extend}
 
 pub fits_word : (z : ℤ) → unsigned_abs z ≤ 65534 → FitsSigned w32 z
@@ -17,30 +18,6 @@ fits_word (negsuc n) h = record { sfits = omega arith }
 
 pub kept_word : (z : ℤ) → unsigned_abs z ≤ 65534 → to_z w32 (of_z w32 z) ≡ z
 kept_word z h = to_z-of_z w32 z (fits_word z h)
-
--- the highest bit of a number with so many bits is a one
-first_one : (k n : ℕ) → n < 2 ^ suc k → 2 ^ k ≤ n → (bit_at n k == 1) ≡ true
-first_one k n below least =
-    let whole : 1 * 2 ^ k + (n - 2 ^ k) ≡ n = omega arith in
-    let shifted = shr_high 1 k (n - 2 ^ k) (omega (arith, pow-suc 2 k)) in
-    ap (λ (q : ℕ). q % 2 == 1) (ap (λ (m : ℕ). m / 2 ^ k) (sym whole) ∙ shifted)
-
-first_zero : (k n : ℕ) → n < 2 ^ k → (bit_at n k == 1) ≡ false
-first_zero k n below = ap (λ (bit : ℕ). bit == 1) (bit_at_above n k k below (omega arith))
-
-extend_high : (k n : ℕ) → n < 2 ^ suc k → 2 ^ k ≤ n → extend (low_bits (suc k) n) ≡ pos n
-extend_high k n below least =
-    let first = first_one k n below least in
-    ap (λ (bit : Bool). extend (bit ∷ low_bits k n)) first
-    ∙ ap (λ (bit : Bool). pos (number_of (bit ∷ low_bits k n))) (sym first)
-    ∙ ap pos (number_again (suc k) n below)
-
-extend_low : (k n : ℕ) → n < 2 ^ k → extend (low_bits (suc k) n) ≡ neg_ℤ (pos (2 ^ suc k - 1 - n))
-extend_low k n below =
-    let first = first_zero k n below in
-    ap (λ (bit : Bool). extend (bit ∷ low_bits k n)) first
-    ∙ ap (λ (bit : Bool). neg_ℤ (pos (2 ^ length (bit ∷ low_bits k n) - 1 - number_of (bit ∷ low_bits k n)))) (sym first)
-    ∙ ap₂ (λ (count number : ℕ). neg_ℤ (pos (2 ^ count - 1 - number))) (length-low_bits (suc k) n) (number_again (suc k) n (omega (arith, pow-suc 2 k)))
 
 minus : (p n : ℕ) → n < p → pos n -ℤ (pos p -ℤ pos 1) ≡ neg_ℤ (pos (p - 1 - n))
 minus p n h = omega (arith, ints)

@@ -14,7 +14,8 @@ reader_of r = record {
   stop = r.stop;
 }
 
--- the last DCs are some that blocks can have, no more MCUs were read than there are, and the bits are those of the bytes
+-- the last DCs are some that blocks can have, no more MCUs were read than there are, and the bits are those of the
+-- bytes
 pub record IsReader (r : Inside) : Type 0 where
   pub before : All IsDc r.before
   pub count : r.count ≤ r.shape.mcus

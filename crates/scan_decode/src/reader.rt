@@ -61,7 +61,7 @@ impl<'a> Reader<'a> {
         }
     }
 
-    /// McuIsRead the next MCU into `out`, a block for each of its blocks (A.2.3), in natural order. Refused with the first
+    /// Reads the next MCU into `out`, a block for each of its blocks (A.2.3), in natural order. Refused with the first
     /// item that doesn't stand or can't stand there, by its place; that refusal is answered from then on. On a refusal
     /// `out` holds nothing of worth.
     pub fn next_mcu(&mut self, out: &mut [Block]) -> Result<(), ScanRefusal>

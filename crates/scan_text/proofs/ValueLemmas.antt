@@ -53,7 +53,7 @@ first_zero : (k n : ℕ) → n < 2 ^ k → (bit_at n k == 1) ≡ false
 first_zero k n below = ap (λ (bit : ℕ). bit == 1) (bit_at_above n k k below (omega arith))
 
 -- a number with so many bits is the value of them
-extend_high : (k n : ℕ) → n < 2 ^ suc k → 2 ^ k ≤ n → extend (low_bits (suc k) n) ≡ pos n
+pub extend_high : (k n : ℕ) → n < 2 ^ suc k → 2 ^ k ≤ n → extend (low_bits (suc k) n) ≡ pos n
 extend_high k n below least =
     let first = first_one k n below least in
     ap (λ (bit : Bool). extend (bit ∷ low_bits k n)) first
@@ -61,7 +61,7 @@ extend_high k n below least =
     ∙ ap pos (number_again (suc k) n below)
 
 -- a number with fewer bits gives what is left of it up to all ones, from below
-extend_low : (k n : ℕ) → n < 2 ^ k → extend (low_bits (suc k) n) ≡ neg_ℤ (pos (2 ^ suc k - 1 - n))
+pub extend_low : (k n : ℕ) → n < 2 ^ k → extend (low_bits (suc k) n) ≡ neg_ℤ (pos (2 ^ suc k - 1 - n))
 extend_low k n below =
     let first = first_zero k n below in
     ap (λ (bit : Bool). extend (bit ∷ low_bits k n)) first

@@ -18,9 +18,10 @@ use Rattle.scan_text.specs.declared.slot.Slot.{Slot}
 use Rattle.scan_text.specs.declared.refusal.ScanRefusal.{ScanRefusal}
 use Rattle.scan_text.specs.declared.refusal.ScanRefusal.TheVariants as refusals
 
--- The item that is due (own). In a slot: the word of a DC's category; the bits of a DC of a category; the word of a symbol,
--- by how many coefficients are left and whether F0 came before it; the bits of a coefficient, by how many are left after it
--- and its category. The pad bits of an interval, its marker, or none. After an item that can't stand there: its refusal.
+-- The item that is due (own). In a slot: the word of a DC's category; the bits of a DC of a category; the word of a
+-- symbol, by how many coefficients are left and whether F0 came before it; the bits of a coefficient, by how many are
+-- left after it and its category. The pad bits of an interval, its marker, or none. After an item that can't stand
+-- there: its refusal.
 pub data Due : Type 0 where
   DcWord : Slot → Due
   DcBits : Slot → ℕ → Due
@@ -31,8 +32,8 @@ pub data Due : Type 0 where
   Over : Due
   Wrong : (ℕ → ScanRefusal) → Due
 
--- so far (own): the further slots of this MCU, the last DC of each component in this interval, how many MCUs came before,
--- and the pad bit
+-- so far (own): the further slots of this MCU, the last DC of each component in this interval, how many MCUs came
+-- before, and the pad bit
 pub record Run : Type 0 where
   pub slots : List Slot
   pub before : List ℤ

@@ -27,8 +27,8 @@ reader_at shape bytes place = record {
   stop = None;
 }
 
--- the place where a reader that begins at a cursor starts (own): that of a unit whose bits were taken in part, or else of
--- the next one
+-- the place where a reader that begins at a cursor starts (own): that of a unit whose bits were taken in part, or
+-- else of the next one
 abbrev pub resume_place : Cursor → ℕ
 resume_place cursor = if length cursor.left == 0 then cursor.next else cursor.last
 

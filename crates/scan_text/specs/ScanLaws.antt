@@ -100,8 +100,8 @@ AreBlocksReadAgain =
     → blocks_at slots before bytes from
     ≡ Ok (record { blocks = map in_zigzag mcu; before = dcs_after slots before mcu; cursor = to })
 
--- a writer's spot and a reader's standing agree, the writer's next byte having its place here: the bits of the byte begun
--- are those that the reader took from there, and both have the same last DCs and count of MCUs
+-- a writer's spot and a reader's standing agree, the writer's next byte having its place here: the bits of the byte
+-- begun are those that the reader took from there, and both have the same last DCs and count of MCUs
 pub record StandTogether (bytes : List ℕ) (place : ℕ) (spot : Spot) (at : Standing) : Type 0 where
   pub begun : length spot.begun < 8
   pub spans : Spans bytes (starting place 0) spot.begun at.cursor

@@ -167,8 +167,8 @@ pad_of None bits = None
 pad_of (Some pad) [] = Some pad
 pad_of (Some pad) (bit ∷ bits) = pad_of (pad_with pad bit) bits
 
--- between two MCUs (own): the cursor, the last DC of each component in this interval, how many MCUs came before, and the
--- pad bit of the intervals before, if one of them had any
+-- between two MCUs (own): the cursor, the last DC of each component in this interval, how many MCUs came before, and
+-- the pad bit of the intervals before, if one of them had any
 pub record Standing : Type 0 where
   pub cursor : Cursor
   pub before : List ℤ

@@ -22,8 +22,8 @@ slots_of [] = []
 slots_of (c ∷ []) = slot_of 0 c ∷ []
 slots_of (c ∷ d ∷ components) = slots_from 0 (c ∷ d ∷ components)
 
--- what a scan is made of (own): the blocks of an MCU, how many MCUs there are, and how many MCUs a restart interval has,
--- 0 where there are no restarts (B.2.4.4)
+-- what a scan is made of (own): the blocks of an MCU, how many MCUs there are, and how many MCUs a restart interval
+-- has, 0 where there are no restarts (B.2.4.4)
 pub record Shape : Type 0 where
   pub slots : List Slot
   pub mcus : ℕ

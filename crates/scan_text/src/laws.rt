@@ -79,8 +79,8 @@ pub fn blocks_are_text()
     ensures short { TextsAreShort }
 {}
 
-/// A scan that is read has the bytes that stand there, a scan whose bytes stand there is read, and so bytes determine the
-/// MCUs, the pad bit and the trailer.
+/// A scan that is read has the bytes that stand there, a scan whose bytes stand there is read, and so bytes determine
+/// the MCUs, the pad bit and the trailer.
 pub fn scans_are_text()
     ensures mcu { IsMcuSpelled }
     ensures mcu_again { IsMcuReadAgain }
@@ -89,8 +89,8 @@ pub fn scans_are_text()
     ensures one { OneScan }
 {}
 
-/// A header that is taken gives the shape of a scan. A file determines its header's plan, its MCUs, its pad bit and what
-/// follows the scan.
+/// A header that is taken gives the shape of a scan. A file determines its header's plan, its MCUs, its pad bit and
+/// what follows the scan.
 pub fn a_file_has_one_reading()
     ensures shape { AcceptedIsShape }
     ensures one { OneFile }
