@@ -21,3 +21,4 @@ pub mod McuByMcu
 pub mod FilesOnce
 pub mod PlanShapes
 pub mod DoneBytes
+pub mod PlainTurns

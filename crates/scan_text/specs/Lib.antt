@@ -13,3 +13,4 @@ pub mod ScanLaws
 pub mod ScanRows
 pub mod ScanCalls
 pub mod FileLaws
+pub mod PlainScans

@@ -14,6 +14,7 @@
 
 mod laws;
 mod plain;
+mod plain_bytes;
 mod refusal;
 mod scan_shape;
 mod slot;
@@ -25,6 +26,7 @@ pub use laws::{
     zigzag_tells_blocks,
 };
 pub use plain::{PlainError, plain_block, plain_blocks};
+pub use plain_bytes::plain_scan;
 pub use refusal::ScanRefusal;
 pub use scan_shape::{MOST_SLOTS, ScanShape};
 pub use slot::Slot;
