@@ -11,7 +11,7 @@ use Rattle.scan_text.specs.declared.refusal.ScanRefusal.{ScanRefusal}
 use Rattle.scan_text.proofs.AcsRead.{Means, means}
 use Rattle.scan_text.proofs.ZigzagLaws.{set_in_zigzag}
 use Rattle.std.specs.Int.{w16, w32}
-use Rattle.scan_decode.proofs.MachineValues.{kept_word}
+use Rattle.scan_text.proofs.MachineValues.{kept_word}
 use mir.Val.{to_z, of_z}
 use Rattle.coef_block.specs.Block.{IsCoefficient, limit}
 use Rattle.scan_text.proofs.SignedValues.{kept_half}

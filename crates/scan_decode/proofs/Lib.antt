@@ -1,5 +1,4 @@
 pub mod BlockStepLemmas
-pub mod MachineValues
 pub mod DcReading
 pub mod McuReading
 pub mod RestartMarkers

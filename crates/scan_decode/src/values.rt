@@ -1,14 +1,12 @@
 // Symbols, and values by their category.
 ghost use Rattle.std.specs.Prelude.{◌≡◌, ◌^◌, ◌<◌, ◌≤◌, IfOk, unsigned_abs};
-ghost use Rattle.bit_list.specs.Bits.{low_bits};
-ghost use Rattle.scan_text.specs.ValueBits.{extend};
 ghost use Rattle.scan_text.specs.ScanReading.{symbol_at, extended_at};
 ghost use Rattle.scan_decode.specs.ReadResults.{at_cursor};
 
 use crate::refusals::{of_bits, of_code};
 use bit_list::BitIn;
 use huff_table::Codes;
-use scan_text::ScanRefusal;
+use scan_text::{ScanRefusal, extend};
 
 /// The symbol whose code word stands next.
 #[inline]
@@ -33,26 +31,7 @@ pub(crate) fn extended(size: u8, input: &mut BitIn) -> Result<i32, ScanRefusal>
     ensures bytes { input.new.bytes ≡ input.old.bytes }
 {
     match input.take(size) {
-        Ok(bits) => Ok(value_of(bits, size)),
+        Ok(bits) => Ok(extend(bits, size)),
         Err(fault) => Err(of_bits(fault)),
-    }
-}
-
-// The value of a category's bits (Figure F.12, EXTEND).
-#[inline(always)]
-fn value_of(bits: u16, size: u8) -> i32
-    requires few { size ≤ 11 }
-    requires below { bits < 2 ^ size }
-    ensures is { result ≡ extend (low_bits size bits) }
-    ensures small { unsigned_abs result < 2 ^ size }
-{
-    if size == 0 {
-        return 0;
-    }
-    let number = i32::from(bits);
-    if bits < 1 << (size - 1) {
-        number - ((1 << size) - 1)
-    } else {
-        number
     }
 }

@@ -1,4 +1,6 @@
 pub mod ValueLemmas
+pub mod SmallValues
+pub mod MachineValues
 pub mod SignedValues
 pub mod Texts
 pub mod ShapeLemmas

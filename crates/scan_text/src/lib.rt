@@ -12,6 +12,7 @@
 //! These are definitions for whatever reads or writes a scan, and beside them a plain program, too slow for use.
 #![tactic(auto)]
 
+mod additional_bits;
 mod laws;
 mod plain;
 mod plain_bytes;
@@ -20,6 +21,7 @@ mod scan_shape;
 mod slot;
 mod stop;
 
+pub use additional_bits::{extend, value_bits};
 pub use laws::{
     a_file_has_one_reading, blocks_are_text, blocks_in_parts, first_mcus_are_first_bytes,
     items_are_read, rows_of_scans, rows_of_the_definition, scans_are_text, values_are_bits,

@@ -10,6 +10,7 @@ ghost use Rattle.scan_text.specs.Blocks.{blocks_text};
 ghost use Rattle.scan_text.specs.PlainWriting.{HasWritten, IsWritten};
 ghost use Rattle.scan_text.specs.declared.plain.PlainError.TheVariants.{NoMemory};
 
+use crate::additional_bits::value_bits;
 use crate::slot::Slot;
 use crate::stop::WriteStop;
 use coef_block::{Block, natural_position, size};
@@ -163,21 +164,8 @@ fn put_value(codes: &Codes, symbol: u8, value: i32, bits: &mut Vec<bool>) -> Res
 {
     put_word(codes, symbol, bits)?;
     let size = size(value);
-    put_bits(bits, number_of(value, size), size)?;
+    put_bits(bits, u32::from(value_bits(value, size)), size)?;
     Ok(())
-}
-
-// The number that a value's `size` bits spell.
-fn number_of(value: i32, size: u8) -> u32
-    requires small { unsigned_abs value ≤ most_difference }
-    requires size { size ≡ category (unsigned_abs value) }
-    ensures { mag value ≡ low_bits size result }
-{
-    if value >= 0 {
-        value.unsigned_abs()
-    } else {
-        (1 << size) - 1 - value.unsigned_abs()
-    }
 }
 
 fn put_word(codes: &Codes, symbol: u8, bits: &mut Vec<bool>) -> Result<(), PlainError>

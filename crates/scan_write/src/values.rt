@@ -3,14 +3,13 @@ ghost use Rattle.std.specs.Prelude.{◌≡◌, ◌+◌, ◌^◌, ◌<◌, ◌≤
 ghost use Rattle.bit_list.specs.Bits.{low_bits};
 ghost use Rattle.coef_block.specs.Block.{most_difference};
 ghost use Rattle.coef_block.specs.Categories.{category};
-ghost use Rattle.scan_text.specs.ValueBits.{mag};
 ghost use Rattle.scan_text.specs.BlockBits.{word_text, value_text};
 ghost use Rattle.scan_write.specs.Outputs.{output_of, appended, quarters, HasRoom, word_bits, IsBegun};
 ghost use Rattle.scan_write.specs.Appending.{IsWritten};
 
 use bit_list::{BitOut, Piece};
 use huff_table::Codes;
-use scan_text::WriteStop;
+use scan_text::{WriteStop, value_bits};
 
 /// The code word of a symbol.
 #[inline]
@@ -56,24 +55,8 @@ pub(crate) fn value(
     let Some((code, count)) = codes.word(symbol) else {
         return Err(WriteStop::NoCode);
     };
-    put_both(code, count, number_of(value, size), size, output, out);
+    put_both(code, count, value_bits(value, size), size, output, out);
     Ok(())
-}
-
-// The number that a value's `size` bits spell.
-#[inline(always)]
-fn number_of(value: i32, size: u8) -> u16
-    requires small { unsigned_abs value ≤ most_difference }
-    requires size { size ≡ category (unsigned_abs value) }
-    ensures bits { mag value ≡ low_bits size result }
-    ensures below { result < 2 ^ size }
-    ensures few { size ≤ 11 }
-{
-    if value >= 0 {
-        value.unsigned_abs() as u16
-    } else {
-        ((1 << size) - 1 - value.unsigned_abs()) as u16
-    }
 }
 
 // Two codes, one after the other: at once where that is sixteen bits at most.

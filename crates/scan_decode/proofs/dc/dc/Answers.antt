@@ -5,7 +5,7 @@ use Rattle.scan_text.proofs.SignedValues.{kept_half}
 use Rattle.std.specs.Int.{w16}
 use mir.Val.{to_z, of_z}
 use Rattle.scan_text.specs.declared.refusal.ScanRefusal.TheVariants as refusals
-use Rattle.scan_decode.proofs.MachineValues.{dc_sum, few_bits}
+use Rattle.scan_text.proofs.MachineValues.{dc_sum, few_bits}
 use Rattle.scan_decode.proofs.DcReading.{no_size, large_size, no_difference, large_dc, dc_there}
 use Rattle.scan_decode.proofs.dc.dc.Goals as goal
 

@@ -22,8 +22,8 @@ returns-in_err-put_word c =
     rw (p.1, p.2) (subst (λ (t : Text). IsWritten (Err c.in_err-put_word.field-0.0) old c.put_word.new.bits.items t) (sym (value_parts c.args.codes.now c.args.symbol c.args.value))
     (goes_stop whole old old c.put_word.new.bits.items word rest c.in_err-put_word.field-0.0 (goes_start whole old) c.in_err-put_word.ensures))
 
-pub number_of-requires-clause-size : goal.number_of-requires-clause-size
-number_of-requires-clause-size c = size_is (to_z w32 (of_z w32 c.args.value)) c.size-size.result c.size-size.ensures.below c.size-size.ensures.least
+pub value_bits-requires-clause-size : goal.value_bits-requires-clause-size
+value_bits-requires-clause-size c = size_is (to_z w32 (of_z w32 c.args.value)) c.size-size.result c.size-size.ensures.below c.size-size.ensures.least
 
 pub put_bits-requires : goal.put_bits-requires
 put_bits-requires c =
@@ -34,9 +34,9 @@ pub returns : goal.returns
 returns c =
     let word = c.in_ok-put_word.ensures in
     let old = c.args.bits.now.items in
-    let bits = sym c.number_of.ensures ∙ ap mag (to_z-of_z w32 c.args.value c.ranges.value) in (
+    let bits = ap (low_bits c.size-size.result) c.from.ensures ∙ sym c.value_bits.ensures.bits ∙ ap mag (to_z-of_z w32 c.args.value c.ranges.value) in (
       word.0 ++ mag c.args.value,
       value_parts c.args.codes.now c.args.symbol c.args.value ∙ ap (λ (t : Text). then_text t (Ok (mag c.args.value))) word.1,
-      c.in_ok-put_bits.ensures ∙ ap (λ (l : List Bool). l ++ low_bits c.size-size.result c.number_of.result) word.2
-          ∙ append_assoc old word.0 (low_bits c.size-size.result c.number_of.result) ∙ ap (λ (m : List Bool). old ++ (word.0 ++ m)) bits,
+      c.in_ok-put_bits.ensures ∙ ap (λ (l : List Bool). l ++ low_bits c.size-size.result c.from.result) word.2
+          ∙ append_assoc old word.0 (low_bits c.size-size.result c.from.result) ∙ ap (λ (m : List Bool). old ++ (word.0 ++ m)) bits,
     )

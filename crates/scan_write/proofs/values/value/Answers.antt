@@ -19,7 +19,7 @@ returns-in_default-clause-is c = (
 pub returns-clause-is : goal.returns-clause-is
 returns-clause-is c =
     let word = low_bits c.in-Some.count c.in-Some.code in
-    let bits = sym c.number_of.ensures.bits ∙ ap mag (to_z-of_z w32 c.args.value c.ranges.value) in (
+    let bits = sym c.value_bits.ensures.bits ∙ ap mag (to_z-of_z w32 c.args.value c.ranges.value) in (
       word ++ mag c.args.value,
       value_parts c.args.codes.now c.args.symbol c.args.value
           ∙ ap (λ (t : Text). then_text t (Ok (mag c.args.value))) (word_some c.args.codes.now c.args.symbol word c.in-Some.ensures.some),

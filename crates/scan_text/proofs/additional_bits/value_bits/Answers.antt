@@ -3,8 +3,8 @@ use Rattle.std.specs.Int.{w32}
 use Rattle.std.specs.Int.Signed.{le_z}
 use Rattle.std.proofs.lemmas.Int.{to_z-of_z}
 use Rattle.scan_text.proofs.ValueLemmas.{mag_negative}
-use Rattle.scan_write.proofs.ValueCodes.{small}
-use Rattle.scan_write.proofs.values.number_of.Goals as goal
+use Rattle.scan_text.proofs.SmallValues.{small}
+use Rattle.scan_text.proofs.additional_bits.value_bits.Goals as goal
 
 pub overflow_shl-result : goal.overflow_shl-result
 overflow_shl-result c = let s = small (unsigned_abs c.args.value) c.args.size c.requires.small c.requires.size in omega arith
