@@ -2,7 +2,7 @@
 use super::*;
 use coef_block::{Block, natural_position};
 use huff_table::PlanCodes;
-use jpeg_marker::read_header;
+use jpeg_marker::{Plan, read_header};
 use std::alloc::Global;
 use std::process::Abort;
 use std::test::Fail;
@@ -139,4 +139,127 @@ fn worked_mcus(rt: HostRuntime) -> Result<(), Fail> {
         expect_bits(&rt, &bits, text);
     }
     Ok(())
+}
+
+// A frame, its tables and its scan's segments; the pad bit; the bytes of zero blocks.
+type Scanned<'a> = (&'a [u8], &'a [u8], &'a [u8], bool, &'a [u8]);
+
+// `0` for each table's one symbol: a zero block has two bits of 0.
+const ONE_WORD: &[u8] = &[
+    0xff, 0xc4, 0, 20, 0x00, 1, 0, 0, 0, 0, 0, 0, 0, 0, 0, 0, 0, 0, 0, 0, 0, 0, //
+    0xff, 0xc4, 0, 20, 0x10, 1, 0, 0, 0, 0, 0, 0, 0, 0, 0, 0, 0, 0, 0, 0, 0, 0,
+];
+
+// `1` for the symbols of a zero block: it has two bits of 1.
+const TWO_WORDS: &[u8] = &[
+    0xff, 0xc4, 0, 21, 0x00, 2, 0, 0, 0, 0, 0, 0, 0, 0, 0, 0, 0, 0, 0, 0, 0, 1, 0, //
+    0xff, 0xc4, 0, 21, 0x10, 2, 0, 0, 0, 0, 0, 0, 0, 0, 0, 0, 0, 0, 0, 0, 0, 1, 0,
+];
+
+const RESTARTED: &[u8] = b"\xff\xdd\0\x04\0\x01\xff\xda\0\x08\x01\x01\0\0\x3f\0";
+
+const EVERY_SECOND: &[u8] = b"\xff\xdd\0\x04\0\x02\xff\xda\0\x08\x01\x01\0\0\x3f\0";
+
+const SMALL: &[u8] = b"\xff\xc0\0\x0b\x08\0\x08\0\x08\x01\x01\x11\0";
+
+const TALL: &[u8] = b"\xff\xc0\0\x0b\x08\0\x10\0\x08\x01\x01\x11\0";
+
+const THREE_TALL: &[u8] = b"\xff\xc0\0\x0b\x08\0\x18\0\x08\x01\x01\x11\0";
+
+const FOUR_TALL: &[u8] = b"\xff\xc0\0\x0b\x08\0\x20\0\x08\x01\x01\x11\0";
+
+const SCANNED: &[Scanned<'static>] = &[
+    (SMALL, ONE_WORD, BACK, true, b"\x3f"),
+    (SMALL, ONE_WORD, BACK, false, b"\0"),
+    (
+        b"\xff\xc0\0\x0b\x08\0\x08\0\x10\x01\x01\x11\0",
+        ONE_WORD,
+        BACK,
+        true,
+        b"\x0f",
+    ),
+    (SMALL, TWO_WORDS, BACK, true, b"\xff\0"),
+    (SMALL, TWO_WORDS, BACK, false, b"\xc0"),
+    (FOUR_TALL, TWO_WORDS, BACK, true, b"\xff\0"),
+    (FOUR_TALL, TWO_WORDS, BACK, false, b"\xff\0"),
+    (TALL, ONE_WORD, RESTARTED, true, b"\x3f\xff\xd0\x3f"),
+    (
+        THREE_TALL,
+        ONE_WORD,
+        RESTARTED,
+        true,
+        b"\x3f\xff\xd0\x3f\xff\xd1\x3f",
+    ),
+    (
+        THREE_TALL,
+        ONE_WORD,
+        EVERY_SECOND,
+        true,
+        b"\x0f\xff\xd0\x3f",
+    ),
+    (TALL, ONE_WORD, EVERY_SECOND, true, b"\x0f"),
+    (
+        b"\xff\xc0\0\x11\x08\0\x10\0\x10\x03\x01\x22\0\x02\x11\0\x03\x11\0",
+        ONE_WORD,
+        b"\xff\xda\0\x0c\x03\x01\0\x02\0\x03\0\0\x3f\0",
+        true,
+        b"\0\x0f",
+    ),
+];
+
+#[test]
+fn worked_scans(rt: HostRuntime) -> Result<(), Fail> {
+    let alloc = rt.alloc();
+    for (frame, tables, scan, pad, bytes) in SCANNED {
+        let mut header = Vec::from_slice(alloc, b"\xff\xd8")?;
+        header.extend_from_slice(frame)?;
+        header.extend_from_slice(tables)?;
+        header.extend_from_slice(scan)?;
+        let plan = read_header(&header).map_err(|_| "no header")?;
+        let codes = PlanCodes::build(&plan);
+        let shape = ScanShape::of(&plan, &codes);
+        let slots = slots_of(&rt, alloc, &shape)?;
+        let mut blocks = Vec::new(alloc);
+        for _ in 0..plan.blocks() {
+            blocks.push(Block::zero())?;
+        }
+        expect_scan(&rt, alloc, &plan, &slots, &blocks, *pad, bytes);
+    }
+    Ok(())
+}
+
+// The slots of an MCU, as the plain program takes them.
+fn slots_of(rt: &impl Abort, alloc: Global, shape: &ScanShape) -> Result<Vec<Slot>, Fail> {
+    let (components, indexes) = shape.slots();
+    let mut slots = Vec::new(alloc);
+    for index in indexes {
+        let component = usize::from(*index);
+        assert!(rt; component < components.len());
+        slots.push(Slot {
+            component,
+            codes: components[component],
+        })?;
+    }
+    Ok(slots)
+}
+
+fn expect_scan(
+    rt: &impl Abort,
+    alloc: Global,
+    plan: &Plan,
+    slots: &[Slot],
+    blocks: &[Block],
+    pad: bool,
+    bytes: &[u8],
+) {
+    let mcus = plan.mcus();
+    let interval = u32::from(plan.interval());
+    let all = (mcus as usize).checked_mul(slots.len());
+    assert_eq!(rt; all, Some(blocks.len()));
+    assert!(rt; slots.iter().all(|slot| slot.component < 4));
+    let written = plain_scan(alloc, slots, mcus, interval, blocks, pad);
+    assert!(rt; written.is_ok());
+    if let Ok(written) = written {
+        assert_eq!(rt; written.as_slice(), bytes);
+    }
 }
