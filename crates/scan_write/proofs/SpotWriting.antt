@@ -24,6 +24,7 @@ some_put : (s : ScanWriter) (mcu : Mcu) (before : List ℤ) (bits : List Bool) �
 unfolding mcu_put
 some_put s mcu before bits dcs e = ap₂ (put_text s.shape (λ n. s.pad) s.spot) (sym dcs) e
 
+-- a test that fails adds nothing
 or_false : (b : Bool) → (b || false) ≡ b
 or_false true = refl
 or_false false = refl

@@ -14,6 +14,7 @@ pub record AreJoined (count size code next joined : ℕ) : Type 0 where
   pub below : joined < 2 ^ (count + size)
   pub bits : low_bits (count + size) joined ≡ low_bits count code ++ low_bits size next
 
+-- as the machine joins them
 pub are_joined : (count size code next joined : ℕ) → count + size ≤ 16 → code < 2 ^ count → next < 2 ^ size → joined ≡ code * 2 ^ size % 65536 + next
     → AreJoined count size code next joined
 are_joined count size code next joined few a b f =

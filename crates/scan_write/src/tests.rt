@@ -5,7 +5,7 @@ use coef_block::{Block, natural_position};
 use huff_table::PlanCodes;
 use jpeg_marker::{Plan, read_header};
 use scan_text::{MOST_SLOTS, WriteStop};
-use std::alloc::{AllocError, Global};
+use std::alloc::Global;
 use std::process::Abort;
 use std::test::Fail;
 

@@ -1,11 +1,11 @@
-use Rattle.std.proofs.Common.{◌≡◌, ◌≤◌, ◌+◌, ◌-◌, ◌∷◌, List, ℤ, drop, sym, ap, ◌∙◌, subst, arith}
+use Rattle.std.proofs.Common.{◌≡◌, ◌≤◌, ◌+◌, ◌-◌, drop, ap, ◌∙◌, subst, arith}
 use Rattle.std.proofs.lemmas.Result.{err_from_is_err_and}
 use Rattle.scan_text.specs.BlockBits.{Text, ac_text, ac_values, word_text}
-use Rattle.scan_text.proofs.SignedValues.{widened}
-use Rattle.scan_text.proofs.Words.{ac_next, no_more, ac_full, ac_end, small_value}
+use Rattle.scan_text.proofs.Words.{no_more, ac_full, ac_end}
 use Rattle.scan_write.specs.Outputs.{output_of}
 use Rattle.scan_write.specs.Appending.{HasAppended}
 use Rattle.scan_write.proofs.AppendedTexts.{texts_end, texts_last}
+use Rattle.scan_write.proofs.DueTexts.{ac_due}
 use Rattle.scan_write.proofs.acs.acs.Goals as goal
 
 pub returns-in_err-zeros-clause-is : goal.returns-in_err-zeros-clause-is
@@ -18,11 +18,11 @@ returns-in_err-zeros-clause-is c =
     let old = output_of c.args.output.now c.args.out.now in
     let now = output_of l.output l.out in
     let below : l.index ≤ 63 = omega (arith, c.loop-index-test.true) in
-    let value = widened c.get-value.result c.from.result (small_value c.natural_position.result c.get-value.result (c.natural_position.ensures.later (omega arith)) c.get-value.ensures.coefficient) c.from.ensures in
-    let next = ac_next block l.index c.natural_position.result c.get-value.result l.auto.index (omega arith) c.natural_position.ensures.position c.get-value.ensures.value ∙ ap (λ v. v ∷ rest) (sym value) in
-    let at = subst (λ (vs : List ℤ). HasAppended whole old now (ac_text codes l.zeros vs)) next l.invariant.going in
+    let due =
+    ac_due codes block whole old now l.zeros l.index c.natural_position.result c.get-value.result c.from.result l.auto.index (omega arith) c.natural_position.ensures.position
+    (c.natural_position.ensures.later (omega arith)) c.get-value.ensures.value c.get-value.ensures.coefficient c.from.ensures l.invariant.going in
     let p = err_from_is_err_and c.from_residual.result c.from_residual.ensures.1 in
-    rw (p.1, p.2) (c.in_err-zeros.ensures.err whole old rest at)
+    rw (p.1, p.2) (c.in_err-zeros.ensures.err whole old rest due)
 
 pub loop-index-preserved : goal.loop-index-preserved
 loop-index-preserved c =
@@ -35,15 +35,15 @@ loop-index-preserved c =
     let now = output_of l.output l.out in
     let new = output_of c.go_on.new.output c.go_on.new.out in
     let below : l.index ≤ 63 = omega (arith, c.loop-index-test.true) in
-    let value = widened c.get-value.result c.from.result (small_value c.natural_position.result c.get-value.result (c.natural_position.ensures.later (omega arith)) c.get-value.ensures.coefficient) c.from.ensures in
-    let next = ac_next block l.index c.natural_position.result c.get-value.result l.auto.index (omega arith) c.natural_position.ensures.position c.get-value.ensures.value ∙ ap (λ v. v ∷ rest) (sym value) in
-    let at = subst (λ (vs : List ℤ). HasAppended whole old now (ac_text codes l.zeros vs)) next l.invariant.going in
+    let due =
+    ac_due codes block whole old now l.zeros l.index c.natural_position.result c.get-value.result c.from.result l.auto.index (omega arith) c.natural_position.ensures.position
+    (c.natural_position.ensures.later (omega arith)) c.get-value.ensures.value c.get-value.ensures.coefficient c.from.ensures l.invariant.going in
     let one : l.index ≡ l.index + 1 - 1 = omega arith in
     record {
       few = omega (arith, c.in_ok-zeros.ensures.few, l.invariant.few, l.auto.index);
       begun = c.go_on.ensures.begun;
       spent = omega (arith, c.in_ok-zeros.ensures.spent, l.invariant.spent, l.auto.index);
-      going = subst (λ n. HasAppended whole old new (ac_text codes c.in_ok-zeros.zeros (drop n (ac_values block)))) one (c.in_ok-zeros.ensures.ok whole old rest at);
+      going = subst (λ n. HasAppended whole old new (ac_text codes c.in_ok-zeros.zeros (drop n (ac_values block)))) one (c.in_ok-zeros.ensures.ok whole old rest due);
     }
 
 pub returns-then-zeros-eq0-clause-is : goal.returns-then-zeros-eq0-clause-is

@@ -1,17 +1,16 @@
-use Rattle.std.proofs.Common.{◌≤◌, ◌<◌, ◌+◌, map, drop, length, get_or, List, ℕ, ℤ, pos, unsigned_abs, sym, ap, subst, ◌∙◌, arith}
+use Rattle.std.proofs.Common.{◌≤◌, ◌+◌, map, drop, get_or, List, ℤ, pos, unsigned_abs, sym, ap, subst, ◌∙◌, arith}
 use Rattle.std.proofs.lemmas.List.{length-set}
 use Rattle.std.proofs.lemmas.List.Elements.{All-set}
 use Rattle.std.proofs.lemmas.Result.{err_from_is_err_and}
-use Rattle.std.specs.Int.{w16}
-use mir.Val.{to_z, of_z}
 use Rattle.scan_text.specs.BlockBits.{Text, block_text}
-use Rattle.scan_text.specs.Blocks.{last_dc, dcs_after_block, dcs_after, blocks_text}
+use Rattle.scan_text.specs.Blocks.{dcs_after_block, dcs_after, blocks_text}
 use Rattle.scan_text.specs.ShapeInside.{slot_in}
 use Rattle.scan_text.proofs.SignedValues.{kept_half}
 use Rattle.scan_write.specs.Outputs.{output_of}
-use Rattle.scan_write.specs.Appending.{IsStopped, IsAppended, HasAppended}
+use Rattle.scan_write.specs.Appending.{HasAppended}
 use Rattle.scan_write.proofs.AppendedTexts.{texts_more, texts_stop, texts_end}
-use Rattle.scan_write.proofs.McuWriting.{next_text, next_dcs, no_text, no_dcs_more, slot_text, slot_dcs}
+use Rattle.scan_write.proofs.McuWriting.{is_slot_at, block_due, next_dcs, no_text, no_dcs_more, slot_dcs}
+use Rattle.scan_write.proofs.SmallNumbers.{half}
 use Rattle.scan_write.proofs.blocks.blocks.Goals as goal
 
 pub returns-in_err-before-clause-is : goal.returns-in_err-before-clause-is
@@ -21,21 +20,19 @@ returns-in_err-before-clause-is c =
     let slots = c.args.slots.now in
     let mcu = c.args.mcu.now in
     let component = c.from-component.result in
+    let tables = c.index-codes-component.result in
     let block = c.index-mcu-i.result in
-    let s = slot_in codes (get_or slots l.i 0) in
-    let within : component < length codes = subst (λ (k : ℕ). k < length codes) (sym c.from-component.ensures) (c.requires.slots l.i 0 c.loop-i-test.true) in
-    let four : component < length l.before = omega (arith, l.invariant.four, c.requires.few) in
     let whole = blocks_text (map (slot_in codes) slots) c.args.before.now mcu in
     let old = output_of c.args.output.now c.args.out.now in
     let now = output_of l.output l.out in
     let new = output_of c.block.new.output c.block.new.out in
-    let text = block_text s.codes (last_dc l.before s) block in
-    let rest = blocks_text (map (slot_in codes) (drop (l.i + 1) slots)) (dcs_after_block l.before s block) (drop (l.i + 1) mcu) in
-    let at = subst (λ (t : Text). HasAppended whole old now t) (next_text codes slots l.before mcu l.i block c.loop-i-test.true c.requires.long c.index-mcu-i.is) l.invariant.going in
-    let is = slot_text codes slots l.i component c.index-codes-component.result l.before block c.from-component.ensures within c.index-codes-component.is (l.invariant.small component (pos 0) four) in
-    let stopped = subst (λ (t : Text). IsStopped c.in_err-before.field-0.0 now new t) is c.in_err-before.ensures.is in
+    let text = block_text tables (half (get_or l.before component (pos 0))) block in
+    let rest = blocks_text (map (slot_in codes) (drop (l.i + 1) slots)) (dcs_after_block l.before (slot_in codes (get_or slots l.i 0)) block) (drop (l.i + 1) mcu) in
+    let at =
+    is_slot_at codes slots l.i component tables l.before c.loop-i-test.true c.requires.few l.invariant.four c.requires.slots l.invariant.small c.from-component.ensures c.index-codes-component.is in
+    let due = block_due codes slots l.i component tables l.before block mcu whole old now at c.loop-i-test.true c.requires.long c.index-mcu-i.is l.invariant.going in
     let p = err_from_is_err_and c.from_residual.result c.from_residual.ensures.1 in
-    rw (p.1, p.2) (texts_stop whole old now new text rest c.in_err-before.field-0.0 at stopped)
+    rw (p.1, p.2) (texts_stop whole old now new text rest c.in_err-before.field-0.0 due c.in_err-before.ensures.is)
 
 pub loop-i-preserved : goal.loop-i-preserved
 loop-i-preserved c =
@@ -44,33 +41,32 @@ loop-i-preserved c =
     let slots = c.args.slots.now in
     let mcu = c.args.mcu.now in
     let component = c.from-component.result in
+    let tables = c.index-codes-component.result in
     let block = c.index-mcu-i.result in
     let dc = c.in_ok-before.field-0 in
-    let s = slot_in codes (get_or slots l.i 0) in
-    let within : component < length codes = subst (λ (k : ℕ). k < length codes) (sym c.from-component.ensures) (c.requires.slots l.i 0 c.loop-i-test.true) in
-    let four : component < length l.before = omega (arith, l.invariant.four, c.requires.few) in
+    let small = c.in_ok-before.ensures.small in
     let whole = blocks_text (map (slot_in codes) slots) c.args.before.now mcu in
     let old = output_of c.args.output.now c.args.out.now in
     let now = output_of l.output l.out in
     let new = output_of c.block.new.output c.block.new.out in
-    let text = block_text s.codes (last_dc l.before s) block in
-    let rest = blocks_text (map (slot_in codes) (drop (l.i + 1) slots)) (dcs_after_block l.before s block) (drop (l.i + 1) mcu) in
-    let at = subst (λ (t : Text). HasAppended whole old now t) (next_text codes slots l.before mcu l.i block c.loop-i-test.true c.requires.long c.index-mcu-i.is) l.invariant.going in
-    let is = slot_text codes slots l.i component c.index-codes-component.result l.before block c.from-component.ensures within c.index-codes-component.is (l.invariant.small component (pos 0) four) in
-    let wrote = subst (λ (t : Text). IsAppended now new t) is c.in_ok-before.ensures.is in
-    let kept = kept_half dc c.in_ok-before.ensures.small in
-    let bound : unsigned_abs (to_z w16 (of_z w16 dc)) ≤ 32767 = subst (λ (z : ℤ). unsigned_abs z ≤ 32767) (sym kept) c.in_ok-before.ensures.small in
-    let after = slot_dcs codes slots l.i component l.before block dc c.from-component.ensures c.in_ok-before.ensures.dc c.in_ok-before.ensures.small in
+    let text = block_text tables (half (get_or l.before component (pos 0))) block in
+    let rest = blocks_text (map (slot_in codes) (drop (l.i + 1) slots)) (dcs_after_block l.before (slot_in codes (get_or slots l.i 0)) block) (drop (l.i + 1) mcu) in
+    let at =
+    is_slot_at codes slots l.i component tables l.before c.loop-i-test.true c.requires.few l.invariant.four c.requires.slots l.invariant.small c.from-component.ensures c.index-codes-component.is in
+    let due = block_due codes slots l.i component tables l.before block mcu whole old now at c.loop-i-test.true c.requires.long c.index-mcu-i.is l.invariant.going in
+    let after = slot_dcs codes slots l.i component l.before block dc c.from-component.ensures c.in_ok-before.ensures.dc small in
+    let bound : unsigned_abs (half dc) ≤ 32767 = subst (λ (z : ℤ). unsigned_abs z ≤ 32767) (sym (kept_half dc small)) small in
     let spent = c.in_ok-before.ensures.spent in
     record {
-      four = length-set l.before component (to_z w16 (of_z w16 dc)) ∙ l.invariant.four;
-      small = All-set (λ (z : ℤ). unsigned_abs z ≤ 32767) l.before component (to_z w16 (of_z w16 dc)) bound l.invariant.small;
+      four = length-set l.before component (half dc) ∙ l.invariant.four;
+      small = All-set (λ (z : ℤ). unsigned_abs z ≤ 32767) l.before component (half dc) bound l.invariant.small;
       begun = c.block.ensures.begun;
       spent = omega (arith, spent, l.invariant.spent);
       dcs =
           ap (λ (b : List ℤ). dcs_after (map (slot_in codes) (drop (l.i + 1) slots)) b (drop (l.i + 1) mcu)) (sym after)
           ∙ sym (next_dcs codes slots l.before mcu l.i block c.loop-i-test.true c.requires.long c.index-mcu-i.is) ∙ l.invariant.dcs;
-      going = subst (λ (b : List ℤ). HasAppended whole old new (blocks_text (map (slot_in codes) (drop (l.i + 1) slots)) b (drop (l.i + 1) mcu))) after (texts_more whole old now new text rest at wrote);
+      going = subst (λ (b : List ℤ). HasAppended whole old new (blocks_text (map (slot_in codes) (drop (l.i + 1) slots)) b (drop (l.i + 1) mcu))) after
+          (texts_more whole old now new text rest due c.in_ok-before.ensures.is);
     }
 
 pub returns-clause-is : goal.returns-clause-is
