@@ -1,14 +1,12 @@
 -- A value of so many bits, as the machine makes it.
-use Rattle.std.proofs.Common.{◌≡◌, ℕ, zero, suc, ◌+◌, ◌-◌, ◌*◌, ◌/◌, ◌%◌, ◌^◌, ◌<◌, ◌≤◌, Bool, true, false, ◌==◌, ◌∷◌, length, ℤ, pos, negsuc, neg_ℤ, ◌-ℤ◌, ◌+ℤ◌, unsigned_abs, sym, ap, ap₂, ◌∙◌, arith, pow-suc}
+use Rattle.std.proofs.Common.{◌≡◌, ℕ, zero, suc, ◌-◌, ◌*◌, ◌%◌, ◌^◌, ◌<◌, ◌≤◌, ℤ, pos, negsuc, neg_ℤ, ◌-ℤ◌, ◌+ℤ◌, unsigned_abs, sym, ap, ap₂, ◌∙◌, arith, pow-suc}
 use Rattle.std.specs.Prelude.{FitsSigned}
-use Rattle.std.specs.Int.{w32, bit_at}
+use Rattle.std.specs.Int.{w32}
 use Rattle.std.proofs.lemmas.Int.{ints, to_z-of_z}
-use Rattle.std.proofs.lemmas.Nat.{one_shl, pow_pos, shr_high}
-use Rattle.std.proofs.lemmas.Nat.Bits.{bit_at_above}
+use Rattle.std.proofs.lemmas.Nat.{one_shl, pow_pos}
 use Rattle.std.proofs.Math.Pow.{pow_mono}
 use mir.Val.{to_z, of_z}
-use Rattle.bit_list.specs.Bits.{low_bits, number_of}
-use Rattle.bit_list.specs.NumbersOfBits.{length-low_bits, number_again}
+use Rattle.bit_list.specs.Bits.{low_bits}
 use Rattle.scan_text.proofs.ValueLemmas.{extend_high, extend_low}
 use Rattle.scan_text.specs.ValueBits.{extend}
 

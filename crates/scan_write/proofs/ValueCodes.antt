@@ -1,12 +1,11 @@
 -- The numbers that values' bits spell, and two codes as one.
 use Rattle.std.proofs.Common.{◌≡◌, ℕ, ◌+◌, ◌*◌, ◌%◌, ◌^◌, ◌<◌, ◌≤◌, ◌++◌, ap, ◌∙◌, arith}
-use Rattle.std.proofs.lemmas.Nat.{one_shl, shl_whole}
+use Rattle.std.proofs.lemmas.Nat.{shl_whole}
 use Rattle.std.proofs.Math.Pow.{pow_mono}
 use Rattle.bit_list.specs.Bits.{low_bits}
 use Rattle.bit_list.proofs.LowBits.{low_bits-join}
 use Rattle.bit_list.proofs.Machine.{joined_below}
 use Rattle.coef_block.specs.Categories.{category as size}
-use Rattle.scan_text.proofs.ValueLemmas.{size_below, small_size}
 
 -- two codes of sixteen bits at most
 pub record AreJoined (count size code next joined : ℕ) : Type 0 where
