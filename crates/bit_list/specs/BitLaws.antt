@@ -1,4 +1,4 @@
--- What holds of all bits and bytes.
+-- What holds of all bits and bytes (own).
 use Rattle.std.specs.Prelude.{◌≡◌, ℕ, ◌+◌, Bool, List, [], ◌++◌, length, Ok}
 use Rattle.bit_list.specs.Bits.{bytes_after, stuffed}
 use Rattle.bit_list.specs.Units.{Cursor, starting, bits_at, and_then}

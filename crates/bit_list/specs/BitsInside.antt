@@ -1,4 +1,4 @@
--- How bits are kept in a byte, and what always holds of them.
+-- How bits are kept in a byte, and what always holds of them (own).
 use Rattle.std.specs.Prelude.{ℕ, ◌^◌, ◌<◌, ◌≤◌}
 use Rattle.bit_list.specs.Bits.{low_bits}
 use Rattle.bit_list.specs.Units.{Cursor}

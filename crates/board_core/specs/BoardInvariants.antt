@@ -14,7 +14,7 @@ use Rattle.board_core.specs.BoardSteps.{BoardEvent, Put, Pass, Finish, Take, Sto
 abbrev pub bytes_at : List (List ℕ) → ℕ → List ℕ
 bytes_at ss i = slice_index_or ss i []
 
--- a segment without an owner, bytes and an outcome
+-- a segment with no owner, no bytes and no outcome
 pub record IsUntouched (s : SegmentState) : Type 0 where
   pub owner : s.owner ≡ None
   pub put : s.put ≡ 0
@@ -82,7 +82,8 @@ LawfulRun ss os old [] new = new ≡ old
 LawfulRun ss os old (e ∷ es) new =
     (mid : BoardState) × LawfulStep ss os old e mid × LawfulRun ss os mid es new
 
--- the bytes that an event gives to the output: the ones taken, or the ones passed
+-- the bytes that an event gives to the output: the ones taken; or, for passed ones, whose content the board doesn't see,
+-- the next bytes of the segment
 abbrev pub bytes_handed : List (List ℕ) → BoardState → BoardEvent → List ℕ
 bytes_handed ss b (Take n) = take n (segment_at b b.cur).ring
 bytes_handed ss b (Pass n) = take n (drop (segment_at b b.cur).put (bytes_at ss b.cur))

@@ -1,4 +1,4 @@
--- The tables of each component of a plan.
+-- The tables of each component of a plan (own).
 use Rattle.std.specs.Prelude.{◌≡◌, ◌-◌, ◌≤◌, ◌++◌, List, length, take, replicate, get_or}
 use Rattle.std.specs.List.{AllByRecursion}
 use Rattle.jpeg_marker.specs.HuffmanTables.{no_table}

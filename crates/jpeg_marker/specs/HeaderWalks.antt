@@ -1,4 +1,4 @@
--- What the walk over segments knows on its way.
+-- What the walk over segments knows on its way (own).
 use Rattle.std.specs.Prelude.{ℕ, ◌≡◌, List, ◌++◌, length}
 use Rattle.jpeg_marker.specs.MarkerSegments.{Segment, header_text}
 use Rattle.jpeg_marker.specs.HuffmanTables.{tables_of}

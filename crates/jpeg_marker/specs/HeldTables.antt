@@ -1,4 +1,4 @@
--- Tables that are kept by class and number.
+-- Tables that are kept by class and number (own).
 use Rattle.std.specs.Prelude.{ℕ, ◌+◌, ◌*◌, ◌≡◌, ◌<◌, List, length, get_or, Option, None}
 use Rattle.jpeg_marker.specs.HuffmanTables.{Table, TableFields, latest}
 

@@ -1,4 +1,4 @@
--- A plan by its fields, and what holds of them.
+-- A plan by its fields, and what holds of them (own).
 use Rattle.std.specs.Prelude.{◌-◌, ◌≡◌, ◌++◌, length, take, replicate}
 use Rattle.jpeg_marker.specs.Plans.{PlanFields, IsPlan}
 use Rattle.jpeg_marker.specs.Components.{no_component}

@@ -42,7 +42,7 @@ names_all [] (s ∷ selectors) = false
 names_all (p ∷ parts) [] = false
 names_all (p ∷ parts) (s ∷ selectors) = p.id == s.id && names_all parts selectors
 
--- numbers of tables from 0 to 3 (B.2.3)
+-- numbers of tables from 0 to 3 (B.2.3; that baseline files may have 2 and 3 too is own)
 abbrev pub is_in_range : ScanComponent → Bool
 is_in_range s = nat_le s.dc 3 && nat_le s.ac 3
 

@@ -1,4 +1,4 @@
--- A table by its fields, and what holds of them.
+-- A table by its fields, and what holds of them (own).
 use Rattle.std.specs.Prelude.{◌-◌, ◌≡◌, ◌++◌, length, take, replicate}
 use Rattle.jpeg_marker.specs.HuffmanTables.{TableFields, IsTable}
 use Rattle.jpeg_marker.specs.declared.table.RawTable.TheInside.{Inside}

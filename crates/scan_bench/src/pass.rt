@@ -8,7 +8,7 @@ use huff_table::PlanCodes;
 use jpeg_marker::Plan;
 use scan_decode::Reader;
 use scan_text::MOST_SLOTS;
-use scan_write::{MCU_ROOM, Writer};
+use scan_write::{Writer, mcu_room};
 use std::alloc::Global;
 
 /// What a pass comes to: the bytes of the scan and its MCUs.
@@ -74,7 +74,7 @@ pub(crate) fn both(
         if reader.at_end() {
             return None;
         }
-        if piece.free() < MCU_ROOM {
+        if piece.free() < mcu_room() {
             rest = after(rest, &mut piece)?;
         }
         let count = reader.mcu_blocks();
@@ -98,7 +98,7 @@ fn put(writer: &mut Writer, mcu: &[Block], piece: &mut Piece) -> Option<()> {
     if writer.mcu_blocks() != mcu.len() {
         return None;
     }
-    if piece.free() < MCU_ROOM {
+    if piece.free() < mcu_room() {
         return None;
     }
     writer.mcu(mcu, piece).ok()

@@ -11,7 +11,7 @@ blocks_read (Ok done) blocks before cursor =
     Ok (record { blocks = blocks; before = before; cursor = cursor })
 blocks_read (Err refusal) blocks before cursor = Err refusal
 
--- blocks in prefix of others
+-- a reading with other blocks before its own
 abbrev pub after_prefix : List (List ℤ) → Result BlocksRead ScanRefusal
     → Result BlocksRead ScanRefusal
 after_prefix prefix rest =

@@ -1,4 +1,4 @@
--- What a call answers, with where it leaves the input, as the definitions of a scan have it.
+-- What a call answers, with where it leaves the input, as the definitions of a scan have it (own).
 use Rattle.std.specs.Prelude.{ℕ, List, [], ◌∷◌, ℤ, false, Result, Ok, Err}
 use Rattle.bit_list.specs.Units.{Cursor}
 use Rattle.huff_table.specs.declared.plan_codes.ComponentCodes.{ComponentCodes}

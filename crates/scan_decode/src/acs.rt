@@ -13,7 +13,7 @@ use coef_block::{Block, natural_position};
 use huff_table::Codes;
 use scan_text::ScanRefusal;
 
-// What a symbol says where so many coefficients are left.
+// What a symbol says, by how many coefficients are left.
 enum Step {
     Value { zeros: u8, size: u8 },
     Sixteen,

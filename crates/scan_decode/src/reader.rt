@@ -1,6 +1,6 @@
 // A scan, MCU by MCU.
-ghost use Rattle.std.specs.Prelude.{◌≡◌, ◌+◌, ◌<◌, ◌≤◌, ◌==◌, length, map};
-ghost use Rattle.scan_text.specs.ScanCalls.{McuIsRead, reader_at, resume_place};
+ghost use Rattle.std.specs.Prelude.{◌≡◌, ◌+◌, ◌<◌, ◌≤◌, ◌==◌, length, map, OnErr};
+ghost use Rattle.scan_text.specs.ScanCalls.{McuIsRead, reader_at, resume_place, stopped_at};
 ghost use Rattle.scan_text.specs.Slots.{shape_of};
 ghost use Rattle.scan_text.specs.ShapeInside.{most_slots};
 ghost use Rattle.huff_table.specs.PlanWords.{tables_of};
@@ -62,8 +62,8 @@ impl<'a> Reader<'a> {
     }
 
     /// Reads the next MCU into `out`, a block for each of its blocks (A.2.3), in natural order. Refused with the first
-    /// item that doesn't stand or can't stand there, by its place; that refusal is answered from then on. On a refusal
-    /// `out` holds nothing of worth.
+    /// item that doesn't stand or can't stand there, by its place; that refusal is answered from then on, and the MCU
+    /// isn't counted. On a refusal `out` holds nothing of worth.
     pub fn next_mcu(&mut self, out: &mut [Block]) -> Result<(), ScanRefusal>
         requires more { self.old.at.count < self.old.shape.mcus }
         requires room { length out.old ≡ length self.old.shape.slots }
@@ -97,7 +97,7 @@ impl<'a> Reader<'a> {
         self.count == self.shape.mcus()
     }
 
-    /// The place where a reader that begins here starts: that of the unit whose bits were read in part, or else of the
+    /// The place from which bytes are needed to go on: that of the unit whose bits were read in part, or else of the
     /// next one.
     pub fn place(&self) -> usize
         ensures { result ≡ resume_place self.now.at.cursor }
@@ -124,6 +124,7 @@ impl<'a> Reader<'a> {
         ensures same { self.new ≡ record self.old { at = self.new.at } }
         ensures is { mcu_read result (map in_zigzag out.new) self.new.at
             ≡ mcu_at self.old.shape self.old.bytes self.old.at }
+        ensures stays { OnErr result (self.new.at ≡ stopped_at self.old.at self.new.at) }
     {
         let (codes, slots) = self.shape.slots();
         blocks(codes, slots, &mut self.before, &mut self.input, out)?;
@@ -141,6 +142,7 @@ impl<'a> Reader<'a> {
         ensures is { standing_read result self.new.at
             ≡ and_then (pads_at self.old.at.pad self.old.at.cursor)
             (after_pads self.old.shape self.old.bytes self.old.at.count) }
+        ensures stays { OnErr result (self.new.at ≡ stopped_at self.old.at self.new.at) }
     {
         let last = self.input.place();
         let (number, count) = self.input.rest_of_byte();

@@ -7,7 +7,7 @@ use Rattle.std.proofs.lemmas.List.{drop_all, get_or-map, get_or-set_same, get_or
 use Rattle.coef_block.specs.Zigzag.{zigzag}
 use Rattle.scan_text.specs.BlockBits.{coefficient_at, ac_values}
 use Rattle.scan_text.specs.ScanReading.{in_zigzag}
-use Rattle.scan_text.specs.ScanLaws.{ZigzagTells, IsSetInZigzag}
+use Rattle.scan_text.specs.ScanLaws.{ZigzagDetermines, IsSetInZigzag}
 
 -- so many numbers from one on
 abbrev pub numbers : ℕ → ℕ → List ℕ
@@ -49,7 +49,7 @@ pub natural_again : (block : List ℤ) → length block ≡ 64 → natural_of (i
 unfolding ac_values
 natural_again block long = by_items 64 block long
 
-pub zigzag_tells : ZigzagTells
+pub zigzag_tells : ZigzagDetermines
 zigzag_tells a b x y e = sym (natural_again a x) ∙ ap natural_of e ∙ natural_again b y
 
 pub length-in_zigzag : (block : List ℤ) → length (in_zigzag block) ≡ 64

@@ -27,12 +27,16 @@ reader_at shape bytes place = record {
   stop = None;
 }
 
--- the place where a reader that begins at a cursor starts (own): that of a unit whose bits were taken in part, or
--- else of the next one
+-- the place from which bytes are needed to go on (own): that of a unit whose bits were taken in part, or else of the
+-- next one
 abbrev pub resume_place : Cursor → ℕ
 resume_place cursor = if length cursor.left == 0 then cursor.next else cursor.last
 
--- the next MCU, or the refusal that it comes to
+-- in the midst of an MCU: neither it nor its pad bits are counted
+abbrev pub stopped_at : Standing → Standing → Standing
+stopped_at old new = record old { cursor = new.cursor; before = new.before }
+
+-- the next MCU; or the refusal that it comes to, in the midst of an MCU that isn't counted
 abbrev pub McuIsReadOn : {A : Type 0} → ScanReader → Result A ScanRefusal → ScanReader
     → List (List ℤ)
     → Type 0
@@ -41,7 +45,7 @@ McuIsReadOn old (Ok done) new out =
     × (new ≡ record old { at = new.at })
 McuIsReadOn old (Err refusal) new out =
     (mcu_at old.shape old.bytes old.at ≡ Err refusal)
-    × (new ≡ record old { at = new.at; stop = Some refusal })
+    × (new ≡ record old { at = stopped_at old.at new.at; stop = Some refusal })
 
 -- a refusal is answered again, and changes nothing
 abbrev pub McuIsRead : {A : Type 0} → Option ScanRefusal → ScanReader → Result A ScanRefusal

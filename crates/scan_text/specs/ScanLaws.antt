@@ -1,4 +1,4 @@
--- What holds of every scan.
+-- What holds of every scan (own).
 use Rattle.std.specs.Prelude.{ℕ, ◌≡◌, ◌+◌, ◌*◌, ◌<◌, ◌≤◌, Bool, true, List, ◌++◌, length, take, drop, map, Option, unwrap_or, slice_set, slice_index, Ok, Err, ℤ}
 use Rattle.std.specs.List.{AllByRecursion}
 use Rattle.bit_list.specs.Bits.{IsByte}
@@ -44,8 +44,8 @@ abbrev pub zigzag_of : List Mcu → List (List (List ℤ))
 zigzag_of mcus = map (λ mcu. map in_zigzag mcu) mcus
 
 -- the coefficients in zigzag order determine a block
-abbrev pub ZigzagTells : Type 0
-ZigzagTells = (a b : List ℤ) → length a ≡ 64 → length b ≡ 64 → in_zigzag a ≡ in_zigzag b → a ≡ b
+abbrev pub ZigzagDetermines : Type 0
+ZigzagDetermines = (a b : List ℤ) → length a ≡ 64 → length b ≡ 64 → in_zigzag a ≡ in_zigzag b → a ≡ b
 
 -- setting one there sets it among them
 abbrev pub IsSetInZigzag : Type 0

@@ -66,7 +66,7 @@ dc_at table before bytes cursor =
     and_then (symbol_at table bytes cursor)
     (λ size. and_then (difference_at bytes size) (λ more. within_dc (before +ℤ more.0) more.1))
 
--- what a symbol says where so many coefficients are left (F.2.2.2, Figure F.13): a value of a category after so many
+-- what a symbol says where `left` coefficients are left (F.2.2.2, Figure F.13): a value of a category after some
 -- zeros, sixteen zeros, the end of the block; or it can't stand there: its coefficients pass the last one, the end
 -- stands after sixteen zeros (own), or no block has the symbol
 pub data Symbol : Type 0 where
@@ -188,7 +188,8 @@ padded_or None cursor = Err (refusals.MixedPad cursor.last)
 abbrev pub pads_at : Option Bool → Cursor → Result (Option Bool × Cursor) ScanRefusal
 pads_at pad cursor = padded_or (pad_of (Some pad) cursor.left) cursor
 
--- the place after the marker of interval n, which begins the bytes from a place on; `end` is where they end (E.1.4)
+-- the place after the marker of interval n, which begins the bytes from a place on, without fill bytes (own); `end` is
+-- where they end (E.1.4)
 abbrev pub restart_of : ℕ → ℕ → ℕ → List ℕ → Result ℕ ScanRefusal
 restart_of end place n [] = Err (refusals.ScanCut end)
 restart_of end place n (byte ∷ []) =

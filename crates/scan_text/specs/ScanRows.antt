@@ -1,4 +1,4 @@
--- Worked scans, written and read.
+-- Worked scans, written and read (own).
 use Rattle.std.specs.Prelude.{ℕ, ◌≡◌, true, false, [], ◌∷◌, map, pos, replicate, Some, Ok, Err}
 use Rattle.jpeg_marker.specs.HuffmanTables.{no_table}
 use Rattle.jpeg_marker.specs.declared.component.Component.{Component}

@@ -6,7 +6,7 @@ ghost use Rattle.scan_text.specs.BlockBits.{then_text};
 ghost use Rattle.scan_text.specs.Blocks.{blocks_text, dcs_after};
 ghost use Rattle.scan_text.specs.BlockRows.{rows};
 ghost use Rattle.scan_text.specs.ScanRows.{written, put, done, read, sampled, stuck};
-ghost use Rattle.scan_text.specs.ScanLaws.{IsPutInParts, IsBlockSpelled, IsBlockReadAgain, AreBlocksSpelled, AreBlocksReadAgain, IsMcuSpelled, IsMcuReadAgain, IsSpelled, IsReadAgain, OneScan, IsRefusalOfItems, IsEndOfItems, OneOutcome, IsLongest, IsPutWhole, IsDoneWhole, IsDoneInParts, IsDoneInOrder, ZigzagTells, IsSetInZigzag, TextsAreShort};
+ghost use Rattle.scan_text.specs.ScanLaws.{IsPutInParts, IsBlockSpelled, IsBlockReadAgain, AreBlocksSpelled, AreBlocksReadAgain, IsMcuSpelled, IsMcuReadAgain, IsSpelled, IsReadAgain, OneScan, IsRefusalOfItems, IsEndOfItems, OneOutcome, IsLongest, IsPutWhole, IsDoneWhole, IsDoneInParts, IsDoneInOrder, ZigzagDetermines, IsSetInZigzag, TextsAreShort};
 ghost use Rattle.scan_text.specs.FileLaws.{AcceptedIsShape, OneFile};
 ghost use Rattle.scan_text.specs.declared.slot.Slot.{Slot};
 
@@ -64,8 +64,8 @@ pub fn items_are_read()
 {}
 
 /// The coefficients in zigzag order determine a block, and setting one there sets it among them.
-pub fn zigzag_tells_blocks()
-    ensures told { ZigzagTells }
+pub fn zigzag_determines_blocks()
+    ensures determined { ZigzagDetermines }
     ensures set { IsSetInZigzag }
 {}
 

@@ -6,7 +6,7 @@
 //!     --- mcu ----------  --- mcu --
 //!
 //! What each call writes is stated by the definitions of `scan_text`. It takes no memory: bytes go to a piece with room
-//! for `MCU_ROOM` more of them, and a byte begun waits for the next MCU. Reading is `scan_decode`'s.
+//! for `mcu_room()` more of them, and a byte begun waits for the next MCU. Reading is `scan_decode`'s.
 #![tactic(auto)]
 
 mod acs;
@@ -17,7 +17,7 @@ mod pads;
 mod values;
 mod writer;
 
-pub use writer::{MCU_ROOM, Writer};
+pub use writer::{Writer, mcu_room};
 
 #[cfg(test)]
 mod tests;

@@ -400,7 +400,7 @@ fn largest_mcu(rt: HostRuntime) -> Result<(), Fail> {
         assert!(rt; out.len() < 8000);
         filler.mark(0xd0, &mut out);
     }
-    assert_eq!(rt; out.free(), MCU_ROOM);
+    assert_eq!(rt; out.free(), mcu_room());
     let dcs: [i16; MOST_SLOTS] = [
         2047, 4094, 6141, 8188, 10235, 12282, 14329, 16376, 2047, 2047,
     ];
@@ -458,7 +458,7 @@ fn written(
         }
     }
     assert!(rt; !writer.at_end());
-    assert!(rt; out.free() >= MCU_ROOM);
+    assert!(rt; out.free() >= mcu_room());
     writer.mcu(&blocks[..count], out)
 }
 

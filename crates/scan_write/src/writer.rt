@@ -20,8 +20,12 @@ use jpeg_marker::Plan;
 use scan_text::{ScanShape, WriteStop};
 use std::marker::Model;
 
-/// How many free bytes of a piece are enough for any MCU: `mcu_room` in clauses.
-pub const MCU_ROOM: usize = 4_168;
+/// How many free bytes of a piece are enough for any MCU.
+pub fn mcu_room() -> usize
+    ensures { result ≡ mcu_room }
+{
+    4_168
+}
 
 /// A scan that is written MCU by MCU (ITU-T T.81, F.1.2). It keeps the first stop, and takes no memory.
 ///

@@ -13,7 +13,7 @@ use std::sync::atomic::AtomicU64;
 
 impl<L: Rule> Lock<L> {
     /// A lock over a value, and its first pass, with a view that the value fits. `seats` is how many passes there are
-    /// to be: the bell wakes so many threads.
+    /// to be, and how many threads the bell wakes.
     pub fn new(
         alloc: Global,
         value: L::Value,

@@ -6,7 +6,7 @@ use huff_table::PlanCodes;
 use jpeg_marker::{Plan, read_header};
 use scan_decode::Reader;
 use scan_text::MOST_SLOTS;
-use scan_write::{MCU_ROOM, Writer};
+use scan_write::{Writer, mcu_room};
 use std::process::Abort;
 use std::test::Fail;
 
@@ -52,7 +52,7 @@ fn written_again(
         assert!(rt; !reader.at_end() && !writer.at_end());
         assert_eq!(rt; reader.mcu_blocks(), blocks);
         assert_eq!(rt; writer.mcu_blocks(), blocks);
-        assert!(rt; piece.free() >= MCU_ROOM);
+        assert!(rt; piece.free() >= mcu_room());
         let out = &mut mcu[..blocks];
         assert_eq!(rt; reader.next_mcu(out), Ok(()));
         assert_eq!(rt; writer.mcu(out, piece), Ok(()));
