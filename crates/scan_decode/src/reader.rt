@@ -110,7 +110,8 @@ impl<'a> Reader<'a> {
         }
     }
 
-    /// After the last MCU: the pad bit, if a bit was padded, and the place after the scan's last byte.
+    /// The pad bit, if a bit was padded so far, and the place after the last byte that was read: after the last MCU, the
+    /// place after the scan.
     pub fn end(&self) -> (Option<bool>, usize)
         ensures pad { result.0 ≡ self.now.at.pad }
         ensures place { result.1 ≡ self.now.at.cursor.next }
