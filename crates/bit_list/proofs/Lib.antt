@@ -6,3 +6,5 @@ pub mod Rounds
 pub mod Machine
 pub mod Putting
 pub mod Spanning
+pub mod Ahead
+pub mod Peeking

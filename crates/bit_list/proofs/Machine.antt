@@ -6,11 +6,11 @@ use Rattle.std.proofs.lemmas.Nat.Bits.{bit_at_ones, bit_at-zero}
 use Rattle.std.proofs.Math.Pow.{pow_mono}
 use Rattle.bit_list.specs.Bits.{low_bits, bytes_after, padding}
 use Rattle.bit_list.specs.NumbersOfBits.{length-low_bits, mod_small}
-use Rattle.bit_list.specs.Units.{Cursor, and_then, unit_at, filled, bit_at, bits_at}
+use Rattle.bit_list.specs.Units.{Cursor, and_then, unit_at, filled, bits_at}
 use Rattle.bit_list.specs.declared.fault.BitFault.{BitFault}
 use Rattle.bit_list.proofs.LowBits.{low_bits-append, low_bits-same, low_bits-join, take-low_bits, drop-low_bits}
 use Rattle.bit_list.proofs.Wholes.{bytes_joined, byte_first}
-use Rattle.bit_list.proofs.Cursors.{filled_now, bit_filled, bit_left, more_taken}
+use Rattle.bit_list.proofs.Cursors.{filled_now, more_taken}
 
 -- the bits under a mask
 pub masked : (n k w : ℕ) → k < w → bit_and n (1 * 2 ^ k % 2 ^ w - 1) ≡ n % 2 ^ k
@@ -105,24 +105,10 @@ fill_fault bytes cursor fault none unit =
     ∙ ap (λ (r : Result (ℕ × ℕ) BitFault). and_then {A = ℕ × ℕ} {B = Cursor} r (λ u. Ok (record { left = drop cursor.skip (low_bits 8 u.0); skip = 0; last = cursor.next; next = u.1 }))) unit
 
 -- a bit as a number
-bit_is : (prefix : ℕ) → prefix < 2 → (digit_at prefix 0 == 1) ≡ nat_eq prefix 1
+pub bit_is : (prefix : ℕ) → prefix < 2 → (digit_at prefix 0 == 1) ≡ nat_eq prefix 1
 bit_is zero h = refl
 bit_is (suc zero) h = refl
 bit_is (suc (suc n)) h = absurd (omega arith)
-
--- the first bit that is left, as a number
-bit_of_left : (bytes : List ℕ) (full : Cursor) (prefix : ℕ) (ys : List Bool) → prefix < 2 → full.left ≡ low_bits 1 prefix ++ ys
-    → bit_at bytes full ≡ Ok (nat_eq prefix 1, record full { left = ys })
-bit_of_left bytes full prefix ys below split =
-    ap (λ (l : List Bool). bit_at bytes (record full { left = l })) split ∙ bit_left (digit_at prefix 0 == 1) ys bytes full.skip full.last full.next
-    ∙ ap (λ (b : Bool). let r : Result (Bool × Cursor) BitFault = Ok (b, record full { left = ys }) in r) (bit_is prefix below)
-
--- the first bit of a unit
-pub bit_taken : (bytes : List ℕ) (at full next : Cursor) (prefix : ℕ) (ys : List Bool) → filled bytes at ≡ Ok full → prefix < 2
-    → full.left ≡ low_bits 1 prefix ++ ys → next ≡ record full { left = ys } → bit_at bytes at ≡ Ok (nat_eq prefix 1, next)
-bit_taken bytes at full next prefix ys unit below split e =
-    let some : 0 < length full.left = rw split (omega arith) in
-    bit_filled bytes at full unit some ∙ bit_of_left bytes full prefix ys below split ∙ ap (λ (c : Cursor). let r : Result (Bool × Cursor) BitFault = Ok (nat_eq prefix 1, c) in r) (sym e)
 
 -- the first bits of a unit after bits that were taken
 pub number_taken : (bytes : List ℕ) (from at full next : Cursor) (m k number prefix : ℕ) (ys : List Bool) → bits_at m bytes from ≡ Ok (low_bits m number, at)

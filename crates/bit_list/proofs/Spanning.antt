@@ -18,7 +18,7 @@ done x = Ok x
 abbrev failed : {A : Type 0} → BitFault → Result A BitFault
 failed e = Err e
 
-is_both : {A B : Type 0} (x y : A × B) → done x ≡ done y → (x.0 ≡ y.0) × (x.1 ≡ y.1)
+pub is_both : {A B : Type 0} (x y : A × B) → done x ≡ done y → (x.0 ≡ y.0) × (x.1 ≡ y.1)
 is_both x y e = (cc, cc)
 
 apart : {A : Type 0} (e : BitFault) (x : A) → failed {A = A} e ≡ done x → ⊥

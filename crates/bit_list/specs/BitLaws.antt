@@ -2,6 +2,7 @@
 use Rattle.std.specs.Prelude.{◌≡◌, ℕ, ◌+◌, Bool, List, [], ◌++◌, length, Ok}
 use Rattle.bit_list.specs.Bits.{bytes_after, stuffed}
 use Rattle.bit_list.specs.Units.{Cursor, starting, bits_at, and_then}
+use Rattle.bit_list.specs.Peeked.{peeked}
 
 -- after the last bit of the unit before a place
 pub record StandsAt (place : ℕ) (cursor : Cursor) : Type 0 where
@@ -22,3 +23,14 @@ IsTakenInParts m n bytes cursor =
     bits_at (m + n) bytes cursor
     ≡ and_then (bits_at m bytes cursor)
     (λ prefix. and_then (bits_at n bytes prefix.1) (λ more. Ok (prefix.0 ++ more.0, more.1)))
+
+-- bits that are taken are the first of those that are peeked, and then come those that are peeked next
+abbrev pub ArePeeked : Type 0
+ArePeeked =
+    (n more : ℕ) (bytes : List ℕ) (from to : Cursor) (bits : List Bool)
+    → bits_at n bytes from ≡ Ok (bits, to)
+    → peeked (n + more) bytes from ≡ bits ++ peeked more bytes to
+
+-- and as many are peeked as are wanted
+abbrev pub PeekedAreAsMany : Type 0
+PeekedAreAsMany = (n : ℕ) (bytes : List ℕ) (from : Cursor) → length (peeked n bytes from) ≡ n

@@ -1,7 +1,8 @@
--- How bits are kept in a byte, and what always holds of them (own).
-use Rattle.std.specs.Prelude.{ℕ, ◌^◌, ◌<◌, ◌≤◌}
+-- How bits are kept in a byte and in a word, and what always holds of them (own).
+use Rattle.std.specs.Prelude.{◌≡◌, ℕ, ◌+◌, ◌-◌, ◌*◌, ◌/◌, ◌%◌, ◌^◌, ◌<◌, ◌≤◌, ◌≢◌, List, length, slice_index_or, Ok, nat_lt, if◌then◌else◌}
 use Rattle.bit_list.specs.Bits.{low_bits}
-use Rattle.bit_list.specs.Units.{Cursor}
+use Rattle.bit_list.specs.Units.{Cursor, unit_at}
+use Rattle.bit_list.specs.declared.bit_in.Fetched.{Fetched}
 use Rattle.bit_list.specs.declared.bit_in.Window.{Window}
 
 -- the low bits of a number, which has no others
@@ -22,3 +23,42 @@ cursor_of w = record {
 pub record IsWindow (w : Window) : Type 0 where
   pub bits : IsKept 8 w.number w.count
   pub skip : w.skip ≤ 7
+
+-- The cursor before the low bits of a word, so many of them (own): those of a unit begun, and whole units after them, up
+-- to a place. From the place `first` on each unit is one byte; the last bit before them is one of the unit at `last`.
+abbrev pub cursor_at : ℕ → ℕ → ℕ → ℕ → ℕ → ℕ → Cursor
+cursor_at word skip last first end count =
+    record {
+      left = low_bits (count % 8) (word / 2 ^ (8 * (count / 8)));
+      skip = skip;
+      last = if nat_lt first (end - count / 8) then end - count / 8 - 1 else last;
+      next = end - count / 8;
+    }
+
+-- the whole units among the low bits of a word stand before a place, a byte each (own)
+abbrev pub AreUnits : List ℕ → ℕ → ℕ → ℕ → Type 0
+AreUnits bytes word end count =
+    (i : ℕ) → i < count / 8
+    → unit_at bytes (end - (i + 1)) ≡ Ok (word / 2 ^ (8 * i) % 256, end - i)
+
+-- the cursor that fetched bits stand for (own)
+abbrev pub cursor_of_fetched : Fetched → Cursor
+cursor_of_fetched f = cursor_at f.word f.skip f.last f.first f.end f.count
+
+-- what always holds of fetched bits (own)
+pub record IsFetched (bytes : List ℕ) (f : Fetched) : Type 0 where
+  pub few : f.count ≤ 63
+  pub skip : f.skip ≤ 7
+  pub fresh : 8 ≤ f.count → f.skip ≡ 0
+  pub run : f.first + f.count / 8 ≤ f.end
+  pub units : AreUnits bytes f.word f.end f.count
+
+-- six bytes stand at a place, each a unit (own)
+pub record ArePlain (bytes : List ℕ) (place : ℕ) : Type 0 where
+  pub within : place + 6 ≤ length bytes
+  pub a : slice_index_or bytes place 0 ≢ 255
+  pub b : slice_index_or bytes (place + 1) 0 ≢ 255
+  pub c : slice_index_or bytes (place + 2) 0 ≢ 255
+  pub d : slice_index_or bytes (place + 3) 0 ≢ 255
+  pub e : slice_index_or bytes (place + 4) 0 ≢ 255
+  pub f : slice_index_or bytes (place + 5) 0 ≢ 255

@@ -5,3 +5,4 @@ pub mod Units
 pub mod BitsInside
 pub mod BitLaws
 pub mod BitSpans
+pub mod Peeked

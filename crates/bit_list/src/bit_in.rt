@@ -1,8 +1,9 @@
 // From stuffed bytes to bits.
-ghost use Rattle.std.specs.Prelude.{◌≡◌, ℕ, ◌+◌, ◌-◌, ◌*◌, ◌/◌, ◌%◌, ◌^◌, ◌<◌, ◌≤◌, Ok, Err, [], ◌∷◌, ◌++◌, length, Result, IfOk, IfErr, OnErr};
+ghost use Rattle.std.specs.Prelude.{◌≡◌, ℕ, ◌+◌, ◌-◌, ◌*◌, ◌/◌, ◌%◌, ◌^◌, ◌<◌, ◌≤◌, ◌≢◌, Ok, Err, [], ◌∷◌, ◌++◌, length, slice_index_or, Result, IfOk, IfErr, OnErr, IsTrue};
 ghost use Rattle.bit_list.specs.Bits.{low_bits, number_of};
 ghost use Rattle.bit_list.specs.Units.{unit_at, starting, filled, bit_at, bits_at};
-ghost use Rattle.bit_list.specs.BitsInside.{cursor_of, IsWindow};
+ghost use Rattle.bit_list.specs.BitsInside.{cursor_of, cursor_of_fetched, ArePlain, IsFetched, IsWindow};
+ghost use Rattle.bit_list.specs.Peeked.{peeked};
 
 use crate::fault::BitFault;
 use std::marker::Model;
@@ -22,13 +23,30 @@ struct Window {
     next: usize,
 }
 
+// Bits that were fetched ahead, and where their units stand.
+#[derive(Clone, Copy)]
+struct Fetched {
+    // The bits are its low ones.
+    word: u64,
+    // How many they are.
+    count: u8,
+    // How many bits of the next unit are left out, where there are no bits.
+    skip: u8,
+    // The place of the unit of the last bit before the unit at `first`.
+    last: usize,
+    // From here on each unit that was fetched is one byte.
+    first: usize,
+    // The place after the units that were fetched.
+    end: usize,
+}
+
 /// The bits of stuffed bytes, from any bit on (ITU-T T.81, B.1.1.5 and C.3).
 ///
 /// Clauses see the bytes and a cursor.
 #[derive(Drop)]
 pub struct BitIn<'a> {
     bytes: &'a [u8],
-    at: Window,
+    at: Fetched,
 }
 
 impl<'a> Model for BitIn<'a> {
@@ -36,11 +54,11 @@ impl<'a> Model for BitIn<'a> {
 
     ghost Value = { Reading };
 
-    ghost use Rattle.bit_list.specs.BitsInside.{cursor_of, IsWindow};
+    ghost use Rattle.bit_list.specs.BitsInside.{cursor_of_fetched, IsFetched};
 
-    ghost view = { λ b. record { bytes = b.bytes.now; cursor = cursor_of b.at } };
+    ghost view = { λ b. record { bytes = b.bytes.now; cursor = cursor_of_fetched b.at } };
 
-    ghost invariant = { λ b. IsWindow b.at };
+    ghost invariant = { λ b. IsFetched b.bytes.now b.at };
 }
 
 impl<'a> BitIn<'a> {
@@ -51,12 +69,13 @@ impl<'a> BitIn<'a> {
     {
         BitIn {
             bytes,
-            at: Window {
-                number: 0,
+            at: Fetched {
+                word: 0,
                 count: 0,
                 skip: bits,
                 last: place,
-                next: place,
+                first: place,
+                end: place,
             },
         }
     }
@@ -71,7 +90,26 @@ impl<'a> BitIn<'a> {
         ensures stays { OnErr result (self.new ≡ self.old) }
         ensures bytes { self.new.bytes ≡ self.old.bytes }
     {
-        let (number, at) = first_bits(self.bytes, self.at, n)?;
+        if n <= self.at.count {
+            let number = top_bits(self.bytes, &self.at, n);
+            self.at.count -= n;
+            return Ok(number);
+        }
+        self.fetch_and_take(n)
+    }
+
+    // The same where a unit has to be fetched first.
+    #[inline(never)]
+    fn fetch_and_take(&mut self, n: u8) -> Result<u16, BitFault>
+        requires { n ≤ 16 }
+        ensures ok { IfOk result (λ v. (v < 2 ^ n)
+            × (bits_at n self.old.bytes self.old.cursor ≡ Ok (low_bits n v, self.new.cursor))) }
+        ensures err { IfErr result (λ e. bits_at n self.old.bytes self.old.cursor ≡ Err e) }
+        ensures stays { OnErr result (self.new ≡ self.old) }
+        ensures bytes { self.new.bytes ≡ self.old.bytes }
+    {
+        refill(self.bytes, &mut self.at);
+        let (number, at) = by_units(self.bytes, self.at, n)?;
         self.at = at;
         Ok(number)
     }
@@ -85,9 +123,30 @@ impl<'a> BitIn<'a> {
         ensures stays { OnErr result (self.new ≡ self.old) }
         ensures bytes { self.new.bytes ≡ self.old.bytes }
     {
-        let (prefix, rest) = split(fill(self.bytes, self.at)?, 1);
-        self.at = rest;
-        Ok(prefix == 1)
+        let number = self.take(1)?;
+        Ok(number == 1)
+    }
+
+    /// Fetches bits ahead, so that looking at them is quick. Nothing that clauses see changes.
+    #[inline]
+    pub fn ready(&mut self)
+        ensures { self.new ≡ self.old }
+    {
+        if self.at.count < 16 {
+            refill(self.bytes, &mut self.at);
+        }
+    }
+
+    /// The next nine bits as a number, zeros for those that no unit gives.
+    #[inline]
+    pub fn peek9(&self) -> u16
+        ensures number { result ≡ number_of (peeked 9 self.now.bytes self.now.cursor) }
+        ensures below { result < 512 }
+    {
+        if self.at.count >= 9 {
+            return top_bits(self.bytes, &self.at, 9);
+        }
+        peek_by_units(self.bytes, self.at)
     }
 
     /// Takes the bits that are left of a unit begun, and answers their number and how many they are.
@@ -99,9 +158,12 @@ impl<'a> BitIn<'a> {
         ensures cursor { self.new.cursor ≡ record self.old.cursor { left = [] } }
         ensures bytes { self.new.bytes ≡ self.old.bytes }
     {
-        let rest = (self.at.number, self.at.count);
-        self.at.number = 0;
-        self.at.count = 0;
+        let window = begun(self.bytes, self.at);
+        let rest = (window.number, window.count);
+        self.at = Fetched {
+            count: self.at.count / 8 * 8,
+            ..self.at
+        };
         rest
     }
 
@@ -110,7 +172,7 @@ impl<'a> BitIn<'a> {
     pub fn next_place(&self) -> usize
         ensures { result ≡ self.now.cursor.next }
     {
-        self.at.next
+        begun(self.bytes, self.at).next
     }
 
     /// The bits that are left of a unit begun, at most 8: as a number, and their count.
@@ -121,7 +183,8 @@ impl<'a> BitIn<'a> {
         ensures few { result.1 ≤ 8 }
         ensures below { result.0 < 2 ^ result.1 }
     {
-        (self.at.number, self.at.count)
+        let window = begun(self.bytes, self.at);
+        (window.number, window.count)
     }
 
     /// The place of the unit of the last bit that was taken; before the first, where it began.
@@ -129,7 +192,7 @@ impl<'a> BitIn<'a> {
     pub fn place(&self) -> usize
         ensures { result ≡ self.now.cursor.last }
     {
-        self.at.last
+        begun(self.bytes, self.at).last
     }
 }
 
@@ -178,11 +241,12 @@ fn fill(bytes: &[u8], at: Window) -> Result<Window, BitFault>
 }
 
 // The next bits as a number, and the window after them.
-#[inline(always)]
 fn first_bits(bytes: &[u8], begin: Window, n: u8) -> Result<(u16, Window), BitFault>
     requires window { IsWindow begin }
     requires few { n ≤ 16 }
+    requires short { begin.count ≤ 7 }
     ensures below { IfOk result (λ r. r.0 < 2 ^ n) }
+    ensures short { IfOk result (λ r. r.1.count ≤ 7) }
     ensures bits { IfOk result
         (λ r. bits_at n bytes.now (cursor_of begin) ≡ Ok (low_bits n r.0, cursor_of r.1)) }
     ensures kept { IfOk result (λ r. IsWindow r.1) }
@@ -224,4 +288,187 @@ fn split(at: Window, count: u8) -> (u8, Window)
         ..at
     };
     (prefix, rest)
+}
+
+// What is left of the unit begun, and the places.
+#[inline(always)]
+fn begun(bytes: &[u8], at: Fetched) -> Window
+    requires { IsFetched bytes.now at }
+    ensures cursor { cursor_of result ≡ cursor_of_fetched at }
+    ensures kept { IsWindow result }
+    ensures short { result.count ≤ 7 }
+{
+    let units = at.count / 8;
+    let next = at.end - usize::from(units);
+    let last = if at.first < next { next - 1 } else { at.last };
+    Window {
+        number: ((at.word >> (8 * units)) & ((1 << (at.count % 8)) - 1)) as u8,
+        count: at.count % 8,
+        skip: at.skip,
+        last,
+        next,
+    }
+}
+
+// A window that holds no whole unit, as fetched bits.
+#[inline(always)]
+fn alone(bytes: &[u8], at: Window) -> Fetched
+    requires window { IsWindow at }
+    requires short { at.count ≤ 7 }
+    ensures cursor { cursor_of_fetched result ≡ cursor_of at }
+    ensures kept { IsFetched bytes.now result }
+{
+    let _ = bytes;
+    Fetched {
+        word: u64::from(at.number),
+        count: at.count,
+        skip: at.skip,
+        last: at.last,
+        first: at.next,
+        end: at.next,
+    }
+}
+
+// Fetches one unit more, which is one byte.
+#[inline(always)]
+fn fetch(bytes: &[u8], at: &mut Fetched)
+    requires kept { IsFetched bytes.now at.old }
+    requires fresh { at.old.skip ≡ 0 }
+    requires room { at.old.count ≤ 55 }
+    requires within { at.old.end < length bytes.now }
+    requires plain { slice_index_or bytes.now at.old.end 0 ≢ 255 }
+    ensures cursor { cursor_of_fetched at.new ≡ cursor_of_fetched at.old }
+    ensures kept { IsFetched bytes.now at.new }
+    ensures fresh { at.new.skip ≡ 0 }
+    ensures count { at.new.count ≡ at.old.count + 8 }
+    ensures end { at.new.end ≡ at.old.end + 1 }
+{
+    at.word = (at.word << 8) + u64::from(bytes[at.end]);
+    at.count += 8;
+    at.end += 1;
+}
+
+// Whether six bytes stand at a place, and none is 0xff.
+#[inline(always)]
+fn are_plain(bytes: &[u8], place: usize) -> bool
+    ensures { IsTrue result → ArePlain bytes.now place }
+{
+    if place >= bytes.len() || bytes.len() - place < 6 {
+        return false;
+    }
+    bytes[place] != 0xff
+        && bytes[place + 1] != 0xff
+        && bytes[place + 2] != 0xff
+        && bytes[place + 3] != 0xff
+        && bytes[place + 4] != 0xff
+        && bytes[place + 5] != 0xff
+}
+
+// Fetches six units more, which are one byte each.
+#[inline(always)]
+fn fetch_six(bytes: &[u8], at: &mut Fetched)
+    requires kept { IsFetched bytes.now at.old }
+    requires fresh { at.old.skip ≡ 0 }
+    requires room { at.old.count ≤ 15 }
+    requires plain { ArePlain bytes.now at.old.end }
+    ensures cursor { cursor_of_fetched at.new ≡ cursor_of_fetched at.old }
+    ensures kept { IsFetched bytes.now at.new }
+{
+    fetch(bytes, at);
+    fetch(bytes, at);
+    fetch(bytes, at);
+    fetch(bytes, at);
+    fetch(bytes, at);
+    fetch(bytes, at);
+}
+
+// Fetches units, as long as there is room and they are one byte each.
+#[inline(never)]
+fn refill(bytes: &[u8], at: &mut Fetched)
+    requires { IsFetched bytes.now at.old }
+    ensures cursor { cursor_of_fetched at.new ≡ cursor_of_fetched at.old }
+    ensures kept { IsFetched bytes.now at.new }
+{
+    if at.skip != 0 {
+        return;
+    }
+    if at.count <= 15 && are_plain(bytes, at.end) {
+        fetch_six(bytes, at);
+        return;
+    }
+    fetch_up_to(bytes, at);
+}
+
+// Fetches them one by one.
+#[inline(never)]
+fn fetch_up_to(bytes: &[u8], at: &mut Fetched)
+    requires kept { IsFetched bytes.now at.old }
+    requires fresh { at.old.skip ≡ 0 }
+    ensures cursor { cursor_of_fetched at.new ≡ cursor_of_fetched at.old }
+    ensures kept { IsFetched bytes.now at.new }
+{
+    while at.count <= 55 && at.end < bytes.len() && bytes[at.end] != 0xff {
+        fetch(bytes, at);
+    }
+}
+
+// The next bits as a number, and what follows them, unit by unit.
+fn by_units(bytes: &[u8], begin: Fetched, n: u8) -> Result<(u16, Fetched), BitFault>
+    requires kept { IsFetched bytes.now begin }
+    requires few { n ≤ 16 }
+    ensures below { IfOk result (λ r. r.0 < 2 ^ n) }
+    ensures bits { IfOk result
+        (λ r. bits_at n bytes.now (cursor_of_fetched begin)
+        ≡ Ok (low_bits n r.0, cursor_of_fetched r.1)) }
+    ensures kept { IfOk result (λ r. IsFetched bytes.now r.1) }
+    ensures err { IfErr result
+        (λ e. bits_at n bytes.now (cursor_of_fetched begin) ≡ Err e) }
+{
+    if n <= begin.count {
+        let number = top_bits(bytes, &begin, n);
+        let count = begin.count - n;
+        return Ok((number, Fetched { count, ..begin }));
+    }
+    let (number, window) = first_bits(bytes, begun(bytes, begin), n)?;
+    Ok((number, alone(bytes, window)))
+}
+
+// The first of the fetched bits as a number.
+#[inline(always)]
+fn top_bits(bytes: &[u8], at: &Fetched, n: u8) -> u16
+    requires kept { IsFetched bytes.now at.now }
+    requires few { n ≤ 16 }
+    requires there { n ≤ at.now.count }
+    ensures below { result < 2 ^ n }
+    ensures bits { bits_at n bytes.now (cursor_of_fetched at.now)
+        ≡ Ok (low_bits n result, cursor_of_fetched (record at.now { count = at.now.count - n })) }
+    ensures kept { IsFetched bytes.now (record at.now { count = at.now.count - n }) }
+{
+    let _ = bytes;
+    ((at.word >> (at.count - n)) & ((1 << n) - 1)) as u16
+}
+
+// The next nine bits as a number, unit by unit, zeros for those that no unit gives.
+#[inline(never)]
+fn peek_by_units(bytes: &[u8], begin: Fetched) -> u16
+    requires { IsFetched bytes.now begin }
+    ensures bits { low_bits 9 result ≡ peeked 9 bytes.now (cursor_of_fetched begin) }
+    ensures below { result < 512 }
+{
+    let mut at = begun(bytes, begin);
+    let mut number = 0u16;
+    let mut wanted = 9u8;
+    while wanted > 0 {
+        match fill(bytes, at) {
+            Ok(filled) => {
+                let count = wanted.min(filled.count);
+                let (first, rest) = split(filled, count);
+                number = (number << count) + u16::from(first);
+                at = rest;
+                wanted -= count;
+            }
+            Err(_) => return number << wanted,
+        }
+    }
+    number
 }

@@ -3,7 +3,7 @@ ghost use Rattle.std.specs.Prelude.{◌≡◌, ℕ, ◌+◌, ◌/◌, ◌%◌, �
 ghost use Rattle.std.specs.List.{AllByRecursion};
 ghost use Rattle.bit_list.specs.Bits.{IsByte, low_bits, number_of, bits_of, bytes_after, begun_after, padding, stuffed};
 ghost use Rattle.bit_list.specs.Units.{Cursor};
-ghost use Rattle.bit_list.specs.BitLaws.{IsTakenAgain, IsTakenInParts};
+ghost use Rattle.bit_list.specs.BitLaws.{IsTakenAgain, IsTakenInParts, ArePeeked, PeekedAreAsMany};
 ghost use Rattle.bit_list.specs.BitSpans.{TakenStand, StandingAreTaken, TakenFromWithin, StuffedAreFew};
 
 /// Bits that were put as whole bytes, stuffed, among other bytes, are taken again, and the next unit is the one
@@ -73,4 +73,11 @@ pub fn bits_stand_in_units()
     ensures taken { StandingAreTaken }
     ensures within { TakenFromWithin }
     ensures few { StuffedAreFew }
+{}
+
+/// Bits that are taken are the first of those that are peeked, then come those that are peeked next, and as many are
+/// peeked as are wanted.
+pub fn peeked_bits_are_taken()
+    ensures first { ArePeeked }
+    ensures many { PeekedAreAsMany }
 {}

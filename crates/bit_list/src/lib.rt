@@ -7,8 +7,8 @@
 //!     bf    ff 00     d8    3f        stuffed: after 0xff stands a zero, so that no marker shows
 //!     ^     ^         ^     ^         the places of the units: what each coded byte became
 //!
-//! A byte begun waits in `BitOut`, whole bytes go to a `Piece`. `BitIn` reads units, from any bit on, and stops at
-//! the end of the bytes and at a marker. What the bits mean is left to others.
+//! A byte begun waits in `BitOut`, whole bytes go to a `Piece`. `BitIn` reads units, from any bit on, several at once,
+//! and stops where the end of the bytes or a marker is due. What the bits mean is left to others.
 #![tactic(auto)]
 
 mod bit_in;
@@ -22,8 +22,8 @@ pub use bit_out::BitOut;
 pub use fault::BitFault;
 pub use laws::{
     begun_of_parts, bits_are_bytes, bits_are_numbers, bits_stand_in_units, bytes_of_parts,
-    eight_bits_a_byte, put_is_taken_again, stuffed_has_one_reading, stuffed_of_parts,
-    taken_in_parts,
+    eight_bits_a_byte, peeked_bits_are_taken, put_is_taken_again, stuffed_has_one_reading,
+    stuffed_of_parts, taken_in_parts,
 };
 pub use piece::{Piece, ROOM};
 

@@ -135,3 +135,59 @@ fn bits_and_rests(rt: HostRuntime) {
     assert_eq!(rt; bit_in.bit(), Err(BitFault::Cut { place: 3 }));
     assert_eq!(rt; bit_in.place(), 2);
 }
+
+// The place and the bits left out there, how many bits are taken first, and the next nine bits then.
+#[test]
+fn peeks(rt: HostRuntime) {
+    let coded: &[u8] = &[0xbf, 0xff, 0x00, 0xd8, 0x3f, 0xff];
+    let marked: &[u8] = &[0x3c, 0xff, 0xd0];
+    let plain: &[u8] = &[0x12, 0x34, 0x56, 0x78, 0x9a, 0xbc, 0xde, 0xf0];
+    let rows: [(&[u8], (usize, u8), u8, u16); 14] = [
+        (coded, (0, 0), 0, 0x17f),
+        (coded, (0, 0), 3, 0x1ff),
+        (coded, (0, 0), 16, 0x1b0),
+        (coded, (3, 5), 0, 0x00f),
+        (coded, (4, 0), 0, 0x07e),
+        (coded, (4, 7), 0, 0x100),
+        (coded, (5, 0), 0, 0),
+        (coded, (6, 3), 0, 0),
+        (marked, (0, 0), 0, 0x078),
+        (marked, (0, 4), 0, 0x180),
+        (marked, (1, 0), 0, 0),
+        (plain, (0, 0), 16, 0x0ac),
+        (plain, (0, 3), 1, 0x046),
+        (plain, (7, 0), 0, 0x1e0),
+    ];
+    for (bytes, (place, bits), n, peeked) in rows {
+        let mut bit_in = begun_in(&rt, bytes, place, bits);
+        assert!(rt; n <= 16);
+        assert!(rt; bit_in.take(n).is_ok());
+        let stands = (bit_in.left(), bit_in.place(), bit_in.next_place());
+        assert_eq!(rt; bit_in.peek9(), peeked);
+        bit_in.ready();
+        assert_eq!(rt; bit_in.peek9(), peeked);
+        assert_eq!(rt;
+            (bit_in.left(), bit_in.place(), bit_in.next_place()),
+            stands
+        );
+    }
+}
+
+// What is taken from bytes that were fetched ahead, and where the reader stands after each bit of them.
+#[test]
+fn places_of_fetched_units(rt: HostRuntime) {
+    let bytes: &[u8] = &[0x12, 0x34, 0x56, 0x78, 0x9a, 0xbc, 0xde, 0xff, 0x00, 0x80];
+    let mut bit_in = begun_in(&rt, bytes, 0, 0);
+    let mut slow = begun_in(&rt, bytes, 0, 0);
+    for i in 0..72usize {
+        bit_in.ready();
+        assert_eq!(rt; bit_in.bit(), slow.bit(), "bit {i}");
+        let unit = i / 8;
+        let next = if unit < 7 { unit + 1 } else { unit + 2 };
+        let last = if unit < 8 { unit } else { 9 };
+        assert_eq!(rt; bit_in.place(), last, "bit {i}");
+        assert_eq!(rt; bit_in.next_place(), next, "bit {i}");
+        assert_eq!(rt; bit_in.left().1, 7 - (i % 8) as u8, "bit {i}");
+    }
+    assert_eq!(rt; bit_in.bit(), Err(BitFault::Cut { place: 10 }));
+}

@@ -13,6 +13,7 @@ loop-wanted-init c =
     record {
       few = omega arith;
       window = c.requires.window;
+      short = c.requires.short;
       below = rw none (omega arith);
       bits = rw none (none_yet c.args.bytes.now (cursor_of c.args.begin));
     }
@@ -52,6 +53,7 @@ loop-wanted-preserved c =
     record {
       few = omega (arith, c.loop-wanted.invariant.few);
       window = c.split-first.ensures.kept;
+      short = omega (arith, c.split-first.ensures.fewer, c.in_ok-filled.ensures.kept.bits.few, some);
       below = rw many g.below;
       bits = rw (many, g.is) taken;
     }
@@ -75,3 +77,6 @@ returns-clause-bits c =
 
 pub returns-clause-kept : goal.returns-clause-kept
 returns-clause-kept c = c.loop-wanted.invariant.window
+
+pub returns-clause-short : goal.returns-clause-short
+returns-clause-short c = c.loop-wanted.invariant.short

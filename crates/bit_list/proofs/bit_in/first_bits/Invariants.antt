@@ -8,6 +8,7 @@ abbrev pub invariant-loop-wanted : goal.invariant-loop-wanted
 invariant-loop-wanted l = record {
   few : l.wanted ≤ l.n;
   window : IsWindow l.at;
+  short : l.at.count ≤ 7;
   below : l.number < 2 ^ (l.n - l.wanted);
   bits : bits_at (l.n - l.wanted) l.bytes (cursor_of l.initial.at) ≡ Ok (low_bits (l.n - l.wanted) l.number, cursor_of l.at);
 }
