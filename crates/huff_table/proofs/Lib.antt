@@ -9,3 +9,4 @@ pub mod Lookup
 pub mod WordReading
 pub mod Built
 pub mod PlanComponents
+pub mod ShortReading

@@ -3,6 +3,7 @@ use Rattle.std.specs.Prelude.{◌≡◌, List, fold, replicate, slice_set}
 use Rattle.jpeg_marker.specs.HuffmanTables.{TableFields, IsTable}
 use Rattle.jpeg_marker.specs.AcceptedPlans.{AreBytes}
 use Rattle.huff_table.specs.CodeWords.{CodeWord, words_of}
+use Rattle.huff_table.specs.ShortWords.{by_bits}
 use Rattle.huff_table.specs.declared.word.Word.{Word}
 use Rattle.huff_table.specs.declared.codes.Codes.TheInside.{Inside}
 
@@ -24,8 +25,9 @@ by_value table = placed (replicate 256 no_word) (words_of table)
 pub record IsKept (c : Inside) : Type 0 where
   pub table : IsTable c.table
   pub words : c.words ≡ by_value c.table
+  pub short : c.short ≡ by_bits c.table
   pub bytes : AreBytes c.table.values
 
 -- what is kept of a table
 abbrev pub inside_of : TableFields → Inside
-inside_of table = record { table = table; words = by_value table }
+inside_of table = record { table = table; words = by_value table; short = by_bits table }

@@ -1,5 +1,5 @@
 // The code words of one table.
-ghost use Rattle.std.specs.Prelude.{◌≡◌, ℕ, ◌+◌, ◌*◌, ◌-◌, ◌^◌, ◌<◌, ◌≤◌, ◌↔◌, Bool, List, length, Ok, Err, Some, None, IsSome, IfSome, IfNone, IfOk, IfErr, OnErr, Contains};
+ghost use Rattle.std.specs.Prelude.{◌≡◌, ℕ, ◌+◌, ◌*◌, ◌-◌, ◌^◌, ◌<◌, ◌≤◌, ◌↔◌, Bool, List, ◌++◌, length, take, Ok, Err, Some, None, IsSome, IfSome, IfNone, IfOk, IfErr, OnErr, Contains};
 ghost use Rattle.bit_list.specs.Bits.{low_bits};
 ghost use Rattle.bit_list.specs.Units.{bits_at};
 ghost use Rattle.jpeg_marker.specs.HuffmanTables.{IsTable};
@@ -10,7 +10,8 @@ ghost use Rattle.huff_table.specs.CodesInside.{placed};
 ghost use Rattle.huff_table.specs.Levels.{level, value_among};
 
 use crate::fault::CodeFault;
-use crate::word::{NONE, Word};
+use crate::short_words::short_words;
+use crate::word::{NONE, ShortWord, Word};
 use bit_list::BitIn;
 use jpeg_marker::RawTable;
 use std::marker::Model;
@@ -21,6 +22,8 @@ pub struct Codes {
     table: RawTable,
     // By value.
     words: [Word; 256],
+    // By the next nine bits.
+    short: [ShortWord; 512],
 }
 
 impl Model for Codes {
@@ -37,7 +40,7 @@ impl Model for Codes {
 
     ghost inverse = { inside_of };
 
-    ghost inverse_ok = { λ a h. let e = h.words in Prim.rw e refl };
+    ghost inverse_ok = { λ a h. let e = h.words in let f = h.short in Prim.rw e (Prim.rw f refl) };
 }
 
 impl Codes {
@@ -60,6 +63,7 @@ impl Codes {
         Codes {
             table: *table,
             words,
+            short: short_words(table),
         }
     }
 
@@ -81,9 +85,54 @@ impl Codes {
         Some((word.code, word.size))
     }
 
+    /// The value whose code word nine bits begin with, as a number, and how many bits that word has: none where no
+    /// word of at most nine bits does.
+    #[inline]
+    pub fn quick(&self, index: u16) -> Option<(u8, u8)>
+        requires { index < 512 }
+        ensures some { IfSome result
+            (λ found. (1 ≤ found.1) × (found.1 ≤ 9)
+            × (word_of self.now found.0 ≡ Some (take found.1 (low_bits 9 index)))) }
+        ensures none { IfNone result ((value : ℕ) (word more : List Bool)
+            → word_of self.now value ≡ Some word → length word ≤ 9
+            → low_bits 9 index ≡ word ++ more → ⊥) }
+    {
+        let found = self.short[usize::from(index)];
+        if found.size == 0 {
+            return None;
+        }
+        Some((found.value, found.size))
+    }
+
     /// Takes the value whose code word stands next. A fault leaves the input after the bits that were looked at, 16
     /// at most.
+    #[inline(always)]
     pub fn next(&self, input: &mut BitIn) -> Result<u8, CodeFault>
+        ensures ok { IfOk result
+            (λ value. value_at self.now input.old.bytes input.old.cursor
+            ≡ Ok (value, input.new.cursor)) }
+        ensures err { IfErr result
+            (λ fault. value_at self.now input.old.bytes input.old.cursor ≡ Err fault) }
+        ensures stopped { OnErr result ((bits : List Bool) × (length bits ≤ 16)
+            × (bits_at (length bits) input.old.bytes input.old.cursor
+            ≡ Ok (bits, input.new.cursor))) }
+        ensures bytes { input.new.bytes ≡ input.old.bytes }
+        ensures kept { IsTable self.now }
+    {
+        // By using the table, what it keeps is known here.
+        let _ = &self.table;
+        input.ready();
+        if let Some((value, size)) = self.quick(input.peek9()) {
+            if input.take(size).is_ok() {
+                return Ok(value);
+            }
+        }
+        self.by_bits(input)
+    }
+
+    // The same bit by bit.
+    #[inline(never)]
+    fn by_bits(&self, input: &mut BitIn) -> Result<u8, CodeFault>
         ensures ok { IfOk result
             (λ value. value_at self.now input.old.bytes input.old.cursor
             ≡ Ok (value, input.new.cursor)) }
@@ -102,8 +151,8 @@ impl Codes {
         for count in counts {
             code = 2 * code + u32::from(input.bit()?);
             let (these, longer) = values.split_at(usize::from(*count));
-            if let Some(value) = value_among(these, first, code) {
-                return Ok(value);
+            if let Some(found) = value_among(these, first, code) {
+                return Ok(found);
             }
             first = 2 * (first + u32::from(*count));
             values = longer;
@@ -131,7 +180,7 @@ fn place_level(words: &mut [Word; 256], values: &[u8], first: u32, size: u8)
 
 // The value of a code word, among those of one size from a first word on.
 #[inline(always)]
-fn value_among(values: &[u8], first: u32, code: u32) -> Option<u8>
+pub(crate) fn value_among(values: &[u8], first: u32, code: u32) -> Option<u8>
     ensures { result ≡ value_among values.now first code }
 {
     let place = code.checked_sub(first)?;

@@ -7,7 +7,8 @@
 //!                                         zeros appended
 //!     |-------------|------|---|---|      what begins with each of them, among all words of one length
 //!
-//! `Codes` gives a value's code word, and takes the value whose word stands next in a scan's bits. It takes no memory.
+//! `Codes` gives a value's code word, and takes the value whose word stands next in a scan's bits: a word of at most
+//! nine bits by a table, a longer one bit by bit. It takes no memory.
 //! What values mean is left to others.
 #![tactic(auto)]
 
@@ -15,6 +16,7 @@ mod codes;
 mod fault;
 mod laws;
 mod plan_codes;
+mod short_words;
 mod word;
 
 pub use codes::Codes;

@@ -40,6 +40,7 @@ fn there_and_back(rt: &impl Abort, alloc: Global, codes: &Codes, rows: &[Row]) -
     for (symbol, code, size) in rows {
         assert_eq!(rt; codes.word(*symbol), Some((*code, *size)));
         assert!(rt; *size <= 16);
+        is_quick(rt, codes, *symbol, *code, *size);
         assert!(rt; u32::from(*code) >> *size == 0);
         assert!(rt; out.len() < 1000);
         bits.put(*code, *size, &mut out);
@@ -48,6 +49,22 @@ fn there_and_back(rt: &impl Abort, alloc: Global, codes: &Codes, rows: &[Row]) -
     bits.pad(true, &mut out);
     taken_in_turn(rt, codes, rows, out.bytes());
     Ok(())
+}
+
+// A word of at most nine bits is found by each nine bits that begin with it, and a longer one by none.
+fn is_quick(rt: &impl Abort, codes: &Codes, symbol: u8, code: u16, size: u8) {
+    assert!(rt; size <= 16);
+    if size > 9 {
+        let index = code >> (size - 9);
+        assert!(rt; index < 512);
+        assert_eq!(rt; codes.quick(index), None, "{code}");
+        return;
+    }
+    let first = u32::from(code) << (9 - size);
+    for index in first..first + (1 << (9 - size)) {
+        assert!(rt; index < 512);
+        assert_eq!(rt; codes.quick(index as u16), Some((symbol, size)), "{index}");
+    }
 }
 
 fn taken_in_turn(rt: &impl Abort, codes: &Codes, rows: &[Row], bytes: &[u8]) {
@@ -108,5 +125,50 @@ fn bits_that_are_no_word(rt: HostRuntime) -> Result<(), Fail> {
     assert_eq!(rt; codes.ac(0).next(&mut input), Ok(0xf0));
     assert_eq!(rt; codes.ac(0).next(&mut input), Ok(0));
     assert_eq!(rt; codes.ac(0).word(0), Some((1, 1)));
+    Ok(())
+}
+
+// The table with `0` for F0 and `1` for 00 by nine bits; and the table with `0` alone.
+#[test]
+fn short_words(rt: HostRuntime) -> Result<(), Fail> {
+    let codes = codes_of(rt.alloc(), &[&GREY[..15], &ONE, &BOTH, &GREY[15..]])?;
+    assert_eq!(rt; codes.components().len(), 1);
+    for (index, of_both, of_one) in [
+        (0, Some((0xf0, 1)), Some((7, 1))),
+        (255, Some((0xf0, 1)), Some((7, 1))),
+        (256, Some((0, 1)), None),
+        (511, Some((0, 1)), None),
+    ] {
+        assert!(rt; index < 512);
+        assert_eq!(rt; codes.ac(0).quick(index), of_both, "{index}");
+        assert_eq!(rt; codes.dc(0).quick(index), of_one, "{index}");
+    }
+    Ok(())
+}
+
+// The last symbols of a scan, where fewer than nine bits are left, and what comes then.
+#[test]
+fn last_symbols(rt: HostRuntime) -> Result<(), Fail> {
+    let alloc = rt.alloc();
+    let codes = codes_of(alloc, &[&FRONT, &K3, &K4, &K5, &K6, &BACK])?;
+    assert_eq!(rt; codes.components().len(), 2);
+    let cut = |place| Err(CodeFault::Bits(BitFault::Cut { place }));
+    let marker = |place| Err(CodeFault::Bits(BitFault::MarkerInScan { place }));
+    // Words of eight bits and of four, of nine and of ten with eight bits there, and of twelve across a stuffed byte.
+    let rows: [(&[u8], [Result<u8, CodeFault>; 3]); 7] = [
+        (&[0xf8], [Ok(0x07), cut(1), cut(1)]),
+        (&[0xaa], [Ok(0x00), Ok(0x00), cut(1)]),
+        (&[0xfb], [cut(1), cut(1), cut(1)]),
+        (&[0xfd], [cut(1), cut(1), cut(1)]),
+        (&[0xfb, 0xff, 0xd9], [marker(1), marker(1), marker(1)]),
+        (&[0xaa, 0xff], [Ok(0x00), Ok(0x00), cut(2)]),
+        (&[0xff, 0x00, 0x5f], [Ok(0x33), cut(3), cut(3)]),
+    ];
+    for (bytes, taken) in rows {
+        let mut input = BitIn::at(bytes, 0, 0);
+        for value in taken {
+            assert_eq!(rt; codes.ac(0).next(&mut input), value, "{bytes:?}");
+        }
+    }
     Ok(())
 }

@@ -49,4 +49,5 @@ invariant_of-result c =
       table = is;
       words = words ∙ ap₂ (λ a b. placed (replicate 256 no_word) (levels 1 0 a b)) c.counts-counts.ensures.value c.values-values.ensures.value ∙ built c.args.table.now is;
       bytes = c.values-values.ensures.bytes;
+      short = c.short_words.ensures;
     }

@@ -1,6 +1,6 @@
 use Rattle.std.proofs.Common.{◌≡◌, drop, length, sum}
 use Rattle.huff_table.proofs.Decoded.{Reaches}
-use Rattle.huff_table.proofs.codes.Codes.next.Given as goal
+use Rattle.huff_table.proofs.codes.Codes.by_bits.Given as goal
 
 abbrev pub invariant-loop-count : goal.invariant-loop-count
 invariant-loop-count l = record {
