@@ -9,7 +9,7 @@ use huff_table::Codes;
 use scan_text::{ScanRefusal, extend};
 
 /// The symbol whose code word stands next.
-#[inline]
+#[inline(always)]
 pub(crate) fn symbol(codes: &Codes, input: &mut BitIn) -> Result<u8, ScanRefusal>
     ensures is { at_cursor result input.new.cursor
         ≡ symbol_at codes.now input.old.bytes input.old.cursor }

@@ -1,9 +1,10 @@
 -- A value of so many bits, as the machine makes it.
-use Rattle.std.proofs.Common.{◌≡◌, ℕ, zero, suc, ◌-◌, ◌*◌, ◌%◌, ◌^◌, ◌<◌, ◌≤◌, ℤ, pos, negsuc, neg_ℤ, ◌-ℤ◌, ◌+ℤ◌, unsigned_abs, sym, ap, ap₂, ◌∙◌, arith, pow-suc}
+use Rattle.std.proofs.Common.{◌≡◌, ℕ, zero, suc, ◌+◌, ◌-◌, ◌*◌, ◌/◌, ◌%◌, ◌^◌, ◌<◌, ◌≤◌, ℤ, pos, negsuc, neg_ℤ, ◌-ℤ◌, ◌+ℤ◌, unsigned_abs, sym, ap, ap₂, ◌∙◌, arith, zero-add, inl, inr}
+use Rattle.std.proofs.lemmas.Bool.{cases_lt}
 use Rattle.std.specs.Prelude.{FitsSigned}
 use Rattle.std.specs.Int.{w32}
 use Rattle.std.proofs.lemmas.Int.{ints, to_z-of_z}
-use Rattle.std.proofs.lemmas.Nat.{one_shl, pow_pos}
+use Rattle.std.proofs.lemmas.Nat.{one_shl, pow_pos, shr_below}
 use Rattle.std.proofs.Math.Pow.{pow_mono}
 use mir.Val.{to_z, of_z}
 use Rattle.bit_list.specs.Bits.{low_bits}
@@ -26,40 +27,50 @@ one_less p some few = omega (arith, ints)
 difference_few : (p n : ℕ) → n < p → p ≤ 2048 → unsigned_abs (pos n -ℤ (pos p -ℤ pos 1)) ≤ 65534
 difference_few p n below few = omega (arith, ints)
 
+all_ones : (p : ℕ) → 0 < p → pos (p - 1) ≡ pos p -ℤ pos 1
+all_ones p some = omega (arith, ints)
+
+nothing_less : (n : ℕ) → pos n -ℤ pos 0 ≡ pos n
+nothing_less n = omega (arith, ints)
+
 abbrev made : ℤ → ℤ
 made z = to_z w32 (of_z w32 z)
 
--- with the first bit a zero
-pub low_value : (bits size : ℕ) (number : ℤ) → 0 < size → size ≤ 11 → bits < 2 ^ (size - 1) → number ≡ pos bits
-    → to_z w32 (of_z w32 (to_z w32 (of_z w32 number) -ℤ to_z w32 (of_z w32 (to_z w32 (1 * 2 ^ size % 4294967296) -ℤ pos 1)))) ≡ extend (low_bits size bits)
-low_value bits zero number some few below is = absurd (omega arith)
-low_value bits (suc k) number some few below is =
+-- a value from its bits, less all ones where the first one is a zero
+pub extended : (bits size less : ℕ) (number taken : ℤ) → 0 < size → size ≤ 11 → bits < 2 ^ size → number ≡ pos bits → taken ≡ pos less
+    → (bits < 2 ^ (size - 1) → less ≡ 2 ^ size - 1) → (2 ^ (size - 1) ≤ bits → less ≡ 0)
+    → to_z w32 (of_z w32 (to_z w32 (of_z w32 number) -ℤ to_z w32 (of_z w32 taken))) ≡ extend (low_bits size bits)
+extended bits zero less number taken some few below is gone low high = absurd (omega arith)
+extended bits (suc k) less number taken some few below is gone low high =
     let one : suc k - 1 ≡ k = omega arith in
-    let under : bits < 2 ^ k = rw one at below in
     let p = 2 ^ suc k in
-    let twice : p ≡ 2 * 2 ^ k = omega (arith, pow-suc 2 k) in
     let most : p ≤ 2 ^ 11 = pow_mono few in
     let positive : 0 < p = omega (arith, pow_pos (suc k)) in
-    let below_all : bits < p = omega (arith, under, twice) in
-    let shifted : 1 * 2 ^ suc k % 4294967296 ≡ p = one_shl (suc k) 32 (omega arith) in
-    let word : to_z w32 (1 * 2 ^ suc k % 4294967296) ≡ pos p = ap (to_z w32) shifted ∙ kept_word (pos p) (omega (arith, most)) in
-    let first : made number ≡ pos bits = ap made is ∙ kept_word (pos bits) (omega (arith, below_all, most)) in
-    let second : made (to_z w32 (1 * 2 ^ suc k % 4294967296) -ℤ pos 1) ≡ pos p -ℤ pos 1 =
-    ap (λ (z : ℤ). made (z -ℤ pos 1)) word ∙ kept_word (pos p -ℤ pos 1) (one_less p positive (omega (arith, most))) in
-    ap₂ (λ (a b : ℤ). made (a -ℤ b)) first second
-    ∙ kept_word (pos bits -ℤ (pos p -ℤ pos 1)) (difference_few p bits below_all (omega (arith, most)))
-    ∙ minus p bits below_all
-    ∙ sym (extend_low k bits under)
+    let first : made number ≡ pos bits = ap made is ∙ kept_word (pos bits) (omega (arith, below, most)) in
+    elim (cases_lt bits (2 ^ k)) [
+      | inl under ↦ (
+          let whole : less ≡ p - 1 = low (rw one under) in
+          let second : made taken ≡ pos p -ℤ pos 1 = ap made (gone ∙ ap pos whole ∙ all_ones p positive) ∙ kept_word (pos p -ℤ pos 1) (one_less p positive (omega (arith, most))) in
+          ap₂ (λ (a b : ℤ). made (a -ℤ b)) first second
+          ∙ kept_word (pos bits -ℤ (pos p -ℤ pos 1)) (difference_few p bits below (omega (arith, most)))
+          ∙ minus p bits below ∙ sym (extend_low k bits under)
+          )
+      | inr over ↦ (
+          let none : less ≡ 0 = high (rw one over) in
+          let second : made taken ≡ pos 0 = ap made (gone ∙ ap pos none) ∙ kept_word (pos 0) (omega arith) in
+          ap₂ (λ (a b : ℤ). made (a -ℤ b)) first second ∙ ap made (nothing_less bits)
+          ∙ kept_word (pos bits) (omega (arith, below, most)) ∙ sym (extend_high k bits below over)
+          )
+    ]
 
--- with the first bit a one
-pub high_value : (bits size : ℕ) (number : ℤ) → 0 < size → size ≤ 11 → bits < 2 ^ size → 2 ^ (size - 1) ≤ bits → number ≡ pos bits
-    → to_z w32 (of_z w32 number) ≡ extend (low_bits size bits)
-high_value bits zero number some few below least is = absurd (omega arith)
-high_value bits (suc k) number some few below least is =
-    let one : suc k - 1 ≡ k = omega arith in
-    let over : 2 ^ k ≤ bits = rw one at least in
-    let most : 2 ^ suc k ≤ 2 ^ 11 = pow_mono few in
-    ap made is ∙ kept_word (pos bits) (omega (arith, below, most)) ∙ sym (extend_high k bits below over)
+-- all ones, where the first bit is a zero
+pub ones_less : (bits size : ℕ) → size ≤ 11 → bits < 2 ^ (size - 1) → (1 - bits / 2 ^ (size - 1)) * (1 * 2 ^ size % 65536 - 1) ≡ 2 ^ size - 1
+ones_less bits size few under =
+    let k = size - 1 in
+    let e : 0 + k ≡ k = zero-add k in
+    let none : bits / 2 ^ k < 2 ^ 0 = shr_below bits 0 k (rw e under) in
+    let zero : bits / 2 ^ k ≡ 0 = omega (arith, none) in
+    rw (zero, one_shl size 16 (omega (arith, few))) (omega arith)
 
 -- a sum, as the machine adds
 pub sum_is : (a b : ℤ) → unsigned_abs a ≤ 32767 → unsigned_abs b ≤ 2047 → to_z w32 (of_z w32 (a +ℤ b)) ≡ a +ℤ b

@@ -1,5 +1,5 @@
 // The additional bits of differences and coefficients, as numbers (ITU-T T.81, F.1.2.1, F.2.2.1).
-ghost use Rattle.std.specs.Prelude.{◌≡◌, ◌^◌, ◌<◌, ◌≤◌, unsigned_abs};
+ghost use Rattle.std.specs.Prelude.{◌≡◌, ◌-◌, ◌^◌, ◌<◌, ◌≤◌, unsigned_abs};
 ghost use Rattle.bit_list.specs.Bits.{low_bits};
 ghost use Rattle.coef_block.specs.Block.{most_difference};
 ghost use Rattle.coef_block.specs.Categories.{category};
@@ -33,10 +33,18 @@ pub fn extend(bits: u16, size: u8) -> i32
     if size == 0 {
         return 0;
     }
-    let number = i32::from(bits);
-    if bits < 1 << (size - 1) {
-        number - ((1 << size) - 1)
-    } else {
-        number
-    }
+    i32::from(bits) - i32::from(less(bits, size))
+}
+
+// How much less than its bits spell a value is: all ones where the first bit is a zero, and else nothing. It takes no
+// branch, since that bit can't be foretold.
+#[inline(always)]
+fn less(bits: u16, size: u8) -> u16
+    requires some { 0 < size }
+    requires few { size ≤ 11 }
+    requires below { bits < 2 ^ size }
+    ensures low { bits < 2 ^ (size - 1) → result ≡ 2 ^ size - 1 }
+    ensures high { 2 ^ (size - 1) ≤ bits → result ≡ 0 }
+{
+    (1 - (bits >> (size - 1))) * ((1 << size) - 1)
 }
