@@ -56,9 +56,9 @@ pub record IsFetched (bytes : List ℕ) (f : Fetched) : Type 0 where
 -- six bytes stand at a place, each a unit (own)
 pub record ArePlain (bytes : List ℕ) (place : ℕ) : Type 0 where
   pub within : place + 6 ≤ length bytes
-  pub a : slice_index_or bytes place 0 ≢ 255
-  pub b : slice_index_or bytes (place + 1) 0 ≢ 255
-  pub c : slice_index_or bytes (place + 2) 0 ≢ 255
-  pub d : slice_index_or bytes (place + 3) 0 ≢ 255
-  pub e : slice_index_or bytes (place + 4) 0 ≢ 255
-  pub f : slice_index_or bytes (place + 5) 0 ≢ 255
+  pub first : slice_index_or bytes place 0 ≢ 255
+  pub second : slice_index_or bytes (place + 1) 0 ≢ 255
+  pub third : slice_index_or bytes (place + 2) 0 ≢ 255
+  pub fourth : slice_index_or bytes (place + 3) 0 ≢ 255
+  pub fifth : slice_index_or bytes (place + 4) 0 ≢ 255
+  pub sixth : slice_index_or bytes (place + 5) 0 ≢ 255
