@@ -1,5 +1,6 @@
 mod BitCounts
 pub mod CategoryLemmas
 mod Positions
+pub mod RowIndexes
 mod Shuffle
-mod Zeros
+pub mod Zeros

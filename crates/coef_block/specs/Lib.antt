@@ -1,3 +1,5 @@
 pub mod Block
 pub mod Categories
+pub mod RowsInside
+pub mod TwoRows
 pub mod Zigzag

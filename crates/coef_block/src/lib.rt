@@ -12,14 +12,18 @@
 //!
 //! A natural position is 8 times the row plus the column. The number of bits of a coefficient or of a difference
 //! is its category (Table F.1). Coding those bits is left to others.
+//!
+//! `Rows` keeps the blocks of two MCU rows, and gives those above, to the left and diagonally of one.
 #![tactic(auto)]
 
 mod block;
 mod category;
+mod rows;
 mod zigzag;
 
 pub use block::Block;
 pub use category::size;
+pub use rows::Rows;
 pub use zigzag::{
     ZIGZAG, natural_position, natural_positions, zigzag_is_a_permutation, zigzag_is_the_figures,
 };

@@ -1,5 +1,9 @@
 // Values from the tables and figures of ITU-T T.81.
+ghost use Rattle.std.specs.Prelude.{◌≡◌, ◌<◌, ◌∷◌, []};
+ghost use Rattle.coef_block.specs.TwoRows.{width, height, extents_of};
+
 use super::*;
+use std::process::Abort;
 
 #[test]
 fn figure(rt: HostRuntime) {
@@ -57,4 +61,98 @@ fn first_and_last(rt: HostRuntime) {
     block.set(63, -1023);
     assert_eq!(rt; (kept.get(63), block.get(63)), (1023, -1023));
     assert!(rt; kept != block);
+}
+
+// The DC of a block that may be there; 0 where it isn't.
+fn dc_of(block: Option<&Block>) -> i16 {
+    match block {
+        Some(block) => block.get(0),
+        None => 0,
+    }
+}
+
+// The DCs above, to the left and diagonally, as they should be, and then a block with this DC at the place.
+fn visit(
+    rt: &impl Abort,
+    rows: &mut Rows,
+    component: usize,
+    row: u32,
+    column: u32,
+    around: [i16; 3],
+    dc: u8,
+)
+    requires component { component < 4 }
+    requires row { row < height rows.old.extents component }
+    requires column { column < width rows.old.extents component }
+    ensures { rows.new.extents ≡ rows.old.extents }
+{
+    let [above, left, diagonal] = around;
+    assert_eq!(rt;
+        dc_of(rows.above(component, row, column)),
+        above,
+        "above {dc}"
+    );
+    assert_eq!(rt;
+        dc_of(rows.left(component, row, column)),
+        left,
+        "left of {dc}"
+    );
+    assert_eq!(rt;
+        dc_of(rows.diagonal(component, row, column)),
+        diagonal,
+        "diagonal of {dc}"
+    );
+    let mut block = Block::zero();
+    block.set(0, i16::from(dc));
+    rows.store(component, row, column, &block);
+}
+
+// The six blocks of a 4:2:0 MCU in turn, with the DCs from `dc` on.
+fn visit_mcu(rt: &impl Abort, rows: &mut Rows, dc: u8, around: [[i16; 3]; 6])
+    requires extents { rows.old.extents ≡ extents_of (2 ∷ 1 ∷ 1 ∷ []) (2 ∷ 1 ∷ 1 ∷ []) }
+    requires few { dc < 100 }
+    ensures { rows.new.extents ≡ rows.old.extents }
+{
+    visit(rt, rows, 0, 0, 0, around[0], dc);
+    visit(rt, rows, 0, 0, 1, around[1], dc + 1);
+    visit(rt, rows, 0, 1, 0, around[2], dc + 2);
+    visit(rt, rows, 0, 1, 1, around[3], dc + 3);
+    visit(rt, rows, 1, 0, 0, around[4], dc + 4);
+    visit(rt, rows, 2, 0, 0, around[5], dc + 5);
+}
+
+// MCU rows of one 4:2:0 MCU: two in a segment, and the first of the next.
+#[test]
+fn neighbours(rt: HostRuntime) {
+    let mut rows = Rows::new(rt.alloc(), &[2, 1, 1], &[2, 1, 1]).expect(&rt, "memory");
+    assert_eq!(rt; rows.room(), 12);
+    let first = [
+        [0, 0, 0],
+        [0, 1, 0],
+        [1, 0, 0],
+        [2, 3, 1],
+        [0, 0, 0],
+        [0, 0, 0],
+    ];
+    visit_mcu(&rt, &mut rows, 1, first);
+    rows.next_row();
+    let second = [
+        [3, 0, 0],
+        [4, 7, 3],
+        [7, 0, 0],
+        [8, 9, 7],
+        [5, 0, 0],
+        [6, 0, 0],
+    ];
+    visit_mcu(&rt, &mut rows, 7, second);
+    rows.clear();
+    let third = [
+        [0, 0, 0],
+        [0, 13, 0],
+        [13, 0, 0],
+        [14, 15, 13],
+        [0, 0, 0],
+        [0, 0, 0],
+    ];
+    visit_mcu(&rt, &mut rows, 13, third);
 }

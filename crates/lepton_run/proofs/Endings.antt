@@ -8,7 +8,7 @@ use Rattle.lepton_run.specs.Answer.{Gives, IsRefused, Means, Notes, Refuses, Too
 use Rattle.lepton_run.specs.declared.command.Command.{Command}
 use Rattle.lepton_run.specs.declared.command.Command.TheVariants.{Encode, Decode}
 use Rattle.lepton_run.specs.declared.refusal.Refusal.{Refusal}
-use Rattle.lepton_run.specs.declared.refusal.Refusal.TheVariants.{Outside, Header, TooLong}
+use Rattle.lepton_run.specs.declared.refusal.Refusal.TheVariants.{Outside, Header, Scan, TooLong}
 use Rattle.lepton_run.specs.declared.ending.Ending.{Ending}
 use Rattle.lepton_run.specs.declared.ending.Ending.TheVariants.{Done, Refused, WordsRefused, ReadFailed, WriteFailed, NoMemory}
 use Rattle.lepton_run.proofs.OneAnswer.{one_cause, refused_apart}
@@ -26,6 +26,7 @@ had_refused : (command : Command) (refusal : Refusal) (had : List ℕ) (new : Op
 had_refused command TooLong had new why = omega (arith, why.1, taken_within had why.0 new why.2)
 had_refused command Outside had new why = subst (λ (bytes : List ℕ). IsRefused command Outside bytes) (sym (all_taken had new why.0 why.1)) why.2
 had_refused command (Header refusal) had new why = subst (λ (bytes : List ℕ). IsRefused command (Header refusal) bytes) (sym (all_taken had new why.0 why.1)) why.2
+had_refused command (Scan refusal) had new why = subst (λ (bytes : List ℕ). IsRefused command (Scan refusal) bytes) (sym (all_taken had new why.0 why.1)) why.2
 
 -- bytes within the limit of which something is made aren't refused
 never_refused : (command : Command) (refusal : Refusal) (had made : List ℕ) (new : Option (List ℕ)) → Refuses command refusal (Some had) new → length had ≤ limit_of command
@@ -79,6 +80,7 @@ refuses_of Encode TooLong old new bytes short took why = absurd (omega arith)
 refuses_of Decode TooLong old new bytes short took why = absurd (omega arith)
 refuses_of command Outside old new bytes short took why = (bytes, took, why)
 refuses_of command (Header refusal) old new bytes short took why = (bytes, took, why)
+refuses_of command (Scan refusal) old new bytes short took why = (bytes, took, why)
 
 -- bytes with a cause have that cause's line
 pub caused_of : (command : Command) (refusal : Refusal) (old new : Option (List ℕ)) (P : List ℕ → Type 0) (Q : List ℕ → Type 0) (Note : Refusal → Type 0) (ending : Ending) (status : ℕ)

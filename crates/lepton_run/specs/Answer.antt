@@ -1,16 +1,20 @@
 -- What the top call answers (this project's own): words, limits, what commands make, and refusals with their causes.
-use Rattle.std.specs.Prelude.{ℕ, ◌≡◌, ◌+◌, ◌<◌, ◌≤◌, List, [], ◌∷◌, Option, Some, codes, take, length, ◌==◌, if◌then◌else◌}
+use Rattle.std.specs.Prelude.{ℕ, ◌≡◌, ◌+◌, ◌<◌, ◌≤◌, List, [], ◌∷◌, Option, codes, take, length, ◌==◌, if◌then◌else◌}
 use Rattle.std.specs.Io.KnownBytes.{Appends, Consumes, IsAtEnd}
 use Rattle.outside_core.specs.Faults.{Rose}
-use Rattle.lepton_run.specs.Jpeg.{Jpeg, IsFile, text_of}
-use Rattle.lepton_run.specs.Container.{IsContainer, container_of}
+use Rattle.std.specs.List.{AllByRecursion}
+use Rattle.bit_list.specs.Bits.{IsByte}
+use Rattle.lepton_run.specs.Container.{IsContainerOf}
 use Rattle.lepton_run.specs.declared.command.Command.{Command}
 use Rattle.lepton_run.specs.declared.command.Command.TheVariants.{Encode, Decode}
 use Rattle.lepton_run.specs.declared.refusal.Refusal.{Refusal}
-use Rattle.lepton_run.specs.declared.refusal.Refusal.TheVariants.{Outside, Header, TooLong}
+use Rattle.lepton_run.specs.declared.refusal.Refusal.TheVariants.{Outside, Header, Scan, TooLong}
 use Rattle.lepton_run.specs.Lines.{line, refusal_line}
 use Rattle.jpeg_marker.specs.Plans.{PlanFields}
 use Rattle.jpeg_marker.specs.HeaderPlan.{Accepts, Refuses as HeaderRefuses}
+use Rattle.scan_text.specs.Items.{Refuses as ItemsRefuse}
+use Rattle.scan_text.specs.Slots.{shape_of}
+use Rattle.scan_text.specs.declared.refusal.ScanRefusal.{ScanRefusal}
 use Rattle.lepton_run.specs.declared.ending.Ending.{Ending}
 use Rattle.lepton_run.specs.declared.ending.Ending.TheVariants.{Done, Refused, WordsRefused, ReadFailed, WriteFailed, NoMemory}
 
@@ -31,23 +35,31 @@ limit_of Decode = 8589934592
 
 -- what a command makes of bytes: of a file its container, and of a container its file
 abbrev pub Gives : Command → List ℕ → List ℕ → Type 0
-Gives Encode bytes made = (jpeg : Jpeg) × IsFile jpeg bytes × (made ≡ container_of jpeg)
-Gives Decode bytes made = (jpeg : Jpeg) × IsContainer jpeg bytes × (text_of jpeg ≡ Some made)
+Gives Encode bytes made = IsContainerOf made bytes
+Gives Decode bytes made = IsContainerOf bytes made
 
 -- a source gave these bytes, and has nothing left
 abbrev pub TookAll : Option (List ℕ) → Option (List ℕ) → List ℕ → Type 0
 TookAll old new bytes = Consumes old new bytes × IsAtEnd new
 
--- why bytes are refused: there are too many; encode's begin with no header that is taken, or with one and of the
--- rest nothing is made; of decode's nothing is made
+-- bytes begin with a header that is taken, and the items of its scan stop with this refusal
+pub record ScanRefuses (bytes : List ℕ) (refusal : ScanRefusal) : Type 0 where
+  pub are : AllByRecursion IsByte bytes
+  pub plan : PlanFields
+  pub header : Accepts bytes plan
+  pub items : ItemsRefuse (shape_of plan) bytes plan.header_length refusal
+
+-- why bytes are refused: there are too many; encode's begin with no header that is taken, or with one
+-- and then with no scan that is taken; of decode's nothing is made
 abbrev pub IsRefused : Command → Refusal → List ℕ → Type 0
 IsRefused command TooLong bytes = limit_of command < length bytes
 IsRefused Encode (Header refusal) bytes =
     (length bytes ≤ limit_of Encode) × HeaderRefuses bytes refusal
-IsRefused Encode Outside bytes =
-    (length bytes ≤ limit_of Encode) × ((plan : PlanFields) × Accepts bytes plan)
-    × ((made : List ℕ) → ¬ Gives Encode bytes made)
+IsRefused Encode (Scan refusal) bytes =
+    (length bytes ≤ limit_of Encode) × ScanRefuses bytes refusal
+IsRefused Encode Outside bytes = ⊥
 IsRefused Decode (Header refusal) bytes = ⊥
+IsRefused Decode (Scan refusal) bytes = ⊥
 IsRefused Decode Outside bytes =
     (length bytes ≤ limit_of Decode) × ((made : List ℕ) → ¬ Gives Decode bytes made)
 

@@ -1,9 +1,12 @@
 -- The container (this project's own): docs/FORMAT.md has it by offset.
-use Rattle.std.specs.Prelude.{ℕ, ◌≡◌, ◌<◌, ◌^◌, List, [], ◌∷◌, ◌++◌, length, replicate, flat_map}
+use Rattle.std.specs.Prelude.{ℕ, ◌≡◌, ◌<◌, ◌^◌, Bool, true, false, List, [], ◌∷◌, ◌++◌, length, replicate, take, flat_map}
 use Rattle.std.specs.Int.{w32, w64, to_be_bytes}
-use Rattle.bool_coder.specs.BoolStream.{coded, stream}
-use Rattle.lepton_run.specs.Events.{priced, segment_events}
-use Rattle.lepton_run.specs.Jpeg.{Jpeg, IsWithinProfile, header_of}
+use Rattle.std.specs.List.{AllByRecursion}
+use Rattle.bit_list.specs.Bits.{IsByte}
+use Rattle.jpeg_marker.specs.Plans.{PlanFields}
+use Rattle.scan_text.specs.FileLaws.{IsFileOf}
+use Rattle.scan_text.specs.Scans.{Mcu}
+use Rattle.segment_code.specs.ScanStream.{stream_of}
 
 -- a segment: the fourteen bytes of what it starts from, and its stream
 pub record Segment : Type 0 where
@@ -30,14 +33,26 @@ layout version pad segments header trailer =
 abbrev pub first_segment : List ℕ → Segment
 first_segment bytes = record { handover = replicate 14 0; stream = bytes }
 
--- the container of a file: version 0, pads of ones, and one segment
-abbrev pub container_of : Jpeg → List ℕ
-container_of jpeg =
-    let segment = first_segment (stream (coded (priced (segment_events jpeg.blocks)))) in
-    layout 0 1 (segment ∷ []) (header_of jpeg) jpeg.trailer
+-- the byte of a pad bit
+abbrev pub pad_byte : Bool → ℕ
+pad_byte false = 0
+pad_byte true = 1
 
--- the bytes are the container of a file with these parts, whatever the file's length
-pub record IsContainer (jpeg : Jpeg) (bytes : List ℕ) : Type 0 where
-  pub profile : IsWithinProfile jpeg
-  pub trailer_fits : length jpeg.trailer < 2 ^ 32
-  pub spelled : bytes ≡ container_of jpeg
+-- the container of a header, a trailer and one stream: version 1
+abbrev pub container_with : Bool → List ℕ → List ℕ → List ℕ → List ℕ
+container_with pad header trailer stream =
+    layout 1 (pad_byte pad) (first_segment stream ∷ []) header trailer
+
+-- `made` is the container of a file, by the plan of the file's header, its MCUs, its pad bit and its
+-- trailer; the lengths of header and trailer have fields of four bytes
+pub record IsContainerOf (made file : List ℕ) : Type 0 where
+  pub bytes : AllByRecursion IsByte file
+  pub plan : PlanFields
+  pub mcus : List Mcu
+  pub pad : Bool
+  pub trailer : List ℕ
+  pub is : IsFileOf file plan mcus pad trailer
+  pub header_fits : plan.header_length < 2 ^ 32
+  pub trailer_fits : length trailer < 2 ^ 32
+  pub spelled : made
+      ≡ container_with pad (take plan.header_length file) trailer (stream_of plan mcus)

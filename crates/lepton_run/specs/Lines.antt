@@ -3,8 +3,10 @@ use Rattle.std.specs.Prelude.{ℕ, List, [], ◌∷◌, ◌++◌, codes, decimal
 use Rattle.jpeg_marker.specs.HeaderRefusals.{number_of}
 use Rattle.jpeg_marker.specs.declared.refusal.HeaderRefusal.{HeaderRefusal}
 use Rattle.jpeg_marker.specs.declared.refusal.HeaderRefusal.TheVariants.{NotJpeg, HeaderCut, MarkerBad, NotBaseline, LengthBad, FrameTwice, PrecisionBad, SizeZero, ComponentsBad, TableBad, NoFrame, MultiScan, ScanParams, NoTable, TooManyBlocks}
+use Rattle.scan_text.specs.declared.refusal.ScanRefusal.{ScanRefusal}
+use Rattle.scan_text.specs.declared.refusal.ScanRefusal.TheVariants.{ScanCut, CodeBad, SymbolBad, RunPast, LooseZeros, DcRange, MarkerInScan, RestartBad, MixedPad}
 use Rattle.lepton_run.specs.declared.refusal.Refusal.{Refusal}
-use Rattle.lepton_run.specs.declared.refusal.Refusal.TheVariants.{Outside, Header, TooLong}
+use Rattle.lepton_run.specs.declared.refusal.Refusal.TheVariants.{Outside, Header, Scan, TooLong}
 
 -- room for every line
 abbrev pub line_room : ℕ
@@ -46,11 +48,36 @@ fields_of ScanParams = []
 fields_of NoTable = []
 fields_of TooManyBlocks = []
 
+-- number and name of a scan's refusal
+abbrev pub scan_words : ScanRefusal → List ℕ
+scan_words (ScanCut place) = codes "16 ScanCut"
+scan_words (CodeBad place) = codes "17 CodeBad"
+scan_words (SymbolBad place) = codes "18 SymbolBad"
+scan_words (RunPast place) = codes "19 RunPast"
+scan_words (LooseZeros place) = codes "20 LooseZeros"
+scan_words (DcRange place) = codes "21 DcRange"
+scan_words (MarkerInScan place) = codes "22 MarkerInScan"
+scan_words (RestartBad place) = codes "23 RestartBad"
+scan_words (MixedPad place) = codes "24 MixedPad"
+
+-- the place that it holds
+abbrev pub scan_place : ScanRefusal → ℕ
+scan_place (ScanCut place) = place
+scan_place (CodeBad place) = place
+scan_place (SymbolBad place) = place
+scan_place (RunPast place) = place
+scan_place (LooseZeros place) = place
+scan_place (DcRange place) = place
+scan_place (MarkerInScan place) = place
+scan_place (RestartBad place) = place
+scan_place (MixedPad place) = place
+
 -- number and name of a refusal, and what it holds
 abbrev pub refusal_text : Refusal → List ℕ
 refusal_text Outside = codes "0 Outside"
 refusal_text (Header refusal) =
     decimal (number_of refusal) ++ codes " " ++ name_of refusal ++ fields_of refusal
+refusal_text (Scan refusal) = scan_words refusal ++ codes " at " ++ decimal (scan_place refusal)
 refusal_text TooLong = codes "50 TooLong"
 
 -- a line

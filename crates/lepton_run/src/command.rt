@@ -4,10 +4,10 @@ ghost use Rattle.lepton_run.specs.Answer.{Gives, IsRefused, Means, limit_of};
 ghost use Rattle.lepton_run.specs.declared.command.Command.{Command};
 ghost use Rattle.lepton_run.specs.declared.refusal.Refusal.{Refusal};
 
-use crate::coding::{RecodeError, recode};
+use crate::coding::encode;
 use crate::refusal::Refusal;
 use crate::restoring::restore;
-use jpeg_marker::read_header;
+use crate::stop::Stop;
 use std::alloc::Global;
 
 /// The most bytes of a file that is encoded: 64 MiB.
@@ -21,13 +21,6 @@ const MOST_OF_A_CONTAINER: u64 = 8_589_934_592;
 pub enum Command {
     Encode,
     Decode,
-}
-
-/// Why a command makes nothing of bytes.
-#[derive(Clone, Copy, Debug, PartialEq, Eq)]
-pub(crate) enum Stop {
-    Refused(Refusal),
-    NoMemory,
 }
 
 /// The command that the words mean, if they mean one.
@@ -63,31 +56,7 @@ impl Command {
     {
         match self {
             Command::Encode => encode(alloc, bytes),
-            Command::Decode => restore(alloc, bytes).map_err(stop_of),
+            Command::Decode => restore(alloc, bytes),
         }
-    }
-}
-
-// The container of a file. Its header is read first, so that a refused header has its own number.
-fn encode(alloc: Global, bytes: &[u8]) -> Result<Vec<u8>, Stop>
-    requires { length bytes.now ≤ limit_of Command.Encode }
-    ensures made { IfOk result (λ made. Gives Command.Encode bytes.now made.items) }
-    ensures refused { (refusal : Refusal) → IsErrOf result (Stop.Refused refusal)
-        → IsRefused Command.Encode refusal bytes.now }
-{
-    match read_header(bytes) {
-        Ok(_) => recode(alloc, bytes).map_err(stop_of),
-        Err(refusal) => Err(Stop::Refused(Refusal::Header(refusal))),
-    }
-}
-
-// Bytes that no container or no file is made of are outside the profile.
-fn stop_of(error: RecodeError) -> Stop
-    ensures refused { (refusal : Refusal) → result ≡ Stop.Refused refusal
-        → (error ≡ RecodeError.Outside) × (refusal ≡ Refusal.Outside) }
-{
-    match error {
-        RecodeError::Outside => Stop::Refused(Refusal::Outside),
-        RecodeError::NoMemory => Stop::NoMemory,
     }
 }

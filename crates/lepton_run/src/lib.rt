@@ -1,28 +1,23 @@
 //! The top call: words, a source, a sink and a note, and a status.
 //!
 //!     words --> command --> encode:  source --> bytes --> header, scan --> stream --> container --> sink
+//!                           decode:  source --> bytes --> parts --> header, scan, trailer --> file --> sink
 //!                                                                                         ending --> note, status
 //!
-//! `run` carries the theorem as clauses of its own. What reads a header and a scan, and what lays a container out,
-//! are private parts; the boolean coder and the ends of the outside are crates below.
+//! `run` carries the theorem as clauses of its own. What lays a container out and takes one apart are private parts;
+//! the header, the scan's stream and the ends of the outside are crates below.
 #![tactic(auto)]
 
-mod bit_writer;
-mod bits;
 mod coding;
 mod command;
 mod ending;
-mod events;
-mod header;
 mod laws;
 mod layout;
 mod note;
 mod opened;
 mod refusal;
 mod restoring;
-mod scan;
-mod scan_writing;
-mod taking;
+mod stop;
 mod top;
 
 pub use command::Command;

@@ -1,17 +1,20 @@
 // Why bytes are refused, and how a line says so.
 ghost use Rattle.std.specs.Prelude.{◌≡◌, ◌+◌, ◌≤◌, ◌++◌, length};
-ghost use Rattle.lepton_run.specs.Lines.{name_of, fields_of, refusal_text};
+ghost use Rattle.lepton_run.specs.Lines.{name_of, fields_of, refusal_text, scan_place, scan_words};
 
 use crate::note::Line;
 use jpeg_marker::HeaderRefusal;
+use scan_text::ScanRefusal;
 
 /// Why bytes are refused.
 #[derive(Clone, Copy, Debug, PartialEq, Eq)]
 pub enum Refusal {
-    /// 0: the bytes begin with a header, and aren't a file of the profile; or they aren't the container of one.
+    /// 0: the bytes aren't the container of a file.
     Outside,
     /// 1 to 15: the bytes begin with no header that is taken.
     Header(HeaderRefusal),
+    /// 16 to 24: after the header there is no scan that is taken.
+    Scan(ScanRefusal),
     /// 50: there are more bytes than the limit.
     TooLong,
 }
@@ -30,6 +33,11 @@ impl Refusal {
                 line.push(b" ");
                 line.push(name(refusal));
                 note_fields(refusal, line);
+            }
+            Refusal::Scan(refusal) => {
+                line.push(words(refusal));
+                line.push(b" at ");
+                line.push_number(place(refusal));
             }
             Refusal::TooLong => line.push(b"50 TooLong"),
         }
@@ -78,5 +86,40 @@ fn name(refusal: HeaderRefusal) -> &'static [u8]
         HeaderRefusal::ScanParams => b"ScanParams",
         HeaderRefusal::NoTable => b"NoTable",
         HeaderRefusal::TooManyBlocks => b"TooManyBlocks",
+    }
+}
+
+// The number and the name of a scan's refusal.
+fn words(refusal: ScanRefusal) -> &'static [u8]
+    ensures text { result.now ≡ scan_words refusal }
+    ensures short { length result.now ≤ 15 }
+{
+    match refusal {
+        ScanRefusal::ScanCut { .. } => b"16 ScanCut",
+        ScanRefusal::CodeBad { .. } => b"17 CodeBad",
+        ScanRefusal::SymbolBad { .. } => b"18 SymbolBad",
+        ScanRefusal::RunPast { .. } => b"19 RunPast",
+        ScanRefusal::LooseZeros { .. } => b"20 LooseZeros",
+        ScanRefusal::DcRange { .. } => b"21 DcRange",
+        ScanRefusal::MarkerInScan { .. } => b"22 MarkerInScan",
+        ScanRefusal::RestartBad { .. } => b"23 RestartBad",
+        ScanRefusal::MixedPad { .. } => b"24 MixedPad",
+    }
+}
+
+// The place that a scan's refusal holds.
+fn place(refusal: ScanRefusal) -> usize
+    ensures { result ≡ scan_place refusal }
+{
+    match refusal {
+        ScanRefusal::ScanCut { place }
+        | ScanRefusal::CodeBad { place }
+        | ScanRefusal::SymbolBad { place }
+        | ScanRefusal::RunPast { place }
+        | ScanRefusal::LooseZeros { place }
+        | ScanRefusal::DcRange { place }
+        | ScanRefusal::MarkerInScan { place }
+        | ScanRefusal::RestartBad { place }
+        | ScanRefusal::MixedPad { place } => place,
     }
 }

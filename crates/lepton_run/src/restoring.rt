@@ -1,44 +1,62 @@
 // From the bytes of a container to the bytes of its file.
-ghost use Rattle.std.specs.Prelude.{◌≡◌, ◌++◌, ℕ, List, IfOk, IsErrOf};
+ghost use Rattle.std.specs.Prelude.{◌≡◌, ◌≤◌, ◌++◌, length, IfOk, IsErrOf};
 ghost use Rattle.std.specs.List.{AllByRecursion};
-ghost use Rattle.lepton_run.specs.Answer.{Gives};
 ghost use Rattle.bit_list.specs.Bits.{IsByte};
+ghost use Rattle.lepton_run.specs.Answer.{Gives, IsRefused, limit_of};
 ghost use Rattle.lepton_run.specs.declared.command.Command.TheVariants.{Decode};
+ghost use Rattle.lepton_run.specs.declared.refusal.Refusal.{Refusal};
 
-use crate::coding::{MOST_BLOCKS, RecodeError};
-use crate::header::read_header;
 use crate::opened::open;
-use crate::scan_writing::write_scan;
+use crate::refusal::Refusal;
+use crate::stop::Stop;
+use jpeg_marker::read_header;
+use segment_code::{DecodeError, decode_scan};
 use std::alloc::{AllocError, Global};
 
 /// The file of a container.
-pub(crate) fn restore(alloc: Global, bytes: &[u8]) -> Result<Vec<u8>, RecodeError>
+pub(crate) fn restore(alloc: Global, bytes: &[u8]) -> Result<Vec<u8>, Stop>
+    requires { length bytes.now ≤ limit_of Decode }
     ensures made { IfOk result (λ made. Gives Decode bytes.now made.items) }
-    ensures outside { IsErrOf result RecodeError.Outside → (made : List ℕ)
-        → ¬ Gives Decode bytes.now made }
+    ensures refused { (refusal : Refusal) → IsErrOf result (Stop.Refused refusal)
+        → IsRefused Decode refusal bytes.now }
 {
     let Some(parts) = open(bytes) else {
-        return Err(RecodeError::Outside);
+        return Err(Stop::Refused(Refusal::Outside));
     };
-    let Some(header) = read_header(parts.header) else {
-        return Err(RecodeError::Outside);
+    let Ok(plan) = read_header(parts.header) else {
+        return Err(Stop::Refused(Refusal::Outside));
     };
-    if header.length != parts.header.len() || header.blocks() > MOST_BLOCKS {
-        return Err(RecodeError::Outside);
+    if plan.header_length() != parts.header.len() {
+        return Err(Stop::Refused(Refusal::Outside));
     }
-    let scan = write_scan(alloc, header.table, parts.stream, header.blocks())?;
-    Ok(joined(alloc, parts.header, scan.as_slice(), parts.trailer)?)
+    let mut file = Vec::from_slice(alloc, parts.header)?;
+    match decode_scan(
+        alloc,
+        parts.header,
+        &plan,
+        parts.pad,
+        parts.stream,
+        &mut file,
+    ) {
+        Ok(()) => {}
+        Err(DecodeError::Outside) => return Err(Stop::Refused(Refusal::Outside)),
+        Err(DecodeError::NoMemory) => return Err(Stop::NoMemory),
+    }
+    Ok(ended(file, parts.trailer)?)
 }
 
-// Three parts, one after another.
-fn joined(alloc: Global, a: &[u8], b: &[u8], c: &[u8]) -> Result<Vec<u8>, AllocError>
-    ensures made { IfOk result (λ made. made.items ≡ a.now ++ b.now ++ c.now) }
-    ensures bytes { IfOk result (λ made. AllByRecursion IsByte b.now) }
+// A file whose trailer is appended.
+fn ended(file: Vec<u8>, trailer: &[u8]) -> Result<Vec<u8>, AllocError>
+    ensures made { IfOk result (λ made. made.items ≡ file.items ++ trailer.now) }
+    ensures bytes { IfOk result (λ made. AllByRecursion IsByte made.items) }
 {
-    let room = a.len().saturating_add(b.len()).saturating_add(c.len());
-    let mut made = Vec::with_capacity(alloc, room)?;
-    made.extend_from_slice(a)?;
-    made.extend_from_slice(b)?;
-    made.extend_from_slice(c)?;
-    Ok(made)
+    let mut file = file;
+    file.extend_from_slice(trailer)?;
+    are_bytes(file.as_slice());
+    Ok(file)
 }
+
+// What a slice of bytes holds are bytes.
+fn are_bytes(bytes: &[u8])
+    ensures { AllByRecursion IsByte bytes.now }
+{}

@@ -8,9 +8,10 @@ ghost use Rattle.lepton_run.specs.declared.command.Command.{Command};
 ghost use Rattle.lepton_run.specs.declared.command.Command.TheVariants.{Encode, Decode};
 ghost use Rattle.lepton_run.specs.declared.refusal.Refusal.{Refusal};
 
-use crate::command::{Command, Stop, command_of};
+use crate::command::{Command, command_of};
 use crate::ending::Ending;
 use crate::refusal::Refusal;
+use crate::stop::Stop;
 use outside_core::{Gate, ReadAll, Sink, Source, read_all, write_all};
 use std::alloc::Global;
 use std::sync::Wait;

@@ -46,7 +46,7 @@ count_from index [] = refl
 count_from index (c ∷ components) =
     omega (arith, length-append (replicate (area (part_of c)) (slot_of index c)) (slots_from (index + 1) components), length-replicate (area (part_of c)) (slot_of index c), count_from (index + 1) components, sum_by-cons area (part_of c) (map part_of components))
 
-slots_count : (components : List Component) → 1 ≤ length components → length (slots_of components) ≡ blocks_in_mcu (map part_of components)
+pub slots_count : (components : List Component) → 1 ≤ length components → length (slots_of components) ≡ blocks_in_mcu (map part_of components)
 slots_count [] some = absurd (omega arith)
 slots_count (c ∷ []) some = refl
 slots_count (c ∷ d ∷ components) some =

@@ -1,5 +1,4 @@
-use Rattle.lepton_run.proofs.Both.{encoded}
 use Rattle.lepton_run.proofs.laws.one_spelling_a_file.Goals as goal
 
 pub returns : goal.returns
-returns c = encoded
+returns c = λ made file gives. gives

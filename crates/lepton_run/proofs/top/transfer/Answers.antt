@@ -1,7 +1,7 @@
 use Rattle.std.proofs.Common.{◌≡◌, Err, ap, ◌∙◌, subst, List, ℕ, ◌≤◌, length}
 use Rattle.lepton_run.specs.Answer.{AppendsPart, Gives, IsRefused}
-use Rattle.lepton_run.specs.declared.command.Stop.{Stop}
-use Rattle.lepton_run.specs.declared.command.Stop.TheVariants.{Refused}
+use Rattle.lepton_run.specs.declared.stop.Stop.{Stop}
+use Rattle.lepton_run.specs.declared.stop.Stop.TheVariants.{Refused}
 use Rattle.lepton_run.specs.declared.refusal.Refusal.{Refusal}
 use Rattle.lepton_run.proofs.Endings.{refuses_of, same_refusal}
 use Rattle.lepton_run.proofs.top.transfer.Goals as goal

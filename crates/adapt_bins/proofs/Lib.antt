@@ -1,0 +1,4 @@
+pub mod Quotients
+pub mod CountedTables
+pub mod PutSteps
+pub mod GotSteps

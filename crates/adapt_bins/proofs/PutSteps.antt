@@ -1,0 +1,37 @@
+-- `Put` after one event more.
+use Rattle.std.specs.Prelude.{◌≡◌, ◌<◌, get_or, set, ℕ, Bool, List, [], ◌∷◌, ◌++◌, length, Some, refl, fold}
+use Rattle.std.specs.Option.{option_map}
+use Rattle.std.proofs.Common.{◌∙◌, sym, ap}
+use Rattle.bool_coder.specs.BoolStream.{Interval, coded, opening, after}
+use Rattle.adapt_bins.specs.Counts.{unseen, counted, prob_of}
+use Rattle.adapt_bins.specs.Events.{bools_of, probability}
+use Rattle.adapt_bins.specs.PutEvents.{HasPut}
+use Rattle.adapt_bins.specs.declared.put.Put.{Put}
+use Rattle.adapt_bins.proofs.CountedTables.{counted_more, bools_push, probability_is}
+
+-- the interval after one bool more
+coded_push : (i : Interval) (es : List (ℕ × Bool)) (e : ℕ × Bool)
+    → fold after i (es ++ e ∷ []) ≡ after (fold after i es) e
+coded_push i [] e = refl
+coded_push i (x ∷ es) e = coded_push (after i x) es e
+
+-- the interval after one event more
+interval_more : (events : List (ℕ × Bool)) (bin prob : ℕ) (bit : Bool) → prob ≡ probability events bin
+    → after (coded (bools_of events)) (prob, bit) ≡ coded (bools_of (events ++ (bin, bit) ∷ []))
+interval_more events bin prob bit is =
+    rw (bools_push events (bin, bit), is) (sym (coded_push opening (bools_of events) (probability events bin, bit)))
+
+-- a bool of the bin's probability, and its bit counted
+pub has_put_one_more : (s t : Put) (events : List (ℕ × Bool)) (bin prob : ℕ) (bit : Bool) → bin < length s.bins.now
+    → prob ≡ prob_of (get_or s.bins.now bin unseen)
+    → t.bins.now ≡ set s.bins.now bin (counted (get_or s.bins.now bin unseen) bit)
+    → t.encoder.now ≡ option_map (λ i. after i (prob, bit)) s.encoder.now
+    → HasPut s events → HasPut t (events ++ (bin, bit) ∷ [])
+has_put_one_more s t events bin prob bit within is bins encoder has =
+    let p = probability_is s.bins.now events bin prob within has.bins is in
+    record {
+      bins = rw bins (counted_more s.bins.now events bin bit within has.bins);
+      encoder =
+          encoder ∙ ap (option_map (λ i. after i (prob, bit))) has.encoder
+          ∙ ap Some (interval_more events bin prob bit p);
+    }

@@ -1,0 +1,5 @@
+pub mod Counts
+pub mod Reciprocals
+pub mod Events
+pub mod PutEvents
+pub mod GotEvents

@@ -1,0 +1,156 @@
+// A bin's two counts, and tables of bins.
+ghost use Rattle.std.specs.Prelude.{◌≡◌, ◌+◌, ◌/◌, ◌<◌, ◌≤◌, ℕ, IfOk, length, slice_set, replicate, get_or};
+ghost use Rattle.adapt_bins.specs.Counts.{unseen, counts, seen, most_count, with_room, raised, counted, prob_of};
+
+use crate::reciprocals::share;
+use std::alloc::{AllocError, Global};
+use std::marker::Model;
+
+/// The largest count. Where that of a bit stands there, both are halved before it rises.
+const MOST_COUNT: u8 = 255;
+
+/// How often each bit came in one context, as two counts from 1 to 255. Both begin at 1. Where the count of a bit that
+/// comes is 255, both are halved first, so that later bits weigh more.
+#[derive(Clone, Copy)]
+pub struct Bin {
+    zeros: u8,
+    ones: u8,
+}
+
+impl Model for Bin {
+    ghost use Rattle.std.specs.Prelude.{◌≤◌};
+    ghost use Rattle.adapt_bins.specs.Counts.{Counts};
+
+    ghost Value = { Counts };
+
+    ghost view = { λ b. record { zeros = b.zeros; ones = b.ones } };
+
+    ghost invariant = { λ b. (1 ≤ b.zeros) × (1 ≤ b.ones) };
+
+    ghost inverse = { λ c. record { zeros = c.zeros; ones = c.ones } };
+}
+
+impl Bin {
+    /// Before the first bit: both counts are 1.
+    pub fn new() -> Bin
+        ensures { result ≡ unseen }
+    {
+        Bin { zeros: 1, ones: 1 }
+    }
+
+    /// The probability of a zero, from 1 to 255 parts of 256: the share of the zeros in both counts, rounded down.
+    #[inline(always)]
+    pub fn prob(&self) -> u8
+        ensures value { result ≡ prob_of self.now }
+        ensures some { 1 ≤ result }
+    {
+        share(self.zeros, self.ones)
+    }
+
+    /// Counts a bit.
+    #[inline(always)]
+    pub fn count(&mut self, bit: bool)
+        ensures { self.new ≡ counted self.old bit }
+    {
+        let (zeros, ones) = room_for(self.zeros, self.ones, bit);
+        let (zeros, ones) = raised(zeros, ones, bit);
+        self.zeros = zeros;
+        self.ones = ones;
+    }
+}
+
+// Both counts, halved where that of the bit can't rise.
+#[inline(always)]
+fn room_for(zeros: u8, ones: u8, bit: bool) -> (u8, u8)
+    requires zeros { 1 ≤ zeros }
+    requires ones { 1 ≤ ones }
+    ensures zeros { result.0 ≡ (with_room (counts zeros ones) bit).zeros }
+    ensures ones { result.1 ≡ (with_room (counts zeros ones) bit).ones }
+    ensures some_zeros { 1 ≤ result.0 }
+    ensures some_ones { 1 ≤ result.1 }
+    ensures room { seen (counts result.0 result.1) bit < most_count }
+{
+    let seen = if bit { ones } else { zeros };
+    if seen == MOST_COUNT {
+        (half(zeros), half(ones))
+    } else {
+        (zeros, ones)
+    }
+}
+
+// One more of a bit.
+#[inline(always)]
+fn raised(zeros: u8, ones: u8, bit: bool) -> (u8, u8)
+    requires { seen (counts zeros ones) bit < most_count }
+    ensures zeros { result.0 ≡ (raised (counts zeros ones) bit).zeros }
+    ensures ones { result.1 ≡ (raised (counts zeros ones) bit).ones }
+{
+    if bit {
+        (zeros, ones + 1)
+    } else {
+        (zeros + 1, ones)
+    }
+}
+
+// Half of a count, rounded up.
+#[inline(always)]
+fn half(count: u8) -> u8
+    requires { 1 ≤ count }
+    ensures value { result ≡ (count + 1) / 2 }
+    ensures some { 1 ≤ result }
+    ensures less { result < 255 }
+{
+    count / 2 + count % 2
+}
+
+/// A table of bins, numbered from 0. Clauses see the list of their counts.
+#[derive(Drop)]
+pub struct Bins {
+    table: Vec<Bin>,
+}
+
+impl Model for Bins {
+    ghost use Rattle.std.specs.Prelude.{List};
+    ghost use Rattle.adapt_bins.specs.Counts.{Counts};
+
+    ghost Value = { List Counts };
+
+    ghost view = { λ b. b.table.items };
+}
+
+impl Bins {
+    /// As many bins, before the first bit of each. The one error is want of memory.
+    pub fn new(alloc: Global, n: usize) -> Result<Bins, AllocError>
+        ensures { IfOk result (λ b. b ≡ replicate n unseen) }
+    {
+        let table = Vec::from_elem(alloc, Bin::new(), n)?;
+        Ok(Bins { table })
+    }
+
+    /// Begins again: as many bins, before the first bit of each.
+    pub fn fresh(&mut self)
+        ensures { self.new ≡ replicate (length self.old) unseen }
+    {
+        self.table.fill(Bin::new());
+    }
+
+    /// The probability of a zero in a bin, from 1 to 255 parts of 256.
+    #[inline(always)]
+    pub fn prob(&self, bin: usize) -> u8
+        requires { bin < length self.now }
+        ensures value { result ≡ prob_of (get_or self.now bin unseen) }
+        ensures some { 1 ≤ result }
+    {
+        self.table[bin].prob()
+    }
+
+    /// Counts a bit in a bin, and leaves the others as they are.
+    #[inline(always)]
+    pub fn count(&mut self, bin: usize, bit: bool)
+        requires { bin < length self.old }
+        ensures { self.new
+            ≡ slice_set self.old bin (counted (get_or self.old bin unseen) bit) }
+    {
+        self.table[bin].count(bit);
+    }
+}

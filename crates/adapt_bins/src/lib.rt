@@ -1,0 +1,26 @@
+//! Bins: how often each bit came in a context, and the probability that follows (own; docs/FORMAT.md).
+//!
+//!     bit, bin --> Put:  prob of the bin --> Encoder --> stream
+//!                        count the bit
+//!
+//!     stream --> Decoder <-- prob of the bin  :Get --> bit
+//!                            count the bit
+//!
+//! A bin has two counts from 1 to 255. The probability of a zero is the share of its zeros, as parts of 256. Both sides
+//! count alike, so that a bit is read with the probability that it was written with. `Coder` is what both have in
+//! common, so that what codes a block is written once. Which bin a bit has is left to `coef_context`.
+#![tactic(auto)]
+
+mod bins;
+mod coder;
+mod get;
+mod put;
+mod reciprocals;
+
+pub use bins::{Bin, Bins};
+pub use coder::Coder;
+pub use get::{Get, Never};
+pub use put::Put;
+
+#[cfg(test)]
+mod tests;

@@ -1,0 +1,11 @@
+pub mod BandSteps
+pub mod BitSteps
+pub mod BlocksByParts
+pub mod Counting
+pub mod Gathering
+pub mod McuCells
+pub mod McuSteps
+pub mod PartsOfBlocks
+pub mod Placing
+pub mod ValueSizes
+pub mod Weights

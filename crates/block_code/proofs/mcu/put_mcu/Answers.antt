@@ -1,0 +1,11 @@
+use Rattle.std.proofs.Common.{◌≡◌, ◌++◌, length}
+use Rattle.coef_block.specs.TwoRows.{block_count}
+use Rattle.block_code.proofs.McuSteps.{mcu_more}
+use Rattle.block_code.proofs.mcu.put_mcu.Goals as goal
+
+pub returns-clause-held : goal.returns-clause-held
+returns-clause-held c = λ done held.
+    let h = rw (← c.segment.view_is) at held in
+    let some : length c.args.blocks.now ≡ block_count c.segment.inside.grid.mcu = rw (← c.segment.view_is) at c.requires.blocks in
+    let put = c.in_ok-put_blocks.ensures.held done h.row h.count h.held in
+    c.advance.ensures.next (done ++ c.args.blocks.now) h.row (mcu_more done c.args.blocks.now h.row c.segment.inside.grid.across c.segment.inside.before (block_count c.segment.inside.grid.mcu) h.count some) put

@@ -1,0 +1,25 @@
+-- Where the bins of a value begin (own; docs/FORMAT.md).
+use Rattle.std.specs.Prelude.{ℕ, ◌+◌, ◌-◌, ◌≤◌}
+use Rattle.coef_context.specs.BinNumbers.{rows_from}
+use Rattle.coef_context.specs.Runs.{dc_sizes, dc_low_bits}
+use Rattle.block_events.specs.Values.{ValueBins}
+use Rattle.block_code.specs.declared.bin_bases.BinBases.{BinBases}
+
+-- how many bins there are for all contexts of both classes (own)
+abbrev pub bin_count : ℕ
+bin_count = 82744
+
+-- the bins of a value (own): one a step; one a category for the sign; and for each category from 2 on one a bit below
+-- the highest
+abbrev pub bins_at : BinBases → ValueBins
+bins_at bases = record {
+  step = λ step. bases.steps + step;
+  sign = λ size. bases.signs + (size - 1);
+  low = λ size bit. bases.lows + rows_from 1 (size - 2) + bit;
+}
+
+-- all bins of a value with as many steps as a residue are there (own)
+pub record AreBases (bases : BinBases) : Type 0 where
+  pub steps : bases.steps + dc_sizes ≤ bin_count
+  pub signs : bases.signs + dc_sizes ≤ bin_count
+  pub lows : bases.lows + dc_low_bits ≤ bin_count

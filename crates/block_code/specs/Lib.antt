@@ -1,0 +1,8 @@
+pub mod BinBases
+pub mod BlockParts
+pub mod GridInside
+pub mod NeighbourBlocks
+pub mod PutCoefficients
+pub mod SegmentInside
+pub mod SegmentUnderWay
+pub mod ValueRanges

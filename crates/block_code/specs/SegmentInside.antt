@@ -1,0 +1,11 @@
+-- What the fields of a segment's rows keep (own).
+use Rattle.std.specs.Prelude.{◌<◌}
+use Rattle.block_events.specs.Grid.{IsGrid}
+use Rattle.block_events.specs.HeldRows.{FitsGrid}
+use Rattle.block_code.specs.declared.mcu.SegmentRows.TheInside.{Inside}
+
+-- the rows have the extents of an MCU row of the grid, which has more MCUs than came before (own)
+pub record IsSegmentInside (s : Inside) : Type 0 where
+  pub grid : IsGrid s.grid
+  pub fits : FitsGrid s.rows.extents s.grid
+  pub before : s.before < s.grid.across

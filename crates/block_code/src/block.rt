@@ -1,0 +1,95 @@
+// A block as events in a stream, there and back.
+ghost use Rattle.std.specs.Prelude.{◌≡◌, ℕ, ◌<◌, ◌≤◌, IfOk, OnOk, OnErr, IfSome, IsTrue, None, Ok, Err, Result, List, ℤ, length, MatchResult, Bool};
+ghost use Rattle.coef_block.specs.Block.{IsBlock};
+ghost use Rattle.coef_block.specs.TwoRows.{width, height};
+ghost use Rattle.adapt_bins.specs.PutEvents.{PutsEvents};
+ghost use Rattle.adapt_bins.specs.GotEvents.{GetsEvents};
+ghost use Rattle.block_events.specs.declared.fault.BlockFault.{BlockFault};
+ghost use Rattle.block_events.specs.BlockEvents.{block_events};
+ghost use Rattle.block_events.specs.HeldRows.{kept_around};
+ghost use Rattle.block_events.specs.ReadBlocks.{IsRead};
+ghost use Rattle.block_code.specs.BinBases.{bin_count};
+ghost use Rattle.block_code.specs.NeighbourBlocks.{around_of, HasCorner};
+
+use crate::neighbours::{Neighbours, prediction};
+use crate::parts::Parts;
+use crate::parts_code::code_parts;
+use adapt_bins::{Get, Put};
+use block_events::BlockFault;
+use coef_block::{Block, Rows};
+use std::alloc::AllocError;
+
+// The blocks around one, as the rows hold them.
+fn neighbours_in(rows: &Rows, component: usize, row: u32, column: u32) -> Neighbours
+    requires component { component < 4 }
+    requires row { row < height rows.now.extents component }
+    requires column { column < width rows.now.extents component }
+    ensures around { around_of result ≡ kept_around rows.now component row column }
+    ensures corner { HasCorner (around_of result) }
+{
+    Neighbours {
+        above: rows.above(component, row, column),
+        left: rows.left(component, row, column),
+        diagonal: rows.diagonal(component, row, column),
+    }
+}
+
+/// Puts the events of a block into a stream. `row` counts the component's block rows within the MCU row, and `column`
+/// its block columns; the rows hold the blocks around. The class is 0 for the frame's first component and 1 for the
+/// others. The one error is want of memory, and the encoder is then spent. `rows` stays as it is: storing the block
+/// is left to the caller.
+pub fn put_block(
+    coder: &mut Put,
+    class: u8,
+    rows: &Rows,
+    component: usize,
+    row: u32,
+    column: u32,
+    block: &Block,
+) -> Result<(), AllocError>
+    requires class { class < 2 }
+    requires component { component < 4 }
+    requires row { row < height rows.now.extents component }
+    requires column { column < width rows.now.extents component }
+    requires room { bin_count ≤ length coder.old.bins.now }
+    ensures stopped { OnErr result (coder.new.encoder.now ≡ None) }
+    ensures block { OnOk result (IsBlock block.now) }
+    ensures coded { OnOk result (PutsEvents coder.old
+        (block_events class (kept_around rows.now component row column) block.now) coder.new) }
+{
+    let neighbours = neighbours_in(rows, component, row, column);
+    let parts = Parts::of(block, prediction(neighbours));
+    let mut same = Parts::zero();
+    let _ = code_parts(coder, class, neighbours, Some(&parts), &mut same)?;
+    Ok(())
+}
+
+/// Takes the events of a block from a stream, with the same places and class as `put_block`. No block comes of them
+/// with `BlockCount` where the six bits of the inner count are above 49, and nothing after them is taken; and with
+/// `DcRange` where all events of a block were taken, and its prediction and residue make no DC, which is within 32767
+/// of 0. Past the stream's end come zero bits.
+pub fn get_block(
+    coder: &mut Get,
+    class: u8,
+    rows: &Rows,
+    component: usize,
+    row: u32,
+    column: u32,
+) -> Result<Block, BlockFault>
+    requires class { class < 2 }
+    requires component { component < 4 }
+    requires row { row < height rows.now.extents component }
+    requires column { column < width rows.now.extents component }
+    requires room { bin_count ≤ length coder.old.bins }
+    ensures read { IsRead (λ es. GetsEvents coder.old es coder.new) class
+        (kept_around rows.now component row column) result }
+    ensures room { length coder.new.bins ≡ length coder.old.bins }
+{
+    let neighbours = neighbours_in(rows, component, row, column);
+    let mut parts = Parts::zero();
+    match code_parts(coder, class, neighbours, None, &mut parts) {
+        Ok(true) => parts.block(prediction(neighbours)),
+        Ok(false) => Err(BlockFault::BlockCount),
+        Err(never) => match never {},
+    }
+}

@@ -1,0 +1,132 @@
+// The blocks around one, and what they say of it.
+ghost use Rattle.std.specs.Prelude.{◌≡◌, ℕ, ◌<◌, ◌≤◌, ◌+◌, ◌*◌, ◌/◌, ◌^◌, unsigned_abs, option_map, IfSome, length};
+ghost use Rattle.std.specs.List.{AllByRecursion};
+ghost use Rattle.coef_block.specs.Block.{IsDc};
+ghost use Rattle.coef_block.specs.Categories.{category};
+ghost use Rattle.coef_context.specs.Runs.{inner_values, spreads, weights};
+ghost use Rattle.block_events.specs.Around.{magnitude, inner_weight, edge_weight, inner_positions, inner_count, guess, prediction, dc_spread, dc, mean};
+ghost use Rattle.block_code.specs.NeighbourBlocks.{around_of, HasCorner};
+
+use crate::gather::gather_values;
+use crate::parts::{INNER, INNER_VALUES};
+use crate::values::nonzeros_of;
+use coef_block::Block;
+use dc_predict::predict;
+
+/// The blocks above, to the left and diagonally (above and left) of one, of the same component and segment. The
+/// diagonal one is there where both others are.
+#[derive(Clone, Copy)]
+pub struct Neighbours<'a> {
+    pub above: Option<&'a Block>,
+    pub left: Option<&'a Block>,
+    pub diagonal: Option<&'a Block>,
+}
+
+/// How many bits a number has: its category.
+#[inline(always)]
+pub(crate) fn bits_of(n: u32) -> u8
+    requires { n < 2 ^ 31 }
+    ensures { result ≡ category n }
+{
+    (32 - n.leading_zeros()) as u8
+}
+
+// The magnitude of an AC coefficient, by its natural position; 0 where the block isn't there.
+#[inline]
+fn magnitude(block: Option<&Block>, position: usize) -> u32
+    requires some { 0 < position }
+    requires within { position < 64 }
+    ensures value { result ≡ magnitude (option_map (λ b. b.now) block.entry) position }
+    ensures small { result ≤ 1023 }
+{
+    match block {
+        Some(block) => u32::from(block.get(position).unsigned_abs()),
+        None => 0,
+    }
+}
+
+/// The weight of an inner coefficient, by its natural position, from 0 to 10: how many bits the mean of the magnitudes
+/// around has, where those above and left count 13 parts of 32 each, and the diagonal one 6.
+#[inline]
+#[tactic(auto, using(crate::proofs::Weights::few_bits))]
+pub(crate) fn inner_weight(neighbours: Neighbours, position: usize) -> u8
+    requires some { 0 < position }
+    requires within { position < 64 }
+    ensures value { result ≡ inner_weight (around_of neighbours.entry) position }
+    ensures small { result < weights }
+{
+    let above = magnitude(neighbours.above, position);
+    let left = magnitude(neighbours.left, position);
+    let diagonal = magnitude(neighbours.diagonal, position);
+    bits_of((13 * above + 13 * left + 6 * diagonal) / 32)
+}
+
+/// The weight of an edge's coefficient, by its natural position, from 0 to 10: how many bits the mean of the magnitudes
+/// above and left has.
+#[inline]
+#[tactic(auto, using(crate::proofs::Weights::few_bits))]
+pub(crate) fn edge_weight(neighbours: Neighbours, position: usize) -> u8
+    requires some { 0 < position }
+    requires within { position < 64 }
+    ensures value { result ≡ edge_weight (around_of neighbours.entry) position }
+    ensures small { result < weights }
+{
+    let above = magnitude(neighbours.above, position);
+    let left = magnitude(neighbours.left, position);
+    bits_of((above + left) / 2)
+}
+
+/// The guess at the inner count, from 0 to 49: the mean of those above and left, rounded up; the one that is there; 0.
+pub(crate) fn guess(neighbours: Neighbours) -> u8
+    ensures value { result ≡ guess (around_of neighbours.entry) }
+    ensures few { result ≤ inner_values }
+{
+    match (neighbours.above, neighbours.left) {
+        (Some(above), Some(left)) => (inner_count(above) + inner_count(left) + 1) / 2,
+        (Some(above), None) => inner_count(above),
+        (None, Some(left)) => inner_count(left),
+        (None, None) => 0,
+    }
+}
+
+// How many inner coefficients are not 0.
+fn inner_count(block: &Block) -> u8
+    ensures value { result ≡ inner_count block.now }
+    ensures few { result ≤ inner_values }
+{
+    let mut inner = [0; INNER_VALUES];
+    gather_values(block, &INNER, &mut inner[..]);
+    nonzeros_of(&inner)
+}
+
+/// The predicted DC.
+pub(crate) fn prediction(neighbours: Neighbours) -> i32
+    requires { HasCorner (around_of neighbours) }
+    ensures value { result ≡ prediction (around_of neighbours.entry) }
+    ensures within { IsDc result }
+{
+    predict(
+        dc_of(neighbours.above),
+        dc_of(neighbours.left),
+        dc_of(neighbours.diagonal),
+    )
+}
+
+/// How far the DCs above and left differ, from 0 to 16 bits.
+pub(crate) fn spread(neighbours: Neighbours) -> u8
+    ensures value { result ≡ dc_spread (around_of neighbours.entry) }
+    ensures few { result < spreads }
+{
+    dc_predict::spread(dc_of(neighbours.above), dc_of(neighbours.left))
+}
+
+// The DC of a block that may be there.
+fn dc_of(block: Option<&Block>) -> Option<i16>
+    ensures value { result ≡ dc (option_map (λ b. b.now) block.entry) }
+    ensures within { IfSome result IsDc }
+{
+    match block {
+        Some(block) => Some(block.get(0)),
+        None => None,
+    }
+}

@@ -1,0 +1,15 @@
+pub mod BlockBounds
+pub mod BlocksOnce
+pub mod CategoryBits
+pub mod CellIndexes
+pub mod CellsOfBlocks
+pub mod ContextBins
+pub mod EventBins
+pub mod EventCounts
+pub mod Given
+pub mod Keeping
+pub mod Predicted
+pub mod ProbsOfBins
+pub mod Segments
+pub mod SegmentsOnce
+pub mod ValuesApart

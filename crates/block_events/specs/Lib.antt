@@ -1,0 +1,11 @@
+pub mod Around
+pub mod BitEvents
+pub mod BlockEvents
+pub mod EventsApart
+pub mod Grid
+pub mod HeldRows
+pub mod RandomSegment
+pub mod ReadBlocks
+pub mod SegmentEvents
+pub mod Values
+pub mod WorkedSegments

@@ -1,0 +1,30 @@
+use Rattle.std.proofs.Common.{◌≡◌, ℕ, ◌<◌, ◌≤◌, ◌^◌, sym, ap, subst, List}
+use Rattle.std.specs.Prelude.{slice_index}
+use Rattle.coef_block.specs.TwoRows.{Extents, block_count}
+use Rattle.jpeg_marker.specs.Plans.{PlanFields}
+use Rattle.segment_code.specs.ScanStream.{mcu_extents}
+use Rattle.segment_code.proofs.GridsOfPlans.{has_grid}
+use Rattle.segment_code.proofs.grid.grid_of.Goals as goal
+
+pub new-requires-clause-narrow : goal.new-requires-clause-narrow
+new-requires-clause-narrow c = rw (c.across.ensures) (has_grid c.args.plan.now c.components.ensures.kept).narrow
+
+pub new-requires-clause-wide : goal.new-requires-clause-wide
+new-requires-clause-wide c = λ n below.
+    let e = rw (c.components.ensures.value) at c.mcu_extents.ensures in
+    subst (λ (x : Extents). slice_index x.widths n ≤ 4) (sym e) ((has_grid c.args.plan.now c.components.ensures.kept).wide n below)
+
+pub new-requires-clause-high : goal.new-requires-clause-high
+new-requires-clause-high c = λ n below.
+    let e = rw (c.components.ensures.value) at c.mcu_extents.ensures in
+    subst (λ (x : Extents). slice_index x.heights n ≤ 4) (sym e) ((has_grid c.args.plan.now c.components.ensures.kept).high n below)
+
+pub new-requires-clause-some : goal.new-requires-clause-some
+new-requires-clause-some c =
+    let e = rw (c.components.ensures.value) at c.mcu_extents.ensures in
+    subst (λ (x : Extents). 1 ≤ block_count x) (sym e) (has_grid c.args.plan.now c.components.ensures.kept).some
+
+pub new-requires-clause-few : goal.new-requires-clause-few
+new-requires-clause-few c =
+    let e = rw (c.components.ensures.value) at c.mcu_extents.ensures in
+    subst (λ (x : Extents). block_count x ≤ 10) (sym e) (has_grid c.args.plan.now c.components.ensures.kept).few

@@ -1,0 +1,3 @@
+pub mod CodedMcus
+pub mod DecodedMcus
+pub mod ScanStream
