@@ -2,12 +2,11 @@
 use Rattle.std.proofs.Common.{◌≡◌, ℕ, suc, ◌<◌, ◌≤◌, Bool, true, false, ◌||◌, List, [], ◌∷◌, ◌++◌, length, get_or, replicate, Ok, refl, sym, ap, ◌∙◌, subst, arith}
 use Rattle.std.specs.Prelude.{◌↔◌, ◌⊎◌, IsTrue}
 use Rattle.std.specs.List.{AllByRecursion}
-use Rattle.std.proofs.lemmas.List.{length-replicate}
+use Rattle.std.proofs.lemmas.List.{get_or-replicate, length-replicate}
 use Rattle.bit_list.specs.Bits.{IsByte}
 use Rattle.bool_coder.specs.BoolReading.{Reads}
 use Rattle.bool_coder.specs.BoolStream.{IsBool, coded, stream}
 use Rattle.adapt_bins.specs.Counts.{Counts, unseen}
-use Rattle.adapt_bins.specs.CountedTables.{counted_fresh}
 use Rattle.adapt_bins.specs.Events.{HasCounted, bools_of}
 use Rattle.adapt_bins.specs.declared.get.Get.{Get}
 use Rattle.jpeg_marker.specs.HeaderPlan.{Accepts}
@@ -54,9 +53,12 @@ no_stream_outside plan pad bytes none mcus scan is e =
 
 -- ---- the beginning
 
+fresh_counted : (n : ℕ) → HasCounted (replicate n unseen) []
+fresh_counted n = record { each = λ bin below. let within : bin < n = simp length-replicate at below in get_or-replicate n bin unseen unseen within }
+
 nothing_counted : (g : Grid) (table : List Counts) (n : ℕ) → table ≡ replicate n unseen → HasCounted table (segment_events g [])
 unfolding segment_events
-nothing_counted g table n is = subst (λ t. HasCounted t []) (sym is) (counted_fresh n)
+nothing_counted g table n is = subst (λ t. HasCounted t []) (sym is) (fresh_counted n)
 
 nothing_read : (g : Grid) (coder : Get) → Reads [] coder.decoder → Reads (bools_of (segment_events g [])) coder.decoder
 unfolding segment_events

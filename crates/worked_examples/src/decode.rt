@@ -2,6 +2,7 @@
 use crate::files::{END, LEVEL, START, STEPS, joined};
 use crate::lines::NOT_JPEG;
 use crate::rows::{ROWS, Row};
+use crate::streams::STREAMS;
 use crate::trial::{NONE, run_over};
 use std::test::Fail;
 
@@ -13,6 +14,18 @@ fn files_of_containers(rt: HostRuntime) -> Result<(), Fail> {
         let container = row.container(alloc)?;
         let tried = run_over(&rt, alloc, &["decode"], container.as_slice(), NONE)?;
         assert!(rt; tried.is_done(file.as_slice()), "{}", row.name);
+    }
+    Ok(())
+}
+
+// Pictures as programs write them.
+#[test]
+fn pictures_of_containers(rt: HostRuntime) -> Result<(), Fail> {
+    let alloc = rt.alloc();
+    for row in &STREAMS {
+        let container = row.container(alloc)?;
+        let tried = run_over(&rt, alloc, &["decode"], container.as_slice(), NONE)?;
+        assert!(rt; tried.is_done(row.file), "{}", row.name);
     }
     Ok(())
 }
@@ -54,12 +67,13 @@ fn another_length(rt: HostRuntime) -> Result<(), Fail> {
 }
 
 // Each byte as each other value: the container is refused, or it is exactly the one of the file that it gives. How
-// many have a file: the trailer's 2 bytes are free, 7 other heights and widths make as many blocks, and 0 or 3 streams
-// of other DCs are one byte away.
+// many have a file: the trailer's 2 bytes and the number of the quantization table are free, 15 other pairs of sampling
+// factors say the same of one component, 7 other heights and widths make as many blocks, and there is another pad bit.
 #[test]
 fn changed_bytes(rt: HostRuntime) -> Result<(), Fail> {
     let alloc = rt.alloc();
-    for (number, files) in [(0, 2 * 255 + 7 + 7), (4, 2 * 255 + 7 + 7 + 3)] {
+    let files = 2 * 255 + 255 + 15 + 7 + 7 + 1;
+    for number in [0, 4] {
         let row: &Row<'static> = &ROWS[number];
         let mut found = 0u32;
         let mut changed = row.container(alloc)?;
@@ -115,6 +129,7 @@ fn another_stream(rt: HostRuntime) -> Result<(), Fail> {
             size: [0, 8, 0, 8],
             tail,
             scan: &[],
+            pad: 1,
             trailer: &END,
             stream,
         };

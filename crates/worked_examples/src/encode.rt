@@ -1,6 +1,7 @@
 // Files and their containers; files and words that are refused.
-use crate::files::{END, LEVEL, START, STEPS, joined};
+use crate::files::{END, LEVEL, ODD, RESTARTS, START, STEPS, joined};
 use crate::rows::ROWS;
+use crate::streams::STREAMS;
 use crate::trial::{NONE, run_over};
 use std::test::Fail;
 
@@ -23,43 +24,147 @@ fn containers_of_files(rt: HostRuntime) -> Result<(), Fail> {
     Ok(())
 }
 
-// A file with a header of the profile that is refused: what was changed, the size, what stands after it, and the rest.
-type Outside<'a> = (&'a str, [u8; 4], &'a [u8], &'a [u8]);
-
-const OUTSIDE: [Outside<'static>; 6] = [
-    ("no scan", [0, 8, 0, 8], &LEVEL, &[]),
-    ("a marker for a scan", [0, 8, 0, 8], &LEVEL, &END),
-    ("cut in the scan", [0, 40, 0, 8], &LEVEL, &[0x00]),
-    ("a pad bit of 0", [0, 8, 0, 8], &LEVEL, &[0x1f, 0xff, 0xd9]),
-    ("no code word", [0, 8, 0, 8], &LEVEL, &[0x7f, 0xff, 0xd9]),
-    ("no end of the block", [0, 8, 0, 8], &STEPS, &[0xff, 0xd9]),
-];
-
+// Pictures as programs write them.
 #[test]
-fn refused_with_outside(rt: HostRuntime) -> Result<(), Fail> {
+fn containers_of_pictures(rt: HostRuntime) -> Result<(), Fail> {
     let alloc = rt.alloc();
-    for (name, size, tail, rest) in &OUTSIDE {
-        let file = joined(alloc, &[&START, size, tail, rest])?;
-        let tried = run_over(&rt, alloc, &["encode"], file.as_slice(), NONE)?;
-        assert!(rt; tried.is_outside(), "{name}");
+    for row in &STREAMS {
+        let container = row.container(alloc)?;
+        let tried = run_over(&rt, alloc, &["encode"], row.file, NONE)?;
+        assert!(rt; tried.is_done(container.as_slice()), "{}", row.name);
     }
     Ok(())
 }
 
-// The DC may climb to 32767, and not past it: 32,768 blocks, each of them one up, or the last of them level.
+// A file whose scan is refused: what is wrong with it, the size, what stands after it, the rest, and the line.
+type RefusedScan<'a> = (&'a str, [u8; 4], &'a [u8], &'a [u8], &'a str);
+
+const REFUSED: [RefusedScan<'static>; 14] = [
+    (
+        "no scan",
+        [0, 8, 0, 8],
+        &LEVEL,
+        &[],
+        "lepton: refused 16 ScanCut at 69",
+    ),
+    (
+        "a marker for a scan",
+        [0, 8, 0, 8],
+        &LEVEL,
+        &END,
+        "lepton: refused 22 MarkerInScan at 69",
+    ),
+    (
+        "cut in the scan",
+        [0, 40, 0, 8],
+        &LEVEL,
+        &[0x00],
+        "lepton: refused 16 ScanCut at 70",
+    ),
+    (
+        "sixteen bits that are no code word",
+        [0, 8, 0, 8],
+        &LEVEL,
+        &[0x7f, 0xff, 0x00, 0xff, 0x00, 0xff, 0xd9],
+        "lepton: refused 17 CodeBad at 72",
+    ),
+    (
+        "a marker in a code word",
+        [0, 8, 0, 8],
+        &LEVEL,
+        &[0x7f, 0xff, 0xd9],
+        "lepton: refused 22 MarkerInScan at 70",
+    ),
+    (
+        "a symbol that no block has",
+        [0, 8, 0, 8],
+        &ODD,
+        &[0x5f, 0xff, 0xd9],
+        "lepton: refused 18 SymbolBad at 71",
+    ),
+    (
+        "zeros past the last coefficient",
+        [0, 8, 0, 8],
+        &ODD,
+        &[0x6d, 0xb7, 0xff, 0xd9],
+        "lepton: refused 19 RunPast at 72",
+    ),
+    (
+        "sixteen zeros before the end of a block",
+        [0, 8, 0, 8],
+        &ODD,
+        &[0x67, 0xff, 0xd9],
+        "lepton: refused 20 LooseZeros at 71",
+    ),
+    (
+        "no end of the block",
+        [0, 8, 0, 8],
+        &STEPS,
+        &END,
+        "lepton: refused 22 MarkerInScan at 70",
+    ),
+    (
+        "another restart marker",
+        [0, 8, 0, 16],
+        &RESTARTS,
+        &[0x3f, 0xff, 0xd1, 0x3f, 0xff, 0xd9],
+        "lepton: refused 23 RestartBad at 76",
+    ),
+    (
+        "no restart marker",
+        [0, 8, 0, 16],
+        &RESTARTS,
+        &[0x3f, 0x3f, 0xff, 0xd9],
+        "lepton: refused 23 RestartBad at 76",
+    ),
+    (
+        "cut in a restart marker",
+        [0, 8, 0, 16],
+        &RESTARTS,
+        &[0x3f, 0xff],
+        "lepton: refused 16 ScanCut at 77",
+    ),
+    (
+        "pad bits that differ",
+        [0, 8, 0, 8],
+        &LEVEL,
+        &[0x1f, 0xff, 0xd9],
+        "lepton: refused 24 MixedPad at 69",
+    ),
+    (
+        "pad bits of two intervals that differ",
+        [0, 8, 0, 16],
+        &RESTARTS,
+        &[0x3f, 0xff, 0xd0, 0x00, 0xff, 0xd9],
+        "lepton: refused 24 MixedPad at 78",
+    ),
+];
+
+#[test]
+fn refused_scans(rt: HostRuntime) -> Result<(), Fail> {
+    let alloc = rt.alloc();
+    for (name, size, tail, rest, line) in &REFUSED {
+        let file = joined(alloc, &[&START, size, tail, rest])?;
+        let tried = run_over(&rt, alloc, &["encode"], file.as_slice(), NONE)?;
+        assert!(rt; tried.is_refused(line), "{name}");
+    }
+    Ok(())
+}
+
+// The DC may climb to 32767, and not past it: 32,768 blocks, each of them one up, and the last of them level or up.
 #[test]
 fn the_greatest_dc(rt: HostRuntime) -> Result<(), Fail> {
     let alloc = rt.alloc();
-    for (last, status) in [(0xb1, 0), (0xb6, 1)] {
-        let mut file = joined(alloc, &[&START, &[0, 32], &[0xff, 0xff], &STEPS])?;
-        for _ in 0..4096 {
-            file.extend_from_slice(&[0xdb, 0x6d, 0xb6])?;
-        }
-        file.pop();
-        file.push(last)?;
-        let tried = run_over(&rt, rt.alloc(), &["encode"], file.as_slice(), NONE)?;
-        assert_eq!(rt; tried.status, status);
+    let mut file = joined(alloc, &[&START, &[0, 32], &[0xff, 0xff], &STEPS])?;
+    for _ in 0..4096 {
+        file.extend_from_slice(&[0xdb, 0x6d, 0xb6])?;
     }
+    let tried = run_over(&rt, alloc, &["encode"], file.as_slice(), NONE)?;
+    assert!(rt; tried.is_refused("lepton: refused 21 DcRange at 12357"));
+    file.pop();
+    file.push(0xb1)?;
+    let tried = run_over(&rt, alloc, &["encode"], file.as_slice(), NONE)?;
+    assert_eq!(rt; tried.status, 0);
     Ok(())
 }
 

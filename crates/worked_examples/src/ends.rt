@@ -157,7 +157,7 @@ fn the_longest_file_comes_back(rt: HostRuntime) -> Result<(), Fail> {
     assert!(rt; file.len() == 67_108_864);
     let (header, rest) = file.as_slice().split_at(69);
     let (_, trailer) = rest.split_at(1);
-    let mut container = joined(alloc, &[b"LPSG", &[0, 1, 1, 0, 0, 0, 69]])?;
+    let mut container = joined(alloc, &[b"LPSG", &[1, 1, 1, 0, 0, 0, 69]])?;
     container.extend_from_slice(&67_108_794u32.to_be_bytes())?;
     container.extend_from_slice(&[0; 14])?;
     container.extend_from_slice(&[0, 0, 0, 0, 0, 0, 0, 3])?;

@@ -20,6 +20,24 @@ pub(crate) const STEPS: [u8; 59] = [
     0xff, 0xda, 0, 8, 1, 1, 0x00, 0, 63, 0,
 ];
 
+/// After the width: as `LEVEL`, and a restart interval of one MCU.
+pub(crate) const RESTARTS: [u8; 64] = [
+    1, 1, 0x11, 0, //
+    0xff, 0xc4, 0, 20, 0x00, 1, 0, 0, 0, 0, 0, 0, 0, 0, 0, 0, 0, 0, 0, 0, 0, 0, //
+    0xff, 0xc4, 0, 20, 0x10, 1, 0, 0, 0, 0, 0, 0, 0, 0, 0, 0, 0, 0, 0, 0, 0, 0, //
+    0xff, 0xdd, 0, 4, 0, 1, //
+    0xff, 0xda, 0, 8, 1, 1, 0x00, 0, 63, 0,
+];
+
+/// After the width: as `LEVEL`, and after the end of a block, `0`, code words for a symbol that no block has, `10`, and
+/// for sixteen zeros, `110`.
+pub(crate) const ODD: [u8; 60] = [
+    1, 1, 0x11, 0, //
+    0xff, 0xc4, 0, 20, 0x00, 1, 0, 0, 0, 0, 0, 0, 0, 0, 0, 0, 0, 0, 0, 0, 0, 0, //
+    0xff, 0xc4, 0, 22, 0x10, 1, 1, 1, 0, 0, 0, 0, 0, 0, 0, 0, 0, 0, 0, 0, 0, 0, 0x10, 0xf0, //
+    0xff, 0xda, 0, 8, 1, 1, 0x00, 0, 63, 0,
+];
+
 /// End of the image.
 pub(crate) const END: [u8; 2] = [0xff, 0xd9];
 

@@ -29,6 +29,8 @@ mod scans;
 #[cfg(test)]
 mod segments;
 #[cfg(test)]
+mod streams;
+#[cfg(test)]
 mod tables;
 #[cfg(test)]
 mod taken;

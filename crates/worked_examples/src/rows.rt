@@ -1,24 +1,27 @@
 // Files with their containers.
-use crate::files::{END, LEVEL, START, STEPS};
+use crate::files::{END, LEVEL, RESTARTS, START, STEPS};
 use std::alloc::{AllocError, Global};
 
-/// A file by its height and width, what stands after them, its scan and its trailer; and its stream.
+/// A file by its height and width, what stands after them, its scan, the byte of its pad bit and its trailer; and its
+/// stream.
 #[derive(Clone, Copy)]
 pub(crate) struct Row<'a> {
     pub(crate) name: &'a str,
     pub(crate) size: [u8; 4],
     pub(crate) tail: &'a [u8],
     pub(crate) scan: &'a [u8],
+    pub(crate) pad: u8,
     pub(crate) trailer: &'a [u8],
     pub(crate) stream: &'a [u8],
 }
 
-pub(crate) const ROWS: [Row<'static>; 9] = [
+pub(crate) const ROWS: [Row<'static>; 12] = [
     Row {
         name: "least file",
         size: [0, 8, 0, 8],
         tail: &LEVEL,
         scan: &[0x3f],
+        pad: 1,
         trailer: &END,
         stream: &[0, 0, 0],
     },
@@ -27,6 +30,7 @@ pub(crate) const ROWS: [Row<'static>; 9] = [
         size: [0, 8, 0, 8],
         tail: &STEPS,
         scan: &[0xdf],
+        pad: 1,
         trailer: &END,
         stream: &[0, 8, 0],
     },
@@ -35,14 +39,16 @@ pub(crate) const ROWS: [Row<'static>; 9] = [
         size: [0, 8, 0, 16],
         tail: &LEVEL,
         scan: &[0x0f],
+        pad: 1,
         trailer: &END,
-        stream: &[0, 0, 0, 0, 0],
+        stream: &[0, 0, 0, 0],
     },
     Row {
         name: "a DC of -1",
         size: [0, 8, 0, 8],
         tail: &STEPS,
         scan: &[0x9f],
+        pad: 1,
         trailer: &END,
         stream: &[0, 10, 0],
     },
@@ -51,22 +57,25 @@ pub(crate) const ROWS: [Row<'static>; 9] = [
         size: [0, 9, 0, 9],
         tail: &STEPS,
         scan: &[0xd0, 0x9f],
+        pad: 1,
         trailer: &END,
-        stream: &[0, 8, 0, 0, 0, 0, 5, 0],
+        stream: &[0, 8, 2, 82, 105, 80],
     },
     Row {
         name: "no bit is padded",
         size: [0, 32, 0, 8],
         tail: &LEVEL,
         scan: &[0x00],
+        pad: 1,
         trailer: &END,
-        stream: &[0, 0, 0, 0, 0, 0, 0, 0],
+        stream: &[0, 0, 0, 0, 0],
     },
     Row {
         name: "no end of the image",
         size: [0, 8, 0, 8],
         tail: &LEVEL,
         scan: &[0x3f],
+        pad: 1,
         trailer: &[],
         stream: &[0, 0, 0],
     },
@@ -75,6 +84,7 @@ pub(crate) const ROWS: [Row<'static>; 9] = [
         size: [0, 1, 0, 1],
         tail: &LEVEL,
         scan: &[0x3f],
+        pad: 1,
         trailer: &[0xff, 0xd9, 0, 0xff, 0xff, 7],
         stream: &[0, 0, 0],
     },
@@ -83,8 +93,36 @@ pub(crate) const ROWS: [Row<'static>; 9] = [
         size: [0, 8, 0, 8],
         tail: &LEVEL,
         scan: &[0x3f],
+        pad: 1,
         trailer: &[0x00, 0xff],
         stream: &[0, 0, 0],
+    },
+    Row {
+        name: "pads of zeros",
+        size: [0, 8, 0, 8],
+        tail: &LEVEL,
+        scan: &[0x00],
+        pad: 0,
+        trailer: &END,
+        stream: &[0, 0, 0],
+    },
+    Row {
+        name: "two intervals, pads of zeros",
+        size: [0, 8, 0, 16],
+        tail: &RESTARTS,
+        scan: &[0x00, 0xff, 0xd0, 0x00],
+        pad: 0,
+        trailer: &END,
+        stream: &[0, 0, 0, 0],
+    },
+    Row {
+        name: "three intervals, none of them with an end of the image",
+        size: [0, 24, 0, 8],
+        tail: &RESTARTS,
+        scan: &[0x3f, 0xff, 0xd0, 0x3f, 0xff, 0xd1, 0x3f],
+        pad: 1,
+        trailer: &[],
+        stream: &[0, 0, 0, 0, 0],
     },
 ];
 
@@ -106,24 +144,18 @@ impl Row<'_> {
     pub(crate) fn container(&self, alloc: Global) -> Result<Vec<u8>, AllocError> {
         let header = self.header(alloc)?;
         let mut made = Vec::from_slice(alloc, b"LPSG")?;
-        made.extend_from_slice(&[0, 1, 1, 0, 0, 0])?;
-        made.push(if header.len() == 69 { 69 } else { 70 })?;
-        made.extend_from_slice(&[0, 0, 0])?;
-        made.push(if self.trailer.len() < 256 {
-            self.trailer.len() as u8
-        } else {
-            0
-        })?;
+        made.extend_from_slice(&[1, self.pad, 1, 0, 0, 0, low_byte(header.len())])?;
+        made.extend_from_slice(&[0, 0, 0, low_byte(self.trailer.len())])?;
         made.extend_from_slice(&[0; 14])?;
-        made.extend_from_slice(&[0, 0, 0, 0, 0, 0, 0])?;
-        made.push(if self.stream.len() < 256 {
-            self.stream.len() as u8
-        } else {
-            0
-        })?;
+        made.extend_from_slice(&[0, 0, 0, 0, 0, 0, 0, low_byte(self.stream.len())])?;
         made.extend_from_slice(header.as_slice())?;
         made.extend_from_slice(self.trailer)?;
         made.extend_from_slice(self.stream)?;
         Ok(made)
     }
+}
+
+// A small length as a byte.
+fn low_byte(length: usize) -> u8 {
+    if length < 256 { length as u8 } else { 0 }
 }

@@ -5,8 +5,9 @@ use crate::segments::{
 };
 use crate::tables::{K3, K4, K5, K6};
 
-/// A header that is taken, by its parts.
-pub(crate) type Taken<'a> = (&'a str, &'a [&'a [u8]]);
+/// A header that is taken, by its parts, and the line of the file that goes on with 3F FF D9, nothing where it is
+/// taken.
+pub(crate) type Taken<'a> = (&'a str, &'a [&'a [u8]], &'a str);
 
 /// As cameras and programs write them.
 pub(crate) const PHOTOGRAPHS: &[Taken<'static>] = &[
@@ -24,6 +25,7 @@ pub(crate) const PHOTOGRAPHS: &[Taken<'static>] = &[
             &K5,
             SCAN,
         ],
+        "lepton: refused 22 MarkerInScan at 329",
     ),
     (
         "grey, Exif, sampled two by two, restarts",
@@ -40,6 +42,7 @@ pub(crate) const PHOTOGRAPHS: &[Taken<'static>] = &[
             &K5,
             SCAN,
         ],
+        "lepton: refused 22 MarkerInScan at 353",
     ),
     (
         "4:2:0, JFIF, each table in a segment of its own",
@@ -61,6 +64,7 @@ pub(crate) const PHOTOGRAPHS: &[Taken<'static>] = &[
             &K6,
             TWO_PAIRS,
         ],
+        "lepton: refused 22 MarkerInScan at 624",
     ),
     (
         "4:2:2, Exif, all tables in one segment, restarts",
@@ -80,6 +84,7 @@ pub(crate) const PHOTOGRAPHS: &[Taken<'static>] = &[
             b"\xff\xc0\0\x11\x08\x09\0\x0c\0\x03\x01\x21\0\x02\x11\x01\x03\x11\x01",
             TWO_PAIRS,
         ],
+        "lepton: refused 22 MarkerInScan at 632",
     ),
     (
         "4:2:0, Exif and a colour profile",
@@ -99,6 +104,7 @@ pub(crate) const PHOTOGRAPHS: &[Taken<'static>] = &[
             &K6,
             TWO_PAIRS,
         ],
+        "lepton: refused 22 MarkerInScan at 776",
     ),
     (
         "4:4:4, Photoshop's and Adobe's segments",
@@ -120,6 +126,7 @@ pub(crate) const PHOTOGRAPHS: &[Taken<'static>] = &[
             &K6,
             TWO_PAIRS,
         ],
+        "lepton: refused 22 MarkerInScan at 660",
     ),
     (
         "4:4:4, JFIF, Exif, a colour profile and a comment",
@@ -144,6 +151,7 @@ pub(crate) const PHOTOGRAPHS: &[Taken<'static>] = &[
             &K6,
             TWO_PAIRS,
         ],
+        "lepton: refused 22 MarkerInScan at 831",
     ),
     (
         "4:4:0, fill before each marker",
@@ -167,6 +175,7 @@ pub(crate) const PHOTOGRAPHS: &[Taken<'static>] = &[
             b"\xff\xff\xff\xff\xff",
             TWO_PAIRS,
         ],
+        "lepton: refused 22 MarkerInScan at 620",
     ),
     (
         "4:1:1, components 0, 1 and 2, tables first",
@@ -187,6 +196,7 @@ pub(crate) const PHOTOGRAPHS: &[Taken<'static>] = &[
             b"\xff\xc0\0\x11\x08\x02\x40\x02\xd0\x03\0\x41\0\x01\x11\x01\x02\x11\x01",
             b"\xff\xda\0\x0c\x03\0\0\x01\x11\x02\x11\0\x3f\0",
         ],
+        "lepton: refused 22 MarkerInScan at 602",
     ),
     (
         "red, green and blue by their letters",
@@ -202,6 +212,7 @@ pub(crate) const PHOTOGRAPHS: &[Taken<'static>] = &[
             &K5,
             b"\xff\xda\0\x0c\x03R\0G\0B\0\0\x3f\0",
         ],
+        "lepton: refused 22 MarkerInScan at 337",
     ),
     (
         "four inks",
@@ -220,6 +231,7 @@ pub(crate) const PHOTOGRAPHS: &[Taken<'static>] = &[
             &K6,
             b"\xff\xda\0\x0e\x04\x01\0\x02\x11\x03\x11\x04\0\0\x3f\0",
         ],
+        "lepton: refused 22 MarkerInScan at 611",
     ),
 ];
 
@@ -228,13 +240,15 @@ pub(crate) const EDGES: &[Taken<'static>] = &[
     (
         "fill before the frame",
         &[IMAGE, b"\xff\xff", FRAME, DC, AC, SCAN],
+        "",
     ),
-    ("the AC table first", &[IMAGE, FRAME, AC, DC, SCAN]),
-    ("the tables first", &[IMAGE, DC, AC, FRAME, SCAN]),
-    ("a table twice", &[IMAGE, FRAME, DC, DC, AC, SCAN]),
+    ("the AC table first", &[IMAGE, FRAME, AC, DC, SCAN], ""),
+    ("the tables first", &[IMAGE, DC, AC, FRAME, SCAN], ""),
+    ("a table twice", &[IMAGE, FRAME, DC, DC, AC, SCAN], ""),
     (
         "an empty comment",
         &[IMAGE, FRAME, DC, AC, b"\xff\xfe\0\x02", SCAN],
+        "",
     ),
     (
         "each application's segment",
@@ -248,6 +262,7 @@ pub(crate) const EDGES: &[Taken<'static>] = &[
             AC,
             SCAN,
         ],
+        "",
     ),
     (
         "no restarts, by the last of two intervals",
@@ -259,10 +274,12 @@ pub(crate) const EDGES: &[Taken<'static>] = &[
             b"\xff\xdd\0\x04\0\x05\xff\xdd\0\x04\0\0",
             SCAN,
         ],
+        "",
     ),
     (
         "a segment of no table",
         &[IMAGE, FRAME, b"\xff\xc4\0\x02", DC, AC, SCAN],
+        "",
     ),
     (
         "a table without a value",
@@ -273,6 +290,7 @@ pub(crate) const EDGES: &[Taken<'static>] = &[
             AC,
             SCAN,
         ],
+        "lepton: refused 22 MarkerInScan at 69",
     ),
     (
         "each code word of sixteen bits",
@@ -284,6 +302,7 @@ pub(crate) const EDGES: &[Taken<'static>] = &[
             b"\x01\x02\x03\x04\x05\x06\x07\x08\x09\x0a\x11\x12\x13\x14\x15\x16\x17",
             SCAN,
         ],
+        "lepton: refused 22 MarkerInScan at 86",
     ),
     (
         "the tables 3",
@@ -294,6 +313,7 @@ pub(crate) const EDGES: &[Taken<'static>] = &[
             b"\xff\xc4\0\x14\x13\x01\0\0\0\0\0\0\0\0\0\0\0\0\0\0\0\0",
             b"\xff\xda\0\x08\x01\x01\x33\0\x3f\0",
         ],
+        "",
     ),
     (
         "ten blocks in an MCU",
@@ -304,6 +324,7 @@ pub(crate) const EDGES: &[Taken<'static>] = &[
             AC,
             b"\xff\xda\0\x0e\x04\x01\0\x02\0\x03\0\x04\0\0\x3f\0",
         ],
+        "lepton: refused 22 MarkerInScan at 85",
     ),
     (
         "16,384 lines of 16,384 samples",
@@ -314,6 +335,7 @@ pub(crate) const EDGES: &[Taken<'static>] = &[
             AC,
             SCAN,
         ],
+        "lepton: refused 22 MarkerInScan at 70",
     ),
     (
         "16,392 lines of 16,376 samples, sampled four by four",
@@ -324,6 +346,7 @@ pub(crate) const EDGES: &[Taken<'static>] = &[
             AC,
             SCAN,
         ],
+        "lepton: refused 22 MarkerInScan at 70",
     ),
     (
         "8,800 lines of 20,336 samples, six blocks in an MCU",
@@ -334,6 +357,7 @@ pub(crate) const EDGES: &[Taken<'static>] = &[
             AC,
             ONE_PAIR,
         ],
+        "lepton: refused 22 MarkerInScan at 80",
     ),
     (
         "65,535 lines of one sample",
@@ -344,5 +368,6 @@ pub(crate) const EDGES: &[Taken<'static>] = &[
             AC,
             SCAN,
         ],
+        "lepton: refused 22 MarkerInScan at 70",
     ),
 ];
