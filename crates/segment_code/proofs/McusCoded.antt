@@ -27,17 +27,17 @@ use Rattle.segment_code.specs.CodedMcus.{McusRead, after_mcus, rest_of, AreCoded
 -- an MCU more is counted
 closed_count : (shape : Shape) (bytes : List ℕ) (count : ℕ) (padded : Option Bool × Cursor) (next : Standing) → after_pads shape bytes count padded ≡ Ok next → next.count ≡ count + 1
 closed_count shape bytes count padded next e = elim (count + 1 == shape.mcus) as (λ t. (if t then Ok (record { cursor = padded.1; before = no_dcs; count = count + 1; pad = padded.0 })
-      else and_then (restart_at bytes (interval_number shape count) padded.1.next) (λ place. Ok (record { cursor = starting place 0; before = no_dcs; count = count + 1; pad = padded.0 }))) ≡ Ok next → next.count ≡ count + 1) [
-  | true ↦ λ h. sym (ap (λ (s : Standing). s.count) (is_fine _ next h))
-  | false ↦ λ h. let p = then_fine (restart_at bytes (interval_number shape count) padded.1.next) _ next h in sym (ap (λ (s : Standing). s.count) (is_fine _ next p.2))
-] e
+    else and_then (restart_at bytes (interval_number shape count) padded.1.next) (λ place. Ok (record { cursor = starting place 0; before = no_dcs; count = count + 1; pad = padded.0 }))) ≡ Ok next → next.count ≡ count + 1) [
+      | true ↦ λ h. sym (ap (λ (s : Standing). s.count) (is_fine _ next h))
+      | false ↦ λ h. let p = then_fine (restart_at bytes (interval_number shape count) padded.1.next) _ next h in sym (ap (λ (s : Standing). s.count) (is_fine _ next p.2))
+    ] e
 
 count_after : (shape : Shape) (bytes : List ℕ) (at next : Standing) (read : BlocksRead) → after_mcu shape bytes at read ≡ Ok next → next.count ≡ at.count + 1
 count_after shape bytes at next read e = elim (is_closed shape (at.count + 1)) as (λ t. (if t then and_then (pads_at at.pad read.cursor) (after_pads shape bytes at.count)
-      else Ok (record at { cursor = read.cursor; before = read.before; count = at.count + 1 })) ≡ Ok next → next.count ≡ at.count + 1) [
-  | true ↦ λ h. let p = then_fine (pads_at at.pad read.cursor) (after_pads shape bytes at.count) next h in closed_count shape bytes at.count p.0 next p.2
-  | false ↦ λ h. sym (ap (λ (s : Standing). s.count) (is_fine _ next h))
-] e
+    else Ok (record at { cursor = read.cursor; before = read.before; count = at.count + 1 })) ≡ Ok next → next.count ≡ at.count + 1) [
+      | true ↦ λ h. let p = then_fine (pads_at at.pad read.cursor) (after_pads shape bytes at.count) next h in closed_count shape bytes at.count p.0 next p.2
+      | false ↦ λ h. sym (ap (λ (s : Standing). s.count) (is_fine _ next h))
+    ] e
 
 pub one_counted : (shape : Shape) (bytes : List ℕ) (at next : Standing) (blocks : List (List ℤ)) → mcu_at shape bytes at ≡ Ok (blocks, next) → next.count ≡ at.count + 1
 one_counted shape bytes at next blocks e = let f = mcu_fine shape bytes at (blocks, next) e in count_after shape bytes at next f.read f.after
@@ -75,10 +75,10 @@ all_more (m ∷ mcus) mcu all one = (all.0, all_more mcus mcu all.1 one)
 
 puts_then : (s t u : Put) (g : Grid) (done more : List (List ℤ)) → PutsMore s g [] t done → PutsMore t g done u more → PutsMore s g [] u (done ++ more)
 puts_then s t u g done more a b = record {
-    events = a.events ++ b.events;
-    are = b.are ∙ ap (λ (es : List (ℕ × Bool)). es ++ b.events) a.are ∙ append_assoc (segment_events g []) a.events b.events;
-    puts = puts_joined s t u a.events b.events a.puts b.puts;
-  }
+  events = a.events ++ b.events;
+  are = b.are ∙ ap (λ (es : List (ℕ × Bool)). es ++ b.events) a.are ∙ append_assoc (segment_events g []) a.events b.events;
+  puts = puts_joined s t u a.events b.events a.puts b.puts;
+}
 
 pub coded_one : (old reader next : ScanReader) (g : Grid) (segment after : UnderWay) (s t u : Put) (mcus : List Mcu) (mcu : Mcu) → AreCoded old reader g segment s t mcus → reader.at.count < reader.shape.mcus
     → mcu_at reader.shape reader.bytes reader.at ≡ Ok (map in_zigzag mcu, next.at) → next.shape ≡ reader.shape → next.bytes ≡ reader.bytes → AllByRecursion IsBlock mcu
@@ -91,7 +91,7 @@ coded_one old reader next g segment after s t u mcus mcu so more read shape byte
     let zigzag : zigzag_of (mcus ++ mcu ∷ []) ≡ zigzag_of mcus ++ map in_zigzag mcu ∷ [] = map-append (λ (m : Mcu). map in_zigzag m) mcus (mcu ∷ []) in
     record {
       rest = so.rest ∙ ap (after_mcus (zigzag_of mcus)) (one_left k reader next (map in_zigzag mcu) here there shape bytes read) ∙ moved (zigzag_of mcus) (map in_zigzag mcu) (rest_of next)
-        ∙ ap (λ z. after_mcus z (rest_of next)) (sym zigzag);
+          ∙ ap (λ z. after_mcus z (rest_of next)) (sym zigzag);
       blocks = all_more mcus mcu so.blocks all;
       held = subst (HoldsUpTo after) (sym (blocks_more mcus mcu)) held;
       put = subst (PutsMore s g [] u) (sym (blocks_more mcus mcu)) (puts_then s t u g (blocks_of mcus) mcu so.put put);

@@ -82,10 +82,11 @@ file_is bytes plan all end are accepts blocks read =
     let has = accepted_has_plan bytes plan are accepts in
     let told = spelled (shape_of plan) bytes plan.header_length (zigzag_of all) end shape are has.within read in
     let begins = told.2 in
-    let same : told.0 ≡ all = sym (mcus_once (shape_of plan).slots all told.0 blocks begins.is.grid.each told.1) in
-    (subst (λ (ms : List Mcu). IsFileOf bytes plan ms (unwrap_or end.pad true) (drop end.cursor.next bytes)) same
-      (record { header = accepts; scan = begins.scan; is = begins.is; text = begins.text }),
-     begins.within)
+    let same : told.0 ≡ all = sym (mcus_once (shape_of plan).slots all told.0 blocks begins.is.grid.each told.1) in (
+      subst (λ (ms : List Mcu). IsFileOf bytes plan ms (unwrap_or end.pad true) (drop end.cursor.next bytes)) same
+          (record { header = accepts; scan = begins.scan; is = begins.is; text = begins.text }),
+      begins.within,
+    )
 
 -- one that isn't is refused for its first item that doesn't stand
 pub scan_refused : (bytes : List ℕ) (plan : PlanFields) (refusal : ScanRefusal) → AllByRecursion IsByte bytes → Accepts bytes plan → scan_at (shape_of plan) bytes plan.header_length ≡ Err refusal

@@ -41,9 +41,11 @@ loop-preserved c =
       long = same ∙ i.long ∙ sym (ap (λ (s : Shape). length s.slots) shape);
       grid = c.put_mcu.ensures.grid ∙ i.grid;
       room = rw ((c.in_ok-put_mcu.ensures.put (blocks_of i.coded.0) so.held).puts.room) i.room;
-      coded = (i.coded.0 ++ c.next_mcu.new.out ∷ [],
-          coded_one c.args.reader.now c.loop.reader c.next_mcu.new.self c.args.segment.now.grid c.loop.segment c.put_mcu.new.segment c.args.coder.now c.loop.coder c.put_mcu.new.coder i.coded.0 c.next_mcu.new.out so more read.0 shape bytes
-          c.in_ok-put_mcu.ensures.blocks (c.in_ok-put_mcu.ensures.held (blocks_of i.coded.0) so.held) (rw (i.grid) at (c.in_ok-put_mcu.ensures.put (blocks_of i.coded.0) so.held)));
+      coded = (
+        i.coded.0 ++ c.next_mcu.new.out ∷ [],
+        coded_one c.args.reader.now c.loop.reader c.next_mcu.new.self c.args.segment.now.grid c.loop.segment c.put_mcu.new.segment c.args.coder.now c.loop.coder c.put_mcu.new.coder i.coded.0 c.next_mcu.new.out so more read.0 shape bytes
+            c.in_ok-put_mcu.ensures.blocks (c.in_ok-put_mcu.ensures.held (blocks_of i.coded.0) so.held) (rw (i.grid) at (c.in_ok-put_mcu.ensures.put (blocks_of i.coded.0) so.held)),
+      );
     }
 
 pub returns-in_err-next_mcu-clause-refused : goal.returns-in_err-next_mcu-clause-refused

@@ -45,9 +45,9 @@ returns-in_err-code_mcus-clause-refused c =
     let are : AllByRecursion IsByte c.args.bytes.now = bytes_all c.args.bytes.now (λ i. let h = c.type_inv.bytes i in search rules) in
     let p = err_from_is_err_and c.from_residual-in_err-code_mcus.result c.from_residual-in_err-code_mcus.ensures.1 in
     rw (p.1, p.2) (λ refusal is.
-      let cause : c.in_err-code_mcus.field-0.0 ≡ Scan refusal = cc in
-      let start = rw (c.start-reader.ensures, c.header_length.ensures) at (c.in_err-code_mcus.ensures.refused refusal (ap (λ error. Err error) cause)) in
-      scan_refused c.args.bytes.now c.args.plan.now refusal are c.requires (sym (rest_is (shape_of c.args.plan.now) c.args.bytes.now c.args.plan.now.header_length) ∙ start))
+    let cause : c.in_err-code_mcus.field-0.0 ≡ Scan refusal = cc in
+    let start = rw (c.start-reader.ensures, c.header_length.ensures) at (c.in_err-code_mcus.ensures.refused refusal (ap (λ error. Err error) cause)) in
+    scan_refused c.args.bytes.now c.args.plan.now refusal are c.requires (sym (rest_is (shape_of c.args.plan.now) c.args.bytes.now c.args.plan.now.header_length) ∙ start))
 
 pub returns-in_err-stream-clause-refused : goal.returns-in_err-stream-clause-refused
 returns-in_err-stream-clause-refused c =
