@@ -1,5 +1,5 @@
 // Files and their containers; files and words that are refused.
-use crate::files::{END, LEVEL, ODD, RESTARTS, START, STEPS, joined};
+use crate::files::{END, LEVEL, ODD, ONES, RESTARTS, START, STEPS, ZEROS, joined};
 use crate::rows::ROWS;
 use crate::streams::STREAMS;
 use crate::trial::{NONE, run_over};
@@ -39,7 +39,7 @@ fn containers_of_pictures(rt: HostRuntime) -> Result<(), Fail> {
 // A file whose scan is refused: what is wrong with it, the size, what stands after it, the rest, and the line.
 type RefusedScan<'a> = (&'a str, [u8; 4], &'a [u8], &'a [u8], &'a str);
 
-const REFUSED: [RefusedScan<'static>; 14] = [
+const REFUSED: [RefusedScan<'static>; 18] = [
     (
         "no scan",
         [0, 8, 0, 8],
@@ -97,6 +97,34 @@ const REFUSED: [RefusedScan<'static>; 14] = [
         "lepton: refused 20 LooseZeros at 71",
     ),
     (
+        "zeros that no value follows",
+        [0, 8, 0, 8],
+        &ZEROS,
+        &[0x3f, 0xff, 0xd9],
+        "lepton: refused 20 LooseZeros at 70",
+    ),
+    (
+        "sixty-four zeros",
+        [0, 8, 0, 8],
+        &ZEROS,
+        &[0x00, 0xff, 0xd9],
+        "lepton: refused 19 RunPast at 70",
+    ),
+    (
+        "no stuffed byte after the last byte",
+        [0, 8, 0, 8],
+        &ONES,
+        &[0xff, 0xff, 0xd9],
+        "lepton: refused 22 MarkerInScan at 71",
+    ),
+    (
+        "most blocks, and no scan",
+        [0x40, 0, 0x40, 0],
+        &LEVEL,
+        &[],
+        "lepton: refused 16 ScanCut at 69",
+    ),
+    (
         "no end of the block",
         [0, 8, 0, 8],
         &STEPS,
@@ -148,6 +176,42 @@ fn refused_scans(rt: HostRuntime) -> Result<(), Fail> {
         let tried = run_over(&rt, alloc, &["encode"], file.as_slice(), NONE)?;
         assert!(rt; tried.is_refused(line), "{name}");
     }
+    Ok(())
+}
+
+// A thousand bytes after the end of the image.
+#[test]
+fn a_long_trailer(rt: HostRuntime) -> Result<(), Fail> {
+    let alloc = rt.alloc();
+    let header = ROWS[0].header(alloc)?;
+    let mut trailer = joined(alloc, &[&END])?;
+    for byte in 0..1000u16 {
+        trailer.push(byte.to_be_bytes()[1])?;
+    }
+    let file = joined(alloc, &[header.as_slice(), &[0x3f], trailer.as_slice()])?;
+    let start = joined(
+        alloc,
+        &[
+            b"LPSG",
+            &[1, 1, 1, 0, 0, 0, 69, 0, 0, 3, 0xea],
+            &[0; 21],
+            &[3],
+        ],
+    )?;
+    let container = joined(
+        alloc,
+        &[
+            start.as_slice(),
+            header.as_slice(),
+            trailer.as_slice(),
+            &[0, 0, 0],
+        ],
+    )?;
+    assert_eq!(rt; container.len(), 1111);
+    let tried = run_over(&rt, alloc, &["encode"], file.as_slice(), NONE)?;
+    assert!(rt; tried.is_done(container.as_slice()));
+    let tried = run_over(&rt, alloc, &["decode"], container.as_slice(), NONE)?;
+    assert!(rt; tried.is_done(file.as_slice()));
     Ok(())
 }
 

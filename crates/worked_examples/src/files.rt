@@ -38,6 +38,59 @@ pub(crate) const ODD: [u8; 60] = [
     0xff, 0xda, 0, 8, 1, 1, 0x00, 0, 63, 0,
 ];
 
+/// After the width: code words for the DC categories 1 and 0 and for a symbol and the end of a block, `0` and `1` each: a
+/// block of zeros is `11`.
+pub(crate) const ONES: [u8; 60] = [
+    1, 1, 0x11, 0, //
+    0xff, 0xc4, 0, 21, 0x00, 2, 0, 0, 0, 0, 0, 0, 0, 0, 0, 0, 0, 0, 0, 0, 0, 1, 0, //
+    0xff, 0xc4, 0, 21, 0x10, 2, 0, 0, 0, 0, 0, 0, 0, 0, 0, 0, 0, 0, 0, 0, 0, 1, 0, //
+    0xff, 0xda, 0, 8, 1, 1, 0x00, 0, 63, 0,
+];
+
+/// After the width: as `LEVEL`, but code words for sixteen zeros, `0`, and the end of a block, `1`.
+pub(crate) const ZEROS: [u8; 59] = [
+    1, 1, 0x11, 0, //
+    0xff, 0xc4, 0, 20, 0x00, 1, 0, 0, 0, 0, 0, 0, 0, 0, 0, 0, 0, 0, 0, 0, 0, 0, //
+    0xff, 0xc4, 0, 21, 0x10, 2, 0, 0, 0, 0, 0, 0, 0, 0, 0, 0, 0, 0, 0, 0, 0, 0xf0, 0, //
+    0xff, 0xda, 0, 8, 1, 1, 0x00, 0, 63, 0,
+];
+
+/// After the width: as `LEVEL`, but code words for three zeros and a value of one bit, `0`, and the end of a block, `1`.
+pub(crate) const INNER: [u8; 59] = [
+    1, 1, 0x11, 0, //
+    0xff, 0xc4, 0, 20, 0x00, 1, 0, 0, 0, 0, 0, 0, 0, 0, 0, 0, 0, 0, 0, 0, 0, 0, //
+    0xff, 0xc4, 0, 21, 0x10, 2, 0, 0, 0, 0, 0, 0, 0, 0, 0, 0, 0, 0, 0, 0, 0, 0x31, 0, //
+    0xff, 0xda, 0, 8, 1, 1, 0x00, 0, 63, 0,
+];
+
+/// A file with fill bytes before the frame's marker.
+pub(crate) const FILLED: &[u8] = &[
+    0xff, 0xd8, 0xff, 0xff, 0xff, 0xc0, 0, 11, 8, 0, 8, 0, 8, 1, 1, 0x11, 0, //
+    0xff, 0xc4, 0, 20, 0x00, 1, 0, 0, 0, 0, 0, 0, 0, 0, 0, 0, 0, 0, 0, 0, 0, 0, //
+    0xff, 0xc4, 0, 20, 0x10, 1, 0, 0, 0, 0, 0, 0, 0, 0, 0, 0, 0, 0, 0, 0, 0, 0, //
+    0xff, 0xda, 0, 8, 1, 1, 0x00, 0, 63, 0, //
+    0x3f, 0xff, 0xd9,
+];
+
+/// A file whose DC table is given twice: the code words for the categories 0 and 1 go, and that for 0 alone comes.
+pub(crate) const TWICE: &[u8] = &[
+    0xff, 0xd8, 0xff, 0xc0, 0, 11, 8, 0, 8, 0, 8, 1, 1, 0x11, 0, //
+    0xff, 0xc4, 0, 21, 0x00, 2, 0, 0, 0, 0, 0, 0, 0, 0, 0, 0, 0, 0, 0, 0, 0, 0, 1, //
+    0xff, 0xc4, 0, 20, 0x10, 1, 0, 0, 0, 0, 0, 0, 0, 0, 0, 0, 0, 0, 0, 0, 0, 0, //
+    0xff, 0xc4, 0, 20, 0x00, 1, 0, 0, 0, 0, 0, 0, 0, 0, 0, 0, 0, 0, 0, 0, 0, 0, //
+    0xff, 0xda, 0, 8, 1, 1, 0x00, 0, 63, 0, //
+    0x3f, 0xff, 0xd9,
+];
+
+/// A file of one MCU of three components, the first of them sampled two by two: six blocks of zeros.
+pub(crate) const SIX_BLOCKS: &[u8] = &[
+    0xff, 0xd8, 0xff, 0xc0, 0, 17, 8, 0, 16, 0, 16, 3, 1, 0x22, 0, 2, 0x11, 0, 3, 0x11, 0, //
+    0xff, 0xc4, 0, 20, 0x00, 1, 0, 0, 0, 0, 0, 0, 0, 0, 0, 0, 0, 0, 0, 0, 0, 0, //
+    0xff, 0xc4, 0, 20, 0x10, 1, 0, 0, 0, 0, 0, 0, 0, 0, 0, 0, 0, 0, 0, 0, 0, 0, //
+    0xff, 0xda, 0, 12, 3, 1, 0x00, 2, 0x00, 3, 0x00, 0, 63, 0, //
+    0x00, 0x0f, 0xff, 0xd9,
+];
+
 /// End of the image.
 pub(crate) const END: [u8; 2] = [0xff, 0xd9];
 

@@ -1,5 +1,5 @@
 // Files with their containers.
-use crate::files::{END, LEVEL, RESTARTS, START, STEPS};
+use crate::files::{END, INNER, LEVEL, ONES, RESTARTS, START, STEPS};
 use std::alloc::{AllocError, Global};
 
 /// A file by its height and width, what stands after them, its scan, the byte of its pad bit and its trailer; and its
@@ -15,7 +15,7 @@ pub(crate) struct Row<'a> {
     pub(crate) stream: &'a [u8],
 }
 
-pub(crate) const ROWS: [Row<'static>; 12] = [
+pub(crate) const ROWS: [Row<'static>; 16] = [
     Row {
         name: "least file",
         size: [0, 8, 0, 8],
@@ -123,6 +123,42 @@ pub(crate) const ROWS: [Row<'static>; 12] = [
         pad: 1,
         trailer: &[],
         stream: &[0, 0, 0, 0, 0],
+    },
+    Row {
+        name: "code words that fill a byte of ones",
+        size: [0, 32, 0, 8],
+        tail: &ONES,
+        scan: &[0xff, 0x00],
+        pad: 1,
+        trailer: &END,
+        stream: &[0, 0, 0, 0, 0],
+    },
+    Row {
+        name: "code words and a pad that fill a byte of ones",
+        size: [0, 8, 0, 8],
+        tail: &ONES,
+        scan: &[0xff, 0x00],
+        pad: 1,
+        trailer: &END,
+        stream: &[0, 0, 0],
+    },
+    Row {
+        name: "two intervals",
+        size: [0, 16, 0, 8],
+        tail: &RESTARTS,
+        scan: &[0x3f, 0xff, 0xd0, 0x3f],
+        pad: 1,
+        trailer: &END,
+        stream: &[0, 0, 0, 0],
+    },
+    Row {
+        name: "an inner coefficient of -1",
+        size: [0, 8, 0, 8],
+        tail: &INNER,
+        scan: &[0x1f],
+        pad: 1,
+        trailer: &END,
+        stream: &[6, 128, 0],
     },
 ];
 

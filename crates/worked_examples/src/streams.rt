@@ -1,5 +1,5 @@
 // Pictures with their streams.
-use crate::files::{END, joined};
+use crate::files::{END, FILLED, SIX_BLOCKS, TWICE, joined};
 use crate::pictures::{CARD, GREY_CARD, GREY_HILL, HILL, HILL_BY_ROWS, RED_HILL, UPRIGHT_HILL};
 use std::alloc::{AllocError, Global};
 
@@ -13,7 +13,7 @@ pub(crate) struct Picture<'a> {
     pub(crate) stream: &'a [u8],
 }
 
-pub(crate) const STREAMS: [Picture<'static>; 7] = [
+pub(crate) const STREAMS: [Picture<'static>; 10] = [
     Picture {
         name: "a hill, sampled two by two",
         file: HILL,
@@ -219,6 +219,24 @@ pub(crate) const STREAMS: [Picture<'static>; 7] = [
             0x39, 0x69, //
             0xe7, 0x80, //
         ],
+    },
+    Picture {
+        name: "fill bytes",
+        file: FILLED,
+        header: 71,
+        stream: &[0, 0, 0],
+    },
+    Picture {
+        name: "a table twice",
+        file: TWICE,
+        header: 92,
+        stream: &[0, 0, 0],
+    },
+    Picture {
+        name: "six blocks of zeros",
+        file: SIX_BLOCKS,
+        header: 79,
+        stream: &[0; 8],
     },
 ];
 
