@@ -65,8 +65,8 @@ impl From<WriteStop> for DecodeError {
 }
 
 /// Appends the scan of a header, whose plan this is, with this pad bit and stream. Each MCU is decoded, written and
-/// forgotten: beside the scan, memory is for two MCU rows of blocks, the bins, and a piece of bytes. On an error `out`
-/// has bytes that don't count at its end.
+/// forgotten: beside the scan, memory is for two MCU rows of blocks, the bins, and a piece of bytes. What `out` holds
+/// after an error isn't said.
 pub fn decode_scan(
     alloc: Global,
     header: &[u8],
