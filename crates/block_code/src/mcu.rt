@@ -102,7 +102,8 @@ pub fn put_mcu(
 }
 
 /// Takes the events of the next MCU's blocks from a stream, in their order, and writes the blocks to `out`. The rows
-/// keep them. Ends at the first block with a fault, whose causes are those of `get_block`; the segment can't go on then.
+/// keep them. Ends at the first block with a fault, whose causes are those of `get_block`; the segment can't go on
+/// then.
 pub fn get_mcu(
     coder: &mut Get,
     segment: &mut SegmentRows,

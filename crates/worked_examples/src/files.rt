@@ -38,8 +38,8 @@ pub(crate) const ODD: [u8; 60] = [
     0xff, 0xda, 0, 8, 1, 1, 0x00, 0, 63, 0,
 ];
 
-/// After the width: code words for the DC categories 1 and 0 and for a symbol and the end of a block, `0` and `1` each: a
-/// block of zeros is `11`.
+/// After the width: code words for the DC categories 1 and 0 and for a symbol and the end of a block, `0` and `1` each:
+/// a block of zeros is `11`.
 pub(crate) const ONES: [u8; 60] = [
     1, 1, 0x11, 0, //
     0xff, 0xc4, 0, 21, 0x00, 2, 0, 0, 0, 0, 0, 0, 0, 0, 0, 0, 0, 0, 0, 0, 0, 1, 0, //
@@ -55,7 +55,8 @@ pub(crate) const ZEROS: [u8; 59] = [
     0xff, 0xda, 0, 8, 1, 1, 0x00, 0, 63, 0,
 ];
 
-/// After the width: as `LEVEL`, but code words for three zeros and a value of one bit, `0`, and the end of a block, `1`.
+/// After the width: as `LEVEL`, but code words for three zeros and a value of one bit, `0`, and the end of a block,
+/// `1`.
 pub(crate) const INNER: [u8; 59] = [
     1, 1, 0x11, 0, //
     0xff, 0xc4, 0, 20, 0x00, 1, 0, 0, 0, 0, 0, 0, 0, 0, 0, 0, 0, 0, 0, 0, 0, 0, //
