@@ -25,7 +25,8 @@ pub record IsWindow (w : Window) : Type 0 where
   pub skip : w.skip ≤ 7
 
 -- The cursor before the low bits of a word, so many of them (own): those of a unit begun, and whole units after them,
--- up to a place. From the place `first` on each unit is one byte; the last bit before them is one of the unit at `last`.
+-- up to a place. From the place `first` on each unit is one byte; the last bit before them is one of the unit at
+-- `last`.
 abbrev pub cursor_at : ℕ → ℕ → ℕ → ℕ → ℕ → ℕ → Cursor
 cursor_at word skip last first end count =
     record {

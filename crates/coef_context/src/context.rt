@@ -15,9 +15,9 @@ pub enum Kind {
 }
 
 /// The context of a bit. The size of a number is how many bits its absolute value has, 0 for 0. A count is coded
-/// highest bit first: a bit's node is 1 for the first, and then twice the node before plus the bit before. The size of a value
-/// is coded in steps: step s says whether the size is above s. After them come the value's sign, and its bits below the
-/// top one.
+/// highest bit first: a bit's node is 1 for the first, and then twice the node before plus the bit before. The size of
+/// a value is coded in steps: step s says whether the size is above s. After them come the value's sign, and its bits
+/// below the top one.
 #[derive(Clone, Copy)]
 pub enum Context {
     /// A bit of how many inner coefficients are not 0.
