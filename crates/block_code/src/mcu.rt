@@ -55,6 +55,15 @@ impl SegmentRows {
         })
     }
 
+    /// Before the first MCU of another segment of the grid. It takes no memory.
+    pub fn restart(&mut self)
+        ensures grid { self.new.grid ≡ self.old.grid }
+        ensures held { HoldsUpTo self.new [] }
+    {
+        self.rows.clear();
+        self.before = 0;
+    }
+
     // The MCU has ended, and with the last one of an MCU row the row.
     fn advance(&mut self)
         ensures grid { self.new.grid ≡ self.old.grid }
@@ -111,6 +120,7 @@ pub fn get_mcu(
 ) -> Result<(), BlockFault>
     requires room { bin_count ≤ length coder.old.bins }
     requires blocks { length out.old ≡ block_count segment.old.grid.mcu }
+    ensures room { length coder.new.bins ≡ length coder.old.bins }
     ensures grid { segment.new.grid ≡ segment.old.grid }
     ensures length { length out.new ≡ length out.old }
     ensures got { (done : List (List ℤ)) → HoldsUpTo segment.old done
@@ -180,6 +190,7 @@ fn get_blocks(
     requires fits { FitsGrid rows.old.extents grid.now }
     requires before { before < grid.now.across }
     requires blocks { length out.old ≡ block_count grid.now.mcu }
+    ensures room { length coder.new.bins ≡ length coder.old.bins }
     ensures extents { rows.new.extents ≡ rows.old.extents }
     ensures length { length out.new ≡ length out.old }
     ensures got { (done : List (List ℤ)) (row : ℕ)

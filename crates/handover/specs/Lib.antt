@@ -1,2 +1,3 @@
 pub mod Handovers
+pub mod HandoverBytes
 pub mod HandoverInside

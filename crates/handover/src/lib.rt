@@ -8,8 +8,11 @@
 //! others.
 #![tactic(auto)]
 
+mod bytes;
 mod handover;
+mod laws;
 mod outcome;
 
 pub use handover::Handover;
+pub use laws::handovers_have_one_spelling;
 pub use outcome::{Outcome, StreamCause, StreamFault};

@@ -2,7 +2,7 @@
 use crate::handover::Handover;
 
 /// Why a segment's stream is refused, by the numbers of the refusals.
-#[derive(Clone, Copy)]
+#[derive(Clone, Copy, Debug, PartialEq, Eq)]
 pub enum StreamCause {
     /// 40: the count of a block's inner coefficients is above 49.
     BlockCount,
@@ -19,14 +19,14 @@ pub enum StreamCause {
 }
 
 /// A segment whose stream is refused, by its number from 0, and why.
-#[derive(Clone, Copy)]
+#[derive(Clone, Copy, Debug, PartialEq, Eq)]
 pub struct StreamFault {
     pub segment: u8,
     pub cause: StreamCause,
 }
 
 /// How a segment ends: complete, and whether its last byte took pad bits, or refused.
-#[derive(Clone, Copy)]
+#[derive(Clone, Copy, Debug, PartialEq, Eq)]
 pub enum Outcome {
     Good { padded: bool },
     Bad(StreamFault),

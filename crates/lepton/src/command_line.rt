@@ -5,17 +5,14 @@ use std::env::{Env, FillError};
 /// What stands for the program's name, which may be no text and which no command depends on.
 const PROGRAM: &str = "lepton";
 
-/// The most words that are looked at: with a second one after the program's name the words mean no command.
-const MOST_WORDS: usize = 3;
+/// The most bytes of a word that is taken as it is. The words of commands have fewer.
+const LONGEST: usize = 64;
 
-/// More bytes than the word of a command has.
-const LONGEST: usize = 16;
-
-/// The words, the program's name among them, up to the third.
+/// All the words, the program's name among them.
 pub(crate) fn given_words<R: Env>(rt: &R, alloc: Global) -> Result<Vec<String>, AllocError> {
     let mut words = Vec::new(alloc);
     words.push(String::from_str(alloc, PROGRAM)?)?;
-    for number in 1..MOST_WORDS {
+    for number in 1..usize::MAX {
         match word(rt, alloc, number)? {
             Some(word) => words.push(word)?,
             None => break,
@@ -24,8 +21,8 @@ pub(crate) fn given_words<R: Env>(rt: &R, alloc: Global) -> Result<Vec<String>, 
     Ok(words)
 }
 
-// The word of this number, if there is one. One that is no text, or longer than a command's, is another word in its
-// place, and so no command's either.
+// The word of this number, if there is one. One that is no text, or longer, is another word in its place that no command
+// has.
 fn word<R: Env>(rt: &R, alloc: Global, number: usize) -> Result<Option<String>, AllocError> {
     let mut bytes = [0; LONGEST];
     match rt.arg(number, &mut bytes) {

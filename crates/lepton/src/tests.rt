@@ -1,5 +1,7 @@
+use crate::command_line::given_words;
 use crate::ends::{ReaderSource, WriterSink};
 use outside_core::{ReadAll, WriteFault, read_all, write_all};
+use std::env::{Env, FillError};
 use std::io;
 use std::io::{Error, ErrorKind, Read, Write};
 use std::test::Fail;
@@ -89,4 +91,67 @@ fn an_interrupted_write_is_made_again(rt: HostRuntime) {
             Err(WriteFault { written: 3 })
         );
     }
+}
+
+// What a program is started with.
+#[derive(Drop)]
+struct Line<'a> {
+    words: &'a [&'a [u8]],
+}
+
+impl Env for Line<'_> {
+    fn arg(&self, i: usize, buf: &mut [u8]) -> Result<usize, FillError> {
+        let Some(word) = self.words.get(i) else {
+            return Err(FillError::NotPresent);
+        };
+        if word.len() > buf.len() {
+            return Err(FillError::TooLong);
+        }
+        buf[..word.len()].copy_from_slice(word);
+        Ok(word.len())
+    }
+
+    fn var(&self, _name: &str, _buf: &mut [u8]) -> Result<usize, FillError> {
+        Err(FillError::NotPresent)
+    }
+
+    fn var_at(&self, _i: usize, _buf: &mut [u8]) -> Result<usize, FillError> {
+        Err(FillError::NotPresent)
+    }
+}
+
+// All of them, with another word for one of more than 64 bytes and for one that is no text.
+#[test]
+fn words_of_a_line(rt: HostRuntime) -> Result<(), Fail> {
+    let longest = [b'8'; 64];
+    let longer = [b'8'; 65];
+    let line = Line {
+        words: &[
+            b"/usr/bin/caf\xe9",
+            b"encode",
+            b"--segments",
+            b"",
+            &longest,
+            &longer,
+            b"8\xe9",
+            b"--",
+        ],
+    };
+    let given = given_words(&line, rt.alloc())?;
+    let longest = str::from_utf8(&longest).map_err(|_| "no text")?;
+    let wanted = [
+        "lepton",
+        "encode",
+        "--segments",
+        "",
+        longest,
+        "",
+        "8\u{fffd}",
+        "--",
+    ];
+    assert_eq!(rt; given.len(), wanted.len());
+    for (word, want) in given.iter().zip(&wanted) {
+        assert!(rt; word.as_str() == *want, "{want}");
+    }
+    Ok(())
 }

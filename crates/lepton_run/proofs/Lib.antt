@@ -1,9 +1,8 @@
-pub mod Opening
-pub mod OneStream
-pub mod OneFile
-pub mod Sizes
-pub mod Sources
-pub mod Both
-pub mod OneAnswer
-pub mod Endings
-pub mod Restored
+pub mod SameCommand
+pub mod BytesTaken
+pub mod BoxesOfBytes
+pub mod OneAnswers
+pub mod BothWays
+pub mod CarriedOut
+pub mod CallEnds
+pub mod LinesNoted

@@ -1,3 +1,3 @@
-pub mod Container
 pub mod Lines
-pub mod Answer
+pub mod Answers
+pub mod Endings

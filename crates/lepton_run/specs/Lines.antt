@@ -5,8 +5,12 @@ use Rattle.jpeg_marker.specs.declared.refusal.HeaderRefusal.{HeaderRefusal}
 use Rattle.jpeg_marker.specs.declared.refusal.HeaderRefusal.TheVariants.{NotJpeg, HeaderCut, MarkerBad, NotBaseline, LengthBad, FrameTwice, PrecisionBad, SizeZero, ComponentsBad, TableBad, NoFrame, MultiScan, ScanParams, NoTable, TooManyBlocks}
 use Rattle.scan_text.specs.declared.refusal.ScanRefusal.{ScanRefusal}
 use Rattle.scan_text.specs.declared.refusal.ScanRefusal.TheVariants.{ScanCut, CodeBad, SymbolBad, RunPast, LooseZeros, DcRange, MarkerInScan, RestartBad, MixedPad}
+use Rattle.box_format.specs.declared.refusal.BoxRefusal.{BoxRefusal}
+use Rattle.box_format.specs.declared.refusal.BoxRefusal.TheVariants.{BoxMagic, BoxVersion, BoxCut, BoxHeader, HeaderLong, BoxSegments, BoxPad, HandoverBad, BoxLong}
+use Rattle.handover.specs.declared.outcome.StreamCause.{StreamCause}
+use Rattle.handover.specs.declared.outcome.StreamCause.TheVariants as causes
 use Rattle.lepton_run.specs.declared.refusal.Refusal.{Refusal}
-use Rattle.lepton_run.specs.declared.refusal.Refusal.TheVariants.{Outside, Header, Scan, TooLong}
+use Rattle.lepton_run.specs.declared.refusal.Refusal.TheVariants.{Header, Scan, Box, Fault, PadSpelling, TooLong}
 
 -- room for every line
 abbrev pub line_room : ℕ
@@ -72,12 +76,52 @@ scan_place (MarkerInScan place) = place
 scan_place (RestartBad place) = place
 scan_place (MixedPad place) = place
 
+-- number and name of a header's refusal, and what it holds
+abbrev pub header_text : HeaderRefusal → List ℕ
+header_text refusal =
+    decimal (number_of refusal) ++ codes " " ++ name_of refusal ++ fields_of refusal
+
+-- number and name of a container's refusal
+abbrev pub box_words : BoxRefusal → List ℕ
+box_words BoxMagic = codes "30 BoxMagic"
+box_words BoxVersion = codes "31 BoxVersion"
+box_words BoxCut = codes "32 BoxCut"
+box_words (BoxHeader refusal) = codes "33 BoxHeader"
+box_words BoxSegments = codes "34 BoxSegments"
+box_words BoxPad = codes "35 BoxPad"
+box_words (HandoverBad segment) = codes "36 HandoverBad"
+box_words BoxLong = codes "37 BoxLong"
+box_words (HeaderLong place) = codes "38 HeaderLong"
+
+-- what it holds: the header's refusal, the place or the segment
+abbrev pub box_fields : BoxRefusal → List ℕ
+box_fields BoxMagic = []
+box_fields BoxVersion = []
+box_fields BoxCut = []
+box_fields (BoxHeader refusal) = codes " " ++ header_text refusal
+box_fields BoxSegments = []
+box_fields BoxPad = []
+box_fields (HandoverBad segment) = codes " segment " ++ decimal segment
+box_fields BoxLong = []
+box_fields (HeaderLong place) = codes " at " ++ decimal place
+
+-- number and name of the cause of a segment's fault; the handovers of a seam aren't told
+abbrev pub cause_words : StreamCause → List ℕ
+cause_words causes.BlockCount = codes "40 BlockCount"
+cause_words causes.DcRange = codes "41 DcRange"
+cause_words causes.DiffRange = codes "42 DiffRange"
+cause_words causes.NoCode = codes "43 NoCode"
+cause_words (causes.Seam found kept) = codes "44 Seam"
+cause_words causes.StreamBad = codes "45 StreamBad"
+
 -- number and name of a refusal, and what it holds
 abbrev pub refusal_text : Refusal → List ℕ
-refusal_text Outside = codes "0 Outside"
-refusal_text (Header refusal) =
-    decimal (number_of refusal) ++ codes " " ++ name_of refusal ++ fields_of refusal
+refusal_text (Header refusal) = header_text refusal
 refusal_text (Scan refusal) = scan_words refusal ++ codes " at " ++ decimal (scan_place refusal)
+refusal_text (Box refusal) = box_words refusal ++ box_fields refusal
+refusal_text (Fault fault) =
+    cause_words fault.cause ++ codes " segment " ++ decimal fault.segment
+refusal_text PadSpelling = codes "46 PadSpelling"
 refusal_text TooLong = codes "50 TooLong"
 
 -- a line

@@ -1,6 +1,6 @@
 // How a command ends, and the line that says so.
 ghost use Rattle.std.specs.Prelude.{◌≡◌};
-ghost use Rattle.lepton_run.specs.Answer.{status_of, line_of};
+ghost use Rattle.lepton_run.specs.Endings.{ending_line, status_at};
 
 use crate::note::Line;
 use crate::refusal::Refusal;
@@ -18,10 +18,10 @@ pub(crate) enum Ending {
 
 impl Ending {
     /// The status of the program.
-    pub(crate) fn status(self) -> u8
-        ensures { result ≡ status_of self }
+    pub(crate) fn status(&self) -> u8
+        ensures { result ≡ status_at self.now }
     {
-        match self {
+        match *self {
             Ending::Done => 0,
             Ending::Refused(_) => 1,
             Ending::WordsRefused => 2,
@@ -34,11 +34,11 @@ impl Ending {
 
 impl Ending {
     /// What is noted of it.
-    pub(crate) fn line(self) -> Line
-        ensures { result ≡ line_of self }
+    pub(crate) fn line(&self) -> Line
+        ensures { result ≡ ending_line self.now }
     {
         let mut line = Line::new();
-        match self {
+        match *self {
             Ending::Done => return line,
             Ending::Refused(refusal) => {
                 line.push(b"lepton: refused ");

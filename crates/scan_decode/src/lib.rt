@@ -5,12 +5,14 @@
 //!            start        -- next_mcu --      end
 //!
 //! What each call reads is stated by the definitions of `scan_text`. It takes no memory, and no reading leaves the
-//! bytes. Writing is `scan_write`'s.
+//! bytes. A reader starts with the scan, or with a row of MCUs from what those before it hand over, by the definitions
+//! of `segment_text`. Writing is `scan_write`'s.
 #![tactic(auto)]
 
 mod acs;
 mod block;
 mod blocks;
+mod byte_begun;
 mod dc;
 mod pads;
 mod reader;

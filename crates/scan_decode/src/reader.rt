@@ -1,17 +1,21 @@
 // A scan, MCU by MCU.
-ghost use Rattle.std.specs.Prelude.{◌≡◌, ◌+◌, ◌<◌, ◌≤◌, ◌==◌, length, map, OnErr};
+ghost use Rattle.std.specs.Prelude.{◌≡◌, ◌+◌, ◌*◌, ◌<◌, ◌≤◌, ◌==◌, length, map, OnErr};
 ghost use Rattle.scan_text.specs.ScanCalls.{McuIsRead, reader_at, resume_place, stopped_at};
 ghost use Rattle.scan_text.specs.Slots.{shape_of};
 ghost use Rattle.scan_text.specs.ShapeInside.{most_slots};
 ghost use Rattle.huff_table.specs.PlanWords.{tables_of};
 ghost use Rattle.scan_text.specs.ScanReading.{and_then, in_zigzag, mcu_at, pads_at, after_pads};
 ghost use Rattle.scan_text.specs.Scans.{no_dcs};
+ghost use Rattle.segment_text.specs.HandedOver.{reader_from, spot_in};
+ghost use Rattle.segment_text.specs.RowHandovers.{handover_of, markers_before};
 ghost use Rattle.scan_decode.specs.ReadResults.{mcu_read, standing_read};
 
 use crate::blocks::blocks;
+use crate::byte_begun::{after_bits, byte_begun};
 use crate::pads::{pads, restart};
 use bit_list::BitIn;
 use coef_block::Block;
+use handover::Handover;
 use huff_table::PlanCodes;
 use jpeg_marker::Plan;
 use scan_text::{ScanRefusal, ScanShape};
@@ -56,6 +60,34 @@ impl<'a> Reader<'a> {
             bytes,
             before: [0; 4],
             count: 0,
+            pad: None,
+            stop: None,
+        }
+    }
+
+    /// Before the first MCU of a row of MCUs. `place` is that of the first byte that the MCUs before don't complete, and
+    /// `handover` is what they hand over (own).
+    pub fn at(
+        plan: &Plan,
+        codes: &PlanCodes,
+        bytes: &'a [u8],
+        place: usize,
+        handover: Handover,
+        row: u32,
+    ) -> Self
+        requires codes { codes.now ≡ map tables_of plan.now.components }
+        requires row { row < plan.now.down }
+        requires restarts { handover.restarts
+            ≡ markers_before (shape_of plan.now) (plan.now.across * row) }
+        ensures { result
+            ≡ reader_from (shape_of plan.now) bytes.now handover (plan.now.across * row) place }
+    {
+        Reader {
+            shape: ScanShape::of(plan, codes),
+            input: after_bits(bytes, place, handover.bits()),
+            bytes,
+            before: handover.preds(),
+            count: mcus_before(plan, row),
             pad: None,
             stop: None,
         }
@@ -119,6 +151,22 @@ impl<'a> Reader<'a> {
         (self.pad, self.input.next_place())
     }
 
+    /// What the MCUs that were read hand over (own).
+    pub fn handover(&self) -> Handover
+        ensures { result ≡ handover_of self.now.shape (spot_in self.now.bytes self.now.at) }
+    {
+        let (partial, bits) = byte_begun(self.bytes, &self.input);
+        Handover::new(partial, bits, self.before, self.markers())
+    }
+
+    // How many restart markers were read: none follows the last MCU.
+    fn markers(&self) -> u32
+        ensures { result ≡ markers_before self.now.shape self.now.at.count }
+    {
+        let last = self.shape.mcus().saturating_sub(1);
+        self.shape.interval_number(self.count.min(last))
+    }
+
     fn mcu(&mut self, out: &mut [Block]) -> Result<(), ScanRefusal>
         requires more { self.old.at.count < self.old.shape.mcus }
         requires room { length out.old ≡ length self.old.shape.slots }
@@ -177,4 +225,15 @@ impl<'a> Reader<'a> {
         self.pad = pad;
         self.count += 1;
     }
+}
+
+// How many MCUs come before a row of MCUs.
+fn mcus_before(plan: &Plan, row: u32) -> u32
+    requires { row < plan.now.down }
+    ensures value { result ≡ plan.now.across * row }
+    ensures within { result ≤ plan.now.across * plan.now.down }
+{
+    // What bounds the product.
+    let _most = plan.mcus();
+    plan.across() * row
 }

@@ -1,6 +1,11 @@
-// Worked scans, and scans that are refused, with places.
+// Worked scans, and scans that are refused, with places; rows that are read from handovers.
+ghost use Rattle.std.specs.Prelude.{◌≡◌, ◌*◌, ◌<◌};
+ghost use Rattle.scan_text.specs.Slots.{shape_of};
+ghost use Rattle.segment_text.specs.RowHandovers.{markers_before};
+
 use super::*;
 use coef_block::{Block, natural_position};
+use handover::Handover;
 use huff_table::PlanCodes;
 use jpeg_marker::{Plan, read_header};
 use scan_text::{MOST_SLOTS, ScanRefusal};
@@ -362,4 +367,147 @@ fn from_header(refusal: ScanRefusal, end: usize) -> ScanRefusal {
             place: place.wrapping_sub(end),
         },
     }
+}
+
+// A handover's fields, but for the DCs after the first.
+type Fields = (u8, u8, i16, u32);
+
+// The parts of a header, the bytes after it, a row of MCUs, how many bytes those before complete, and what they hand
+// over.
+type Seam<'a> = (&'a [&'a [u8]], &'a [u8], u32, usize, Fields);
+
+const SEAMS: &[Seam<'static>] = &[
+    // The scan's start.
+    (
+        &[START, TWO_HIGH, STEPS, END, GREY_SCAN],
+        b"\xc7",
+        0,
+        0,
+        (0, 0, 0, 0),
+    ),
+    // In mid-byte, also before the last bits of one that is stuffed.
+    (
+        &[START, TWO_HIGH, STEPS, END, GREY_SCAN],
+        b"\xc7",
+        1,
+        0,
+        (0xc0, 3, 1, 0),
+    ),
+    (
+        &[START, FOUR_HIGH, ONES, ONES_AND_END, GREY_SCAN],
+        b"\xff\0",
+        3,
+        0,
+        (0xfc, 6, 0, 0),
+    ),
+    // After a whole byte.
+    (
+        &[START, FIVE_HIGH, LEVEL, END, GREY_SCAN],
+        b"\0\x3f",
+        4,
+        1,
+        (0, 0, 0, 0),
+    ),
+    // After a restart marker, and after two.
+    (
+        &[START, TWO_HIGH, STEPS, END, RESTARTS, GREY_SCAN],
+        b"\xdf\xff\xd0\xdf",
+        1,
+        3,
+        (0, 0, 0, 1),
+    ),
+    (
+        &[START, THREE_HIGH, LEVEL, END, RESTARTS, GREY_SCAN],
+        b"\x3f\xff\xd0\x3f\xff\xd1\x3f",
+        2,
+        6,
+        (0, 0, 0, 2),
+    ),
+];
+
+#[test]
+fn rows_are_read_from_handovers(rt: HostRuntime) -> Result<(), Fail> {
+    let alloc = rt.alloc();
+    for (header, scan, row, place, fields) in SEAMS {
+        let mut bytes = Vec::new(alloc);
+        for part in *header {
+            bytes.extend_from_slice(part)?;
+        }
+        let start = bytes.len();
+        bytes.extend_from_slice(scan)?;
+        let plan = read_header(&bytes).map_err(|_| "no header")?;
+        goes_on(&rt, &plan, &bytes, start, *row, *place, *fields);
+    }
+    Ok(())
+}
+
+// A reader of the whole scan hands over before a row, and one that starts from there reads what it reads.
+fn goes_on(
+    rt: &impl Abort,
+    plan: &Plan,
+    bytes: &[u8],
+    start: usize,
+    row: u32,
+    place: usize,
+    fields: Fields,
+) {
+    let codes = PlanCodes::build(plan);
+    let mut whole = Reader::start(plan, &codes, bytes, start);
+    for _ in 0..row {
+        reads(rt, &mut whole);
+    }
+    let handover = whole.handover();
+    assert_eq!(rt; whole.place().checked_sub(start), Some(place));
+    has_fields(rt, &handover, fields);
+    assert!(rt; row < plan.down());
+    assert_eq!(rt; handover.restarts(), restarts_before(plan, row));
+    let mut reader = Reader::at(plan, &codes, bytes, whole.place(), handover, row);
+    has_fields(rt, &reader.handover(), fields);
+    for _ in row..plan.down() {
+        let wanted = reads(rt, &mut whole);
+        let block = reads(rt, &mut reader);
+        for index in 0..64 {
+            assert_eq!(rt; block.get(index), wanted.get(index), "at {row}, {index}");
+        }
+    }
+    assert!(rt; reader.at_end());
+    assert_eq!(rt; reader.end().1, bytes.len());
+    is_same(rt, &reader.handover(), &whole.handover());
+}
+
+// The next MCU's first block.
+fn reads(rt: &impl Abort, reader: &mut Reader) -> Block {
+    let mut blocks = [Block::zero(); MOST_SLOTS];
+    assert!(rt; !reader.at_end());
+    let out = &mut blocks[..reader.mcu_blocks()];
+    assert_eq!(rt; reader.next_mcu(out), Ok(()));
+    blocks[0]
+}
+
+fn has_fields(rt: &impl Abort, handover: &Handover, wanted: Fields) {
+    let (partial, bits, dc, restarts) = wanted;
+    assert_eq!(rt; handover.partial(), partial);
+    assert_eq!(rt; handover.bits(), bits);
+    assert_eq!(rt; handover.preds(), [dc, 0, 0, 0]);
+    assert_eq!(rt; handover.restarts(), restarts);
+}
+
+fn is_same(rt: &impl Abort, handover: &Handover, wanted: &Handover) {
+    assert_eq!(rt; handover.partial(), wanted.partial());
+    assert_eq!(rt; handover.bits(), wanted.bits());
+    assert_eq!(rt; handover.preds(), wanted.preds());
+    assert_eq!(rt; handover.restarts(), wanted.restarts());
+}
+
+// How many restart markers come before a row.
+fn restarts_before(plan: &Plan, row: u32) -> u32
+    requires { row < plan.now.down }
+    ensures { result ≡ markers_before (shape_of plan.now) (plan.now.across * row) }
+{
+    let interval = u32::from(plan.interval());
+    if interval == 0 {
+        return 0;
+    }
+    let last = plan.mcus() - 1;
+    (plan.across() * row).min(last) / interval
 }

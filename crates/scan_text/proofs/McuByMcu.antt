@@ -96,7 +96,7 @@ record ClosedAt (bytes : List ℕ) (place : ℕ) (begun bits : List Bool) (pad :
   next : to.next ≡ place + length text
   spans : Spans bytes (starting (place + length text) 0) [] (no_left to)
 
-abbrev closing : List Bool → List Bool → Bool → List ℕ
+abbrev pub closing : List Bool → List Bool → Bool → List ℕ
 closing begun bits pad = stuffed (bytes_after begun (bits ++ padding (begun_after begun bits) pad))
 
 closed_at : (bytes : List ℕ) (place k : ℕ) (begun bits : List Bool) (pad : Bool) (to : Cursor) → length begun < 8 → Spans bytes (starting place 0) (begun ++ bits) to → to.left ≡ replicate k pad
@@ -141,7 +141,7 @@ agrees_from None pad e = tt
 agrees_from (Some known) pad e = e
 
 -- an MCU's bytes, by where it stands
-abbrev put_by : Bool → Bool → Shape → Bool → Spot → List ℤ → List Bool → List ℕ × Spot
+abbrev pub put_by : Bool → Bool → Shape → Bool → Spot → List ℤ → List Bool → List ℕ × Spot
 put_by over ends shape pad spot before bits =
     if over || ends
     then (closing spot.begun bits pad ++ (if over then [] else restart_marker (interval_number shape spot.count)), record { begun = []; before = no_dcs; count = spot.count + 1 })

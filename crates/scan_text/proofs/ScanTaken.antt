@@ -117,7 +117,7 @@ mcu_fine shape bytes s x e =
     let p = both_fine (r.0.blocks, n.0) x n.2 in
     record { read = r.0; is = r.1; after = n.1 ∙ ap (λ (t : Standing). fine t) p.1; same = sym p.0 }
 
-mcu_again : (shape : Shape) (bytes : List ℕ) (s next : Standing) (read : BlocksRead) → blocks_at shape.slots s.before bytes s.cursor ≡ Ok read → after_mcu shape bytes s read ≡ Ok next
+pub mcu_again : (shape : Shape) (bytes : List ℕ) (s next : Standing) (read : BlocksRead) → blocks_at shape.slots s.before bytes s.cursor ≡ Ok read → after_mcu shape bytes s read ≡ Ok next
     → mcu_at shape bytes s ≡ Ok (read.blocks, next)
 unfolding mcu_at
 mcu_again shape bytes s next read e f =
@@ -125,15 +125,15 @@ mcu_again shape bytes s next read e f =
     ∙ ap (λ r. and_then {A = Standing} {B = List (List ℤ) × Standing} r (λ next. Ok (read.blocks, next))) f
 
 -- and then others
-record McusFine (n : ℕ) (shape : Shape) (bytes : List ℕ) (s : Standing) (blocks : List (List (List ℤ))) (end : Standing) : Type 0 where
-  first : List (List ℤ)
-  next : Standing
-  more : List (List (List ℤ))
-  one : mcu_at shape bytes s ≡ Ok (first, next)
-  others : mcus_at n shape bytes next ≡ Ok (more, end)
-  same : blocks ≡ first ∷ more
+pub record McusFine (n : ℕ) (shape : Shape) (bytes : List ℕ) (s : Standing) (blocks : List (List (List ℤ))) (end : Standing) : Type 0 where
+  pub first : List (List ℤ)
+  pub next : Standing
+  pub more : List (List (List ℤ))
+  pub one : mcu_at shape bytes s ≡ Ok (first, next)
+  pub others : mcus_at n shape bytes next ≡ Ok (more, end)
+  pub same : blocks ≡ first ∷ more
 
-mcus_fine : (n : ℕ) (shape : Shape) (bytes : List ℕ) (s : Standing) (x : List (List (List ℤ)) × Standing) → mcus_at (suc n) shape bytes s ≡ Ok x → McusFine n shape bytes s x.0 x.1
+pub mcus_fine : (n : ℕ) (shape : Shape) (bytes : List ℕ) (s : Standing) (x : List (List (List ℤ)) × Standing) → mcus_at (suc n) shape bytes s ≡ Ok x → McusFine n shape bytes s x.0 x.1
 unfolding mcus_at
 mcus_fine n shape bytes s x e =
     let f = then_fine (mcu_at shape bytes s) (λ first. and_then (mcus_at n shape bytes first.1) (λ more. Ok (first.0 ∷ more.0, more.1))) x e in
@@ -141,14 +141,14 @@ mcus_fine n shape bytes s x e =
     let p = both_fine (f.0.0 ∷ m.0.0, m.0.1) x m.2 in
     record { first = f.0.0; next = f.0.1; more = m.0.0; one = f.1; others = m.1 ∙ ap (λ (t : Standing). fine (m.0.0, t)) p.1; same = sym p.0 }
 
-mcus_more : (n : ℕ) (shape : Shape) (bytes : List ℕ) (s next end : Standing) (first : List (List ℤ)) (more : List (List (List ℤ))) → mcu_at shape bytes s ≡ Ok (first, next) → mcus_at n shape bytes next ≡ Ok (more, end)
+pub mcus_more : (n : ℕ) (shape : Shape) (bytes : List ℕ) (s next end : Standing) (first : List (List ℤ)) (more : List (List (List ℤ))) → mcu_at shape bytes s ≡ Ok (first, next) → mcus_at n shape bytes next ≡ Ok (more, end)
     → mcus_at (suc n) shape bytes s ≡ Ok (first ∷ more, end)
 unfolding mcus_at
 mcus_more n shape bytes s next end first more e f =
     ap (λ r. and_then {A = List (List ℤ) × Standing} {B = List (List (List ℤ)) × Standing} r (λ first. and_then (mcus_at n shape bytes first.1) (λ more. Ok (first.0 ∷ more.0, more.1)))) e
     ∙ ap (λ r. and_then {A = List (List (List ℤ)) × Standing} {B = List (List (List ℤ)) × Standing} r (λ more. Ok (first ∷ more.0, more.1))) f
 
-no_mcus : (shape : Shape) (bytes : List ℕ) (s : Standing) → mcus_at 0 shape bytes s ≡ Ok ([], s)
+pub no_mcus : (shape : Shape) (bytes : List ℕ) (s : Standing) → mcus_at 0 shape bytes s ≡ Ok ([], s)
 unfolding mcus_at
 no_mcus shape bytes s = refl
 
@@ -262,7 +262,7 @@ mcus_read (suc n) shape bytes s end blocks pad is all count e a =
     (λ c. mcus_read n shape bytes f.next end f.more pad is all (omega (arith, c, count)) f.others a) in
     subst (λ (b : List (List (List ℤ))). McusTaken (suc (suc n)) shape bytes s b pad end) (sym f.same) r
 
-agrees_known : (known : Option Bool) → Agrees known (unwrap_or known true)
+pub agrees_known : (known : Option Bool) → Agrees known (unwrap_or known true)
 agrees_known None = tt
 agrees_known (Some pad) = refl
 
@@ -314,12 +314,12 @@ spelled shape bytes place blocks end is all within e = spelled_by shape.mcus sha
 abbrev no_left : Cursor → Cursor
 no_left cursor = record cursor { left = [] }
 
-end_again : (ends : Bool) (shape : Shape) (bytes : List ℕ) (s : Standing) (read : BlocksRead) (pad : Bool) (k : ℕ) → Agrees s.pad pad → read.cursor.left ≡ replicate k pad
+pub end_again : (ends : Bool) (shape : Shape) (bytes : List ℕ) (s : Standing) (read : BlocksRead) (pad : Bool) (k : ℕ) → Agrees s.pad pad → read.cursor.left ≡ replicate k pad
     → end_by true ends shape bytes s read ≡ Ok (over_standing (no_left read.cursor) s.count (pad_after s.pad k pad))
 end_again ends shape bytes s read pad k a left =
     ap (λ r. and_then {A = Option Bool × Cursor} {B = Standing} r (λ padded. Ok (over_standing padded.1 s.count padded.0))) (pads_are k s.pad read.cursor pad a left)
 
-marker_again : (shape : Shape) (bytes more : List ℕ) (s : Standing) (read : BlocksRead) (pad : Bool) (k : ℕ) → Agrees s.pad pad → read.cursor.left ≡ replicate k pad
+pub marker_again : (shape : Shape) (bytes more : List ℕ) (s : Standing) (read : BlocksRead) (pad : Bool) (k : ℕ) → Agrees s.pad pad → read.cursor.left ≡ replicate k pad
     → drop read.cursor.next bytes ≡ restart_marker (interval_number shape s.count) ++ more → end_by false true shape bytes s read ≡ Ok (place_standing (read.cursor.next + 2) s.count (pad_after s.pad k pad))
 marker_again shape bytes more s read pad k a left e =
     let n = interval_number shape s.count in
@@ -525,7 +525,7 @@ read_again shape bytes place after mcus pad is b = again_by mcus shape bytes pla
 
 -- ---- bytes tell the scan
 
-zigzags_tell : (a b : List (List ℤ)) → AllByRecursion IsBlock a → AllByRecursion IsBlock b → map in_zigzag a ≡ map in_zigzag b → a ≡ b
+pub zigzags_tell : (a b : List (List ℤ)) → AllByRecursion IsBlock a → AllByRecursion IsBlock b → map in_zigzag a ≡ map in_zigzag b → a ≡ b
 zigzags_tell [] [] x y e = refl
 zigzags_tell [] (d ∷ b) x y e = absurd (let h = ap length e in omega (arith, h))
 zigzags_tell (c ∷ a) [] x y e = absurd (let h = ap length e in omega (arith, h))

@@ -1,5 +1,5 @@
 // A scan, MCU by MCU.
-ghost use Rattle.std.specs.Prelude.{◌≡◌, ◌+◌, ◌<◌, ◌≤◌, ◌==◌, ◌||◌, not, ◌++◌, [], length, map};
+ghost use Rattle.std.specs.Prelude.{◌≡◌, ◌+◌, ◌*◌, ◌<◌, ◌≤◌, ◌==◌, ◌||◌, not, ◌++◌, [], length, map};
 ghost use Rattle.bit_list.specs.Bits.{bytes_after, padding, stuffed};
 ghost use Rattle.bit_list.specs.Pieces.{piece_room};
 ghost use Rattle.huff_table.specs.PlanWords.{tables_of};
@@ -9,12 +9,15 @@ ghost use Rattle.scan_text.specs.ShapeInside.{most_slots};
 ghost use Rattle.scan_text.specs.Slots.{shape_of};
 ghost use Rattle.scan_text.specs.Spots.{marker_after};
 ghost use Rattle.scan_write.specs.Outputs.{mcu_room};
+ghost use Rattle.segment_text.specs.HandedOver.{writer_from};
+ghost use Rattle.segment_text.specs.RowHandovers.{handover_of, markers_before};
 ghost use Rattle.scan_write.specs.WriterInside.{McuIsTried};
 
 use crate::blocks::blocks;
 use crate::pads::restart;
 use bit_list::{BitOut, Piece};
 use coef_block::Block;
+use handover::Handover;
 use huff_table::PlanCodes;
 use jpeg_marker::Plan;
 use scan_text::{ScanShape, WriteStop};
@@ -69,6 +72,37 @@ impl Writer {
             padded: false,
             stop: None,
         }
+    }
+
+    /// Before the first MCU of a row of MCUs, given what the MCUs before it hand over: the row is one of the grid, from 0.
+    /// `pad` is the bit that fills up the last byte of each interval.
+    pub fn at(plan: &Plan, codes: &PlanCodes, handover: Handover, row: u32, pad: bool) -> Writer
+        requires codes { codes.now ≡ map tables_of plan.now.components }
+        requires row { row < plan.now.down }
+        requires restarts { handover.restarts
+            ≡ markers_before (shape_of plan.now) (plan.now.across * row) }
+        ensures { result ≡ writer_from (shape_of plan.now) pad handover (plan.now.across * row) }
+    {
+        let shape = ScanShape::of(plan, codes);
+        Writer {
+            shape,
+            pad,
+            output: BitOut::at(handover.partial(), handover.bits()),
+            before: handover.preds(),
+            count: plan.across() * row,
+            padded: false,
+            stop: None,
+        }
+    }
+
+    /// What the MCUs so far hand over.
+    pub fn handover(&self) -> Handover
+        ensures { result ≡ handover_of self.now.shape self.now.spot }
+    {
+        let (partial, bits) = self.output.partial();
+        let last = self.shape.mcus().saturating_sub(1);
+        let restarts = self.shape.interval_number(self.count.min(last));
+        Handover::new(partial, bits, self.before, restarts)
     }
 
     /// Appends the bytes of the next MCU, given its blocks in their order (A.2.3): those that its bits complete, and

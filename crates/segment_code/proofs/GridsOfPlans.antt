@@ -1,20 +1,17 @@
 -- The grid of a plan has MCUs of few blocks.
-use Rattle.std.proofs.Common.{◌≡◌, ℕ, zero, suc, ◌+◌, ◌*◌, ◌<◌, ◌≤◌, ◌^◌, Bool, true, false, List, [], ◌∷◌, ◌++◌, ◌-◌, length, map, replicate, refl, ap, ◌∙◌, sym, subst, arith}
-use Rattle.std.specs.Prelude.{slice_index, ◌&&◌, sum_by, nat_le, ◌==◌, if◌then◌else◌}
+use Rattle.std.proofs.Common.{◌≡◌, ℕ, zero, suc, ◌*◌, ◌<◌, ◌≤◌, ◌^◌, true, List, [], ◌∷◌, ◌++◌, ◌-◌, length, map, replicate, refl, arith}
+use Rattle.std.specs.Prelude.{slice_index, ◌&&◌, nat_le}
 use Rattle.std.specs.List.{AllByRecursion, list_all}
 use Rattle.std.proofs.Math.Nat.{le-mul_of_pos_right}
-use Rattle.std.proofs.lemmas.Bool.Decides.{nat_tests}
-use Rattle.std.proofs.lemmas.List.{length-map, length-append, length-replicate}
-use Rattle.std.proofs.lemmas.List.Sums.{sum_by-cons}
-use Rattle.scan_text.specs.Slots.{slot_of, slots_from, slots_of}
+use Rattle.std.proofs.lemmas.List.{length-map}
 use Rattle.jpeg_marker.proofs.Repeats.{both_hold}
 use Rattle.jpeg_marker.proofs.PlanGrids.{some_block, few_in_mcu, few_mcus}
 use Rattle.std.proofs.lemmas.Bool.{and_parts, leb-true}
-use Rattle.coef_block.specs.TwoRows.{Extents, block_count, width, height, four_of}
-use Rattle.jpeg_marker.specs.Frames.{area, is_sampled, fit_an_mcu, are_components}
-use Rattle.jpeg_marker.specs.Plans.{PlanFields, IsPlan, part_of, blocks_in_mcu, most_blocks}
+use Rattle.coef_block.specs.TwoRows.{block_count, four_of}
+use Rattle.jpeg_marker.specs.Frames.{is_sampled, fit_an_mcu}
+use Rattle.jpeg_marker.specs.Plans.{PlanFields, IsPlan, part_of, blocks_in_mcu}
 use Rattle.jpeg_marker.specs.declared.component.Component.{Component}
-use Rattle.segment_code.specs.ScanStream.{mcu_extents}
+use Rattle.segment_meaning.specs.ScanStream.{mcu_extents}
 
 -- sampling factors from 1 to 4
 pub record IsSampled (c : Component) : Type 0 where

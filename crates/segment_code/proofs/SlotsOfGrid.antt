@@ -1,12 +1,12 @@
 -- The slots of a plan's scan are as many as the blocks of an MCU of its grid.
-use Rattle.std.proofs.Common.{◌≡◌, ℕ, ◌+◌, ◌*◌, ◌≤◌, List, [], ◌∷◌, ◌++◌, length, replicate, refl, arith, length-append}
+use Rattle.std.proofs.Common.{◌≡◌, ℕ, ◌+◌, ◌*◌, ◌≤◌, List, [], ◌∷◌, length, replicate, refl, arith, length-append}
 use Rattle.std.proofs.lemmas.List.{length-replicate}
 use Rattle.coef_block.specs.TwoRows.{block_count}
 use Rattle.jpeg_marker.specs.Frames.{area}
 use Rattle.jpeg_marker.specs.Plans.{part_of}
 use Rattle.jpeg_marker.specs.declared.component.Component.{Component}
 use Rattle.scan_text.specs.Slots.{slot_of, slots_from, slots_of}
-use Rattle.segment_code.specs.ScanStream.{mcu_extents}
+use Rattle.segment_meaning.specs.ScanStream.{mcu_extents}
 
 one_more : (index : ℕ) (c : Component) (components : List Component) → length (slots_from index (c ∷ components)) ≡ c.h * c.v + length (slots_from (index + 1) components)
 one_more index c components =

@@ -1,3 +1,8 @@
 pub mod CodedMcus
-pub mod DecodedMcus
-pub mod ScanStream
+pub mod FoundStarts
+pub mod Starting
+pub mod StartsInside
+pub mod Decoding
+pub mod DecodedPieces
+pub mod BegunSegments
+pub mod DecoderInside

@@ -1,11 +1,12 @@
 // The grid of a plan's blocks.
 ghost use Rattle.std.specs.Prelude.{◌≡◌, ◌≤◌, ℕ, IsTrue, length, map};
-ghost use Rattle.coef_block.specs.TwoRows.{Extents, four_of};
+ghost use Rattle.coef_block.specs.TwoRows.{Extents, block_count, four_of};
 ghost use Rattle.jpeg_marker.specs.declared.component.Component.{Component};
 ghost use Rattle.jpeg_marker.specs.Frames.{are_components};
 ghost use Rattle.jpeg_marker.specs.Plans.{part_of};
+ghost use Rattle.scan_text.specs.Slots.{shape_of};
 ghost use Rattle.block_events.specs.Grid.{Grid, IsGrid};
-ghost use Rattle.segment_code.specs.ScanStream.{grid_of, mcu_extents};
+ghost use Rattle.segment_meaning.specs.ScanStream.{grid_of, mcu_extents};
 
 use block_code::McuGrid;
 use jpeg_marker::{Component, Plan};
@@ -14,6 +15,7 @@ use jpeg_marker::{Component, Plan};
 pub(crate) fn grid_of(plan: &Plan) -> McuGrid
     ensures value { result ≡ grid_of plan.now }
     ensures grid { IsGrid result }
+    ensures blocks { length (shape_of plan.now).slots ≡ block_count result.mcu }
 {
     let (widths, heights) = mcu_extents(plan.components());
     McuGrid::new(plan.across(), widths, heights)

@@ -1,15 +1,32 @@
-//! A scan as one segment: its blocks read, coded and forgotten MCU by MCU, and the way back.
+//! The segments of a scan: blocks read, coded and forgotten MCU by MCU, and the way back.
 //!
 //!     scan   --Reader-->  blocks of an MCU  --put_mcu-->  stream
 //!     stream --get_mcu--> blocks of an MCU  --Writer-->   scan
 //!
+//! `find_starts` reads a scan once and keeps where its segments start; `encode_segment` reads one of them from there.
+//! `SegmentDecoder` decodes the segments of a container, each in steps of a piece of bytes.
+//!
 //! Two MCU rows of blocks are kept, as neighbours. What a block's events are is `block_events`'s, what a scan's bytes
-//! are is `scan_text`'s; the container is left to others.
+//! are is `scan_text`'s, and what a segment's stream stands for is `segment_meaning`'s.
 #![tactic(auto)]
 
-mod decode;
+mod causes;
+mod decoder;
 mod encode;
+mod find;
 mod grid;
+mod rows;
+mod starts;
+mod step;
+mod stream;
 
-pub use decode::{DecodeError, decode_scan};
-pub use encode::{CodedScan, EncodeError, encode_scan};
+pub use decoder::SegmentDecoder;
+pub use find::{FindError, find_starts};
+pub use starts::Starts;
+pub use step::Step;
+pub use stream::encode_segment;
+
+#[cfg(test)]
+mod decoder_tests;
+#[cfg(test)]
+mod tests;

@@ -1,8 +1,10 @@
-// Files and their containers; files and words that are refused.
+// Files and their containers of one segment; files that are refused.
+use crate::containers::{LEVEL_SEGMENT, container_of};
 use crate::files::{END, LEVEL, ODD, ONES, RESTARTS, START, STEPS, ZEROS, joined};
-use crate::rows::ROWS;
+use crate::lines::{HEADER_CUT, NOT_JPEG};
+use crate::rows::{LEAST, ROWS, TWO_INTERVALS};
 use crate::streams::STREAMS;
-use crate::trial::{NONE, run_over};
+use crate::trial::{ENCODE_WHOLE, NONE, run_over};
 use std::test::Fail;
 
 #[test]
@@ -11,7 +13,7 @@ fn containers_of_files(rt: HostRuntime) -> Result<(), Fail> {
     for row in &ROWS {
         let file = row.file(alloc)?;
         let container = row.container(alloc)?;
-        let tried = run_over(&rt, alloc, &["encode"], file.as_slice(), NONE)?;
+        let tried = run_over(&rt, alloc, &ENCODE_WHOLE, file.as_slice(), NONE)?;
         assert_eq!(rt; tried.status, 0, "{}", row.name);
         assert!(rt;
             tried.written.as_slice() == container.as_slice(),
@@ -30,7 +32,7 @@ fn containers_of_pictures(rt: HostRuntime) -> Result<(), Fail> {
     let alloc = rt.alloc();
     for row in &STREAMS {
         let container = row.container(alloc)?;
-        let tried = run_over(&rt, alloc, &["encode"], row.file, NONE)?;
+        let tried = run_over(&rt, alloc, &ENCODE_WHOLE, row.file, NONE)?;
         assert!(rt; tried.is_done(container.as_slice()), "{}", row.name);
     }
     Ok(())
@@ -183,29 +185,18 @@ fn refused_scans(rt: HostRuntime) -> Result<(), Fail> {
 #[test]
 fn a_long_trailer(rt: HostRuntime) -> Result<(), Fail> {
     let alloc = rt.alloc();
-    let header = ROWS[0].header(alloc)?;
+    let header = LEAST.header(alloc)?;
     let mut trailer = joined(alloc, &[&END])?;
     for byte in 0..1000u16 {
         trailer.push(byte.to_be_bytes()[1])?;
     }
     let file = joined(alloc, &[header.as_slice(), &[0x3f], trailer.as_slice()])?;
-    let start = joined(
+    let container = container_of(
         alloc,
-        &[
-            b"LPSG",
-            &[1, 1, 1, 0, 0, 0, 69, 0, 0, 3, 0xea],
-            &[0; 21],
-            &[3],
-        ],
-    )?;
-    let container = joined(
-        alloc,
-        &[
-            start.as_slice(),
-            header.as_slice(),
-            trailer.as_slice(),
-            &[0, 0, 0],
-        ],
+        1,
+        &[LEVEL_SEGMENT],
+        header.as_slice(),
+        trailer.as_slice(),
     )?;
     assert_eq!(rt; container.len(), 1111);
     let tried = run_over(&rt, alloc, &["encode"], file.as_slice(), NONE)?;
@@ -232,25 +223,34 @@ fn the_greatest_dc(rt: HostRuntime) -> Result<(), Fail> {
     Ok(())
 }
 
+// The lengths that two intervals are cut to, from and up to, and their line.
+const CUTS: [(usize, usize, &str); 6] = [
+    (0, 2, NOT_JPEG),
+    (2, 75, HEADER_CUT),
+    (75, 76, "lepton: refused 16 ScanCut at 75"),
+    (76, 77, "lepton: refused 16 ScanCut at 76"),
+    (77, 78, "lepton: refused 16 ScanCut at 77"),
+    (78, 79, "lepton: refused 16 ScanCut at 78"),
+];
+
+// Cut anywhere; the scan is whole with its last byte, and needs no end of the image.
 #[test]
-fn words(rt: HostRuntime) -> Result<(), Fail> {
-    let refused: [&[&str]; 9] = [
-        &[],
-        &["recode"],
-        &["encode", "encode"],
-        &["Encode"],
-        &["encode "],
-        &["decode", "decode"],
-        &["decode", "encode"],
-        &["Decode"],
-        &["decode "],
-    ];
-    for words in refused {
-        let tried = run_over(&rt, rt.alloc(), words, &[0xff, 0xd8], NONE)?;
-        assert_eq!(rt; tried.status, 2, "{words:?}");
-        assert!(rt; tried.written.is_empty());
-        assert!(rt; tried.noted.as_slice() == b"lepton: words refused\n".as_slice());
-        assert!(rt; tried.left.as_slice() == [0xff, 0xd8].as_slice());
+fn prefixes_of_two_intervals(rt: HostRuntime) -> Result<(), Fail> {
+    let alloc = rt.alloc();
+    let file = TWO_INTERVALS.file(alloc)?;
+    assert!(rt; file.len() == 81);
+    for (from, to, line) in CUTS {
+        for length in from..to {
+            let (prefix, _) = file.as_slice().split_at(length.min(file.len()));
+            let tried = run_over(&rt, alloc, &["encode"], prefix, NONE)?;
+            assert!(rt; tried.is_refused(line), "cut to {length}");
+        }
+    }
+    for length in 79..82 {
+        let (prefix, _) = file.as_slice().split_at(length);
+        let tried = run_over(&rt, alloc, &["encode"], prefix, NONE)?;
+        let back = run_over(&rt, alloc, &["decode"], tried.written.as_slice(), NONE)?;
+        assert!(rt; back.is_done(prefix), "cut to {length}");
     }
     Ok(())
 }

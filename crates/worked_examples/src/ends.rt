@@ -1,20 +1,15 @@
 // Ends that fail in mid-stream, and inputs at the limit.
-use crate::files::{END, LEVEL, START, joined};
-use crate::rows::ROWS;
+use crate::containers::{LEVEL_SEGMENT, container_of};
+use crate::rows::{LEAST, Row};
 use crate::trial::{Faults, NONE, run_over};
 use lepton_run::run;
 use outside_core::{MemSink, NeverSource, OpenGate, ReadAll, read_all};
-use std::alloc::{AllocError, Global};
 use std::test::Fail;
-
-fn least_file(alloc: Global) -> Result<Vec<u8>, AllocError> {
-    joined(alloc, &[&START, &[0, 8, 0, 8], &LEVEL, &[0x3f], &END])
-}
 
 #[test]
 fn a_read_that_fails(rt: HostRuntime) -> Result<(), Fail> {
     let alloc = rt.alloc();
-    let file = least_file(alloc)?;
+    let file = LEAST.file(alloc)?;
     for n in 1..7 {
         let tried = run_over(
             &rt,
@@ -37,7 +32,7 @@ fn a_read_that_fails(rt: HostRuntime) -> Result<(), Fail> {
 #[test]
 fn a_write_that_fails(rt: HostRuntime) -> Result<(), Fail> {
     let alloc = rt.alloc();
-    let file = least_file(alloc)?;
+    let file = LEAST.file(alloc)?;
     let whole = run_over(&rt, rt.alloc(), &["encode"], file.as_slice(), NONE)?;
     assert_eq!(rt; whole.written.len(), 111);
     // Fifteen pieces of 7 bytes and one of 6.
@@ -63,7 +58,7 @@ fn a_write_that_fails(rt: HostRuntime) -> Result<(), Fail> {
 #[test]
 fn a_read_that_fails_on_the_way_back(rt: HostRuntime) -> Result<(), Fail> {
     let alloc = rt.alloc();
-    let container = ROWS[0].container(alloc)?;
+    let container = LEAST.container(alloc)?;
     for n in 1..9 {
         let tried = run_over(
             &rt,
@@ -83,29 +78,46 @@ fn a_read_that_fails_on_the_way_back(rt: HostRuntime) -> Result<(), Fail> {
     Ok(())
 }
 
+// A decode writes while it goes on: nine pieces of 7 bytes and one of 6 for the header, then a byte of the scan, and then
+// the trailer; where the stream has a fault, the header alone. Before a call that fails there are the bytes of the calls
+// before it, and one that isn't reached changes nothing.
 #[test]
 fn a_write_that_fails_on_the_way_back(rt: HostRuntime) -> Result<(), Fail> {
     let alloc = rt.alloc();
-    let container = ROWS[0].container(alloc)?;
-    let file = least_file(alloc)?;
-    // Ten pieces of 7 bytes and one of 2.
-    for n in 1..12u64 {
-        let tried = run_over(
-            &rt,
-            alloc,
-            &["decode"],
-            container.as_slice(),
-            Faults {
+    let file = LEAST.file(alloc)?;
+    let container = LEAST.container(alloc)?;
+    let faulty = Row {
+        stream: &[0, 8, 0],
+        ..LEAST
+    };
+    let faulty = faulty.container(alloc)?;
+    for (container, calls, status) in [(container.as_slice(), 12, 0), (faulty.as_slice(), 10, 1)] {
+        for n in 1..14u64 {
+            let faults = Faults {
                 writes: &[n],
                 ..NONE
-            },
-        )?;
-        assert_eq!(rt; tried.status, 4, "write {n}");
-        assert_eq!(rt; tried.written.len() as u64, 7 * (n - 1));
-        assert!(rt; file.starts_with(tried.written.as_slice()));
-        assert!(rt; tried.noted.as_slice() == b"lepton: write failed\n".as_slice());
+            };
+            let tried = run_over(&rt, alloc, &["decode"], container, faults)?;
+            if n > calls {
+                assert_eq!(rt; tried.status, status, "write {n}");
+            } else {
+                assert_eq!(rt; tried.status, 4, "write {n}");
+                assert_eq!(rt; tried.written.len() as u64, before_call(n), "write {n}");
+                assert!(rt; tried.noted.as_slice() == b"lepton: write failed\n".as_slice());
+            }
+            assert!(rt; file.starts_with(tried.written.as_slice()));
+        }
     }
     Ok(())
+}
+
+// How many bytes are written before a call.
+fn before_call(n: u64) -> u64 {
+    match n {
+        12 => 70,
+        11 => 69,
+        _ => 7 * n.saturating_sub(1).min(9),
+    }
 }
 
 #[test]
@@ -116,7 +128,7 @@ fn limits(rt: HostRuntime) -> Result<(), Fail> {
     let five = read_all(alloc, &mut NeverSource::new(&[1, 2, 3, 4, 5]), 4);
     assert!(rt; matches!(five, Err(ReadAll::TooLong)));
     // The least file with a trailer up to the limit, and one byte more.
-    let mut file = least_file(alloc)?;
+    let mut file = LEAST.file(alloc)?;
     for (length, status, note) in [
         (67_108_864, 0, &b""[..]),
         (67_108_865, 1, &b"lepton: refused 50 TooLong\n"[..]),
@@ -152,18 +164,12 @@ fn limits(rt: HostRuntime) -> Result<(), Fail> {
 #[test]
 fn the_longest_file_comes_back(rt: HostRuntime) -> Result<(), Fail> {
     let alloc = rt.alloc();
-    let mut file = least_file(alloc)?;
+    let mut file = LEAST.file(alloc)?;
     file.resize(67_108_864, 0)?;
     assert!(rt; file.len() == 67_108_864);
     let (header, rest) = file.as_slice().split_at(69);
     let (_, trailer) = rest.split_at(1);
-    let mut container = joined(alloc, &[b"LPSG", &[1, 1, 1, 0, 0, 0, 69]])?;
-    container.extend_from_slice(&67_108_794u32.to_be_bytes())?;
-    container.extend_from_slice(&[0; 14])?;
-    container.extend_from_slice(&[0, 0, 0, 0, 0, 0, 0, 3])?;
-    container.extend_from_slice(header)?;
-    container.extend_from_slice(trailer)?;
-    container.extend_from_slice(&[0, 0, 0])?;
+    let container = container_of(alloc, 1, &[LEVEL_SEGMENT], header, trailer)?;
     let words = [
         String::from_str(alloc, "lepton")?,
         String::from_str(alloc, "decode")?,

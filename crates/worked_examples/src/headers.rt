@@ -1,10 +1,10 @@
 // Headers that are refused with their lines, and headers that are taken, of files that aren't.
 use crate::files::joined;
 use crate::lines::{HEADER_CUT, NOT_JPEG};
+use crate::marker_segments::IMAGE;
 use crate::refused::{CODES, FRAMES, MARKERS};
 use crate::refused_scans::{PAIRS, SCANS};
-use crate::rows::ROWS;
-use crate::segments::IMAGE;
+use crate::rows::LEAST;
 use crate::taken::{EDGES, PHOTOGRAPHS};
 use crate::trial::{NONE, run_over};
 use std::test::Fail;
@@ -106,7 +106,7 @@ fn taken_headers(rt: HostRuntime) -> Result<(), Fail> {
 #[test]
 fn prefixes_of_the_least_header(rt: HostRuntime) -> Result<(), Fail> {
     let alloc = rt.alloc();
-    let header = ROWS[0].header(alloc)?;
+    let header = LEAST.header(alloc)?;
     assert!(rt; header.len() == 69);
     for length in 0..69 {
         let (prefix, _) = header.as_slice().split_at(length);

@@ -3,6 +3,10 @@
 #![tactic(auto)]
 
 #[cfg(test)]
+mod containers;
+#[cfg(test)]
+mod crafted;
+#[cfg(test)]
 mod decode;
 #[cfg(test)]
 mod encode;
@@ -14,6 +18,8 @@ mod files;
 mod headers;
 #[cfg(test)]
 mod lines;
+#[cfg(test)]
+mod marker_segments;
 #[cfg(test)]
 mod notes;
 #[cfg(test)]
@@ -36,3 +42,5 @@ mod tables;
 mod taken;
 #[cfg(test)]
 mod trial;
+#[cfg(test)]
+mod words;

@@ -1,6 +1,4 @@
-// The lines of refusals that hold no place and no code.
-
-pub(crate) const OUTSIDE: &str = "lepton: refused 0 Outside";
+// The lines of refusals that hold no place, no code and no segment.
 
 pub(crate) const NOT_JPEG: &str = "lepton: refused 1 NotJpeg";
 
@@ -23,3 +21,17 @@ pub(crate) const SCAN_PARAMS: &str = "lepton: refused 13 ScanParams";
 pub(crate) const NO_TABLE: &str = "lepton: refused 14 NoTable";
 
 pub(crate) const TOO_MANY_BLOCKS: &str = "lepton: refused 15 TooManyBlocks";
+
+pub(crate) const BOX_MAGIC: &str = "lepton: refused 30 BoxMagic";
+
+pub(crate) const BOX_VERSION: &str = "lepton: refused 31 BoxVersion";
+
+pub(crate) const BOX_CUT: &str = "lepton: refused 32 BoxCut";
+
+pub(crate) const BOX_SEGMENTS: &str = "lepton: refused 34 BoxSegments";
+
+pub(crate) const BOX_PAD: &str = "lepton: refused 35 BoxPad";
+
+pub(crate) const BOX_LONG: &str = "lepton: refused 37 BoxLong";
+
+pub(crate) const PAD_SPELLING: &str = "lepton: refused 46 PadSpelling";

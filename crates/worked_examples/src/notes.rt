@@ -1,17 +1,18 @@
 // A note that fails.
-use crate::files::{END, LEVEL, START, joined};
+use crate::rows::{LEAST, Row};
 use crate::trial::{Faults, Trial, run_over};
 use std::alloc::{AllocError, Global};
 use std::sync::Wait;
 use std::test::Fail;
 use std::thread::Threads;
 
-/// One end of the program: its status and line, the word, how many bytes of the least file are read, and the numbers of
-/// the read and the write that fail.
+/// One end of the program: its status and line, the word, how many bytes of the input are given, and the numbers of the
+/// read and the write that fail. The input is the least file, or its container where a stream is given.
 struct Said<'a> {
     status: u8,
     line: &'a str,
     word: &'a str,
+    stream: Option<&'a [u8]>,
     length: usize,
     read: u64,
     write: u64,
@@ -20,11 +21,12 @@ struct Said<'a> {
 /// No call has this number.
 const NO_CALL: u64 = 0;
 
-const SAID: [Said<'static>; 6] = [
+const SAID: [Said<'static>; 7] = [
     Said {
         status: 0,
         line: "",
         word: "encode",
+        stream: None,
         length: 72,
         read: NO_CALL,
         write: NO_CALL,
@@ -33,15 +35,26 @@ const SAID: [Said<'static>; 6] = [
         status: 1,
         line: "lepton: refused 2 HeaderCut\n",
         word: "encode",
+        stream: None,
         length: 3,
         read: NO_CALL,
         write: NO_CALL,
     },
     Said {
         status: 1,
-        line: "lepton: refused 0 Outside\n",
+        line: "lepton: refused 30 BoxMagic\n",
         word: "decode",
+        stream: None,
         length: 72,
+        read: NO_CALL,
+        write: NO_CALL,
+    },
+    Said {
+        status: 1,
+        line: "lepton: refused 45 StreamBad segment 0\n",
+        word: "decode",
+        stream: Some(&[0, 0, 1]),
+        length: 111,
         read: NO_CALL,
         write: NO_CALL,
     },
@@ -49,6 +62,7 @@ const SAID: [Said<'static>; 6] = [
         status: 2,
         line: "lepton: words refused\n",
         word: "recode",
+        stream: None,
         length: 72,
         read: NO_CALL,
         write: NO_CALL,
@@ -57,6 +71,7 @@ const SAID: [Said<'static>; 6] = [
         status: 3,
         line: "lepton: read failed\n",
         word: "encode",
+        stream: None,
         length: 72,
         read: 2,
         write: NO_CALL,
@@ -65,14 +80,21 @@ const SAID: [Said<'static>; 6] = [
         status: 4,
         line: "lepton: write failed\n",
         word: "encode",
+        stream: None,
         length: 72,
         read: NO_CALL,
         write: 3,
     },
 ];
 
-fn least_file(alloc: Global) -> Result<Vec<u8>, AllocError> {
-    joined(alloc, &[&START, &[0, 8, 0, 8], &LEVEL, &[0x3f], &END])
+// What is read.
+fn input_of(alloc: Global, said: &Said) -> Result<Vec<u8>, AllocError> {
+    let mut input = match said.stream {
+        Some(stream) => Row { stream, ..LEAST }.container(alloc)?,
+        None => LEAST.file(alloc)?,
+    };
+    input.truncate(said.length);
+    Ok(input)
 }
 
 // The end, with the note's call of this number failing.
@@ -82,8 +104,7 @@ fn ended<R: Threads + Wait + Sync>(
     said: &Said,
     note: u64,
 ) -> Result<Trial, Fail> {
-    let mut input = least_file(alloc)?;
-    input.truncate(said.length);
+    let input = input_of(alloc, said)?;
     let reads = [said.read];
     let writes = [said.write];
     let notes = [note];
@@ -102,7 +123,7 @@ fn is_as_before(tried: &Trial, whole: &Trial) -> bool {
 }
 
 // A note that fails at any of its calls changes no status, nothing that is written and nothing that is read. It holds
-// the pieces of 7 bytes of its line that came before that call. No line has more than four.
+// the pieces of 7 bytes of its line that came before that call. No line has more than six.
 #[test]
 fn a_note_that_fails(rt: HostRuntime) -> Result<(), Fail> {
     let alloc = rt.alloc();
@@ -110,7 +131,7 @@ fn a_note_that_fails(rt: HostRuntime) -> Result<(), Fail> {
         let whole = ended(&rt, alloc, said, NO_CALL)?;
         assert_eq!(rt; whole.status, said.status);
         assert!(rt; whole.noted.as_slice() == said.line.as_bytes());
-        for n in 1..5u64 {
+        for n in 1..7u64 {
             let tried = ended(&rt, alloc, said, n)?;
             assert!(rt; is_as_before(&tried, &whole), "note {n} of {}", said.line);
             assert!(rt; said.line.as_bytes().starts_with(tried.noted.as_slice()));

@@ -1,7 +1,7 @@
 // Headers that are refused before their tables and their scan, and their lines.
 use crate::files::END;
 use crate::lines::{COMPONENTS_BAD, FRAME_TWICE, HEADER_CUT, NOT_JPEG, PRECISION_BAD, SIZE_ZERO};
-use crate::segments::{AC, DC, FRAME, IMAGE, SCAN};
+use crate::marker_segments::{AC, DC, FRAME, IMAGE, SCAN};
 
 /// A header that is refused: what is wrong with it, its parts, and the line.
 pub(crate) type Refused<'a> = (&'a str, &'a [&'a [u8]], &'a str);

@@ -3,10 +3,10 @@ use crate::lines::{
     FRAME_TWICE, HEADER_CUT, MULTI_SCAN, NO_FRAME, NO_TABLE, NOT_JPEG, PRECISION_BAD, SCAN_PARAMS,
     SIZE_ZERO, TOO_MANY_BLOCKS,
 };
-use crate::refused::Refused;
-use crate::segments::{
+use crate::marker_segments::{
     AC, DC, FRAME, IMAGE, JFIF, K1, ONE_PAIR, QUANT_HEAD, SCAN, THREE, TWO_PAIRS,
 };
+use crate::refused::Refused;
 
 /// What tables and a scan say.
 pub(crate) const SCANS: &[Refused<'static>] = &[

@@ -1,9 +1,10 @@
-// Files with their containers.
+// Files with their containers of one segment.
+use crate::containers::{SCAN_START, Segment, container_of};
 use crate::files::{END, INNER, LEVEL, ONES, RESTARTS, START, STEPS};
 use std::alloc::{AllocError, Global};
 
 /// A file by its height and width, what stands after them, its scan, the byte of its pad bit and its trailer; and its
-/// stream.
+/// stream, all of it in one segment.
 #[derive(Clone, Copy)]
 pub(crate) struct Row<'a> {
     pub(crate) name: &'a str,
@@ -15,16 +16,74 @@ pub(crate) struct Row<'a> {
     pub(crate) stream: &'a [u8],
 }
 
-pub(crate) const ROWS: [Row<'static>; 16] = [
-    Row {
-        name: "least file",
-        size: [0, 8, 0, 8],
-        tail: &LEVEL,
-        scan: &[0x3f],
-        pad: 1,
-        trailer: &END,
-        stream: &[0, 0, 0],
-    },
+/// The least file.
+pub(crate) const LEAST: Row<'static> = Row {
+    name: "least file",
+    size: [0, 8, 0, 8],
+    tail: &LEVEL,
+    scan: &[0x3f],
+    pad: 1,
+    trailer: &END,
+    stream: &[0, 0, 0],
+};
+
+/// Four blocks with the DC 1, 0, 0 and -1.
+pub(crate) const UP_AND_DOWN: Row<'static> = Row {
+    name: "up and down again, over a corner of a block",
+    size: [0, 9, 0, 9],
+    tail: &STEPS,
+    scan: &[0xd0, 0x9f],
+    pad: 1,
+    trailer: &END,
+    stream: &[0, 8, 2, 82, 105, 80],
+};
+
+/// Four blocks, one below another, in one byte of ones.
+pub(crate) const FOUR_OF_ONES: Row<'static> = Row {
+    name: "code words that fill a byte of ones",
+    size: [0, 32, 0, 8],
+    tail: &ONES,
+    scan: &[0xff, 0x00],
+    pad: 1,
+    trailer: &END,
+    stream: &[0, 0, 0, 0, 0],
+};
+
+/// Two blocks, one below the other, each with a restart interval of its own.
+pub(crate) const TWO_INTERVALS: Row<'static> = Row {
+    name: "two intervals",
+    size: [0, 16, 0, 8],
+    tail: &RESTARTS,
+    scan: &[0x3f, 0xff, 0xd0, 0x3f],
+    pad: 1,
+    trailer: &END,
+    stream: &[0, 0, 0, 0],
+};
+
+/// Two blocks of zeros, one below the other, in one byte.
+pub(crate) const TWO_LEVEL: Row<'static> = Row {
+    name: "two blocks, one below the other",
+    size: [0, 16, 0, 8],
+    tail: &LEVEL,
+    scan: &[0x0f],
+    pad: 1,
+    trailer: &END,
+    stream: &[0, 0, 0, 0],
+};
+
+/// Two blocks with a DC of 1, one below the other, in one byte.
+pub(crate) const TWO_STEPS: Row<'static> = Row {
+    name: "two blocks with a DC of 1",
+    size: [0, 16, 0, 8],
+    tail: &STEPS,
+    scan: &[0xc7],
+    pad: 1,
+    trailer: &END,
+    stream: &[0, 8, 0, 0],
+};
+
+pub(crate) const ROWS: [Row<'static>; 18] = [
+    LEAST,
     Row {
         name: "a DC of 1",
         size: [0, 8, 0, 8],
@@ -52,15 +111,7 @@ pub(crate) const ROWS: [Row<'static>; 16] = [
         trailer: &END,
         stream: &[0, 10, 0],
     },
-    Row {
-        name: "up and down again, over a corner of a block",
-        size: [0, 9, 0, 9],
-        tail: &STEPS,
-        scan: &[0xd0, 0x9f],
-        pad: 1,
-        trailer: &END,
-        stream: &[0, 8, 2, 82, 105, 80],
-    },
+    UP_AND_DOWN,
     Row {
         name: "no bit is padded",
         size: [0, 32, 0, 8],
@@ -124,15 +175,7 @@ pub(crate) const ROWS: [Row<'static>; 16] = [
         trailer: &[],
         stream: &[0, 0, 0, 0, 0],
     },
-    Row {
-        name: "code words that fill a byte of ones",
-        size: [0, 32, 0, 8],
-        tail: &ONES,
-        scan: &[0xff, 0x00],
-        pad: 1,
-        trailer: &END,
-        stream: &[0, 0, 0, 0, 0],
-    },
+    FOUR_OF_ONES,
     Row {
         name: "code words and a pad that fill a byte of ones",
         size: [0, 8, 0, 8],
@@ -142,15 +185,7 @@ pub(crate) const ROWS: [Row<'static>; 16] = [
         trailer: &END,
         stream: &[0, 0, 0],
     },
-    Row {
-        name: "two intervals",
-        size: [0, 16, 0, 8],
-        tail: &RESTARTS,
-        scan: &[0x3f, 0xff, 0xd0, 0x3f],
-        pad: 1,
-        trailer: &END,
-        stream: &[0, 0, 0, 0],
-    },
+    TWO_INTERVALS,
     Row {
         name: "an inner coefficient of -1",
         size: [0, 8, 0, 8],
@@ -160,6 +195,8 @@ pub(crate) const ROWS: [Row<'static>; 16] = [
         trailer: &END,
         stream: &[6, 128, 0],
     },
+    TWO_LEVEL,
+    TWO_STEPS,
 ];
 
 impl Row<'_> {
@@ -179,19 +216,10 @@ impl Row<'_> {
 
     pub(crate) fn container(&self, alloc: Global) -> Result<Vec<u8>, AllocError> {
         let header = self.header(alloc)?;
-        let mut made = Vec::from_slice(alloc, b"LPSG")?;
-        made.extend_from_slice(&[1, self.pad, 1, 0, 0, 0, low_byte(header.len())])?;
-        made.extend_from_slice(&[0, 0, 0, low_byte(self.trailer.len())])?;
-        made.extend_from_slice(&[0; 14])?;
-        made.extend_from_slice(&[0, 0, 0, 0, 0, 0, 0, low_byte(self.stream.len())])?;
-        made.extend_from_slice(header.as_slice())?;
-        made.extend_from_slice(self.trailer)?;
-        made.extend_from_slice(self.stream)?;
-        Ok(made)
+        let segment = Segment {
+            start: SCAN_START,
+            stream: self.stream,
+        };
+        container_of(alloc, self.pad, &[segment], header.as_slice(), self.trailer)
     }
-}
-
-// A small length as a byte.
-fn low_byte(length: usize) -> u8 {
-    if length < 256 { length as u8 } else { 0 }
 }

@@ -1,5 +1,6 @@
-// Pictures with their streams.
-use crate::files::{END, FILLED, SIX_BLOCKS, TWICE, joined};
+// Pictures with their streams of one segment.
+use crate::containers::{SCAN_START, Segment, container_of};
+use crate::files::{END, FILLED, SIX_BLOCKS, TWICE};
 use crate::pictures::{CARD, GREY_CARD, GREY_HILL, HILL, HILL_BY_ROWS, RED_HILL, UPRIGHT_HILL};
 use std::alloc::{AllocError, Global};
 
@@ -242,14 +243,13 @@ pub(crate) const STREAMS: [Picture<'static>; 10] = [
 
 impl Picture<'_> {
     pub(crate) fn container(&self, alloc: Global) -> Result<Vec<u8>, AllocError> {
-        let mut made = joined(alloc, &[b"LPSG", &[1, 1, 1, 0, 0]])?;
-        made.extend_from_slice(&self.header.to_be_bytes())?;
-        made.extend_from_slice(&[0, 0, 0, 2])?;
-        made.extend_from_slice(&[0; 14])?;
-        made.extend_from_slice(&(self.stream.len() as u64).to_be_bytes())?;
-        made.extend_from_slice(&self.file[..usize::from(self.header).min(self.file.len())])?;
-        made.extend_from_slice(&END)?;
-        made.extend_from_slice(self.stream)?;
-        Ok(made)
+        let segment = Segment {
+            start: SCAN_START,
+            stream: self.stream,
+        };
+        let (header, _) = self
+            .file
+            .split_at(usize::from(self.header).min(self.file.len()));
+        container_of(alloc, 1, &[segment], header, &END)
     }
 }

@@ -1,5 +1,5 @@
 // Headers that are taken.
-use crate::segments::{
+use crate::marker_segments::{
     AC, AC_HEAD, ADOBE, ALL_HEAD, COMMENT, DC, DC_HEAD, EXIF, EXIF_LOW, FRAME, IMAGE, JFIF, K1, K2,
     ONE_PAIR, PHOTOSHOP, PROFILE, QUANT_HEAD, QUANTS_HEAD, SCAN, SECOND_QUANT_HEAD, TWO_PAIRS,
 };

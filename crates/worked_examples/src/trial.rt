@@ -1,12 +1,17 @@
 // The top call, tried over ends in memory.
 use crate::files::joined;
-use crate::lines::OUTSIDE;
 use lepton_run::run;
 use outside_core::{MemSink, MemSource, OpenGate, read_all};
 use std::alloc::Global;
 use std::sync::Wait;
 use std::test::Fail;
 use std::thread::Threads;
+
+/// The words of an encode into one segment.
+pub(crate) const ENCODE_WHOLE: [&str; 3] = ["encode", "--segments", "1"];
+
+/// Numbers of workers: none, one, more than the segments of most trials, and the most.
+pub(crate) const WORKERS: [&str; 4] = ["0", "1", "3", "16"];
 
 /// What a trial left.
 #[derive(Drop)]
@@ -20,15 +25,16 @@ pub(crate) struct Trial {
 impl Trial {
     /// Whether all was read and it was refused with exactly this line and its end, and nothing written.
     pub(crate) fn is_refused(&self, line: &str) -> bool {
-        self.status == 1
-            && self.written.is_empty()
-            && self.left.is_empty()
-            && matches!(self.noted.as_slice(), [said @ .., b'\n'] if said == line.as_bytes())
+        self.is_refused_after(line, &[])
     }
 
-    /// Whether it was so with Outside.
-    pub(crate) fn is_outside(&self) -> bool {
-        self.is_refused(OUTSIDE)
+    /// Whether all was read, exactly these bytes were written, and then it was refused with exactly this line and its
+    /// end.
+    pub(crate) fn is_refused_after(&self, line: &str, bytes: &[u8]) -> bool {
+        self.status == 1
+            && self.written.as_slice() == bytes
+            && self.left.is_empty()
+            && matches!(self.noted.as_slice(), [said @ .., b'\n'] if said == line.as_bytes())
     }
 
     /// Whether all was read, exactly these bytes were written, and nothing noted.

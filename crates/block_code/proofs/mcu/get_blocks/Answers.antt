@@ -1,4 +1,4 @@
-use Rattle.std.proofs.Common.{refl, ◌≡◌, ◌<◌, length, take, arith}
+use Rattle.std.proofs.Common.{refl, ◌∙◌, ◌≡◌, ◌<◌, length, take, arith}
 use Rattle.std.proofs.lemmas.List.{append-nil, take_all, length-take-le, length-set}
 use Rattle.std.proofs.lemmas.Result.{err_from_is_err_and}
 use Rattle.coef_block.specs.TwoRows.{block_count}
@@ -9,7 +9,7 @@ use Rattle.block_code.proofs.mcu.get_blocks.Goals as goal
 
 pub loop-index-init : goal.loop-index-init
 loop-index-init c = record {
-  room = c.requires.room;
+  room = refl;
   extents = refl;
   long = c.requires.blocks;
   got = λ done row count held. gets_nothing c.args.coder.now c.args.grid.now done;
@@ -52,7 +52,7 @@ loop-index-preserved c =
     let more = take_set c.loop-index.out k b within in
     let some : length (take k c.loop-index.out) ≡ k = length-take-le k c.loop-index.out (omega (arith, within)) in
     record {
-      room = rw (c.get_block.ensures.room) c.loop-index.invariant.room;
+      room = c.get_block.ensures.room ∙ c.loop-index.invariant.room;
       extents = rw (c.store.ensures) c.loop-index.invariant.extents;
       long = simp length-set c.loop-index.invariant.long;
       got = λ done row count held.

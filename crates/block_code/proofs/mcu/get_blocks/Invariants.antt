@@ -1,14 +1,13 @@
-use Rattle.std.proofs.Common.{◌≡◌, ℕ, ◌≤◌, ◌+◌, ◌*◌, ◌++◌, List, length, take}
+use Rattle.std.proofs.Common.{◌≡◌, ℕ, ◌+◌, ◌*◌, ◌++◌, List, length, take}
 use Rattle.std.specs.Prelude.{ℤ}
 use Rattle.coef_block.specs.TwoRows.{block_count}
 use Rattle.block_events.specs.HeldRows.{HoldBlocks}
 use Rattle.block_code.specs.SegmentUnderWay.{GetsMore}
 use Rattle.block_code.proofs.mcu.get_blocks.Given as goal
-use Rattle.block_code.specs.BinBases.{bin_count}
 
 abbrev pub invariant-loop-index : goal.invariant-loop-index
 invariant-loop-index l = record {
-  room : bin_count ≤ length l.coder.bins;
+  room : length l.coder.bins ≡ length l.initial.coder.bins;
   extents : l.rows.extents ≡ l.initial.rows.extents;
   long : length l.out ≡ block_count l.grid.mcu;
   got : (done : List (List ℤ)) (row : ℕ) → length done ≡ (row * l.grid.across + l.before) * block_count l.grid.mcu → HoldBlocks l.initial.rows l.grid done row

@@ -1,4 +1,5 @@
+use Rattle.lepton_run.proofs.BothWays.{spelled_so}
 use Rattle.lepton_run.proofs.laws.one_spelling_a_file.Goals as goal
 
 pub returns : goal.returns
-returns c = λ made file gives. gives
+returns c = spelled_so

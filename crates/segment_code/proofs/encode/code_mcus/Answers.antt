@@ -1,50 +1,58 @@
-use Rattle.std.proofs.Common.{rules, ◌≡◌, ℕ, ◌<◌, ◌≤◌, ◌+◌, [], ◌∷◌, ◌++◌, List, length, map, refl, ap, ◌∙◌, sym, arith, take, subst}
-use Rattle.std.specs.Prelude.{Err}
+use Rattle.std.proofs.Common.{rules, ◌≡◌, ◌≤◌, ◌+◌, [], ◌∷◌, ◌++◌, length, refl, ap, ◌∙◌, sym, arith, subst}
+use Rattle.std.specs.Prelude.{Ok, Err, None}
 use Rattle.std.proofs.lemmas.List.{length-take-le}
 use Rattle.std.proofs.lemmas.Result.{err_from_is_err_and}
-use Rattle.scan_text.specs.ScanCalls.{ScanReader}
+use Rattle.scan_text.specs.ScanLaws.{zigzag_of}
 use Rattle.scan_text.specs.Slots.{Shape}
-use Rattle.segment_code.specs.CodedMcus.{rest_of}
-use Rattle.segment_code.specs.ScanStream.{blocks_of}
-use Rattle.segment_code.proofs.McusCoded.{coded_none, coded_one, coded_refused, one_counted}
+use Rattle.segment_meaning.specs.ScanStream.{blocks_of}
+use Rattle.segment_code.specs.CodedMcus.{next_of}
+use Rattle.segment_code.proofs.McusCoded.{coded_none, coded_one}
+use Rattle.segment_code.proofs.ReadOn.{count_on, keeps, reads_on, refused_on}
 use Rattle.segment_code.proofs.encode.code_mcus.Goals as goal
+
+pub next_mcu-requires-clause-more : goal.next_mcu-requires-clause-more
+next_mcu-requires-clause-more c =
+    let so = c.loop.invariant.coded in
+    let count = count_on c.loop.counter c.args.reader.now c.loop.reader (zigzag_of so.0) so.1.on in
+    let total = ap (λ (s : Shape). s.mcus) (keeps c.args.reader.now c.loop.reader
+    so.1.on.same).shape in
+    omega (arith, count, total, c.requires.count, c.loop-test.true)
 
 pub loop-init : goal.loop-init
 loop-init c = record {
-  stop = c.requires.start;
-  shape = refl;
-  bytes = refl;
-  count = search rules;
-  long = length-take-le c.mcu_blocks-count.result _ c.mcu_blocks-count.ensures.few ∙ c.mcu_blocks-count.ensures.value;
+  long = length-take-le c.mcu_blocks-count.result _ c.mcu_blocks-count.ensures.few
+      ∙ c.mcu_blocks-count.ensures.value;
   grid = refl;
   room = c.requires.room;
-  coded = ([], coded_none c.args.reader.now c.args.segment.now.grid c.args.segment.now c.args.coder.now c.requires.held);
+  coded = (
+    [],
+    coded_none c.args.reader.now c.args.segment.now.grid c.args.segment.now
+        c.args.coder.now c.requires.held,
+  );
 }
 
 pub loop-preserved : goal.loop-preserved
 loop-preserved c =
     let i = c.loop.invariant in
-    let read = rw (i.stop) at c.in_ok-next_mcu.ensures in
-    let shape : c.next_mcu.new.self.shape ≡ c.loop.reader.shape = ap (λ (r : ScanReader). r.shape) read.1 in
-    let bytes : c.next_mcu.new.self.bytes ≡ c.loop.reader.bytes = ap (λ (r : ScanReader). r.bytes) read.1 in
-    let stop = ap (λ (r : ScanReader). r.stop) read.1 in
-    let count = one_counted c.loop.reader.shape c.loop.reader.bytes c.loop.reader.at c.next_mcu.new.self.at _ read.0 in
-    let total : c.loop.reader.shape.mcus ≡ c.args.reader.now.shape.mcus = ap (λ (s : Shape). s.mcus) i.shape in
-    let more : c.loop.reader.at.count < c.loop.reader.shape.mcus = omega (arith, total, i.count, c.requires.count, c.loop-test.true) in
-    let same : length c.next_mcu.new.out ≡ length c.loop.blocks = search rules in
     let so = i.coded.1 in
+    let stop : c.loop.reader.stop ≡ None = (keeps c.args.reader.now c.loop.reader so.on.same).stop
+    ∙ c.requires.start in
+    let read = reads_on c.loop.reader c.next_mcu.new.self (Ok c.in_ok-next_mcu.field-0)
+    c.next_mcu.new.out stop c.in_ok-next_mcu.ensures in
+    let same : length c.next_mcu.new.out ≡ length c.loop.blocks = search rules in
     record {
-      stop = stop;
-      shape = shape ∙ i.shape;
-      bytes = bytes ∙ i.bytes;
-      count = omega (arith, count, i.count);
-      long = same ∙ i.long ∙ sym (ap (λ (s : Shape). length s.slots) shape);
+      long = same ∙ i.long ∙ sym (ap (λ (s : Shape). length s.slots)
+          (keeps c.loop.reader c.next_mcu.new.self read.1).shape);
       grid = c.put_mcu.ensures.grid ∙ i.grid;
       room = rw ((c.in_ok-put_mcu.ensures.put (blocks_of i.coded.0) so.held).puts.room) i.room;
       coded = (
         i.coded.0 ++ c.next_mcu.new.out ∷ [],
-        coded_one c.args.reader.now c.loop.reader c.next_mcu.new.self c.args.segment.now.grid c.loop.segment c.put_mcu.new.segment c.args.coder.now c.loop.coder c.put_mcu.new.coder i.coded.0 c.next_mcu.new.out so more read.0 shape bytes
-            c.in_ok-put_mcu.ensures.blocks (c.in_ok-put_mcu.ensures.held (blocks_of i.coded.0) so.held) (rw (i.grid) at (c.in_ok-put_mcu.ensures.put (blocks_of i.coded.0) so.held)),
+        coded_one c.loop.counter c.args.reader.now c.loop.reader c.next_mcu.new.self
+            c.args.segment.now.grid c.loop.segment c.put_mcu.new.segment c.args.coder.now
+            c.loop.coder c.put_mcu.new.coder i.coded.0 c.next_mcu.new.out so read.0
+            read.1 c.in_ok-put_mcu.ensures.blocks
+            (c.in_ok-put_mcu.ensures.held (blocks_of i.coded.0) so.held)
+            (rw (i.grid) at (c.in_ok-put_mcu.ensures.put (blocks_of i.coded.0) so.held)),
       );
     }
 
@@ -53,8 +61,11 @@ returns-in_err-next_mcu-clause-refused c =
     let i = c.loop.invariant in
     let so = i.coded.1 in
     let p = err_from_is_err_and c.from_residual.result c.from_residual.ensures.1 in
-    let total : c.loop.reader.shape.mcus ≡ c.args.reader.now.shape.mcus = ap (λ (s : Shape). s.mcus) i.shape in
-    let more : c.loop.reader.at.count < c.loop.reader.shape.mcus = omega (arith, total, i.count, c.requires.count, c.loop-test.true) in
-    let read = rw (i.stop) at c.in_err-next_mcu.ensures in
-    let all = coded_refused c.args.reader.now c.loop.reader c.args.segment.now.grid c.loop.segment c.args.coder.now c.loop.coder i.coded.0 c.in_err-next_mcu.field-0.0 so more read.0 in
-    rw (p.1, p.2) (λ refusal is. let cause : c.in_err-next_mcu.field-0.0 ≡ refusal = cc in subst (λ r. rest_of c.args.reader.now ≡ Err r) cause all)
+    let stop : c.loop.reader.stop ≡ None = (keeps c.args.reader.now c.loop.reader so.on.same).stop
+    ∙ c.requires.start in
+    let read = rw stop at c.in_err-next_mcu.ensures in
+    let more : c.loop.counter + 1 ≤ c.args.mcus = omega (arith, c.loop-test.true) in
+    let all = refused_on c.loop.counter c.args.mcus c.args.reader.now c.loop.reader
+    (zigzag_of i.coded.0) c.in_err-next_mcu.field-0.0 so.on more read.0 in
+    rw (p.1, p.2) (λ refusal is. let cause : c.in_err-next_mcu.field-0.0 ≡ refusal = cc in
+    subst (λ r. next_of c.args.mcus c.args.reader.now ≡ Err r) cause all)

@@ -1,9 +1,9 @@
-use Rattle.std.proofs.Common.{◌≡◌, ℕ, ◌<◌, ◌≤◌, ◌^◌, sym, ap, subst, List}
+use Rattle.std.proofs.Common.{◌≤◌, sym, ap, subst, ◌∙◌}
 use Rattle.std.specs.Prelude.{slice_index}
 use Rattle.coef_block.specs.TwoRows.{Extents, block_count}
-use Rattle.jpeg_marker.specs.Plans.{PlanFields}
-use Rattle.segment_code.specs.ScanStream.{mcu_extents}
+use Rattle.block_events.specs.Grid.{Grid}
 use Rattle.segment_code.proofs.GridsOfPlans.{has_grid}
+use Rattle.segment_code.proofs.SlotsOfGrid.{slots_of_grid}
 use Rattle.segment_code.proofs.grid.grid_of.Goals as goal
 
 pub new-requires-clause-narrow : goal.new-requires-clause-narrow
@@ -28,3 +28,10 @@ pub new-requires-clause-few : goal.new-requires-clause-few
 new-requires-clause-few c =
     let e = rw (c.components.ensures.value) at c.mcu_extents.ensures in
     subst (λ (x : Extents). block_count x ≤ 10) (sym e) (has_grid c.args.plan.now c.components.ensures.kept).few
+
+pub returns-clause-blocks : goal.returns-clause-blocks
+returns-clause-blocks c =
+    let is = c.components.ensures.kept in
+    let e = rw (c.components.ensures.value) at c.mcu_extents.ensures in
+    slots_of_grid c.args.plan.now.components is.some is.few ∙ ap block_count (sym e)
+    ∙ ap (λ (g : Grid). block_count g.mcu) (sym c.new.ensures)

@@ -1,0 +1,5 @@
+pub mod Asking
+pub mod AskedBlocks
+pub mod BlockReading
+pub mod ReadingLaws
+pub mod ReadingRows

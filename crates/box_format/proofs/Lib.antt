@@ -1,0 +1,12 @@
+pub mod Lists
+pub mod FirstBad
+pub mod Coded
+pub mod Sound
+pub mod Passed
+pub mod RawParts
+pub mod ByteParts
+pub mod PartedLists
+pub mod PassedBox
+pub mod Spelled
+pub mod Written
+pub mod BoxLawsProved

@@ -1,0 +1,169 @@
+-- What checks say that pass.
+use Rattle.std.proofs.Common.{◌≡◌, ◌≤◌, ◌-◌, ℕ, List, length, take, drop, refl, sym, ap, ◌∙◌, arith, true, false, Bool, nat_lt, ◌==◌, ◌&&◌, not, cond, length-drop}
+use Rattle.std.specs.Prelude.{Option, Some, None, option_map, bytes_eq, slice_index}
+use Rattle.std.proofs.lemmas.Bool.{ltb-false, le-ltb, or_parts, or_from}
+use Rattle.std.proofs.lemmas.Bool.Decides.{nat_tests}
+use Rattle.std.proofs.lemmas.List.{length-take-le}
+use Rattle.jpeg_marker.specs.Plans.{PlanFields}
+use Rattle.box_format.specs.Parts.{magic, version}
+use Rattle.box_format.specs.Raws.{raw_of, handover_at, segments_in, header_place, header_length, named_end}
+use Rattle.box_format.specs.BoxChecks.{early_fault, late_fault, is_cut, or_else, where_failed}
+use Rattle.box_format.specs.Whole.{IsWhole, are_wrong, field_fault, bad_segment, record_fault}
+use Rattle.box_format.specs.declared.refusal.BoxRefusal.{BoxRefusal}
+use Rattle.box_format.specs.declared.refusal.BoxRefusal.TheVariants.{BoxMagic, BoxVersion, BoxCut, HeaderLong, BoxSegments, BoxPad, HandoverBad, BoxLong}
+use Rattle.box_format.proofs.Lists.{length_values}
+
+-- three tests in a row that don't fail
+pub three_passed : (a b c : Bool) (r s t : BoxRefusal)
+    → cond a (Some r) (cond b (Some s) (cond c (Some t) None)) ≡ None
+    → (a ≡ false) × (b ≡ false) × (c ≡ false)
+three_passed true b c r s t e = cc
+three_passed false true c r s t e = cc
+three_passed false false true r s t e = cc
+three_passed false false false r s t e = (refl, refl, refl)
+
+pub not_false : (b : Bool) → not b ≡ false → b ≡ true
+not_false true e = refl
+not_false false e = cc
+
+-- what the checks before the header say
+pub record IsEarly (bytes : List ℕ) : Type 0 where
+  pub begins : bytes_eq (take 4 bytes) magic ≡ true
+  pub versions : (nat_lt 4 (length bytes) && not (slice_index bytes 4 == version)) ≡ false
+  pub whole : IsWhole bytes
+
+pub whole_of : (bytes : List ℕ) → is_cut bytes ≡ false → IsWhole bytes
+whole_of bytes e =
+    let parts = or_parts (nat_lt (length bytes) (header_place bytes))
+    (nat_lt (length bytes) (named_end bytes)) e in
+    record {
+      fields = ltb-false (length bytes) (header_place bytes) parts.0;
+      ends = ltb-false (length bytes) (named_end bytes) parts.1;
+    }
+
+pub early_of : (bytes : List ℕ) → early_fault bytes ≡ None → IsEarly bytes
+unfolding early_fault
+early_of bytes e =
+    let parts = three_passed (not (bytes_eq (take 4 bytes) magic))
+    (nat_lt 4 (length bytes) && not (slice_index bytes 4 == version))
+    (is_cut bytes) BoxMagic BoxVersion BoxCut e in
+    record {
+      begins = not_false (bytes_eq (take 4 bytes) magic) parts.0;
+      versions = parts.1;
+      whole = whole_of bytes parts.2;
+    }
+
+-- the parts of the checks after the header
+or_four : (a b c d : Option BoxRefusal)
+    → or_else a (or_else b (or_else c d)) ≡ or_else (or_else a (or_else b c)) d
+or_four (Some r) b c d = refl
+or_four None (Some r) c d = refl
+or_four None None c d = refl
+
+or_none : (a b : Option BoxRefusal) → or_else a b ≡ None → (a ≡ None) × (b ≡ None)
+or_none (Some r) b e = cc
+or_none None b e = (refl, e)
+
+passes : (failed : Bool) (r : BoxRefusal) → where_failed failed r ≡ None → failed ≡ false
+passes true r e = cc
+passes false r e = refl
+
+none_mapped : (o : Option ℕ) → option_map (λ i. HandoverBad i) o ≡ None → o ≡ None
+none_mapped (Some i) e = cc
+none_mapped None e = refl
+
+-- bytes that are left, as bytes after an end
+rest_is : (end long : ℕ) → nat_lt 0 (long - end) ≡ nat_lt end long
+rest_is end long = grind (arith, nat_tests)
+
+-- how long the header is that the fields name
+pub header_is : (bytes : List ℕ) → IsWhole bytes
+    → length (take (header_length bytes) (drop (header_place bytes) bytes)) ≡ header_length bytes
+header_is bytes whole =
+    let ends = whole.ends in
+    length-take-le (header_length bytes) (drop (header_place bytes) bytes)
+    (omega (arith, length-drop (header_place bytes) bytes))
+
+pub late_is : (plan : PlanFields) (bytes : List ℕ) → IsWhole bytes
+    → late_fault plan (raw_of bytes) ≡ or_else (field_fault plan bytes) (record_fault plan bytes)
+unfolding late_fault raw_of
+late_is plan bytes whole =
+    let count = length_values (handover_at bytes) 0 (segments_in bytes) in
+    let long = header_is bytes whole in
+    let rest : nat_lt 0 (length (drop (named_end bytes) bytes))
+    ≡ nat_lt (named_end bytes) (length bytes) =
+    ap (λ n. nat_lt 0 n) (length-drop (named_end bytes) bytes)
+    ∙ rest_is (named_end bytes) (length bytes) in
+    rw (count, long, rest)
+    (or_four (where_failed (nat_lt plan.header_length (header_length bytes))
+    (HeaderLong plan.header_length))
+    (where_failed (are_wrong (segments_in bytes) plan.down) BoxSegments)
+    (where_failed (nat_lt 1 (slice_index bytes 5)) BoxPad) (record_fault plan bytes))
+
+-- what they say
+pub record IsLate (plan : PlanFields) (bytes : List ℕ) : Type 0 where
+  pub header : header_length bytes ≤ plan.header_length
+  pub segments : are_wrong (segments_in bytes) plan.down ≡ false
+  pub pad : slice_index bytes 5 ≤ 1
+  pub starts : bad_segment plan bytes ≡ None
+  pub end : length bytes ≤ named_end bytes
+
+pub late_of : (plan : PlanFields) (bytes : List ℕ) → IsWhole bytes
+    → late_fault plan (raw_of bytes) ≡ None → IsLate plan bytes
+late_of plan bytes whole e =
+    let parts = or_none (field_fault plan bytes) (record_fault plan bytes)
+    (sym (late_is plan bytes whole) ∙ e) in
+    let fields = or_none
+    (where_failed (nat_lt plan.header_length (header_length bytes)) (HeaderLong plan.header_length))
+    (or_else (where_failed (are_wrong (segments_in bytes) plan.down) BoxSegments)
+    (where_failed (nat_lt 1 (slice_index bytes 5)) BoxPad)) parts.0 in
+    let more = or_none (where_failed (are_wrong (segments_in bytes) plan.down) BoxSegments)
+    (where_failed (nat_lt 1 (slice_index bytes 5)) BoxPad) fields.1 in
+    let records = or_none (option_map (λ i. HandoverBad i) (bad_segment plan bytes))
+    (where_failed (nat_lt (named_end bytes) (length bytes)) BoxLong) parts.1 in
+    record {
+      header = ltb-false plan.header_length (header_length bytes)
+          (passes (nat_lt plan.header_length (header_length bytes)) (HeaderLong plan.header_length)
+          fields.0);
+      segments = passes (are_wrong (segments_in bytes) plan.down) BoxSegments more.0;
+      pad =
+          ltb-false 1 (slice_index bytes 5) (passes (nat_lt 1 (slice_index bytes 5)) BoxPad more.1);
+      starts = none_mapped (bad_segment plan bytes) records.0;
+      end = ltb-false (named_end bytes) (length bytes)
+          (passes (nat_lt (named_end bytes) (length bytes)) BoxLong records.1);
+    }
+
+-- and the other way round
+three_none : (a b c : Bool) (r s t : BoxRefusal) → a ≡ false → b ≡ false → c ≡ false
+    → cond a (Some r) (cond b (Some s) (cond c (Some t) None)) ≡ None
+three_none a b c r s t e f g = rw (e, f, g) refl
+
+pub early_none : (bytes : List ℕ) → IsEarly bytes → early_fault bytes ≡ None
+unfolding early_fault
+early_none bytes early =
+    let begins : not (bytes_eq (take 4 bytes) magic) ≡ false = ap not early.begins in
+    let whole : is_cut bytes ≡ false =
+    or_from (nat_lt (length bytes) (header_place bytes)) (nat_lt (length bytes) (named_end bytes))
+    (le-ltb (length bytes) (header_place bytes) early.whole.fields)
+    (le-ltb (length bytes) (named_end bytes) early.whole.ends) in
+    three_none (not (bytes_eq (take 4 bytes) magic))
+    (nat_lt 4 (length bytes) && not (slice_index bytes 4 == version))
+    (is_cut bytes) BoxMagic BoxVersion BoxCut begins early.versions whole
+
+five_none : (a b c d : Bool) (o : Option ℕ) (r s t u : BoxRefusal) → a ≡ false → b ≡ false
+    → c ≡ false → o ≡ None → d ≡ false
+    → or_else (or_else (where_failed a r) (or_else (where_failed b s) (where_failed c t)))
+    (or_else (option_map (λ i. HandoverBad i) o) (where_failed d u)) ≡ None
+five_none a b c d o r s t u e f g h i = rw (e, f, g, h, i) refl
+
+pub late_none : (plan : PlanFields) (bytes : List ℕ) → IsWhole bytes → IsLate plan bytes
+    → late_fault plan (raw_of bytes) ≡ None
+late_none plan bytes whole late =
+    late_is plan bytes whole
+    ∙ five_none (nat_lt plan.header_length (header_length bytes))
+    (are_wrong (segments_in bytes) plan.down) (nat_lt 1 (slice_index bytes 5))
+    (nat_lt (named_end bytes) (length bytes))
+    (bad_segment plan bytes) (HeaderLong plan.header_length) BoxSegments BoxPad BoxLong
+    (le-ltb plan.header_length (header_length bytes) late.header) late.segments
+    (le-ltb 1 (slice_index bytes 5) late.pad) late.starts
+    (le-ltb (named_end bytes) (length bytes) late.end)

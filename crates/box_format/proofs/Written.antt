@@ -1,0 +1,148 @@
+-- A container's bytes, looked up again.
+use Rattle.std.proofs.Common.{◌≡◌, ◌<◌, ◌+◌, ◌*◌, ◌^◌, ℕ, suc, List, [], ◌∷◌, ◌++◌, length, take, drop, map, flat_map, refl, sym, ap, ◌∙◌, arith, subst, length-append}
+use Rattle.std.specs.Prelude.{slice_index, sum}
+use Rattle.std.specs.List.{AllByRecursion}
+use Rattle.std.proofs.lemmas.List.{take_at, drop_at, drop-drop}
+use Rattle.byteorder.specs.Endian.{big_bytes, big_number}
+use Rattle.byteorder.specs.Numbers.{big_number-reads_back}
+use Rattle.handover.specs.Handovers.{HandoverFields, IsHandover}
+use Rattle.handover.specs.HandoverBytes.{handover_bytes, handover_in}
+use Rattle.handover.proofs.FieldBytes.{fields_again}
+use Rattle.box_format.specs.Parts.{BoxParts, magic, version, pad_byte, records, box_bytes}
+use Rattle.box_format.specs.Raws.{numbers, parted, handover_at, record_place, stream_length, segments_in, header_length, trailer_length}
+use Rattle.box_format.proofs.Lists.{sum_first}
+use Rattle.box_format.proofs.PassedBox.{tail_is}
+use Rattle.box_format.proofs.Spelled.{fronted, together}
+
+-- what follows the lengths
+abbrev pub after_fields : BoxParts → List ℕ
+after_fields b = records b.handovers b.streams
+    ++ (b.header ++ (b.trailer ++ flat_map (λ stream. stream) b.streams))
+
+-- a container's fields
+pub record IsLaid (bytes : List ℕ) (b : BoxParts) : Type 0 where
+  pub begins : take 4 bytes ≡ magic
+  pub versions : slice_index bytes 4 ≡ version
+  pub pad : slice_index bytes 5 ≡ pad_byte b.pad
+  pub segments : segments_in bytes ≡ length b.handovers
+  pub header : header_length bytes ≡ length b.header
+  pub trailer : trailer_length bytes ≡ length b.trailer
+  pub after : drop 15 bytes ≡ after_fields b
+  pub long : length bytes ≡ 15 + length (after_fields b)
+
+-- with what is after them joined to the right
+abbrev nested : BoxParts → List ℕ
+nested b =
+    fronted b.pad (length b.handovers)
+    (big_bytes 4 (length b.header) ++ (big_bytes 4 (length b.trailer) ++ after_fields b))
+
+nested_is : (b : BoxParts) → nested b ≡ box_bytes b
+unfolding box_bytes
+nested_is b =
+    ap (λ (l : List ℕ). fronted b.pad (length b.handovers)
+    (big_bytes 4 (length b.header) ++ (big_bytes 4 (length b.trailer) ++ l)))
+    (tail_is (records b.handovers b.streams) b.header b.trailer
+    (flat_map (λ stream. stream) b.streams))
+
+laid_nested : (b : BoxParts) → length b.header < 2 ^ 32 → length b.trailer < 2 ^ 32
+    → IsLaid (nested b) b
+laid_nested b h t = record {
+  begins = refl;
+  versions = refl;
+  pad = refl;
+  segments = refl;
+  header = big_number-reads_back 4 (length b.header)
+      (big_bytes 4 (length b.trailer) ++ after_fields b) h;
+  trailer = big_number-reads_back 4 (length b.trailer) (after_fields b) t;
+  after = refl;
+  long = omega arith;
+}
+
+pub laid_box : (b : BoxParts) → length b.header < 2 ^ 32 → length b.trailer < 2 ^ 32
+    → IsLaid (box_bytes b) b
+laid_box b h t = subst (λ (l : List ℕ). IsLaid l b) (nested_is b) (laid_nested b h t)
+
+-- the records, from one on, as they were put
+pub record AreRead (bytes : List ℕ) (from : ℕ) (handovers : List HandoverFields)
+    (streams : List (List ℕ)) (tail : List ℕ) : Type 0 where
+  pub handovers_are : map (handover_at bytes) (numbers from (length handovers)) ≡ handovers
+  pub lengths_are : map (stream_length bytes) (numbers from (length handovers))
+      ≡ map (λ (s : List ℕ). length s) streams
+  pub tail_is : drop (record_place (from + length handovers)) bytes ≡ tail
+
+both_first : {A : Type 0} (a b : A) (xs ys : List A) → a ≡ b → xs ≡ ys → a ∷ xs ≡ b ∷ ys
+both_first a b xs ys e f = cc
+
+pub records_read : (bytes tail : List ℕ) (from : ℕ) (handovers : List HandoverFields)
+    (streams : List (List ℕ))
+    → drop (record_place from) bytes ≡ records handovers streams ++ tail
+    → length streams ≡ length handovers
+    → AllByRecursion IsHandover handovers
+    → AllByRecursion (λ (s : List ℕ). length s < 2 ^ 64) streams
+    → AreRead bytes from handovers streams tail
+records_read bytes tail from [] [] e same each fit =
+    let z : from + 0 ≡ from = omega arith in
+    record { handovers_are = refl; lengths_are = refl; tail_is = rw z e }
+records_read bytes tail from [] (s ∷ streams) e same each fit = absurd (omega arith)
+records_read bytes tail from (h ∷ handovers) [] e same each fit = absurd (omega arith)
+records_read bytes tail from (h ∷ handovers) (s ∷ streams) e same each fit =
+    let again = fields_again h each.0 in
+    let split = e ∙ sym (together (handover_bytes h) (big_bytes 8 (length s))
+    (records handovers streams) tail) in
+    let first = ap (take 14) split
+    ∙ take_at (handover_bytes h) (big_bytes 8 (length s) ++ (records handovers streams ++ tail)) 14
+    again.0 in
+    let second = sym (drop-drop 14 (record_place from) bytes) ∙ ap (drop 14) split
+    ∙ drop_at (handover_bytes h) (big_bytes 8 (length s) ++ (records handovers streams ++ tail)) 14
+    again.0 in
+    let place : record_place from + 14 + 8 ≡ record_place (from + 1) = omega arith in
+    let third = ap (λ (p : ℕ). drop p bytes) (sym place)
+    ∙ sym (drop-drop 8 (record_place from + 14) bytes) ∙ ap (drop 8) second in
+    let later =
+    records_read bytes tail (from + 1) handovers streams third (omega arith) each.1 fit.1 in
+    let number = ap (big_number 8) second
+    ∙ big_number-reads_back 8 (length s) (records handovers streams ++ tail) fit.0 in
+    let k : from + suc (length handovers) ≡ from + 1 + length handovers = omega arith in
+    record {
+      handovers_are = both_first _ _ _ _ (ap handover_in first ∙ again.1) later.handovers_are;
+      lengths_are = both_first _ _ _ _ number later.lengths_are;
+      tail_is = rw k later.tail_is;
+    }
+
+-- how long they are
+pub records_long : (handovers : List HandoverFields) (streams : List (List ℕ))
+    → length streams ≡ length handovers → AllByRecursion IsHandover handovers
+    → length (records handovers streams) ≡ 22 * length handovers
+records_long [] streams same each = refl
+records_long (h ∷ handovers) [] same each = absurd (omega arith)
+records_long (h ∷ handovers) (s ∷ streams) same each =
+    let again = fields_again h each.0 in
+    let later = records_long handovers streams (omega arith) each.1 in
+    omega (
+      arith,
+      again.0,
+      length-append (handover_bytes h ++ big_bytes 8 (length s))
+          (records handovers streams),
+      length-append (handover_bytes h) (big_bytes 8 (length s)),
+    )
+
+-- the streams
+pub streams_again : (streams : List (List ℕ))
+    → parted (map (λ (s : List ℕ). length s) streams) (flat_map (λ stream. stream) streams)
+    ≡ streams
+streams_again [] = refl
+streams_again (s ∷ streams) =
+    both_first _ _ _ _ (take_at s (flat_map (λ stream. stream) streams) (length s) refl)
+    (ap (parted (map (λ (s : List ℕ). length s) streams))
+    (drop_at s (flat_map (λ stream. stream) streams) (length s) refl) ∙ streams_again streams)
+
+pub streams_long : (streams : List (List ℕ))
+    → length (flat_map (λ stream. stream) streams) ≡ sum (map (λ (s : List ℕ). length s) streams)
+streams_long [] = refl
+streams_long (s ∷ streams) =
+    omega (
+      arith,
+      length-append s (flat_map (λ stream. stream) streams),
+      sum_first (length s) (map (λ (s : List ℕ). length s) streams),
+      streams_long streams,
+    )

@@ -1,0 +1,62 @@
+use Rattle.std.proofs.Common.{rules, ◌∙◌, sym, subst, refl, inl, inr, List, ℕ}
+use Rattle.jpeg_marker.specs.HeaderPlan.{Accepts, Refuses}
+use Rattle.box_format.specs.BoxChecks.{PassesChecks}
+use Rattle.handover.proofs.FieldBytes.{all_of}
+use Rattle.box_format.proofs.Passed.{early_of}
+use Rattle.box_format.proofs.RawParts.{raw_header}
+use Rattle.box_format.proofs.PassedBox.{passed_is_box}
+use Rattle.box_format.proofs.reading.read_box.Goals as goal
+
+pub header_in-requires : goal.header_in-requires
+header_in-requires c =
+    (early_of c.args.bytes.now (sym c.early_fault.ensures ∙ c.in_default.is)).whole
+
+pub returns-in-Err-clause-refused : goal.returns-in-Err-clause-refused
+returns-in-Err-clause-refused c =
+    inr (
+      sym c.early_fault.ensures ∙ c.in_default.is,
+      inl (
+        c.in-Err.refusal,
+        subst (λ (l : List ℕ). Refuses l c.in-Err.refusal) (c.header_in.ensures
+            ∙ raw_header c.args.bytes.now) c.in-Err.ensures.refused,
+        refl,
+      ),
+    )
+
+pub late_fault-requires : goal.late_fault-requires
+late_fault-requires c =
+    (early_of c.args.bytes.now (sym c.early_fault.ensures ∙ c.in_default.is)).whole
+
+pub returns-in-Some-late_fault-clause-refused : goal.returns-in-Some-late_fault-clause-refused
+returns-in-Some-late_fault-clause-refused c =
+    inr (
+      sym c.early_fault.ensures ∙ c.in_default.is,
+      inr (
+        c.in-Ok.plan,
+        subst (λ (l : List ℕ). Accepts l c.in-Ok.plan) (c.header_in.ensures
+            ∙ raw_header c.args.bytes.now) c.in-Ok.ensures.accepted,
+        sym c.late_fault.ensures ∙ c.in-Some-late_fault.is,
+      ),
+    )
+
+pub invariant_of-result : goal.invariant_of-result
+invariant_of-result c = record {
+  checks = record {
+    early = sym c.early_fault.ensures ∙ c.in_default.is;
+    header = subst (λ (l : List ℕ). Accepts l c.in-Ok.plan) (c.header_in.ensures
+        ∙ raw_header c.args.bytes.now) c.in-Ok.ensures.accepted;
+    late = sym c.late_fault.ensures ∙ c.in_default-late_fault.is;
+  };
+  bytes = all_of c.args.bytes.now (λ i. let h = c.type_inv.bytes i in search rules);
+}
+
+pub returns-clause-taken : goal.returns-clause-taken
+returns-clause-taken c =
+    let passes : PassesChecks c.in-Ok.plan c.args.bytes.now = record {
+      early = sym c.early_fault.ensures ∙ c.in_default.is;
+      header = subst (λ (l : List ℕ). Accepts l c.in-Ok.plan) (c.header_in.ensures
+          ∙ raw_header c.args.bytes.now) c.in-Ok.ensures.accepted;
+      late = sym c.late_fault.ensures ∙ c.in_default-late_fault.is;
+    } in
+    passed_is_box c.in-Ok.plan c.args.bytes.now
+    (all_of c.args.bytes.now (λ i. let h = c.type_inv.bytes i in search rules)) passes

@@ -1,0 +1,39 @@
+-- What holds of all containers (own).
+use Rattle.std.specs.Prelude.{ℕ, ◌≡◌, List}
+use Rattle.std.specs.List.{AllByRecursion}
+use Rattle.bit_list.specs.Bits.{IsByte}
+use Rattle.jpeg_marker.specs.Plans.{PlanFields}
+use Rattle.box_format.specs.Parts.{BoxParts, IsBox, IsBoxOf, box_bytes}
+use Rattle.box_format.specs.Raws.{raw_of, parts_of}
+use Rattle.box_format.specs.BoxChecks.{IsRefusedBox, PassesChecks}
+use Rattle.box_format.specs.declared.refusal.BoxRefusal.{BoxRefusal}
+
+-- a container's checks pass, and its fields are its parts
+abbrev pub BoxPasses : Type 0
+BoxPasses =
+    (plan : PlanFields) (b : BoxParts) → IsBox plan b
+    → PassesChecks plan (box_bytes b) × (parts_of (raw_of (box_bytes b)) ≡ b)
+
+-- and bytes whose checks pass are the container of their fields
+abbrev pub PassedIsBox : Type 0
+PassedIsBox =
+    (plan : PlanFields) (bytes : List ℕ) → AllByRecursion IsByte bytes
+    → PassesChecks plan bytes → IsBoxOf plan (parts_of (raw_of bytes)) bytes
+
+-- so a container has one plan and one list of parts
+abbrev pub OneBox : Type 0
+OneBox =
+    (plan other : PlanFields) (a b : BoxParts) (bytes : List ℕ)
+    → IsBoxOf plan a bytes → IsBoxOf other b bytes → (plan ≡ other) × (a ≡ b)
+
+-- other bytes have one refusal
+abbrev pub OneBoxRefusal : Type 0
+OneBoxRefusal =
+    (bytes : List ℕ) (refusal other : BoxRefusal) → AllByRecursion IsByte bytes
+    → IsRefusedBox bytes refusal → IsRefusedBox bytes other → refusal ≡ other
+
+-- and no bytes are both
+abbrev pub NeverBoth : Type 0
+NeverBoth =
+    (bytes : List ℕ) (plan : PlanFields) (b : BoxParts) (refusal : BoxRefusal)
+    → IsBoxOf plan b bytes → IsRefusedBox bytes refusal → ⊥

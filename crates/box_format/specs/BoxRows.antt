@@ -1,0 +1,108 @@
+-- Worked containers (own).
+use Rattle.std.specs.Prelude.{ℕ, ◌≡◌, true, List, [], ◌∷◌, ◌++◌, length, replicate, map, take, drop, slice_set, Some, None}
+use Rattle.jpeg_marker.specs.Plans.{PlanFields}
+use Rattle.scan_text.specs.BlockRows.{level_table}
+use Rattle.handover.specs.Handovers.{start}
+use Rattle.box_format.specs.Parts.{BoxParts, box_bytes}
+use Rattle.box_format.specs.Raws.{numbers, raw_of, parts_of}
+use Rattle.box_format.specs.BoxChecks.{early_fault, late_fault}
+use Rattle.box_format.specs.declared.refusal.BoxRefusal.TheVariants.{BoxMagic, BoxVersion, BoxCut, BoxSegments, BoxPad, HandoverBad, BoxLong, HeaderLong}
+
+-- a header of one component with one code word in each table, eight columns wide
+abbrev pub grey_header : ℕ → List ℕ
+grey_header height =
+    0xff ∷ 0xd8 ∷ 0xff ∷ 0xc0 ∷ 0x00 ∷ 0x0b ∷ 0x08 ∷ 0x00 ∷ height ∷ 0x00 ∷ 0x08
+    ∷ 0x01 ∷ 0x01 ∷ 0x11 ∷ 0x00 ∷ []
+    ++ 0xff ∷ 0xc4 ∷ 0x00 ∷ 0x14 ∷ 0x00 ∷ 0x01 ∷ replicate 15 0 ++ 0x00 ∷ []
+    ++ 0xff ∷ 0xc4 ∷ 0x00 ∷ 0x14 ∷ 0x10 ∷ 0x01 ∷ replicate 15 0 ++ 0x00 ∷ []
+    ++ 0xff ∷ 0xda ∷ 0x00 ∷ 0x08 ∷ 0x01 ∷ 0x01 ∷ 0x00 ∷ 0x00 ∷ 0x3f ∷ 0x00 ∷ []
+
+-- its plan, with this many MCU rows
+abbrev pub grey_plan : ℕ → PlanFields
+grey_plan down = record {
+  components = record { id = 1; h = 1; v = 1; dc = level_table; ac = level_table } ∷ [];
+  across = 1;
+  down = down;
+  interval = 0;
+  header_length = 69;
+  blocks = down;
+}
+
+-- the stream of a block of zeros
+abbrev pub zeros : List ℕ
+zeros = 0 ∷ 0 ∷ 0 ∷ []
+
+-- EOI
+abbrev pub image_end : List ℕ
+image_end = 0xff ∷ 0xd9 ∷ []
+
+-- the parts of the smallest file
+abbrev pub least_parts : BoxParts
+least_parts = record {
+  pad = true;
+  header = grey_header 8;
+  trailer = image_end;
+  handovers = start ∷ [];
+  streams = zeros ∷ [];
+}
+
+-- two segments, of which the first has no byte
+abbrev pub byteless_parts : BoxParts
+byteless_parts = record {
+  pad = true;
+  header = grey_header 16;
+  trailer = image_end;
+  handovers = start ∷ record start { bits = 2 } ∷ [];
+  streams = zeros ∷ zeros ∷ [];
+}
+
+-- the container of the smallest file, byte for byte
+abbrev pub least_box : List ℕ
+least_box =
+    0x4c ∷ 0x50 ∷ 0x53 ∷ 0x47 ∷ 1 ∷ 1 ∷ 1 ∷ 0 ∷ 0 ∷ 0 ∷ 0x45 ∷ 0 ∷ 0 ∷ 0 ∷ 2 ∷ replicate 14 0
+    ++ 0 ∷ 0 ∷ 0 ∷ 0 ∷ 0 ∷ 0 ∷ 0 ∷ 3 ∷ grey_header 8 ++ 0xff ∷ 0xd9 ∷ 0 ∷ 0 ∷ 0 ∷ []
+
+-- that of two segments
+abbrev pub byteless_box : List ℕ
+byteless_box = box_bytes byteless_parts
+
+-- bytes and parts, both ways
+abbrev pub laid_out : Type 0
+laid_out =
+    (length least_box ≡ 111)
+    × (box_bytes least_parts ≡ least_box)
+    × (parts_of (raw_of least_box) ≡ least_parts)
+    × (early_fault least_box ≡ None)
+    × (late_fault (grey_plan 1) (raw_of least_box) ≡ None)
+    × (length byteless_box ≡ 136)
+    × (parts_of (raw_of byteless_box) ≡ byteless_parts)
+    × (late_fault (grey_plan 2) (raw_of byteless_box) ≡ None)
+
+-- containers that are refused before a header is looked for
+abbrev pub early : Type 0
+early =
+    (early_fault [] ≡ Some BoxMagic)
+    × (early_fault (slice_set least_box 0 0x4d) ≡ Some BoxMagic)
+    × (early_fault (take 3 least_box) ≡ Some BoxMagic)
+    × (early_fault (take 4 least_box) ≡ Some BoxCut)
+    × (early_fault (slice_set least_box 4 0x07) ≡ Some BoxVersion)
+    × (early_fault (take 110 least_box) ≡ Some BoxCut)
+
+-- and after one that is taken
+abbrev pub late : Type 0
+late =
+    (late_fault (grey_plan 1) (raw_of (least_box ++ 0 ∷ [])) ≡ Some BoxLong)
+    × (late_fault (grey_plan 1) (raw_of (slice_set least_box 5 2)) ≡ Some BoxPad)
+    × (late_fault (grey_plan 1)
+    (raw_of (slice_set (take 37 least_box ++ replicate 22 0 ++ drop 37 least_box) 6 2))
+    ≡ Some BoxSegments)
+    × (late_fault (grey_plan 2) (raw_of (slice_set byteless_box 37 1)) ≡ Some (HandoverBad 1))
+    × (late_fault (grey_plan 1) (raw_of (slice_set (slice_set least_box 10 0x46) 14 1))
+    ≡ Some (HeaderLong 69))
+    × (late_fault (grey_plan 2) (raw_of (slice_set byteless_box 38 3)) ≡ None)
+
+-- every proper prefix of a container is refused for its first bytes, or as cut
+abbrev pub prefixes : Type 0
+prefixes =
+    map (λ n. early_fault (take n least_box)) (numbers 0 111)
+    ≡ replicate 4 (Some BoxMagic) ++ replicate 107 (Some BoxCut)

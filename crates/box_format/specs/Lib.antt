@@ -1,0 +1,7 @@
+pub mod Parts
+pub mod Raws
+pub mod BoxChecks
+pub mod Whole
+pub mod BoxLaws
+pub mod BoxRows
+pub mod Seen

@@ -1,0 +1,40 @@
+-- What contracts see of a container that was read, and what one is written from (own).
+use Rattle.std.specs.Prelude.{ℕ, ◌+◌, length, map, sum}
+use Rattle.std.specs.List.{AllByRecursion}
+use Rattle.bit_list.specs.Bits.{IsByte}
+use Rattle.jpeg_marker.specs.Plans.{PlanFields}
+use Rattle.box_format.specs.Parts.{BoxParts}
+use Rattle.box_format.specs.Raws.{front_room, record_room, raw_of, parts_of}
+use Rattle.box_format.specs.BoxChecks.{PassesChecks}
+use Rattle.box_format.specs.declared.view.BoxView.TheInside.{Inside}
+use Rattle.box_format.specs.declared.parts.Parts.{Parts}
+
+-- the header's plan, and the parts
+pub record BoxSeen : Type 0 where
+  pub plan : PlanFields
+  pub parts : BoxParts
+
+-- those of the bytes
+abbrev pub seen_of : Inside → BoxSeen
+seen_of v = record { plan = v.plan; parts = parts_of (raw_of v.bytes.now) }
+
+-- the bytes are a container with this plan
+pub record IsView (v : Inside) : Type 0 where
+  pub checks : PassesChecks v.plan v.bytes.now
+  pub bytes : AllByRecursion IsByte v.bytes.now
+
+-- the parts that a container is written from
+abbrev pub parts_given : Parts → BoxParts
+parts_given p = record {
+  pad = p.pad;
+  header = p.header.now;
+  trailer = p.trailer.now;
+  handovers = p.handovers.now;
+  streams = map (λ v. v.items) p.streams.now;
+}
+
+-- how many bytes a container of these parts has
+abbrev pub room_of : BoxParts → ℕ
+room_of b =
+    front_room + length b.header + length b.trailer
+    + sum (map (λ stream. record_room + length stream) b.streams)

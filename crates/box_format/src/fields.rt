@@ -1,0 +1,131 @@
+// The numbers that a container's fields have, and where its parts start.
+ghost use Rattle.std.specs.Prelude.{◌≡◌, ◌+◌, ◌≤◌, length, take, drop, map, sum, slice_index};
+ghost use Rattle.byteorder.specs.Endian.{big_number};
+ghost use Rattle.box_format.specs.Raws.{front_room, header_length, header_place, named_end, numbers, record_place, segments_in, stream_length, streams_place, trailer_length, trailer_place};
+ghost use Rattle.box_format.specs.Whole.{IsWhole};
+
+use byteorder::{BigEndian, ByteOrder};
+
+/// The bytes of the fields before the records.
+pub(crate) const FRONT: usize = 15;
+
+/// The bytes of a record.
+pub(crate) const RECORD: usize = 22;
+
+/// The byte at a place, 0 where it is missing.
+pub(crate) fn byte_in(bytes: &[u8], place: usize) -> u8
+    ensures { result ≡ slice_index bytes.now place }
+{
+    match bytes.get(place) {
+        Some(byte) => *byte,
+        None => 0,
+    }
+}
+
+/// How many segments there are, 0 where that byte is missing.
+pub(crate) fn segments_in(bytes: &[u8]) -> u8
+    ensures { result ≡ segments_in bytes.now }
+{
+    byte_in(bytes, 6)
+}
+
+/// Where the record of a segment starts; after the last record starts the header.
+pub(crate) fn record_place(segment: u8) -> usize
+    ensures { result ≡ record_place segment }
+{
+    FRONT + RECORD * usize::from(segment)
+}
+
+/// The length of the header.
+pub(crate) fn header_length(bytes: &[u8]) -> u32
+    requires { front_room ≤ length bytes.now }
+    ensures { result ≡ header_length bytes.now }
+{
+    BigEndian::read_u32(&bytes[7..])
+}
+
+/// The length of the trailer.
+pub(crate) fn trailer_length(bytes: &[u8]) -> u32
+    requires { front_room ≤ length bytes.now }
+    ensures { result ≡ trailer_length bytes.now }
+{
+    BigEndian::read_u32(&bytes[11..])
+}
+
+/// The length of a segment's stream.
+pub(crate) fn stream_length(bytes: &[u8], segment: u8) -> u64
+    requires { record_place (segment + 1) ≤ length bytes.now }
+    ensures { result ≡ stream_length bytes.now segment }
+{
+    BigEndian::read_u64(&bytes[record_place(segment) + 14..])
+}
+
+/// Where the stream of a segment starts, and after the last one the end that the fields name. Lengths of 64 bits each
+/// don't overflow it.
+pub(crate) fn stream_place(bytes: &[u8], segment: u8) -> u128
+    requires fields { header_place bytes.now ≤ length bytes.now }
+    requires segment { segment ≤ segments_in bytes.now }
+    ensures { result
+        ≡ streams_place bytes.now + sum (map (stream_length bytes.now) (numbers 0 segment)) }
+{
+    let before = record_place(segments_in(bytes)) as u128;
+    let mut place = before + u128::from(header_length(bytes)) + u128::from(trailer_length(bytes));
+    for i in 0..segment {
+        place += u128::from(stream_length(bytes, i));
+    }
+    place
+}
+
+/// The end that the fields name.
+pub(crate) fn named_end(bytes: &[u8]) -> u128
+    requires { header_place bytes.now ≤ length bytes.now }
+    ensures { result ≡ named_end bytes.now }
+{
+    stream_place(bytes, segments_in(bytes))
+}
+
+/// The header.
+pub(crate) fn header_in(bytes: &[u8]) -> &[u8]
+    requires { IsWhole bytes.now }
+    ensures { result.now ≡ take (header_length bytes.now) (drop (header_place bytes.now) bytes.now) }
+{
+    let (_, rest) = bytes.split_at(record_place(segments_in(bytes)));
+    let (header, _) = rest.split_at(header_length(bytes) as usize);
+    header
+}
+
+/// The trailer.
+pub(crate) fn trailer_in(bytes: &[u8]) -> &[u8]
+    requires { IsWhole bytes.now }
+    ensures { result.now ≡ take (trailer_length bytes.now) (drop (trailer_place bytes.now) bytes.now) }
+{
+    let place = record_place(segments_in(bytes)) + header_length(bytes) as usize;
+    let (_, rest) = bytes.split_at(place);
+    let (trailer, _) = rest.split_at(trailer_length(bytes) as usize);
+    trailer
+}
+
+/// The stream of a segment.
+pub(crate) fn stream_in(bytes: &[u8], segment: u8) -> &[u8]
+    requires whole { IsWhole bytes.now }
+    requires segment { segment + 1 ≤ segments_in bytes.now }
+    ensures { result.now ≡ take (stream_length bytes.now segment) (drop (streams_place bytes.now
+        + sum (map (stream_length bytes.now) (numbers 0 segment))) bytes.now) }
+{
+    let place = stream_place(bytes, segment) as usize;
+    let (_, rest) = bytes.split_at(place);
+    let (stream, _) = rest.split_at(stream_length(bytes, segment) as usize);
+    stream
+}
+
+/// The record of a segment without the length of its stream.
+pub(crate) fn record_in(bytes: &[u8], segment: u8) -> [u8; 14]
+    requires { record_place (segment + 1) ≤ length bytes.now }
+    ensures { result ≡ take 14 (drop (record_place segment) bytes.now) }
+{
+    let mut record = [0; 14];
+    let (_, rest) = bytes.split_at(record_place(segment));
+    let (first, _) = rest.split_at(14);
+    record.copy_from_slice(first);
+    record
+}

@@ -1,0 +1,20 @@
+// What holds of all containers, and the definitions computed on worked ones.
+ghost use Rattle.box_format.specs.BoxLaws.{BoxPasses, PassedIsBox, OneBox, OneBoxRefusal, NeverBoth};
+ghost use Rattle.box_format.specs.BoxRows.{laid_out, early, late, prefixes};
+
+/// A container has one plan and one list of parts, other bytes have one refusal, and no bytes are both.
+pub fn containers_have_one_spelling()
+    ensures passes { BoxPasses }
+    ensures passed { PassedIsBox }
+    ensures one { OneBox }
+    ensures refusal { OneBoxRefusal }
+    ensures apart { NeverBoth }
+{}
+
+/// The definitions computed on worked containers.
+pub fn rows_of_containers()
+    ensures laid_out { laid_out }
+    ensures early { early }
+    ensures late { late }
+    ensures prefixes { prefixes }
+{}

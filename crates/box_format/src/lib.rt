@@ -1,0 +1,28 @@
+//! The container of a file: its fields, and its parts (this project's own; docs/FORMAT.md has it by offset).
+//!
+//!     LPSG | 1 | pad | K | lengths of header and trailer | K records | header | trailer | K streams
+//!
+//! A record has what a segment starts from and the length of its stream. A container has one spelling: what can be said in
+//! one way only is checked, and every check that fails has a refusal of its own. What a stream stands for is left to
+//! others.
+#![tactic(auto)]
+
+mod checks;
+mod fields;
+mod laws;
+mod parts;
+mod reading;
+mod refusal;
+mod starts;
+mod view;
+mod writing;
+
+pub use laws::{containers_have_one_spelling, rows_of_containers};
+pub use parts::Parts;
+pub use reading::read_box;
+pub use refusal::BoxRefusal;
+pub use view::BoxView;
+pub use writing::write_box;
+
+#[cfg(test)]
+mod tests;

@@ -1,0 +1,17 @@
+// What a container is written from.
+use handover::Handover;
+
+/// What a container is written from. Clauses see `BoxParts`.
+#[derive(Clone, Copy)]
+pub struct Parts<'a> {
+    /// The bit that fills up the last byte of each restart interval; 1 where no bit is padded.
+    pub pad: bool,
+    /// The file's bytes up to its scan.
+    pub header: &'a [u8],
+    /// The file's bytes after its scan.
+    pub trailer: &'a [u8],
+    /// What each segment starts from.
+    pub handovers: &'a [Handover],
+    /// The stream of each segment.
+    pub streams: &'a [Vec<u8>],
+}

@@ -1,0 +1,29 @@
+// From bytes to a container's parts.
+ghost use Rattle.std.specs.Prelude.{◌≡◌, IfOk, IfErr};
+ghost use Rattle.box_format.specs.Parts.{IsBoxOf};
+ghost use Rattle.box_format.specs.BoxChecks.{IsRefusedBox};
+
+use crate::checks::{early_fault, late_fault};
+use crate::fields::header_in;
+use crate::refusal::BoxRefusal;
+use crate::view::BoxView;
+use jpeg_marker::read_header;
+
+/// Reads a container: its parts, or the refusal of the first check that fails. It takes no memory, and sums of lengths
+/// don't overflow, whatever the fields say.
+pub fn read_box(bytes: &[u8]) -> Result<BoxView<'_>, BoxRefusal>
+    ensures taken { IfOk result (λ view. IsBoxOf view.plan view.parts bytes.now) }
+    ensures refused { IfErr result (λ refusal. IsRefusedBox bytes.now refusal) }
+{
+    if let Some(refusal) = early_fault(bytes) {
+        return Err(refusal);
+    }
+    let plan = match read_header(header_in(bytes)) {
+        Ok(plan) => plan,
+        Err(refusal) => return Err(BoxRefusal::BoxHeader(refusal)),
+    };
+    if let Some(refusal) = late_fault(bytes, &plan) {
+        return Err(refusal);
+    }
+    Ok(BoxView { bytes, plan })
+}

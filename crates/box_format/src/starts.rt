@@ -1,0 +1,102 @@
+// Whether a segment can start from what its record has.
+ghost use Rattle.std.specs.Prelude.{◌≡◌, ◌<◌, ◌≤◌, ◌==◌, length, true, unsigned_abs};
+ghost use Rattle.std.specs.List.{list_all};
+ghost use Rattle.handover.specs.HandoverBytes.{is_handover};
+ghost use Rattle.scan_text.specs.Slots.{shape_of};
+ghost use Rattle.segment_text.specs.Cuts.{first_mcu};
+ghost use Rattle.segment_text.specs.RowHandovers.{markers_before};
+ghost use Rattle.box_format.specs.Parts.{bad_start, can_start, cut_in, is_start};
+ghost use Rattle.box_format.specs.Raws.{handover_at, header_place, segments_in};
+ghost use Rattle.box_format.specs.Whole.{bad_segment, are_unused_zeros};
+
+use crate::fields::{record_in, segments_in};
+use handover::Handover;
+use jpeg_marker::Plan;
+
+/// The first segment that can't start from its record.
+pub(crate) fn bad_segment(bytes: &[u8], plan: &Plan) -> Option<u8>
+    requires { header_place bytes.now ≤ length bytes.now }
+    ensures { result ≡ bad_segment plan.now bytes.now }
+{
+    let segments = segments_in(bytes);
+    for i in 0..segments {
+        if !can_start_at(bytes, plan, i) {
+            return Some(i);
+        }
+    }
+    None
+}
+
+// Whether a segment can start from its record.
+fn can_start_at(bytes: &[u8], plan: &Plan, segment: u8) -> bool
+    requires fields { header_place bytes.now ≤ length bytes.now }
+    requires segment { segment < segments_in bytes.now }
+    ensures { result
+        ≡ can_start (shape_of plan.now)
+        (first_mcu (cut_in plan.now (segments_in bytes.now)) segment)
+        (handover_at bytes.now segment) }
+{
+    let count = first_mcu(plan, segment, segments_in(bytes));
+    match Handover::from_bytes(&record_in(bytes, segment)) {
+        Some(handover) => can_start(plan, count, &handover),
+        None => false,
+    }
+}
+
+// How many MCUs come before a segment, where the rows are cut into so many.
+fn first_mcu(plan: &Plan, segment: u8, segments: u8) -> u64
+    requires { segment < segments }
+    ensures { result ≡ first_mcu (cut_in plan.now segments) segment }
+{
+    let row = u64::from(segment) * u64::from(plan.down()) / u64::from(segments);
+    u64::from(plan.across()) * row
+}
+
+// Whether a segment after `count` MCUs can start from a handover.
+fn can_start(plan: &Plan, count: u64, handover: &Handover) -> bool
+    ensures { result ≡ can_start (shape_of plan.now) count handover.now }
+{
+    let is_start = is_start(handover);
+    are_unused_zeros(plan, handover)
+        && u64::from(handover.restarts()) == markers_before(plan, count)
+        && (count != 0 || is_start)
+}
+
+// Whether the last DC of each component that the scan doesn't have is 0.
+fn are_unused_zeros(plan: &Plan, handover: &Handover) -> bool
+    ensures { result ≡ are_unused_zeros (shape_of plan.now) handover.now }
+{
+    let preds = handover.preds();
+    let (_, unused) = preds.as_slice().split_at(plan.components().len());
+    are_zeros(unused)
+}
+
+// Whether each is 0.
+fn are_zeros(dcs: &[i16]) -> bool
+    ensures { result ≡ list_all (λ dc. unsigned_abs dc == 0) dcs.now }
+{
+    dcs.iter().all(|dc| dc.unsigned_abs() == 0)
+}
+
+// How many restart markers the first `count` MCUs put.
+fn markers_before(plan: &Plan, count: u64) -> u64
+    ensures { result ≡ markers_before (shape_of plan.now) count }
+{
+    let interval = u64::from(plan.interval());
+    if interval == 0 {
+        0
+    } else {
+        count.min(u64::from(plan.mcus()) - 1) / interval
+    }
+}
+
+// Whether a handover has nothing but zeros.
+fn is_start(handover: &Handover) -> bool
+    ensures value { result ≡ is_start handover.now }
+    ensures sound { is_handover handover.now ≡ true }
+{
+    let partial = handover.partial();
+    let bits = handover.bits();
+    let preds = handover.preds();
+    partial == 0 && bits == 0 && handover.restarts() == 0 && are_zeros(&preds)
+}

@@ -1,0 +1,89 @@
+// A container that was read.
+ghost use Rattle.std.specs.Prelude.{◌≡◌, ◌≤◌, ◌<◌, ◌^◌, length, get_or, []};
+ghost use Rattle.handover.specs.Handovers.{start};
+ghost use Rattle.box_format.specs.Parts.{IsBox, most_segments};
+
+use crate::fields::{byte_in, header_in, record_in, segments_in, stream_in, trailer_in};
+use handover::Handover;
+use jpeg_marker::Plan;
+use std::marker::Model;
+
+/// A container that was read, by its parts, which it borrows.
+///
+/// Clauses see the plan of its header, and its parts.
+#[derive(Drop)]
+pub struct BoxView<'a> {
+    pub(crate) bytes: &'a [u8],
+    pub(crate) plan: Plan,
+}
+
+impl<'a> Model for BoxView<'a> {
+    ghost use Rattle.box_format.specs.Seen.{BoxSeen, seen_of, IsView};
+
+    ghost Value = { BoxSeen };
+
+    ghost view = { seen_of };
+
+    ghost invariant = { IsView };
+}
+
+#[tactic(auto, unfolding(crate::specs::Raws::raw_of))]
+impl<'a> BoxView<'a> {
+    /// What the header says.
+    pub fn plan(&self) -> &Plan
+        ensures value { result.now ≡ self.now.plan }
+        ensures sound { IsBox self.now.plan self.now.parts }
+    {
+        &self.plan
+    }
+
+    /// The bit that fills up the last byte of each restart interval; 1 where no bit is padded.
+    pub fn pad(&self) -> bool
+        ensures { result ≡ self.now.parts.pad }
+    {
+        byte_in(self.bytes, 5) != 0
+    }
+
+    /// How many segments there are, 1 to 16, and at most as many as MCU rows.
+    pub fn segments(&self) -> u8
+        ensures count { result ≡ length self.now.parts.handovers }
+        ensures few { result ≤ most_segments }
+    {
+        segments_in(self.bytes)
+    }
+
+    /// The file's bytes up to its scan.
+    pub fn header(&self) -> &'a [u8]
+        ensures bytes { result.now ≡ self.now.parts.header }
+        ensures fits { length result.now < 2 ^ 32 }
+    {
+        header_in(self.bytes)
+    }
+
+    /// The file's bytes after its scan.
+    pub fn trailer(&self) -> &'a [u8]
+        ensures bytes { result.now ≡ self.now.parts.trailer }
+        ensures fits { length result.now < 2 ^ 32 }
+    {
+        trailer_in(self.bytes)
+    }
+
+    /// What a segment starts from; the first one has number 0.
+    pub fn handover(&self, segment: u8) -> Handover
+        requires { segment < length self.now.parts.handovers }
+        ensures { result ≡ get_or self.now.parts.handovers segment start }
+    {
+        match Handover::from_bytes(&record_in(self.bytes, segment)) {
+            Some(handover) => handover,
+            None => Handover::start(),
+        }
+    }
+
+    /// A segment's stream.
+    pub fn stream(&self, segment: u8) -> &'a [u8]
+        requires { segment < length self.now.parts.handovers }
+        ensures { result.now ≡ get_or self.now.parts.streams segment [] }
+    {
+        stream_in(self.bytes, segment)
+    }
+}

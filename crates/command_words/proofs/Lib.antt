@@ -1,0 +1,5 @@
+pub mod InRange
+pub mod LeptonLemmas
+pub mod Reading
+pub mod RowLemmas
+pub mod RowsKept

@@ -1,0 +1,63 @@
+-- The meaning of words that are written out.
+use Rattle.std.proofs.Common.{◌≡◌, ap, ℕ, refl, true, false, rules, List, [], Option, Some, None, codes, is_some, option_map}
+use Rattle.std.specs.List.{AllByRecursion}
+use Rattle.clap.specs.Words.{Row, Text, one_of}
+use Rattle.clap.specs.Walk.{is_empty}
+use Rattle.clap.proofs.OnLiterals.{clap_on_literals}
+use Rattle.command_words.specs.LeptonApp.{faults, given}
+use Rattle.command_words.specs.Meaning.{IsNumbered, Means, ReadsAs}
+use Rattle.command_words.specs.Rows.{line, meaningless, meant}
+use Rattle.command_words.specs.declared.command.Command.{Command}
+
+-- what a subcommand's option has
+abbrev shown : Text → Option (Text × List Row) → Option (Text × Option Text)
+shown option = option_map (λ p. (p.0, one_of option p.1))
+
+abbrev name_shown : Option (Text × Option Text) → Text
+name_shown None = []
+name_shown (Some p) = p.0
+
+abbrev value_shown : Option (Text × Option Text) → Option Text
+value_shown None = None
+value_shown (Some p) = p.1
+
+numbered : (met : Option (Text × List Row)) (name option text : Text) (number : ℕ) → shown option met ≡ Some (name, Some text)
+    → ReadsAs text number → IsNumbered met name option number
+numbered None name option text number is reads = let bad : false ≡ true = ap (λ o. is_some o) is in absurd cc
+numbered (Some p) name option text number is reads = record {
+  rows = p.1;
+  is = ap (λ n. Some (n, p.1)) (ap name_shown is);
+  reads = record { text = text; first = ap value_shown is; number_is = reads };
+}
+
+not_meant : (words : List Text) → is_empty (faults words) ≡ false → (command : Command) → ¬ Means words command
+not_meant words some command means = let none : is_empty (faults words) ≡ true = ap (λ ks. is_empty ks) means.taken in absurd cc
+
+pub means_rows : AllByRecursion (λ row. Means (line row.0) row.1) meant
+unfolding clap_on_literals faults given
+means_rows = (
+  record { taken = refl; asks = numbered _ (codes "encode") (codes "segments") (codes "8") 8 refl (search rules) },
+  (
+    record { taken = refl; asks = numbered _ (codes "decode") (codes "workers") (codes "4") 4 refl (search rules) },
+    (
+      record { taken = refl; asks = numbered _ (codes "encode") (codes "segments") (codes "3") 3 refl (search rules) },
+      (
+        record { taken = refl; asks = numbered _ (codes "encode") (codes "segments") (codes "16") 16 refl (search rules) },
+        (
+          record { taken = refl; asks = numbered _ (codes "encode") (codes "segments") (codes "08") 8 refl (search rules) },
+          (
+            record { taken = refl; asks = numbered _ (codes "decode") (codes "workers") (codes "0") 0 refl (search rules) },
+            (
+              record { taken = refl; asks = numbered _ (codes "decode") (codes "workers") (codes "16") 16 refl (search rules) },
+              tt,
+            ),
+          ),
+        ),
+      ),
+    ),
+  ),
+)
+
+pub meaningless_rows : AllByRecursion (λ words. (command : Command) → ¬ Means (line words) command) meaningless
+unfolding clap_on_literals faults
+meaningless_rows = (not_meant _ refl, (not_meant _ refl, (not_meant _ refl, (not_meant _ refl, (not_meant _ refl, (not_meant _ refl, (not_meant _ refl, (not_meant _ refl, (not_meant _ refl, (not_meant _ refl, (not_meant _ refl, (not_meant _ refl, (not_meant _ refl, (not_meant _ refl, (not_meant _ refl, (not_meant _ refl, tt))))))))))))))))

@@ -1,0 +1,44 @@
+-- The words that the program knows, as clap's specs see a command, and what clap makes of words
+-- (this project's own).
+use Rattle.std.specs.Prelude.{List, [], ◌∷◌, Option, Some, true, pos, codes}
+use Rattle.clap.specs.Words.{App, Kinds, Row, Rule, Text, fault_of, new_app, new_rule}
+use Rattle.clap.specs.Words.{subcommand_of, with_rule, with_subcommand}
+use Rattle.clap.specs.Simple.{on_top}
+use Rattle.clap.specs.declared.builder.value_parser.ValueParser.{ValueParser}
+use Rattle.clap.specs.declared.builder.value_parser.ValueParser.TheVariants.{Signed}
+
+-- an option `--name` with a number, `usual` where it is left out
+abbrev pub number_rule : Text → ValueParser → Text → Rule
+number_rule name numbers usual = record (new_rule name) {
+  long = Some name;
+  parser = Some numbers;
+  defaults = usual ∷ [];
+}
+
+-- `encode`, with `--segments` from 1 to 16, 8 where it is left out
+abbrev pub encode_app : App
+encode_app = with_rule (new_app (codes "encode"))
+    (number_rule (codes "segments") (Signed (pos 1) (pos 16)) (codes "8"))
+
+-- `decode`, with `--workers` from 0 to 16, 4 where it is left out
+abbrev pub decode_app : App
+decode_app = with_rule (new_app (codes "decode"))
+    (number_rule (codes "workers") (Signed (pos 0) (pos 16)) (codes "4"))
+
+-- one of the subcommands has to be named
+abbrev pub requiring_subcommand : App → App
+requiring_subcommand = on_top (λ s. record s { subcommand_required = true })
+
+-- the program with the two
+abbrev pub lepton_app : App
+lepton_app = with_subcommand
+    (with_subcommand (requiring_subcommand (new_app (codes "lepton"))) encode_app.top)
+    decode_app.top
+
+-- the kinds of error that clap may give at the words: none where it takes them
+unfoldable pub faults : List Text → Kinds
+faults words = fault_of lepton_app words
+
+-- the subcommand that the words name, with what clap has of its options
+unfoldable pub given : List Text → Option (Text × List Row)
+given words = subcommand_of lepton_app words

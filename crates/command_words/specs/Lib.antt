@@ -1,0 +1,3 @@
+pub mod LeptonApp
+pub mod Meaning
+pub mod Rows

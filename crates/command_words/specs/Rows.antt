@@ -1,0 +1,47 @@
+-- Worked rows: the words after the program's name, and what they mean (as clap has it).
+use Rattle.std.specs.Prelude.{List, [], ◌∷◌, codes}
+use Rattle.clap.specs.Words.{Text}
+use Rattle.command_words.specs.declared.command.Command.{Command}
+use Rattle.command_words.specs.declared.command.Command.TheVariants.{Decode, Encode}
+
+-- a line of words begins with the program's name
+abbrev pub line : List Text → List Text
+line words = codes "lepton" ∷ words
+
+-- `encode`, and `decode`, with these words after it
+abbrev pub encode_with : List Text → List Text
+encode_with words = codes "encode" ∷ words
+
+abbrev pub decode_with : List Text → List Text
+decode_with words = codes "decode" ∷ words
+
+-- words with the command that they mean
+abbrev pub meant : List (List Text × Command)
+meant = (encode_with [], Encode 8)
+    ∷ (decode_with [], Decode 4)
+    ∷ (encode_with (codes "--segments" ∷ codes "3" ∷ []), Encode 3)
+    ∷ (encode_with (codes "--segments=16" ∷ []), Encode 16)
+    ∷ (encode_with (codes "--segments" ∷ codes "08" ∷ []), Encode 8)
+    ∷ (decode_with (codes "--workers" ∷ codes "0" ∷ []), Decode 0)
+    ∷ (decode_with (codes "--workers=16" ∷ []), Decode 16)
+    ∷ []
+
+-- words that mean no command
+abbrev pub meaningless : List (List Text)
+meaningless = []
+    ∷ (codes "recode" ∷ [])
+    ∷ (codes "help" ∷ [])
+    ∷ (codes "--help" ∷ [])
+    ∷ (codes "--version" ∷ [])
+    ∷ encode_with (codes "--help" ∷ [])
+    ∷ encode_with (codes "x" ∷ [])
+    ∷ encode_with (codes "--workers" ∷ codes "1" ∷ [])
+    ∷ encode_with (codes "--segments" ∷ [])
+    ∷ encode_with (codes "--segments" ∷ [] ∷ [])
+    ∷ encode_with (codes "--segments" ∷ codes "0" ∷ [])
+    ∷ encode_with (codes "--segments" ∷ codes "17" ∷ [])
+    ∷ encode_with (codes "--segments" ∷ codes "-1" ∷ [])
+    ∷ encode_with (codes "--segments" ∷ codes "8" ∷ codes "--segments" ∷ codes "9" ∷ [])
+    ∷ decode_with (codes "--workers" ∷ codes "17" ∷ [])
+    ∷ decode_with (codes "--segments" ∷ codes "8" ∷ [])
+    ∷ []

@@ -1,0 +1,87 @@
+// The command that the words ask for.
+ghost use Rattle.std.specs.Prelude.{◌≡◌, ◌≢◌, ℕ, [], map, string_bytes, IfOk, IfSome, IfNone, IsErrOf};
+ghost use Rattle.clap.specs.Words.{found_of, rows_of, subcommand_rows_of};
+ghost use Rattle.command_words.specs.LeptonApp.{faults, given};
+ghost use Rattle.command_words.specs.Meaning.{Asks, IsInRange, Means, Reads};
+
+use crate::words::known_words;
+use clap::ArgMatches;
+use clap::error::ErrorKind;
+use std::alloc::Global;
+
+/// What the words ask for.
+#[derive(Clone, Copy, Debug, PartialEq, Eq)]
+pub enum Command {
+    /// Make a container in at most this many segments, 1 to 16.
+    Encode { segments: u8 },
+    /// Give the file back with at most this many workers, 0 to 16.
+    Decode { workers: u8 },
+}
+
+/// Why words have no command.
+#[derive(Clone, Copy, Debug, PartialEq, Eq)]
+pub enum WordsError {
+    /// The words ask for none, or for help.
+    Refused,
+    /// There was no memory to read them in.
+    NoMemory,
+}
+
+/// The command that the words ask for; the first word is the program's name.
+pub fn command_of(alloc: Global, words: &[String]) -> Result<Command, WordsError>
+    ensures taken { IfOk result (λ command. Means (map string_bytes words.now) command) }
+    ensures refused { IsErrOf result WordsError.Refused
+        → (command : Command) → ¬ Means (map string_bytes words.now) command }
+    ensures in_range { IfOk result IsInRange }
+{
+    let matches = parsed(alloc, words)?;
+    asked(&matches).ok_or(WordsError::Refused)
+}
+
+// What clap makes of the words, unless it refuses them.
+fn parsed<'a>(alloc: Global, words: &'a [String]) -> Result<ArgMatches<'a>, WordsError>
+    ensures taken { IfOk result (λ matches. faults (map string_bytes words.entry.now) ≡ []) }
+    ensures matches { IfOk result (λ matches.
+        subcommand_rows_of matches ≡ given (map string_bytes words.entry.now)) }
+    ensures refused { IsErrOf result WordsError.Refused
+        → faults (map string_bytes words.entry.now) ≢ [] }
+{
+    let Ok(known) = known_words(alloc) else {
+        return Err(WordsError::NoMemory);
+    };
+    match known.try_get_matches_from(words) {
+        Ok(matches) => Ok(matches),
+        Err(error) => match error.kind() {
+            ErrorKind::OutOfMemory => Err(WordsError::NoMemory),
+            _ => Err(WordsError::Refused),
+        },
+    }
+}
+
+// The command that the subcommand stands for, where its option has a number.
+fn asked(matches: &ArgMatches) -> Option<Command>
+    ensures some { IfSome result (Asks (subcommand_rows_of matches.now)) }
+    ensures none { IfNone result ((command : Command)
+        → ¬ Asks (subcommand_rows_of matches.now) command) }
+{
+    match matches.subcommand()? {
+        ("encode", options) => {
+            let segments = number(options, "segments")?;
+            Some(Command::Encode { segments })
+        }
+        ("decode", options) => {
+            let workers = number(options, "workers")?;
+            Some(Command::Decode { workers })
+        }
+        _ => None,
+    }
+}
+
+// The number that an option was given, or else its usual one.
+fn number(options: &ArgMatches, option: &str) -> Option<u8>
+    ensures some { IfSome result (Reads (rows_of (found_of options.now)) option.now) }
+    ensures none { IfNone result ((number : ℕ)
+        → ¬ Reads (rows_of (found_of options.now)) option.now number) }
+{
+    options.get_one::<u8>(option)
+}

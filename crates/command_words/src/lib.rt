@@ -1,0 +1,21 @@
+//! The program's words: what they ask for, by clap.
+//!
+//!     lepton encode [--segments N]    N from 1 to 16; 8 where it is left out
+//!     lepton decode [--workers N]     N from 0 to 16; 4 where it is left out
+//!
+//!     words --clap--> matches --> Command::Encode { segments }
+//!                                 Command::Decode { workers }
+//!
+//! `Means` in `specs/` says what words ask for, in clap's own terms. The first word is the program's name and isn't
+//! looked at. A call for help is refused, as everything is that clap refuses for another cause than memory.
+#![tactic(auto)]
+
+mod command;
+mod laws;
+mod words;
+
+pub use command::{Command, WordsError, command_of};
+pub use laws::{numbers_are_in_range, one_command, rows_of_words};
+
+#[cfg(test)]
+mod tests;

@@ -1,0 +1,134 @@
+-- A file written: its header, its segments, its trailer.
+use Rattle.std.proofs.Common.{◌≡◌, ℕ, zero, suc, ◌+◌, ◌-◌, ◌*◌, ◌^◌, ◌<◌, ◌≤◌, Bool, true, false, List, [], ◌∷◌, ◌++◌, length, map, take, refl, sym, ap, ap₂, subst, ◌∙◌, arith, append_assoc, append-nil, length-append, Option, Some, None, ◌⊎◌, true≢false, Result, Ok, Err}
+use Rattle.std.specs.Prelude.{not, ◌&&◌, ◌||◌, if◌then◌else◌}
+use Rattle.std.specs.Io.KnownBytes.{Appends}
+use Rattle.std.proofs.KnownBytes.{Appends-trans}
+use Rattle.std.proofs.lemmas.List.{take-append-le}
+use Rattle.jpeg_marker.specs.Plans.{PlanFields}
+use Rattle.handover.specs.declared.outcome.StreamFault.{StreamFault}
+use Rattle.outside_core.specs.Faults.{Rose}
+use Rattle.box_format.specs.Parts.{BoxParts}
+use Rattle.segment_meaning.specs.Meanings.{Joined, Meaning, Verdict, Restored, PadSpelled, Faulty, joined, outputs_of, meaning_by, meaning_of}
+use Rattle.lepton_decode.specs.declared.error.DecodeError.TheVariants as DecodeError
+use Rattle.lepton_decode.specs.declared.error.SegmentsError.TheVariants.{Fault}
+use Rattle.lepton_decode.specs.Joining.{SegmentsEnd}
+use Rattle.lepton_decode.specs.Ends.{HasWritten, HasFailed, Ends}
+use Rattle.lepton_decode.proofs.PiecesWritten.{take_into}
+
+meaning_bytes : (b : BoxParts) (all : Joined) (fault : Option StreamFault)
+    → (more : List ℕ) × ((meaning_by b all fault).bytes ≡ b.header ++ (all.bytes ++ more))
+meaning_bytes b all (Some fault) = ([], ap (λ (l : List ℕ). b.header ++ l) (sym (append-nil all.bytes)))
+meaning_bytes b all None = (b.trailer, append_assoc b.header all.bytes b.trailer)
+
+-- a meaning begins with the header and the segments' bytes
+pub first_bytes : (plan : PlanFields) (b : BoxParts)
+    → (more : List ℕ) × ((meaning_of plan b).bytes ≡ b.header ++ ((joined (outputs_of plan b)).bytes ++ more))
+unfolding meaning_of
+first_bytes plan b = meaning_bytes b (joined (outputs_of plan b)) (joined (outputs_of plan b)).fault
+
+-- at the first fault
+pub faulty : (plan : PlanFields) (b : BoxParts) (fault : StreamFault)
+    → (joined (outputs_of plan b)).fault ≡ Some fault
+    → meaning_of plan b
+    ≡ record { bytes = b.header ++ (joined (outputs_of plan b)).bytes; verdict = Faulty fault }
+unfolding meaning_of
+faulty plan b fault e = ap (meaning_by b (joined (outputs_of plan b))) e
+
+-- where no segment has a fault
+pub unfaulty : (plan : PlanFields) (b : BoxParts) → (joined (outputs_of plan b)).fault ≡ None
+    → meaning_of plan b ≡ meaning_by b (joined (outputs_of plan b)) None
+unfolding meaning_of
+unfaulty plan b e = ap (meaning_by b (joined (outputs_of plan b))) e
+
+untold : (p q : Bool) → (p || q) ≡ false → (not p && not q) ≡ true
+untold false false e = refl
+untold false true e = absurd (true≢false e)
+untold true q e = absurd (true≢false e)
+
+told : (p q : Bool) → (p || q) ≡ true → (not p && not q) ≡ false
+told true q e = refl
+told false true e = refl
+told false false e = absurd (true≢false (sym e))
+
+pub pad_spelled : (plan : PlanFields) (b : BoxParts) (padded : Bool)
+    → (joined (outputs_of plan b)).fault ≡ None → padded ≡ (joined (outputs_of plan b)).padded
+    → (b.pad || padded) ≡ false → (meaning_of plan b).verdict ≡ PadSpelled
+pad_spelled plan b padded none e t =
+    ap (λ (m : Meaning). m.verdict) (unfaulty plan b none)
+    ∙ ap (λ (u : Bool). if u then PadSpelled else Restored)
+    (untold b.pad (joined (outputs_of plan b)).padded (ap (λ (q : Bool). b.pad || q) (sym e) ∙ t))
+
+pub restored : (plan : PlanFields) (b : BoxParts) (padded : Bool)
+    → (joined (outputs_of plan b)).fault ≡ None → padded ≡ (joined (outputs_of plan b)).padded
+    → (b.pad || padded) ≡ true → (meaning_of plan b).verdict ≡ Restored
+restored plan b padded none e t =
+    ap (λ (m : Meaning). m.verdict) (unfaulty plan b none)
+    ∙ ap (λ (u : Bool). if u then PadSpelled else Restored)
+    (told b.pad (joined (outputs_of plan b)).padded (ap (λ (q : Bool). b.pad || q) (sym e) ∙ t))
+
+-- the bytes where no segment has a fault
+pub whole_bytes : (plan : PlanFields) (b : BoxParts) → (joined (outputs_of plan b)).fault ≡ None
+    → (meaning_of plan b).bytes ≡ (b.header ++ (joined (outputs_of plan b)).bytes) ++ b.trailer
+whole_bytes plan b none =
+    ap (λ (m : Meaning). m.bytes) (unfaulty plan b none)
+
+module _ {Sink : Type 0} (held : Sink → Option (List ℕ)) (faults : Sink → ℕ)
+    (full : Sink → Type 0) where
+  pub written_later : (old mid sink : Sink) (a b : List ℕ) → HasWritten held faults old mid a
+      → HasWritten held faults mid sink b → HasWritten held faults old sink (a ++ b)
+  written_later old mid sink a b p q = record {
+    appended = Appends-trans (held old) (held mid) (held sink) a b p.appended q.appended;
+    unfailed = q.unfailed ∙ p.unfailed;
+  }
+
+  pub failed_first : (old sink : Sink) (first more bytes : List ℕ) (written : ℕ)
+      → HasFailed held faults full old sink first written → bytes ≡ first ++ more
+      → HasFailed held faults full old sink bytes written
+  failed_first old sink first more bytes written f e =
+      let short = f.short in
+      let long = ap length e ∙ length-append first more in
+      record {
+        rose = f.rose;
+        short = omega (arith, short, long);
+        appended = subst (Appends (held old) (held sink))
+            (sym (ap (take written) e ∙ take-append-le written first more (omega arith))) f.appended;
+      }
+
+  pub failed_later : (old mid sink : Sink) (first out more bytes : List ℕ) (count written : ℕ)
+      → HasWritten held faults old mid first → HasFailed held faults full mid sink out written
+      → bytes ≡ first ++ (out ++ more) → count ≡ length first
+      → HasFailed held faults full old sink bytes (count + written)
+  failed_later old mid sink first out more bytes count written w f e n =
+      let short = f.short in
+      let long : length bytes ≡ length first + (length out + length more) =
+      ap length e ∙ length-append first (out ++ more) ∙ ap (λ (k : ℕ). length first + k) (length-append out more) in
+      record {
+        rose = subst (λ (k : ℕ). (k < faults sink) ⊎ full sink) w.unfailed f.rose;
+        short = omega (arith, short, long, n);
+        appended = subst (Appends (held old) (held sink))
+            (sym (ap₂ (λ (k : ℕ) (l : List ℕ). take (k + written) l) n e ∙ take_into first out more written (omega arith)))
+            (Appends-trans (held old) (held mid) (held sink) first (take written out) w.appended f.appended);
+      }
+
+  -- the first fault
+  pub ends_at_fault : (plan : PlanFields) (b : BoxParts) (old mid sink : Sink) (fault : StreamFault)
+      → HasWritten held faults old mid b.header
+      → SegmentsEnd held faults full mid sink (joined (outputs_of plan b)) (Err (Fault fault))
+      → Ends held faults full old sink (meaning_of plan b) (Err (DecodeError.Fault fault))
+  ends_at_fault plan b old mid sink fault first end =
+      let m = faulty plan b fault end.0 in (
+        ap (λ (x : Meaning). x.verdict) m,
+        subst (HasWritten held faults old sink) (sym (ap (λ (x : Meaning). x.bytes) m))
+            (written_later old mid sink b.header (joined (outputs_of plan b)).bytes first end.1),
+      )
+
+  -- all was written
+  pub all_bytes : (plan : PlanFields) (b : BoxParts) (old mid later sink : Sink)
+      → (joined (outputs_of plan b)).fault ≡ None → HasWritten held faults old mid b.header
+      → HasWritten held faults mid later (joined (outputs_of plan b)).bytes
+      → HasWritten held faults later sink b.trailer
+      → HasWritten held faults old sink (meaning_of plan b).bytes
+  all_bytes plan b old mid later sink none first more last =
+      subst (HasWritten held faults old sink) (sym (whole_bytes plan b none))
+      (written_later old later sink (b.header ++ (joined (outputs_of plan b)).bytes) b.trailer
+      (written_later old mid later b.header (joined (outputs_of plan b)).bytes first more) last)

@@ -1,0 +1,3 @@
+pub mod PiecesWritten
+pub mod SegmentsJoined
+pub mod FilesWritten

@@ -1,0 +1,4 @@
+pub mod Ends
+pub mod ReadyInside
+pub mod Emitting
+pub mod Joining

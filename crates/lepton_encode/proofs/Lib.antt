@@ -1,0 +1,3 @@
+mod FaultsFound
+mod FilesAt
+mod OneMore

@@ -1,0 +1,48 @@
+// A file's container.
+ghost use Rattle.std.specs.Prelude.{◌≡◌, ◌<◌, ◌≤◌, ◌^◌, length, IfOk, IsErrOf};
+ghost use Rattle.jpeg_marker.specs.HeaderPlan.{Accepts, Refuses as HeaderRefuses};
+ghost use Rattle.jpeg_marker.specs.Plans.{PlanFields};
+ghost use Rattle.jpeg_marker.specs.declared.refusal.HeaderRefusal.{HeaderRefusal};
+ghost use Rattle.scan_text.specs.Items.{Refuses as ScanRefuses};
+ghost use Rattle.scan_text.specs.Slots.{shape_of};
+ghost use Rattle.scan_text.specs.declared.refusal.ScanRefusal.{ScanRefusal};
+ghost use Rattle.box_format.specs.Parts.{most_segments};
+ghost use Rattle.segment_meaning.specs.Files.{IsContainerOf};
+
+use crate::error::EncodeError;
+use crate::streams::encode_segments;
+use box_format::{Parts, write_box};
+use jpeg_marker::read_header;
+use segment_code::find_starts;
+use std::alloc::Global;
+
+/// The container of a file in at most so many segments, and at most as many as rows of MCUs. A refusal is the header's,
+/// or else the scan's.
+pub fn encode(alloc: Global, bytes: &[u8], segments: u8) -> Result<Vec<u8>, EncodeError>
+    requires length { length bytes.now < 2 ^ 32 }
+    requires some { 0 < segments }
+    requires few { segments ≤ most_segments }
+    ensures made { IfOk result (λ made. IsContainerOf segments made.items bytes.now) }
+    ensures header { (refusal : HeaderRefusal) → IsErrOf result (EncodeError.Header refusal)
+        → HeaderRefuses bytes.now refusal }
+    ensures scan { (refusal : ScanRefusal) → IsErrOf result (EncodeError.Scan refusal)
+        → (plan : PlanFields) × Accepts bytes.now plan
+        × ScanRefuses (shape_of plan) bytes.now plan.header_length refusal }
+{
+    let plan = read_header(bytes)?;
+    let starts = find_starts(alloc, &plan, bytes, segments)?;
+    let streams = encode_segments(alloc, &plan, bytes, &starts)?;
+    let (header, _) = bytes.split_at(plan.header_length());
+    let (_, trailer) = bytes.split_at(starts.trailer());
+    let made = write_box(
+        alloc,
+        &Parts {
+            pad: starts.pad(),
+            header,
+            trailer,
+            handovers: starts.handovers(),
+            streams: streams.as_slice(),
+        },
+    )?;
+    Ok(made)
+}

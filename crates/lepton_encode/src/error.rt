@@ -1,0 +1,55 @@
+// Why a file isn't encoded.
+use jpeg_marker::HeaderRefusal;
+use scan_text::ScanRefusal;
+use segment_code::FindError;
+use std::alloc::AllocError;
+use thiserror::Error;
+
+/// Why a file isn't encoded.
+#[derive(Clone, Copy, Debug, PartialEq, Eq, Error)]
+pub enum EncodeError {
+    /// 1 to 15: the bytes begin with no header that is taken.
+    #[error("Header")]
+    Header(HeaderRefusal),
+    /// 16 to 24: after the header there is no scan that is taken.
+    #[error("Scan")]
+    Scan(ScanRefusal),
+    #[error("NoMemory")]
+    NoMemory,
+}
+
+impl From<AllocError> for EncodeError {
+    ghost use Rattle.std.specs.Prelude.{◌≡◌};
+    ghost use Rattle.lepton_encode.specs.declared.error.EncodeError.TheVariants.{NoMemory};
+
+    ghost from_gives = { λ _ error. error ≡ NoMemory };
+
+    fn from(_: AllocError) -> Self {
+        EncodeError::NoMemory
+    }
+}
+
+impl From<HeaderRefusal> for EncodeError {
+    ghost use Rattle.std.specs.Prelude.{◌≡◌};
+    ghost use Rattle.lepton_encode.specs.declared.error.EncodeError.TheVariants.{Header};
+
+    ghost from_gives = { λ refusal error. error ≡ Header refusal };
+
+    fn from(refusal: HeaderRefusal) -> Self {
+        EncodeError::Header(refusal)
+    }
+}
+
+impl From<FindError> for EncodeError {
+    ghost use Rattle.lepton_encode.specs.Errors.{error_of};
+    ghost use Rattle.std.specs.Prelude.{◌≡◌};
+
+    ghost from_gives = { λ found error. error ≡ error_of found };
+
+    fn from(found: FindError) -> Self {
+        match found {
+            FindError::Scan(refusal) => EncodeError::Scan(refusal),
+            FindError::NoMemory => EncodeError::NoMemory,
+        }
+    }
+}

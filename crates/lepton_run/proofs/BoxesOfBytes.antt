@@ -1,0 +1,102 @@
+-- A container's bytes are bytes.
+use Rattle.std.proofs.Common.{ℕ, zero, suc, ◌<◌, ◌≤◌, Bool, true, false, List, [], ◌∷◌, ◌++◌, length, flat_map, ℤ, arith}
+use Rattle.std.specs.List.{AllByRecursion}
+use Rattle.std.specs.Int.{w16, byte_at, cast_unsigned}
+use Rattle.byteorder.specs.Endian.{big_bytes}
+use Rattle.huff_table.proofs.Pairs.{all-append}
+use Rattle.bit_list.specs.Bits.{IsByte}
+use Rattle.jpeg_marker.specs.Plans.{PlanFields}
+use Rattle.handover.specs.Handovers.{HandoverFields, IsHandover}
+use Rattle.handover.specs.HandoverBytes.{handover_bytes}
+use Rattle.box_format.specs.Parts.{BoxParts, IsBox, box_bytes, magic, most_segments, pad_byte, records, version}
+
+-- the bytes of a number
+byte_small : (k n : ℕ) → IsByte (byte_at k n)
+byte_small zero n = omega arith
+byte_small (suc k) n = omega arith
+
+number_are : (k n : ℕ) → AllByRecursion IsByte (big_bytes k n)
+number_are zero n = tt
+number_are (suc k) n = (byte_small k n, number_are k n)
+
+-- lists of bytes, joined
+joined_are : {A : Type 0} (f : A → List ℕ) (xs : List A)
+    → ((x : A) → AllByRecursion IsByte (f x)) → AllByRecursion IsByte (flat_map f xs)
+joined_are f [] each = tt
+joined_are f (x ∷ xs) each =
+    all-append IsByte (f x) (flat_map f xs) (each x) (joined_are f xs each)
+
+streams_are : (xs : List (List ℕ)) → AllByRecursion (AllByRecursion IsByte) xs
+    → AllByRecursion IsByte (flat_map (λ stream. stream) xs)
+streams_are [] all = tt
+streams_are (x ∷ xs) all =
+    all-append IsByte x (flat_map (λ stream. stream) xs) all.0 (streams_are xs all.1)
+
+handover_are : (h : HandoverFields) → IsHandover h → AllByRecursion IsByte (handover_bytes h)
+unfolding handover_bytes
+handover_are h is =
+    let few = is.few in
+    let number : IsByte h.bits = omega (arith, few) in
+    let preds = flat_map (λ (dc : ℤ). big_bytes 2 (cast_unsigned w16 dc)) h.preds in
+    let rest : AllByRecursion IsByte (preds ++ big_bytes 4 h.restarts) =
+    all-append IsByte preds (big_bytes 4 h.restarts)
+    (joined_are (λ (dc : ℤ). big_bytes 2 (cast_unsigned w16 dc)) h.preds
+    (λ dc. number_are 2 (cast_unsigned w16 dc)))
+    (number_are 4 h.restarts) in
+    (is.byte, (number, rest))
+
+records_are : (hs : List HandoverFields) (ss : List (List ℕ)) → AllByRecursion IsHandover hs
+    → AllByRecursion IsByte (records hs ss)
+records_are [] ss each = tt
+records_are (h ∷ hs) [] each = tt
+records_are (h ∷ hs) (s ∷ ss) each =
+    all-append IsByte (handover_bytes h ++ big_bytes 8 (length s)) (records hs ss)
+    (all-append IsByte (handover_bytes h) (big_bytes 8 (length s)) (handover_are h each.0)
+    (number_are 8 (length s)))
+    (records_are hs ss each.1)
+
+pad_is : (pad : Bool) → IsByte (pad_byte pad)
+pad_is true = omega arith
+pad_is false = omega arith
+
+-- the fields before the records
+abbrev fields : BoxParts → List ℕ
+fields b =
+    magic ++ version ∷ pad_byte b.pad ∷ length b.handovers
+    ∷ big_bytes 4 (length b.header) ++ big_bytes 4 (length b.trailer)
+
+fields_are : (b : BoxParts) → length b.handovers ≤ most_segments → AllByRecursion IsByte (fields b)
+fields_are b few =
+    let lengths =
+    all-append IsByte (big_bytes 4 (length b.header)) (big_bytes 4 (length b.trailer))
+    (number_are 4 (length b.header)) (number_are 4 (length b.trailer)) in
+    let number : IsByte (length b.handovers) = omega (arith, few) in
+    let letter : (n : ℕ) → n < 128 → IsByte n = λ n small. omega (arith, small) in (
+      letter 0x4c (omega arith),
+      (
+        letter 0x50 (omega arith),
+        (
+          letter 0x53 (omega arith),
+          (
+            letter 0x47 (omega arith),
+            (letter 1 (omega arith), (pad_is b.pad, (number, lengths))),
+          ),
+        ),
+      ),
+    )
+
+pub box_are : (plan : PlanFields) (b : BoxParts) → IsBox plan b
+    → AllByRecursion IsByte (box_bytes b)
+unfolding box_bytes
+box_are plan b is =
+    let front = fields b in
+    let recorded = front ++ records b.handovers b.streams in
+    let streams = flat_map (λ (stream : List ℕ). stream) b.streams in
+    all-append IsByte ((recorded ++ b.header) ++ b.trailer) streams
+    (all-append IsByte (recorded ++ b.header) b.trailer
+    (all-append IsByte recorded b.header
+    (all-append IsByte front (records b.handovers b.streams) (fields_are b is.few)
+    (records_are b.handovers b.streams is.each))
+    is.header_bytes)
+    is.trailer_bytes)
+    (streams_are b.streams is.stream_bytes)

@@ -1,0 +1,159 @@
+-- From how words ended to what the top call promises.
+use Rattle.std.proofs.Common.{◌≡◌, ℕ, ◌<◌, ◌≤◌, ◌⊎◌, inl, inr, List, length, Option, Some, refl, ap, subst, ◌∙◌, arith}
+use Rattle.std.specs.Io.KnownBytes.{Appends}
+use Rattle.outside_core.specs.Faults.{Rose}
+use Rattle.box_format.specs.Parts.{most_segments}
+use Rattle.segment_meaning.specs.Files.{IsContainerOf}
+use Rattle.command_words.specs.Meaning.{Means}
+use Rattle.command_words.specs.declared.command.Command.{Command}
+use Rattle.command_words.specs.declared.command.Command.TheVariants.{Encode, Decode}
+use Rattle.lepton_run.specs.Answers.{Answer, Answers, AppendsPart, Early, Late, Made, Took, Writes, bytes_of, limit_of, line_of, status_of}
+use Rattle.lepton_run.specs.Endings.{Answered, Given, ending_line, ending_of, status_at}
+use Rattle.lepton_run.specs.declared.ending.Ending.{Ending}
+use Rattle.lepton_run.specs.declared.ending.Ending.TheVariants.{Done, Refused, WordsRefused, ReadFailed, WriteFailed, NoMemory}
+use Rattle.lepton_run.proofs.BothWays.{file_back}
+use Rattle.lepton_run.proofs.BytesTaken.{answer_had}
+use Rattle.lepton_run.proofs.OneAnswers.{one_answer}
+use Rattle.lepton_run.proofs.SameCommand.{same_command}
+
+same_status : (answer : Answer) → status_at (ending_of answer) ≡ status_of answer
+same_status (Made bytes) = refl
+same_status (Early refusal) = refl
+same_status (Late bytes refusal) = refl
+
+same_line : (answer : Answer) → ending_line (ending_of answer) ≡ line_of answer
+same_line (Made bytes) = refl
+same_line (Early refusal) = refl
+same_line (Late bytes refusal) = refl
+
+-- bytes that a source had have one answer, whichever of them were taken
+same_answer : (words : List (List ℕ)) (command other : Command) (had taken : List ℕ)
+    (left rest : Option (List ℕ)) (answer given : Answer)
+    → Means words command → Means words other → left ≡ Some had
+    → Took (limit_of other) left rest taken → Answers other taken given
+    → Answers command had answer → given ≡ answer
+same_answer words command other had taken left rest answer given means meant is took so wanted =
+    let same = same_command words other command meant means in
+    let from = subst (λ (l : Option (List ℕ)). Took (limit_of other) l rest taken) is took in
+    one_answer command had given answer
+    (subst (λ (k : Command). Answers k had given) same
+    (answer_had other had taken rest given from so)) wanted
+
+module _ {Sink Source : Type 0} (held : Sink → Option (List ℕ)) (faults : Sink → ℕ)
+    (full : Sink → Type 0) (left : Source → Option (List ℕ)) (failures : Source → ℕ)
+    (lost : Source → Type 0) (words : List (List ℕ)) (source rest : Source) (old new : Sink)
+    (Said : List ℕ → Type 0) where
+  -- the words ended so
+  abbrev Ends : Ending → Type 0
+  Ends ending = Answered held faults full left failures lost words source rest old new ending
+
+  -- bytes were taken, and this is the answer to them
+  abbrev Answering : ℕ → Type 0
+  Answering status =
+      (command : Command) × (bytes : List ℕ) × (answer : Answer) × Means words command
+      × Took (limit_of command) (left source) (left rest) bytes
+      × Answers command bytes answer × (status ≡ status_of answer)
+      × Appends (held old) (held new) (bytes_of answer) × (¬ Writes answer → new ≡ old)
+      × Said (line_of answer)
+
+  answering : (ending : Ending) (status : ℕ) (command : Command) (bytes : List ℕ)
+      → status ≡ status_at ending → Said (ending_line ending) → Means words command
+      → Took (limit_of command) (left source) (left rest) bytes
+      → ((answer : Answer) × Given held faults full command bytes answer old new
+      × (ending ≡ ending_of answer)) → Answering status
+  answering ending status command bytes is said means took g = (
+    command,
+    bytes,
+    g.0,
+    means,
+    took,
+    g.1.answers,
+    is ∙ ap status_at g.2 ∙ same_status g.0,
+    g.1.appended,
+    g.1.kept,
+    subst Said (ap ending_line g.2 ∙ same_line g.0) said,
+  )
+
+  pub answered_of : (ending : Ending) (status : ℕ) → status ≡ status_at ending → Ends ending
+      → Said (ending_line ending) → status ≤ 1 → Answering status
+  answered_of Done status is ends said few =
+      answering Done status ends.0 ends.2.0 is said ends.1 ends.2.1 ends.2.3
+  answered_of (Refused refusal) status is ends said few =
+      answering (Refused refusal) status ends.0 ends.2.0 is said ends.1 ends.2.1 ends.2.3
+  answered_of WordsRefused status is ends said few = absurd (omega arith)
+  answered_of ReadFailed status is ends said few = absurd (omega arith)
+  answered_of WriteFailed status is ends said few = absurd (omega arith)
+  answered_of NoMemory status is ends said few = absurd (omega arith)
+
+  -- a write of the answer's bytes failed
+  abbrev Cutting : Type 0
+  Cutting =
+      (command : Command) × (bytes : List ℕ) × (answer : Answer) × Means words command
+      × Took (limit_of command) (left source) (left rest) bytes
+      × Answers command bytes answer × Writes answer
+      × AppendsPart (held old) (held new) (bytes_of answer)
+
+  pub cut_of : (ending : Ending) (status : ℕ) → status ≡ status_at ending → Ends ending
+      → status ≡ 4 → Cutting
+  cut_of Done status is ends four = absurd (omega arith)
+  cut_of (Refused refusal) status is ends four = absurd (omega arith)
+  cut_of WordsRefused status is ends four = absurd (omega arith)
+  cut_of ReadFailed status is ends four = absurd (omega arith)
+  cut_of WriteFailed status is ends four =
+      let cut = ends.2.3 in (
+        ends.0,
+        ends.2.0,
+        cut.0,
+        ends.1,
+        ends.2.1,
+        cut.1.answers,
+        cut.1.writes,
+        cut.1.part,
+      )
+  cut_of NoMemory status is ends four = absurd (omega arith)
+
+  module _ (command : Command) (had : List ℕ) (answer : Answer) (means : Means words command)
+      (is_left : left source ≡ Some had) (wanted : Answers command had answer) where
+    -- the answer was given
+    abbrev Gave : ℕ → Answer → Type 0
+    Gave status answer =
+        (status ≡ status_of answer) × Appends (held old) (held new) (bytes_of answer)
+        × Said (line_of answer)
+
+    gave : (status : ℕ) → Answering status → Gave status answer
+    gave status a =
+        subst (Gave status)
+        (same_answer words command a.0 had a.1 (left source) (left rest) answer a.2 means a.3
+        is_left a.4 a.5 wanted)
+        (a.6, a.7, a.9)
+
+    pub complete_of : (ending : Ending) (status : ℕ) → status ≡ status_at ending → Ends ending
+        → Said (ending_line ending) → ¬ Rose failures lost source rest
+        → (Writes answer → ¬ Rose faults full old new) → Gave status answer ⊎ (status ≡ 5)
+    complete_of Done status is ends said calm still =
+        inl (gave status (answered_of Done status is ends said (omega (arith, is))))
+    complete_of (Refused refusal) status is ends said calm still =
+        inl (gave status (answered_of (Refused refusal) status is ends said (omega (arith, is))))
+    complete_of WordsRefused status is ends said calm still = absurd (ends.0 command means)
+    complete_of ReadFailed status is ends said calm still = absurd (calm ends.2.0)
+    complete_of WriteFailed status is ends said calm still =
+        let cut = ends.2.3 in
+        let same = same_answer words command ends.0 had ends.2.0 (left source) (left rest) answer
+        cut.0 means ends.1 is_left ends.2.1 cut.1.answers wanted in
+        absurd (still (subst Writes same cut.1.writes) cut.1.rose)
+    complete_of NoMemory status is ends said calm still = inr is
+
+  pub back_of : (ending : Ending) (status : ℕ) → status ≡ status_at ending → Ends ending
+      → Said (ending_line ending) → (workers most : ℕ) (bytes file : List ℕ)
+      → Means words (Decode workers) → ¬ Rose failures lost source rest
+      → ¬ Rose faults full old new → left source ≡ Some bytes
+      → length file ≤ limit_of (Encode most) → 0 < most → most ≤ most_segments
+      → IsContainerOf most bytes file
+      → ((status ≡ 0) × Appends (held old) (held new) file) ⊎ (status ≡ 5)
+  back_of ending status is ends said workers most bytes file means calm still had short some few of =
+      elim (complete_of (Decode workers) bytes (Made file) means had
+      (file_back most workers bytes file some few short of) ending status is ends said calm
+      (λ _. still)) [
+        | inl given ↦ inl (given.0, given.1)
+        | inr five ↦ inr five
+      ]

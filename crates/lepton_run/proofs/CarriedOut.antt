@@ -1,0 +1,189 @@
+-- How a command ends that has bytes, from what the encoder and the decoder say.
+use Rattle.std.proofs.Common.{◌≡◌, ℕ, ◌+◌, ◌<◌, ◌≤◌, Bool, true, false, if◌then◌else◌, inl, inr, List, [], length, take, Option, Some, None, refl, sym, ap, subst, arith}
+use Rattle.std.specs.List.{AllByRecursion}
+use Rattle.std.specs.Io.KnownBytes.{Appends}
+use Rattle.std.proofs.KnownBytes.{Appends-nil}
+use Rattle.bit_list.specs.Bits.{IsByte}
+use Rattle.outside_core.specs.Faults.{Rose}
+use Rattle.jpeg_marker.specs.Plans.{PlanFields}
+use Rattle.handover.specs.declared.outcome.StreamFault.{StreamFault}
+use Rattle.box_format.specs.Parts.{BoxParts, IsBoxOf}
+use Rattle.box_format.specs.BoxChecks.{IsRefusedBox}
+use Rattle.box_format.specs.declared.refusal.BoxRefusal.{BoxRefusal}
+use Rattle.segment_meaning.specs.Files.{IsContainerOf}
+use Rattle.segment_meaning.specs.Meanings.{Joined, Meaning, Restored, PadSpelled, Faulty, NoBox, joined, meaning_by, meaning_of, outputs_of}
+use Rattle.lepton_decode.specs.Ends.{HasFailed, HasWritten}
+use Rattle.command_words.specs.declared.command.Command.{Command}
+use Rattle.command_words.specs.declared.command.Command.TheVariants.{Encode, Decode}
+use Rattle.lepton_run.specs.Answers.{Answer, Answers, Early, Late, Made, Makes, Writes, answer_by, bytes_of, limit_of}
+use Rattle.lepton_run.specs.Endings.{CarriedOut}
+use Rattle.lepton_run.specs.declared.ending.Ending.TheVariants.{Done, Refused, WriteFailed}
+use Rattle.lepton_run.specs.declared.refusal.Refusal.{Refusal}
+use Rattle.lepton_run.specs.declared.refusal.Refusal.TheVariants.{Box, Fault, PadSpelling, TooLong}
+
+-- what parts stand for is written, whatever their verdict
+abbrev Written : Meaning → Type 0
+Written m = Writes (answer_by m.bytes m.verdict) × (bytes_of (answer_by m.bytes m.verdict) ≡ m.bytes)
+
+written_by_pad : (bytes : List ℕ) (loose : Bool)
+    → Written (record { bytes = bytes; verdict = if loose then PadSpelled else Restored })
+written_by_pad bytes true = (tt, refl)
+written_by_pad bytes false = (tt, refl)
+
+written_by : (b : BoxParts) (all : Joined) (fault : Option StreamFault)
+    → Written (meaning_by b all fault)
+written_by b all (Some fault) = (tt, refl)
+written_by b all None = written_by_pad _ _
+
+parts_written : (plan : PlanFields) (b : BoxParts) → Written (meaning_of plan b)
+unfolding meaning_of
+parts_written plan b = let all = joined (outputs_of plan b) in written_by b all all.fault
+
+module _ {Sink : Type 0} (held : Sink → Option (List ℕ)) (faults : Sink → ℕ)
+    (full : Sink → Type 0) (old new : Sink) where
+  -- more bytes than the limit
+  pub too_long : (command : Command) (bytes : List ℕ) → length bytes ≡ limit_of command + 1
+      → CarriedOut held faults full command bytes old old (Refused TooLong)
+  too_long command bytes long = (
+    Early TooLong,
+    record {
+      answers = inl (omega (arith, long), refl);
+      appended = Appends-nil (held old);
+      unfailed = refl;
+      kept = λ _. refl;
+    },
+    refl,
+  )
+
+  module _ (bytes : List ℕ) (are : AllByRecursion IsByte bytes) where
+    answers_so : (command : Command) (answer : Answer) → length bytes ≤ limit_of command
+        → Makes command bytes answer → Answers command bytes answer
+    answers_so command answer short makes =
+        inr (record { short = short; are = are; makes = makes })
+
+    -- a refusal before anything is written
+    pub refused_early : (command : Command) (refusal : Refusal) → length bytes ≤ limit_of command
+        → Makes command bytes (Early refusal)
+        → CarriedOut held faults full command bytes old old (Refused refusal)
+    refused_early command refusal short makes = (
+      Early refusal,
+      record {
+        answers = answers_so command (Early refusal) short makes;
+        appended = Appends-nil (held old);
+        unfailed = refl;
+        kept = λ _. refl;
+      },
+      refl,
+    )
+
+    -- the container was written
+    pub encoded : (segments : ℕ) (made : List ℕ) → length bytes ≤ limit_of (Encode segments)
+        → IsContainerOf segments made bytes → Appends (held old) (held new) made
+        → faults new ≡ faults old
+        → CarriedOut held faults full (Encode segments) bytes old new Done
+    encoded segments made short makes appended unfailed = (
+      Made made,
+      record {
+        answers = answers_so (Encode segments) (Made made) short makes;
+        appended = appended;
+        unfailed = unfailed;
+        kept = λ none. absurd (none tt);
+      },
+      refl,
+    )
+
+    -- a proper prefix of it was
+    pub encoded_part : (segments : ℕ) (made : List ℕ) (n : ℕ)
+        → length bytes ≤ limit_of (Encode segments) → IsContainerOf segments made bytes
+        → Rose faults full old new → n < length made
+        → Appends (held old) (held new) (take n made)
+        → CarriedOut held faults full (Encode segments) bytes old new WriteFailed
+    encoded_part segments made n short makes rose few part = (
+      Made made,
+      record {
+        answers = answers_so (Encode segments) (Made made) short makes;
+        writes = tt;
+        rose = rose;
+        part = (n, few, part);
+      },
+    )
+
+    -- the bytes are no container
+    pub no_box : (workers : ℕ) (refusal : BoxRefusal) → length bytes ≤ limit_of (Decode workers)
+        → IsRefusedBox bytes refusal
+        → CarriedOut held faults full (Decode workers) bytes old old (Refused (Box refusal))
+    no_box workers refusal short why = refused_early (Decode workers) (Box refusal) short (
+      record { bytes = []; verdict = NoBox refusal },
+      inl (refusal, why, refl),
+      refl,
+    )
+
+    module _ (workers : ℕ) (short : length bytes ≤ limit_of (Decode workers)) (plan : PlanFields)
+        (b : BoxParts) (of : IsBoxOf plan b bytes) where
+      answers_by : (answer : Answer)
+          → answer ≡ answer_by (meaning_of plan b).bytes (meaning_of plan b).verdict
+          → Answers (Decode workers) bytes answer
+      answers_by answer e =
+          answers_so (Decode workers) answer short (meaning_of plan b, inr (plan, b, of, refl), e)
+
+      pub decoded : (meaning_of plan b).verdict ≡ Restored
+          → HasWritten held faults old new (meaning_of plan b).bytes
+          → CarriedOut held faults full (Decode workers) bytes old new Done
+      decoded e has = let file = (meaning_of plan b).bytes in (
+        Made file,
+        record {
+          answers = answers_by (Made file) (sym (ap (answer_by file) e));
+          appended = has.appended;
+          unfailed = has.unfailed;
+          kept = λ none. absurd (none tt);
+        },
+        refl,
+      )
+
+      -- a refusal after the file's bytes, all of them or those before a fault
+      refused_late : (refusal : Refusal)
+          → Late (meaning_of plan b).bytes refusal
+          ≡ answer_by (meaning_of plan b).bytes (meaning_of plan b).verdict
+          → HasWritten held faults old new (meaning_of plan b).bytes
+          → CarriedOut held faults full (Decode workers) bytes old new (Refused refusal)
+      refused_late refusal e has = (
+        Late (meaning_of plan b).bytes refusal,
+        record {
+          answers = answers_by (Late (meaning_of plan b).bytes refusal) e;
+          appended = has.appended;
+          unfailed = has.unfailed;
+          kept = λ none. absurd (none tt);
+        },
+        refl,
+      )
+
+      pub pad_spelled : (meaning_of plan b).verdict ≡ PadSpelled
+          → HasWritten held faults old new (meaning_of plan b).bytes
+          → CarriedOut held faults full (Decode workers) bytes old new (Refused PadSpelling)
+      pad_spelled e has =
+          refused_late PadSpelling (sym (ap (answer_by (meaning_of plan b).bytes) e)) has
+
+      pub faulty : (fault : StreamFault) → (meaning_of plan b).verdict ≡ Faulty fault
+          → HasWritten held faults old new (meaning_of plan b).bytes
+          → CarriedOut held faults full (Decode workers) bytes old new (Refused (Fault fault))
+      faulty fault e has =
+          refused_late (Fault fault) (sym (ap (answer_by (meaning_of plan b).bytes) e)) has
+
+      pub decoded_part : (n : ℕ) → HasFailed held faults full old new (meaning_of plan b).bytes n
+          → CarriedOut held faults full (Decode workers) bytes old new WriteFailed
+      decoded_part n has =
+          let m = meaning_of plan b in
+          let written = parts_written plan b in (
+            answer_by m.bytes m.verdict,
+            record {
+              answers = answers_by (answer_by m.bytes m.verdict) refl;
+              writes = written.0;
+              rose = has.rose;
+              part = (
+                n,
+                subst (λ (l : List ℕ). n < length l) (sym written.1) has.short,
+                subst (λ (l : List ℕ). Appends (held old) (held new) (take n l)) (sym written.1)
+                    has.appended,
+              );
+            },
+          )

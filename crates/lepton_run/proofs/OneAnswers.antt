@@ -1,0 +1,131 @@
+-- Bytes have one answer.
+use Rattle.std.proofs.Common.{◌≡◌, ℕ, ◌+◌, inl, inr, Bool, List, ◌++◌, length, drop, None, refl, sym, ap, ◌∙◌, subst, length-append, length-drop, drop-drop, arith}
+use Rattle.std.specs.List.{AllByRecursion}
+use Rattle.std.proofs.lemmas.List.{drop_at}
+use Rattle.bit_list.specs.Bits.{IsByte}
+use Rattle.jpeg_marker.specs.Plans.{PlanFields}
+use Rattle.jpeg_marker.proofs.HeaderLaws.{one_plan, one_refusal, never_both}
+use Rattle.jpeg_marker.proofs.HeadersTaken.{accepted_has_plan}
+use Rattle.scan_text.specs.FileLaws.{IsFileOf}
+use Rattle.scan_text.specs.Items.{Refuses}
+use Rattle.scan_text.specs.Scans.{Mcu}
+use Rattle.scan_text.specs.ScanLaws.{Begins, IsShape}
+use Rattle.scan_text.specs.Slots.{shape_of}
+use Rattle.scan_text.specs.declared.refusal.ScanRefusal.{ScanRefusal}
+use Rattle.scan_text.proofs.ItemsOnce.{one_outcome}
+use Rattle.scan_text.proofs.ItemsRead.{ends_so}
+use Rattle.scan_text.proofs.PlanShapes.{accepted_is_shape}
+use Rattle.scan_text.proofs.ScanTaken.{read_again}
+use Rattle.segment_meaning.specs.Meanings.{Meaning}
+use Rattle.segment_meaning.proofs.OneMeanings.{one_container, one_meaning}
+use Rattle.command_words.specs.declared.command.Command.{Command}
+use Rattle.command_words.specs.declared.command.Command.TheVariants.{Encode, Decode}
+use Rattle.lepton_run.specs.Answers.{Answer, Answers, Early, Late, Made, Makes, ScanRefuses, answer_by}
+use Rattle.lepton_run.specs.declared.refusal.Refusal.{Refusal}
+use Rattle.lepton_run.specs.declared.refusal.Refusal.TheVariants.{Header, Scan, Box, Fault, PadSpelling, TooLong}
+
+-- the scan of a file begins at its place
+begins : (bytes : List ℕ) (plan : PlanFields) (mcus : List Mcu) (pad : Bool) (trailer : List ℕ)
+    → AllByRecursion IsByte bytes → (is : IsFileOf bytes plan mcus pad trailer)
+    → Begins (shape_of plan) mcus pad bytes plan.header_length
+    (plan.header_length + length is.scan)
+begins bytes plan mcus pad trailer all is =
+    let place = plan.header_length in
+    let within = (accepted_has_plan bytes plan all is.header).within in
+    let rest : trailer ≡ drop (place + length is.scan) bytes =
+    sym (drop_at is.scan trailer (length is.scan) refl)
+    ∙ ap (drop (length is.scan)) (sym is.text) ∙ drop-drop (length is.scan) place bytes
+    ∙ ap (λ n. drop n bytes) (omega arith) in
+    record {
+      scan = is.scan;
+      is = is.is;
+      text = is.text ∙ ap (λ l. is.scan ++ l) rest;
+      within = omega (
+        arith,
+        within,
+        ap length is.text,
+        length-drop place bytes,
+        length-append is.scan trailer,
+      );
+      long = refl;
+    }
+
+-- a file's scan isn't refused
+scan_apart : (bytes : List ℕ) (plan : PlanFields) (mcus : List Mcu) (pad : Bool)
+    (trailer : List ℕ) (refusal : ScanRefusal) → AllByRecursion IsByte bytes
+    → IsFileOf bytes plan mcus pad trailer → ScanRefuses bytes refusal → ⊥
+scan_apart bytes plan mcus pad trailer refusal all is why =
+    let shape : IsShape (shape_of plan) = (accepted_is_shape bytes plan all is.header).0 in
+    let place = plan.header_length in
+    let read = read_again (shape_of plan) bytes place (place + length is.scan) mcus pad shape
+    (begins bytes plan mcus pad trailer all is) in
+    let ends = ends_so (shape_of plan) bytes place _ read.0 shape read.1 in
+    let same = one_plan bytes why.0 plan why.1 is.header in
+    let refuses = subst (λ (p : PlanFields). Refuses (shape_of p) bytes p.header_length refusal)
+    same why.2 in
+    (one_outcome (shape_of plan) bytes place _ _ refusal refusal shape refuses).1 ends
+
+one_scan_refusal : (bytes : List ℕ) (refusal other : ScanRefusal) → AllByRecursion IsByte bytes
+    → ScanRefuses bytes refusal → ScanRefuses bytes other → refusal ≡ other
+one_scan_refusal bytes refusal other all p q =
+    let shape : IsShape (shape_of p.0) = (accepted_is_shape bytes p.0 all p.1).0 in
+    let same = one_plan bytes q.0 p.0 q.1 p.1 in
+    let refuses = subst (λ (f : PlanFields). Refuses (shape_of f) bytes f.header_length other)
+    same q.2 in
+    (one_outcome (shape_of p.0) bytes p.0.header_length 0 None refusal other shape p.2).0 refuses
+
+-- what encode makes of bytes is one thing
+one_encoded : (segments : ℕ) (bytes : List ℕ) (a b : Answer) → AllByRecursion IsByte bytes
+    → Makes (Encode segments) bytes a → Makes (Encode segments) bytes b → a ≡ b
+one_encoded n bytes (Made a) (Made b) all p q = ap Made (one_container n a b bytes p q)
+one_encoded n bytes (Made a) (Early (Header r)) all p q =
+    absurd (never_both bytes p.plan r p.is.header q)
+one_encoded n bytes (Made a) (Early (Scan r)) all p q =
+    absurd (scan_apart bytes p.plan p.mcus p.pad p.trailer r all p.is q)
+one_encoded n bytes (Made a) (Early (Box r)) all p q = absurd q
+one_encoded n bytes (Made a) (Early (Fault r)) all p q = absurd q
+one_encoded n bytes (Made a) (Early PadSpelling) all p q = absurd q
+one_encoded n bytes (Made a) (Early TooLong) all p q = absurd q
+one_encoded n bytes (Made a) (Late w r) all p q = absurd q
+one_encoded n bytes (Early (Header r)) (Made b) all p q =
+    absurd (never_both bytes q.plan r q.is.header p)
+one_encoded n bytes (Early (Header r)) (Early (Header s)) all p q =
+    ap (λ (x : Refusal). Early x) (ap Header (one_refusal bytes r s p q))
+one_encoded n bytes (Early (Header r)) (Early (Scan s)) all p q =
+    absurd (never_both bytes q.0 r q.1 p)
+one_encoded n bytes (Early (Header r)) (Early (Box s)) all p q = absurd q
+one_encoded n bytes (Early (Header r)) (Early (Fault s)) all p q = absurd q
+one_encoded n bytes (Early (Header r)) (Early PadSpelling) all p q = absurd q
+one_encoded n bytes (Early (Header r)) (Early TooLong) all p q = absurd q
+one_encoded n bytes (Early (Header r)) (Late w s) all p q = absurd q
+one_encoded n bytes (Early (Scan r)) (Made b) all p q =
+    absurd (scan_apart bytes q.plan q.mcus q.pad q.trailer r all q.is p)
+one_encoded n bytes (Early (Scan r)) (Early (Header s)) all p q =
+    absurd (never_both bytes p.0 s p.1 q)
+one_encoded n bytes (Early (Scan r)) (Early (Scan s)) all p q =
+    ap (λ (x : Refusal). Early x) (ap Scan (one_scan_refusal bytes r s all p q))
+one_encoded n bytes (Early (Scan r)) (Early (Box s)) all p q = absurd q
+one_encoded n bytes (Early (Scan r)) (Early (Fault s)) all p q = absurd q
+one_encoded n bytes (Early (Scan r)) (Early PadSpelling) all p q = absurd q
+one_encoded n bytes (Early (Scan r)) (Early TooLong) all p q = absurd q
+one_encoded n bytes (Early (Scan r)) (Late w s) all p q = absurd q
+one_encoded n bytes (Early (Box r)) b all p q = absurd p
+one_encoded n bytes (Early (Fault r)) b all p q = absurd p
+one_encoded n bytes (Early PadSpelling) b all p q = absurd p
+one_encoded n bytes (Early TooLong) b all p q = absurd p
+one_encoded n bytes (Late w r) b all p q = absurd p
+
+one_made : (command : Command) (bytes : List ℕ) (a b : Answer) → AllByRecursion IsByte bytes
+    → Makes command bytes a → Makes command bytes b → a ≡ b
+one_made (Encode segments) bytes a b all p q = one_encoded segments bytes a b all p q
+one_made (Decode workers) bytes a b all p q =
+    p.2 ∙ ap (λ (m : Meaning). answer_by m.bytes m.verdict)
+    (one_meaning bytes p.0 q.0 all p.1 q.1) ∙ sym q.2
+
+pub one_answer : (command : Command) (bytes : List ℕ) (a b : Answer)
+    → Answers command bytes a → Answers command bytes b → a ≡ b
+one_answer command bytes a b (inl p) (inl q) = p.1 ∙ sym q.1
+one_answer command bytes a b (inl p) (inr q) = absurd (let h = q.short in omega (arith, p.0))
+one_answer command bytes a b (inr p) (inl q) = absurd (let h = p.short in omega (arith, q.0))
+one_answer command bytes a b (inr p) (inr q) =
+    one_made command bytes a b p.are p.makes q.makes

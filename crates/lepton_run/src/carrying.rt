@@ -1,0 +1,96 @@
+// The two commands on bytes that were read.
+ghost use Rattle.std.specs.Prelude.{◌≡◌, ◌≤◌, length};
+ghost use Rattle.command_words.specs.Meaning.{IsInRange};
+ghost use Rattle.command_words.specs.declared.command.Command.TheVariants.{Encode, Decode};
+ghost use Rattle.lepton_run.specs.Answers.{limit_of};
+ghost use Rattle.lepton_run.specs.Endings.{CarriedOut};
+
+use crate::ending::Ending;
+use crate::refusal::Refusal;
+use command_words::Command;
+use lepton_decode::{DecodeError, PrepareError, prepare};
+use lepton_encode::EncodeError;
+use outside_core::{Gate, Sink, write_all};
+use std::alloc::Global;
+
+/// The most bytes of a file that is encoded: 64 MiB.
+const MOST_OF_A_FILE: u64 = 67_108_864;
+
+/// The most bytes of a container that is decoded: 8 GiB.
+const MOST_OF_A_CONTAINER: u64 = 8_589_934_592;
+
+/// The most bytes that a command reads.
+pub(crate) fn limit(command: Command) -> u64
+    ensures { result ≡ limit_of command }
+{
+    match command {
+        Command::Encode { .. } => MOST_OF_A_FILE,
+        Command::Decode { .. } => MOST_OF_A_CONTAINER,
+    }
+}
+
+/// Writes what the command makes of bytes.
+pub(crate) fn carry_out<K: Sink, G: Gate>(
+    alloc: Global,
+    command: Command,
+    bytes: &[u8],
+    sink: &mut K,
+    gate: &G,
+) -> Ending
+    requires short { length bytes.now ≤ limit_of command }
+    requires in_range { IsInRange command }
+    ensures ending { CarriedOut K.held K.faults K.full command bytes.now sink.old sink.new result }
+    ensures lasting { K.faults sink.old ≤ K.faults sink.new }
+{
+    match command {
+        Command::Encode { segments } => encode(alloc, segments, bytes, sink),
+        Command::Decode { workers } => decode(alloc, workers, bytes, sink, gate),
+    }
+}
+
+// The container of a file, once it is whole.
+fn encode<K: Sink>(alloc: Global, segments: u8, bytes: &[u8], sink: &mut K) -> Ending
+    requires short { length bytes.now ≤ limit_of (Encode segments) }
+    requires in_range { IsInRange (Encode segments) }
+    ensures ending { CarriedOut K.held K.faults K.full (Encode segments) bytes.now sink.old sink.new
+        result }
+    ensures lasting { K.faults sink.old ≤ K.faults sink.new }
+{
+    let made = match lepton_encode::encode(alloc, bytes, segments) {
+        Ok(made) => made,
+        Err(EncodeError::Header(refusal)) => return Ending::Refused(Refusal::Header(refusal)),
+        Err(EncodeError::Scan(refusal)) => return Ending::Refused(Refusal::Scan(refusal)),
+        Err(EncodeError::NoMemory) => return Ending::NoMemory,
+    };
+    match write_all(sink, made.as_slice()) {
+        Ok(()) => Ending::Done,
+        Err(_) => Ending::WriteFailed,
+    }
+}
+
+// The file of a container, while it is decoded: one segment after another on this thread, whatever the number of workers.
+fn decode<K: Sink, G: Gate>(
+    alloc: Global,
+    workers: u8,
+    bytes: &[u8],
+    sink: &mut K,
+    gate: &G,
+) -> Ending
+    requires { length bytes.now ≤ limit_of (Decode workers) }
+    ensures ending { CarriedOut K.held K.faults K.full (Decode workers) bytes.now sink.old sink.new
+        result }
+    ensures lasting { K.faults sink.old ≤ K.faults sink.new }
+{
+    let _ = workers;
+    let mut ready = match prepare(alloc, bytes) {
+        Ok(ready) => ready,
+        Err(PrepareError::Box(refusal)) => return Ending::Refused(Refusal::Box(refusal)),
+        Err(PrepareError::NoMemory) => return Ending::NoMemory,
+    };
+    match lepton_decode::run(&mut ready, sink, gate) {
+        Ok(_) => Ending::Done,
+        Err(DecodeError::Fault(fault)) => Ending::Refused(Refusal::Fault(fault)),
+        Err(DecodeError::PadSpelling) => Ending::Refused(Refusal::PadSpelling),
+        Err(DecodeError::WriteFault { .. }) => Ending::WriteFailed,
+    }
+}

@@ -1,0 +1,134 @@
+-- What the calls ask of a seat's view, and what they answer (this project's own). `seen` is what a call's one hold
+-- found; `ss` and `os` are the bytes and the outcomes of the segments.
+use Rattle.std.specs.Prelude.{◌≡◌, ◌≢◌, ℕ, ◌+◌, ◌<◌, ◌≤◌, ◌⊎◌, min, take, drop, ◌==◌, if◌then◌else◌, List, ◌++◌, length, true, false, Some, slice_get}
+use Rattle.handover.specs.declared.outcome.Outcome.{Outcome}
+use Rattle.handover.specs.declared.outcome.Outcome.TheVariants.{Good, Bad}
+use Rattle.board_core.specs.BoardInvariants.{bytes_at}
+use Rattle.output_board.specs.declared.view.EmitterView.{EmitterView}
+use Rattle.output_board.specs.declared.view.WorkerView.{WorkerView}
+use Rattle.output_board.specs.declared.seen.Seen.{Seen}
+use Rattle.output_board.specs.declared.answers.Claim.{Claim}
+use Rattle.output_board.specs.declared.answers.Claim.TheVariants.{Segment, NoneLeft, Stopped as ClaimStopped}
+use Rattle.output_board.specs.declared.answers.Put.{Put}
+use Rattle.output_board.specs.declared.answers.Put.TheVariants.{Took, Stopped as PutStopped}
+use Rattle.output_board.specs.declared.answers.Finish.{Finish}
+use Rattle.output_board.specs.declared.answers.Finish.TheVariants.{Kept, Stopped as FinishStopped}
+use Rattle.output_board.specs.declared.answers.Take.{Take}
+use Rattle.output_board.specs.declared.answers.Take.TheVariants.{Bytes, Ended, Unclaimed, NotYet, Over}
+use Rattle.output_board.specs.declared.answers.Own.{Own}
+use Rattle.output_board.specs.declared.answers.Own.TheVariants.{Mine, Other}
+use Rattle.output_board.specs.Releases.{worker_after, emitter_after, claims_after, nothing_kind, over_kind, claim_kind, put_kind, pass_kind, finish_kind, take_kind, advance_kind, stop_kind, leave_kind}
+use Rattle.output_board.specs.Seats.{SeatValue}
+
+-- put: the worker owns a segment, and these are its next bytes
+pub record HasNext (ss : List (List ℕ)) (w : WorkerView) (bytes : List ℕ) : Type 0 where
+  pub index : ℕ
+  pub segment : w.segment ≡ Some index
+  pub next : take (length bytes) (drop w.put (bytes_at ss index)) ≡ bytes
+
+-- finish: the worker owns a segment, all of whose bytes are put, and this is its outcome
+pub record IsAtEnd (ss : List (List ℕ)) (os : List Outcome) (w : WorkerView) (o : Outcome)
+    : Type 0 where
+  pub index : ℕ
+  pub segment : w.segment ≡ Some index
+  pub all : w.put ≡ length (bytes_at ss index)
+  pub outcome : slice_get os index ≡ Some o
+
+-- a hold of a seat told this, and its view is what kind, amount and the segment that was next make of it
+pub record HasTold {C V : Type 0} (after : V → ℕ → ℕ → ℕ → V) (old new : SeatValue C V)
+    (kind amount : ℕ) (seen : Seen) : Type 0 where
+  pub last : new.last ≡ Some (kind, amount, seen)
+  pub view : new.view ≡ after old.view kind amount seen.next
+  pub claims : new.claims ≡ claims_after old.claims kind
+
+module _ {C : Type 0} where
+  -- a hold of a worker's seat
+  abbrev pub WorkerTold : SeatValue C WorkerView → SeatValue C WorkerView → ℕ → ℕ → Seen → Type 0
+  WorkerTold old new kind amount seen = HasTold worker_after old new kind amount seen
+
+  -- a hold of the emitter's seat, which saw that the segment of its view is emitted
+  abbrev pub EmitterTold : SeatValue C EmitterView → SeatValue C EmitterView → ℕ → ℕ → Seen → Type 0
+  EmitterTold old new kind amount seen =
+      HasTold emitter_after old new kind amount seen × (seen.cur ≡ old.view.cur)
+
+  -- claim, for so many segments: Segment where the board isn't stopped and one is left, NoneLeft where it isn't stopped
+  -- and none is, Stopped where it is
+  abbrev pub ClaimGives : ℕ → SeatValue C WorkerView → SeatValue C WorkerView → Claim → Type 0
+  ClaimGives count old new (Segment i) =
+      (seen : Seen) × WorkerTold old new claim_kind 0 seen
+      × (seen.stopped ≡ false) × (seen.next < count) × (i ≡ seen.next)
+  ClaimGives count old new NoneLeft =
+      (seen : Seen) × WorkerTold old new over_kind 0 seen
+      × (seen.stopped ≡ false) × (seen.next ≡ count)
+  ClaimGives count old new ClaimStopped =
+      (seen : Seen) × WorkerTold old new over_kind 0 seen × (seen.stopped ≡ true)
+
+  -- put, of so many bytes: Took n where the board isn't stopped, for as many as the ring had room for
+  abbrev pub PutGives : ℕ → SeatValue C WorkerView → SeatValue C WorkerView → Put → Type 0
+  PutGives count old new (Took n) =
+      (seen : Seen) × WorkerTold old new (if n == 0 then nothing_kind else put_kind) n seen
+      × (seen.stopped ≡ false) × (n ≡ min count seen.free)
+      × (new.view ≡ record old.view { put = old.view.put + n })
+  PutGives count old new PutStopped =
+      (seen : Seen) × WorkerTold old new over_kind 0 seen × (seen.stopped ≡ true)
+
+  -- finish: Kept where the board isn't stopped
+  abbrev pub FinishGives : SeatValue C WorkerView → SeatValue C WorkerView → Finish → Type 0
+  FinishGives old new Kept =
+      (seen : Seen) × WorkerTold old new finish_kind 0 seen × (seen.stopped ≡ false)
+  FinishGives old new FinishStopped =
+      (seen : Seen) × WorkerTold old new over_kind 0 seen × (seen.stopped ≡ true)
+
+  -- leave
+  abbrev pub LeaveGives : SeatValue C WorkerView → SeatValue C WorkerView → Type 0
+  LeaveGives old new = (seen : Seen) × WorkerTold old new leave_kind 0 seen
+
+  -- take, by what the buffer was and is: Bytes n where bytes wait; Ended where none does and the segment has its
+  -- outcome; Unclaimed where nobody has claimed it; NotYet where somebody has, no byte waits and it isn't done; Over
+  -- where all segments are emitted
+  abbrev pub TakeGives : List (List ℕ) → List Outcome
+      → SeatValue C EmitterView → SeatValue C EmitterView → List ℕ → List ℕ → Take → Type 0
+  TakeGives ss os old new before now (Bytes n) =
+      (seen : Seen) × EmitterTold old new take_kind n seen
+      × (1 ≤ seen.length) × (n ≡ min seen.length (length before))
+      × (now ≡ take n (drop old.view.taken (bytes_at ss old.view.cur)) ++ drop n before)
+  TakeGives ss os old new before now (Ended (Good padded)) =
+      (seen : Seen) × EmitterTold old new advance_kind 0 seen
+      × (seen.length ≡ 0) × (seen.done ≡ true) × (now ≡ before)
+      × (slice_get os old.view.cur ≡ Some (Good padded))
+      × (old.view.taken ≡ length (bytes_at ss old.view.cur))
+  TakeGives ss os old new before now (Ended (Bad fault)) =
+      (seen : Seen) × EmitterTold old new nothing_kind 0 seen
+      × (seen.length ≡ 0) × (seen.done ≡ true) × (now ≡ before)
+      × (slice_get os old.view.cur ≡ Some (Bad fault))
+      × (old.view.taken ≡ length (bytes_at ss old.view.cur))
+  TakeGives ss os old new before now Unclaimed =
+      (seen : Seen) × EmitterTold old new nothing_kind 0 seen
+      × (seen.next ≡ seen.cur) × (seen.cur < length ss) × (now ≡ before)
+  TakeGives ss os old new before now NotYet =
+      (seen : Seen) × EmitterTold old new nothing_kind 0 seen
+      × (seen.cur < seen.next) × (seen.length ≡ 0) × (seen.done ≡ false) × (now ≡ before)
+  TakeGives ss os old new before now Over =
+      (seen : Seen) × EmitterTold old new nothing_kind 0 seen
+      × (seen.cur ≡ length ss) × (now ≡ before)
+
+  -- claim_own, for so many segments: Mine where the segment that is emitted is the next one, of which no byte is taken
+  abbrev pub OwnGives : ℕ → SeatValue C EmitterView → SeatValue C EmitterView → Own → Type 0
+  OwnGives count old new (Mine i) =
+      (seen : Seen) × EmitterTold old new claim_kind 0 seen
+      × (seen.next ≡ seen.cur) × (seen.cur < count) × (i ≡ seen.cur) × (old.view.taken ≡ 0)
+  OwnGives count old new Other =
+      (seen : Seen) × EmitterTold old new nothing_kind 0 seen
+      × ((seen.next ≢ seen.cur) ⊎ (seen.cur ≡ count))
+
+  -- pass, of so many bytes
+  abbrev pub PassGives : ℕ → SeatValue C EmitterView → SeatValue C EmitterView → Type 0
+  PassGives count old new = (seen : Seen) × EmitterTold old new pass_kind count seen
+
+  -- finish_own
+  abbrev pub OwnFinishGives : SeatValue C EmitterView → SeatValue C EmitterView → Type 0
+  OwnFinishGives old new = (seen : Seen) × EmitterTold old new finish_kind 0 seen
+
+  -- stop
+  abbrev pub StopGives : SeatValue C EmitterView → SeatValue C EmitterView → Type 0
+  StopGives old new = (seen : Seen) × EmitterTold old new stop_kind 0 seen

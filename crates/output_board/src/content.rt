@@ -1,0 +1,13 @@
+// What a board is for.
+
+/// The bytes of each segment, and how each ends. No call tells them: they are what the clauses speak of.
+pub trait Content {
+    ghost use Rattle.std.specs.Prelude.{ℕ, List};
+    ghost use Rattle.handover.specs.declared.outcome.Outcome.{Outcome};
+
+    // The bytes of each segment.
+    ghost bytes: { Self → List (List ℕ) };
+
+    // The outcome of each segment.
+    ghost outcomes: { Self → List Outcome };
+}

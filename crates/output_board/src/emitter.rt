@@ -1,0 +1,87 @@
+// The calls of the emitter.
+ghost use Rattle.std.specs.Prelude.{◌≡◌, ◌+◌, ◌≤◌, Some, false, true, length, slice_get};
+ghost use Rattle.board_core.specs.BoardInvariants.{bytes_at};
+ghost use Rattle.output_board.specs.Seats.{HasHeldOnce};
+ghost use Rattle.output_board.specs.Answers.{TakeGives, OwnGives, PassGives, OwnFinishGives, StopGives};
+
+use crate::answers::{Own, Take};
+use crate::board::Board;
+use crate::content::Content;
+use crate::emitter_holds;
+use crate::seat::EmitterSeat;
+use handover::Outcome;
+use std::sync::Wait;
+
+impl<C: Content> Board<C> {
+    /// Takes the next bytes of the segment that is emitted, as many as wait and `buf` has room for, to the start of
+    /// `buf`. After the end of a good segment the next one is emitted.
+    pub fn take<R: Wait>(&self, rt: &R, seat: &mut EmitterSeat<C>, buf: &mut [u8]) -> Take
+        requires own { seat.old.table ≡ self.now }
+        requires free { seat.old.view.owns ≡ false }
+        requires going { seat.old.view.stopped ≡ false }
+        requires some { 1 ≤ length buf.old }
+        ensures hold { HasHeldOnce seat.old seat.new }
+        ensures answer { TakeGives (C.bytes seat.old.content) (C.outcomes seat.old.content)
+            seat.old seat.new buf.old buf.new result }
+    {
+        emitter_holds::take(rt, &self.lock, &mut seat.pass, buf)
+    }
+
+    /// Claims the segment that is emitted for the emitter, where nobody has.
+    pub fn claim_own<R: Wait>(&self, rt: &R, seat: &mut EmitterSeat<C>) -> Own
+        requires own { seat.old.table ≡ self.now }
+        requires free { seat.old.view.owns ≡ false }
+        requires going { seat.old.view.stopped ≡ false }
+        ensures hold { HasHeldOnce seat.old seat.new }
+        ensures answer { OwnGives (length (C.bytes seat.old.content)) seat.old seat.new result }
+    {
+        emitter_holds::claim_own(rt, &self.lock, &mut seat.pass)
+    }
+
+    /// Says that the next n bytes of the emitter's own segment, 1 at least, go to the output, past the ring.
+    pub fn pass<R: Wait>(&self, rt: &R, seat: &mut EmitterSeat<C>, n: u64)
+        requires own { seat.old.table ≡ self.now }
+        requires owns { seat.old.view.owns ≡ true }
+        requires going { seat.old.view.stopped ≡ false }
+        requires some { 1 ≤ n }
+        requires within { seat.old.view.taken + n
+            ≤ length (bytes_at (C.bytes seat.old.content) seat.old.view.cur) }
+        ensures hold { HasHeldOnce seat.old seat.new }
+        ensures told { PassGives n seat.old seat.new }
+    {
+        emitter_holds::pass(rt, &self.lock, &mut seat.pass, n)
+    }
+
+    /// Ends the emitter's own segment, all of whose bytes are passed, with its outcome.
+    pub fn finish_own<R: Wait>(&self, rt: &R, seat: &mut EmitterSeat<C>, outcome: Outcome)
+        requires own { seat.old.table ≡ self.now }
+        requires owns { seat.old.view.owns ≡ true }
+        requires going { seat.old.view.stopped ≡ false }
+        requires all { seat.old.view.taken
+            ≡ length (bytes_at (C.bytes seat.old.content) seat.old.view.cur) }
+        requires outcome { slice_get (C.outcomes seat.old.content) seat.old.view.cur
+            ≡ Some outcome }
+        ensures hold { HasHeldOnce seat.old seat.new }
+        ensures told { OwnFinishGives seat.old seat.new }
+    {
+        emitter_holds::finish_own(rt, &self.lock, &mut seat.pass, outcome)
+    }
+
+    /// Stops the board: workers find it stopped from then on, and the emitter makes no other call.
+    pub fn stop<R: Wait>(&self, rt: &R, seat: &mut EmitterSeat<C>)
+        requires own { seat.old.table ≡ self.now }
+        requires going { seat.old.view.stopped ≡ false }
+        ensures hold { HasHeldOnce seat.old seat.new }
+        ensures told { StopGives seat.old seat.new }
+    {
+        emitter_holds::stop(rt, &self.lock, &mut seat.pass)
+    }
+
+    /// Waits while nothing has rung the bell since the emitter's last hold. It may also return for no reason.
+    pub fn pause_emitter<R: Wait>(&self, rt: &R, seat: &mut EmitterSeat<C>)
+        requires own { seat.old.table ≡ self.now }
+        ensures same { seat.new ≡ seat.old }
+    {
+        self.lock.wait(rt, &mut seat.pass);
+    }
+}

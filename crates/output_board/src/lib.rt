@@ -1,0 +1,46 @@
+//! The board of a file's segments under a lock, and the calls by which workers and the emitter share it.
+//!
+//!                    claim            put              finish
+//!     worker          |                | bytes           | outcome      leave
+//!                     v                v                 v
+//!     segment      next -> owned    | ring | | |       done
+//!                                      |                 |
+//!                                      v bytes           v outcome
+//!     emitter                        take              take             stop
+//!       of its own  claim_own        pass              finish_own
+//!
+//! Each call through a seat is one hold of the lock, and answers what that hold found of the board (`Seen`). A seat's
+//! view is what the seat knows whatever others do: the segment that is its own, and how far it is. A `Content` has the
+//! bytes and the outcome of each segment, of which the clauses speak. A call rings the bell where it changes what
+//! another seat may wait for. What happens to a board is said by `board_core`, what a lock keeps by `seat_lock`; who
+//! codes a segment, and who writes it, is left to others.
+#![tactic(auto)]
+
+mod answers;
+mod board;
+mod content;
+mod emitter;
+mod emitter_holds;
+mod laws;
+mod rule;
+mod seat;
+mod seen;
+mod view;
+mod worker_holds;
+mod workers;
+
+pub use answers::{Claim, Finish, Own, Put, Take};
+pub use board::Board;
+pub use content::Content;
+pub use laws::{a_late_claim_finds_nothing, no_two_seats_own_one_segment, seats_go_to_threads};
+pub use rule::BoardRule;
+pub use seat::{EmitterSeat, WorkerSeat};
+pub use seen::Seen;
+pub use view::{EmitterView, Role, View, WorkerView};
+
+#[cfg(test)]
+mod emitter_by_hand;
+#[cfg(test)]
+mod tests;
+#[cfg(test)]
+mod worker_by_hand;

@@ -1,0 +1,68 @@
+// The calls of a worker.
+ghost use Rattle.std.specs.Prelude.{◌≡◌, ◌≤◌, None, false, true, length};
+ghost use Rattle.output_board.specs.Seats.{HasHeldOnce};
+ghost use Rattle.output_board.specs.Answers.{HasNext, IsAtEnd, ClaimGives, PutGives, FinishGives, LeaveGives};
+
+use crate::answers::{Claim, Finish, Put};
+use crate::board::Board;
+use crate::content::Content;
+use crate::seat::WorkerSeat;
+use crate::worker_holds;
+use handover::Outcome;
+use std::sync::Wait;
+
+impl<C: Content> Board<C> {
+    /// Claims the next segment for a worker that owns none.
+    pub fn claim<R: Wait>(&self, rt: &R, seat: &mut WorkerSeat<C>) -> Claim
+        requires own { seat.old.table ≡ self.now }
+        requires free { seat.old.view.segment ≡ None }
+        requires here { seat.old.view.left ≡ false }
+        ensures hold { HasHeldOnce seat.old seat.new }
+        ensures answer { ClaimGives (length (C.bytes seat.old.content))
+            seat.old seat.new result }
+    {
+        worker_holds::claim(rt, &self.lock, &mut seat.pass, seat.number)
+    }
+
+    /// Puts the next bytes of the worker's segment, 1 at least, into its ring, as many as there is room for. The others
+    /// take another call.
+    pub fn put<R: Wait>(&self, rt: &R, seat: &mut WorkerSeat<C>, bytes: &[u8]) -> Put
+        requires own { seat.old.table ≡ self.now }
+        requires some { 1 ≤ length bytes.now }
+        requires next { HasNext (C.bytes seat.old.content) seat.old.view bytes.now }
+        ensures hold { HasHeldOnce seat.old seat.new }
+        ensures answer { PutGives (length bytes.now) seat.old seat.new result }
+    {
+        worker_holds::put(rt, &self.lock, &mut seat.pass, seat.number, bytes)
+    }
+
+    /// Ends the worker's segment, all of whose bytes are put, with its outcome.
+    pub fn finish<R: Wait>(&self, rt: &R, seat: &mut WorkerSeat<C>, outcome: Outcome) -> Finish
+        requires own { seat.old.table ≡ self.now }
+        requires end { IsAtEnd (C.bytes seat.old.content) (C.outcomes seat.old.content)
+            seat.old.view outcome }
+        ensures hold { HasHeldOnce seat.old seat.new }
+        ensures answer { FinishGives seat.old seat.new result }
+    {
+        worker_holds::finish(rt, &self.lock, &mut seat.pass, seat.number, outcome)
+    }
+
+    /// The worker leaves, for which all is over. A segment of a stopped board that was its own is nobody's.
+    pub fn leave<R: Wait>(&self, rt: &R, seat: &mut WorkerSeat<C>)
+        requires own { seat.old.table ≡ self.now }
+        requires over { seat.old.view.over ≡ true }
+        requires here { seat.old.view.left ≡ false }
+        ensures hold { HasHeldOnce seat.old seat.new }
+        ensures told { LeaveGives seat.old seat.new }
+    {
+        worker_holds::leave(rt, &self.lock, &mut seat.pass, seat.number)
+    }
+
+    /// Waits while nothing has rung the bell since the worker's last hold. It may also return for no reason.
+    pub fn pause_worker<R: Wait>(&self, rt: &R, seat: &mut WorkerSeat<C>)
+        requires own { seat.old.table ≡ self.now }
+        ensures same { seat.new ≡ seat.old }
+    {
+        self.lock.wait(rt, &mut seat.pass);
+    }
+}

@@ -1,0 +1,154 @@
+-- The segments of a container can be begun.
+use Rattle.std.proofs.Common.{◌≡◌, ℕ, zero, suc, ◌+◌, ◌-◌, ◌*◌, ◌<◌, ◌≤◌, Bool, true, false, if◌then◌else◌, List, [], ◌∷◌, length, get_or, refl, sym, ap, ap₂, subst, ◌∙◌, arith}
+use Rattle.std.specs.Prelude.{◌&&◌, ◌||◌, ◌==◌, not, slice_get, Option, Some, None}
+use Rattle.std.specs.List.{list_all}
+use Rattle.std.proofs.Math.Nat.{lt_of_mul-lt-mul_left}
+use Rattle.std.proofs.lemmas.Bool.{and_parts, eqb-true}
+use Rattle.jpeg_marker.specs.Plans.{PlanFields}
+use Rattle.jpeg_marker.proofs.HeadersTaken.{accepted_has_plan}
+use Rattle.scan_text.specs.Slots.{Shape, shape_of}
+use Rattle.scan_text.proofs.PlanShapes.{accepted_is_shape}
+use Rattle.handover.specs.Handovers.{HandoverFields, start}
+use Rattle.handover.specs.HandoverBytes.{is_handover}
+use Rattle.segment_text.specs.Cuts.{Cut, row_of, first_mcu}
+use Rattle.segment_text.specs.RowHandovers.{markers_before}
+use Rattle.segment_text.proofs.SpotsBegun.{each_has_rows}
+use Rattle.box_format.specs.Parts.{BoxParts, IsBox, bad_start, can_start, cut_in, is_start, is_unused_zero}
+use Rattle.segment_meaning.specs.ScanStream.{grid_of}
+use Rattle.segment_meaning.specs.Meanings.{segment_in}
+use Rattle.segment_meaning.specs.SegmentLaws.{Suits}
+use Rattle.segment_code.specs.BegunSegments.{segment_with}
+use Rattle.segment_code.proofs.GridsOfPlans.{has_grid}
+use Rattle.segment_code.proofs.SlotsOfGrid.{slots_of_grid}
+
+-- ---- what each starts from
+
+good_or_bad : (t : Bool) (i : ℕ) (later : Option ℕ) → (if t then later else Some i) ≡ None
+    → (t ≡ true) × (later ≡ None)
+good_or_bad true i later e = (refl, e)
+good_or_bad false i later e = cc
+
+each_can_start : (shape : Shape) (cut : Cut) (handovers : List HandoverFields) (from i : ℕ)
+    → bad_start shape cut from handovers ≡ None → i < length handovers
+    → can_start shape (first_mcu cut (from + i)) (get_or handovers i start) ≡ true
+each_can_start shape cut [] from i none below = absurd (omega (arith, below))
+each_can_start shape cut (h ∷ handovers) from zero none below =
+    let same : from ≡ from + 0 = omega arith in
+    subst (λ (n : ℕ). can_start shape (first_mcu cut n) h ≡ true) same
+    (good_or_bad (can_start shape (first_mcu cut from) h) from
+    (bad_start shape cut (from + 1) handovers) none).0
+each_can_start shape cut (h ∷ handovers) from (suc i) none below =
+    let same : from + 1 + i ≡ from + suc i = omega arith in
+    subst (λ (n : ℕ). can_start shape (first_mcu cut n) (get_or handovers i start) ≡ true) same
+    (each_can_start shape cut handovers (from + 1) i
+    (good_or_bad (can_start shape (first_mcu cut from) h) from
+    (bad_start shape cut (from + 1) handovers) none).1 (omega (arith, below)))
+
+restarts_are : (shape : Shape) (count : ℕ) (h : HandoverFields) → can_start shape count h ≡ true
+    → h.restarts ≡ markers_before shape count
+restarts_are shape count h can =
+    let zeros = list_all (is_unused_zero shape h) (0 ∷ 1 ∷ 2 ∷ 3 ∷ []) in
+    let counted = h.restarts == markers_before shape count in
+    let first = not (count == 0) || is_start h in
+    let all = and_parts (is_handover h) (zeros && (counted && first)) can in
+    let rest = and_parts zeros (counted && first) all.1 in
+    eqb-true h.restarts (markers_before shape count) (and_parts counted first rest.1).0
+
+-- ---- its rows
+
+pub box_suits : (plan : PlanFields) (b : BoxParts) → IsBox plan b
+    → Suits (shape_of plan) (grid_of plan)
+box_suits plan b box =
+    let has = accepted_has_plan b.header plan box.header_bytes box.header in
+    let is = has.is_plan in
+    let grid = has_grid plan is in
+    record {
+      shape_is = (accepted_is_shape b.header plan box.header_bytes box.header).0;
+      grid_is = record { across = is.wide; mcu = grid.some };
+      blocks = slots_of_grid plan.components is.some is.few;
+    }
+
+-- a segment's row and MCUs were counted
+pub record IsCounted (plan : PlanFields) (b : BoxParts) (i row count : ℕ) : Type 0 where
+  pub box : IsBox plan b
+  pub under : i < length b.handovers
+  pub is_row : row ≡ row_of (cut_in plan (length b.handovers)) i
+  pub counted : first_mcu (cut_in plan (length b.handovers)) i + count
+      ≡ first_mcu (cut_in plan (length b.handovers)) (i + 1)
+  pub within : first_mcu (cut_in plan (length b.handovers)) i + count ≤ plan.across * plan.down
+
+-- for a plan and a number of segments that are a container's
+pub counted_in : (plan p q : PlanFields) (b : BoxParts) (n i row count : ℕ) → q ≡ p → p ≡ plan
+    → n ≡ length b.handovers → IsBox p b → i < length b.handovers → row ≡ row_of (cut_in q n) i
+    → first_mcu (cut_in q n) i + count ≡ first_mcu (cut_in q n) (i + 1)
+    → first_mcu (cut_in q n) i + count ≤ q.across * q.down → IsCounted plan b i row count
+counted_in plan p q b n i row count same here many box under is_row counted within =
+    let all = same ∙ here in record {
+      box = subst (λ (r : PlanFields). IsBox r b) here box;
+      under = under;
+      is_row = is_row ∙ ap₂ (λ (r : PlanFields) (m : ℕ). row_of (cut_in r m) i) all many;
+      counted =
+          subst (λ (r : PlanFields). first_mcu (cut_in r (length b.handovers)) i + count
+          ≡ first_mcu (cut_in r (length b.handovers)) (i + 1)) all
+          (subst (λ (m : ℕ). first_mcu (cut_in q m) i + count ≡ first_mcu (cut_in q m) (i + 1)) many
+          counted);
+      within =
+          subst (λ (r : PlanFields). first_mcu (cut_in r (length b.handovers)) i + count
+          ≤ r.across * r.down) all
+          (subst (λ (m : ℕ). first_mcu (cut_in q m) i + count ≤ q.across * q.down) many within);
+    }
+
+module _ (plan : PlanFields) (b : BoxParts) (i row count : ℕ)
+    (is : IsCounted plan b i row count) where
+  from_is : plan.across * row ≡ first_mcu (cut_in plan (length b.handovers)) i
+  from_is = ap (λ (r : ℕ). plan.across * r) is.is_row
+
+  pub some_mcus : 0 < count
+  some_mcus =
+      let box = is.box in
+      let has = accepted_has_plan b.header plan box.header_bytes box.header in
+      let is_plan = has.is_plan in
+      let more =
+      each_has_rows (cut_in plan (length b.handovers)) i refl box.rows is.under is_plan.wide in
+      let counted = is.counted in
+      omega (arith, counted, more)
+
+  pub within_rows : row < plan.down
+  within_rows =
+      let some = some_mcus in
+      let same = from_is in
+      let within = is.within in
+      lt_of_mul-lt-mul_left plan.across (omega (arith, within, some, same))
+
+  pub within_mcus : plan.across * row + count ≤ plan.across * plan.down
+  within_mcus = let same = from_is in let within = is.within in omega (arith, within, same)
+
+  pub starts_there : (get_or b.handovers i start).restarts
+      ≡ markers_before (shape_of plan) (plan.across * row)
+  starts_there =
+      let box = is.box in
+      restarts_are (shape_of plan) (first_mcu (cut_in plan (length b.handovers)) i)
+      (get_or b.handovers i start)
+      (let none : 0 + i ≡ i = omega arith in
+      subst (λ (n : ℕ). can_start (shape_of plan) (first_mcu (cut_in plan (length b.handovers)) n)
+      (get_or b.handovers i start) ≡ true) none
+      (each_can_start (shape_of plan) (cut_in plan (length b.handovers)) b.handovers 0 i box.starts
+      is.under))
+      ∙ ap (markers_before (shape_of plan)) (sym from_is)
+
+  -- its parts are those of the container
+  pub same_segment : (stream : List ℕ) (h : HandoverFields) (next : Option HandoverFields)
+      (pad : Bool) → stream ≡ get_or b.streams i [] → h ≡ get_or b.handovers i start
+      → next ≡ slice_get b.handovers (i + 1) → pad ≡ b.pad
+      → segment_with plan i stream h row count next pad ≡ segment_in plan b i
+  same_segment stream h next pad stream_is h_is next_is pad_is =
+      let cut = cut_in plan (length b.handovers) in
+      let counted = is.counted in
+      let count_is : count ≡ first_mcu cut (i + 1) - first_mcu cut i = omega (arith, counted) in
+      ap₂ (λ (l : List ℕ) (g : HandoverFields). segment_with plan i l g row count next pad)
+      stream_is h_is
+      ∙ ap₂ (λ (r c : ℕ). segment_with plan i (get_or b.streams i []) (get_or b.handovers i start)
+      r c next pad) is.is_row count_is
+      ∙ ap₂ (λ (n : Option HandoverFields) (p : Bool). segment_with plan i (get_or b.streams i [])
+      (get_or b.handovers i start) (row_of cut i) (first_mcu cut (i + 1) - first_mcu cut i) n p)
+      next_is pad_is

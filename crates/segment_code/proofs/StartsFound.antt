@@ -1,0 +1,124 @@
+-- The starts that a reader finds are those of the file.
+use Rattle.std.proofs.Common.{◌≡◌, ℕ, ◌+◌, ◌*◌, ◌<◌, ◌≤◌, Bool, true, List, [], ◌∷◌, ◌++◌, map, refl, ap, ap₂, ◌∙◌, sym, arith}
+use Rattle.std.specs.Prelude.{ℤ, Ok, min, unwrap_or}
+use Rattle.std.specs.List.{AllByRecursion}
+use Rattle.bit_list.specs.Bits.{IsByte}
+use Rattle.jpeg_marker.specs.Plans.{PlanFields}
+use Rattle.jpeg_marker.specs.HeaderPlan.{Accepts}
+use Rattle.jpeg_marker.proofs.HeadersTaken.{accepted_has_plan}
+use Rattle.scan_text.specs.Slots.{shape_of}
+use Rattle.scan_text.specs.Scans.{Mcu}
+use Rattle.scan_text.specs.Spots.{Spot, bytes_done}
+use Rattle.scan_text.specs.ScanCalls.{ScanReader, reader_at, resume_place}
+use Rattle.scan_text.specs.ScanLaws.{Begins, IsShape}
+use Rattle.scan_text.specs.ScanReading.{Standing, scan_at}
+use Rattle.scan_text.proofs.ScanTaken.{spelled}
+use Rattle.scan_text.proofs.PlanShapes.{accepted_is_shape}
+use Rattle.handover.specs.Handovers.{HandoverFields}
+use Rattle.segment_text.specs.Cuts.{Cut, first_mcu, row_of}
+use Rattle.segment_text.specs.HandedOver.{spot_in}
+use Rattle.segment_text.specs.RowHandovers.{handover_of, handover_at}
+use Rattle.segment_text.proofs.SegmentsRead.{first_are_read}
+use Rattle.box_format.specs.Raws.{numbers}
+use Rattle.segment_meaning.specs.Files.{StartsFields, plan_cut, segment_start, starts_of}
+use Rattle.segment_code.specs.CodedMcus.{AreReadOn}
+use Rattle.segment_code.specs.FoundStarts.{found, handover_after, place_after, stands_after, standing_or}
+use Rattle.segment_code.specs.Starting.{AreStarts}
+use Rattle.segment_code.specs.StartsInside.{starts_more}
+use Rattle.segment_code.proofs.CutsOfPlans.{start_within}
+use Rattle.segment_code.proofs.SegmentNumbers.{map_alike, map_more}
+
+-- a reader stands where it was found to
+pub stands_there : (n : ℕ) (first reader : ScanReader) (mcus : List (List (List ℤ)))
+    → AreReadOn n first reader mcus → stands_after first n ≡ reader.at
+stands_there n first reader mcus so = ap (standing_or first.at) so.read
+
+-- the starts of a segment more
+pub found_more : (first reader : ScanReader) (cut : Cut) (i row : ℕ) (mcus : List (List (List ℤ)))
+    → AreReadOn (first_mcu cut i) first reader mcus → row ≡ row_of cut i → (s : StartsFields)
+    → s ≡ found first cut i
+    → (place : ℕ) → place ≡ resume_place reader.at.cursor → (handover : HandoverFields)
+    → handover ≡ handover_of first.shape (spot_in first.bytes reader.at)
+    → starts_more s row place handover ≡ found first cut (i + 1)
+found_more first reader cut i row mcus so row_is s is place place_is handover handover_is =
+    let there = stands_there (first_mcu cut i) first reader mcus so in
+    let r : map (row_of cut) (numbers 0 (i + 1)) ≡ map (row_of cut) (numbers 0 i) ++ row ∷ [] =
+    map_more (row_of cut) i row row_is in
+    let p : map (λ j. place_after first (first_mcu cut j)) (numbers 0 (i + 1))
+    ≡ map (λ j. place_after first (first_mcu cut j)) (numbers 0 i) ++ place ∷ [] =
+    map_more (λ j. place_after first (first_mcu cut j)) i place
+    (place_is ∙ ap (λ (at : Standing). resume_place at.cursor) (sym there)) in
+    let h : map (λ j. handover_after first (first_mcu cut j)) (numbers 0 (i + 1))
+    ≡ map (λ j. handover_after first (first_mcu cut j)) (numbers 0 i) ++ handover ∷ [] =
+    map_more (λ j. handover_after first (first_mcu cut j)) i handover
+    (handover_is ∙ ap (λ (at : Standing). handover_of first.shape (spot_in first.bytes at))
+    (sym there)) in
+    rw (is, r, p, h) refl
+
+-- where the MCUs of a file are known, so are those that the reader stood after
+record FoundAt (plan : PlanFields) (mcus : List Mcu) (pad : Bool) (bytes : List ℕ) (n : ℕ) : Type 0
+  where
+    place : place_after (reader_at (shape_of plan) bytes plan.header_length) n
+        ≡ plan.header_length + bytes_done (shape_of plan) (λ i. pad) mcus n
+    handover : handover_after (reader_at (shape_of plan) bytes plan.header_length) n
+        ≡ handover_at (shape_of plan) (λ i. pad) mcus n
+
+found_at : (plan : PlanFields) (mcus : List Mcu) (pad : Bool) (bytes : List ℕ) (after n : ℕ)
+    → IsShape (shape_of plan) → Begins (shape_of plan) mcus pad bytes plan.header_length after
+    → n ≤ plan.across * plan.down
+    → FoundAt plan mcus pad bytes n
+found_at plan mcus pad bytes after n is begins few =
+    let first = first_are_read (shape_of plan) bytes plan.header_length after mcus pad n is begins
+    few in
+    let there : stands_after (reader_at (shape_of plan) bytes plan.header_length) n ≡ first.0 =
+    ap (standing_or (reader_at (shape_of plan) bytes plan.header_length).at) first.1 in
+    record {
+      place = ap (λ (at : Standing). resume_place at.cursor) there ∙ first.2.resumes;
+      handover = ap (λ (at : Standing). handover_of (shape_of plan) (spot_in bytes at)) there
+          ∙ ap (λ (s : Spot). handover_of (shape_of plan) s) first.2.spot;
+    }
+
+abbrev starts_with : List ℕ → List ℕ → List HandoverFields → Bool → ℕ → StartsFields
+starts_with rows places handovers pad trailer =
+    record { rows = rows; places = places; handovers = handovers; pad = pad; trailer = trailer }
+
+-- with the scan's end, the starts found are the file's
+starts_are : (plan : PlanFields) (mcus : List Mcu) (pad : Bool) (bytes : List ℕ) (after most : ℕ)
+    → IsShape (shape_of plan) → Begins (shape_of plan) mcus pad bytes plan.header_length after
+    → 0 < min most plan.down
+    → record (found (reader_at (shape_of plan) bytes plan.header_length) (plan_cut plan most)
+    (plan_cut plan most).segments) { pad = pad; trailer = after }
+    ≡ starts_of plan mcus pad after most
+starts_are plan mcus pad bytes after most is begins some =
+    let cut = plan_cut plan most in
+    let first = reader_at (shape_of plan) bytes plan.header_length in
+    let at = λ (i : ℕ) (under : i < cut.segments). found_at plan mcus pad bytes after
+    (first_mcu cut i) is begins (start_within cut i refl (omega (arith, under)) some) in
+    let places : map (λ i. place_after first (first_mcu cut i)) (numbers 0 cut.segments)
+    ≡ map (λ i. plan.header_length + bytes_done (shape_of plan) (λ n. pad) mcus
+    (first_mcu cut i)) (numbers 0 cut.segments) =
+    map_alike _ _ cut.segments (λ i under. (at i under).place) in
+    let handovers : map (λ i. handover_after first (first_mcu cut i)) (numbers 0 cut.segments)
+    ≡ map (segment_start plan mcus pad most) (numbers 0 cut.segments) =
+    map_alike _ _ cut.segments (λ i under. (at i under).handover) in
+    ap₂ (λ (ps : List ℕ) (hs : List HandoverFields). starts_with
+    (map (row_of cut) (numbers 0 cut.segments)) ps hs pad after) places handovers
+
+pub are_starts : (bytes : List ℕ) (plan : PlanFields) (most : ℕ) (read : List (List (List ℤ)))
+    (end : Standing) → AllByRecursion IsByte bytes → Accepts bytes plan → 0 < most
+    → scan_at (shape_of plan) bytes plan.header_length ≡ Ok (read, end)
+    → AreStarts plan bytes most (record (found (reader_at (shape_of plan) bytes plan.header_length)
+    (plan_cut plan most) (plan_cut plan most).segments)
+    { pad = unwrap_or end.pad true; trailer = end.cursor.next })
+are_starts bytes plan most read end are accepts some scan =
+    let shape = (accepted_is_shape bytes plan are accepts).0 in
+    let has = accepted_has_plan bytes plan are accepts in
+    let told = spelled (shape_of plan) bytes plan.header_length read end shape are has.within
+    scan in
+    let high = has.is_plan.high in
+    record {
+      mcus = told.0;
+      file = record { header = accepts; scan = told.2 };
+      are = starts_are plan told.0 (unwrap_or end.pad true) bytes end.cursor.next most shape told.2
+          (omega (arith, high, some));
+    }

@@ -1,0 +1,128 @@
+-- A step of a decoder gives the next piece of its segment.
+use Rattle.std.proofs.Common.{◌≡◌, ℕ, ◌<◌, Bool, true, false, if◌then◌else◌, List, Err, refl, sym, ap, subst, ◌∙◌, arith, append-nil}
+use Rattle.std.specs.Prelude.{⊤}
+use Rattle.handover.specs.declared.outcome.Outcome.TheVariants.{Good, Bad}
+use Rattle.handover.specs.declared.outcome.StreamCause.{StreamCause}
+use Rattle.segment_meaning.specs.ScanStream.{starts}
+use Rattle.segment_meaning.specs.Segments.{SegmentFields, Progress, Output, stopped, with_prefix, ending}
+use Rattle.segment_meaning.specs.Pieces.{Made, SomeOf, AllOf, piece, next_piece}
+use Rattle.segment_code.specs.Decoding.{DecoderSeen, StandsAt, IsStep}
+use Rattle.segment_code.specs.DecodedPieces.{IsWithin, IsBegunPiece, IsFilled, IsEnd, goes_on}
+use Rattle.segment_code.specs.declared.step.Step.{Step}
+use Rattle.segment_code.specs.declared.step.Step.TheVariants.{More, Done, Fault}
+use Rattle.segment_code.proofs.PiecesFilled.{some_made, all_made}
+
+-- ---- where it stands
+
+-- a stream with a start
+pub within_it : (d : DecoderSeen) (s : SegmentFields) (left : ℕ) (at : Progress)
+    → StandsAt d s left at → d.started ≡ true → IsWithin d s left at
+within_it d s left at stands started = record {
+  running = stands.running;
+  within = stands.within;
+  suits = stands.suits;
+  number = stands.number;
+  still = stands.still;
+  next = stands.next;
+  shape = stands.shape;
+  pads = stands.pads;
+  spot = stands.spot;
+  padded = stands.padded;
+  unstopped = stands.unstopped;
+  started = started;
+  starts_is = sym stands.started ∙ started;
+  decoded = stands.decoded started;
+}
+
+still_stands : (d : DecoderSeen) (s : SegmentFields) (left : ℕ) (at : Progress)
+    → IsWithin d s left at → 0 < left → StandsAt d s left at
+still_stands d s left at is some = record {
+  running = is.running;
+  some = some;
+  within = is.within;
+  suits = is.suits;
+  number = is.number;
+  still = is.still;
+  next = is.next;
+  shape = is.shape;
+  pads = is.pads;
+  spot = is.spot;
+  padded = is.padded;
+  unstopped = is.unstopped;
+  started = is.started ∙ sym is.starts_is;
+  decoded = λ started. is.decoded;
+}
+
+by_start : (t : Bool) (a b : Made) → t ≡ true → (if t then a else b) ≡ a
+by_start true a b e = refl
+by_start false a b e = cc
+
+-- ---- what a step came to
+
+module _ (old : DecoderSeen) (s : SegmentFields) (left : ℕ) (at : Progress) (out : List ℕ)
+    (is : IsWithin old s left at) where
+  next_is : (made : Made) → piece left s at 0 ≡ made → made ≡ next_piece left s at
+  next_is made e = sym (by_start (starts s.stream) (piece left s at 0) _ is.starts_is ∙ e)
+
+  -- MCUs are left
+  pub more_step : (new : DecoderSeen) → IsBegunPiece s left at out new
+      → goes_on new.left out ≡ false → 0 < new.left
+      → IsStep More s (next_piece left s at) out new
+  more_step new begun off some =
+      let stands = begun.stands in
+      let still = stands.still in
+      subst (λ (made : Made). IsStep More s made out new)
+      (next_is (SomeOf out begun.left begun.now) (some_made s left at out new begun off some))
+      (refl, still_stands new s begun.left begun.now stands (omega (arith, still, some)))
+
+  ended : (step : Step) (output : Output) (new : DecoderSeen) → IsEnd step output
+      → new.running ≡ false → IsStep step s (AllOf (with_prefix out output)) out new
+  ended More output new end over = absurd end
+  ended (Done padded) output new end over = (
+    ap (with_prefix out) end
+        ∙ ap (λ (l : List ℕ). let p : Output = (l, Good padded) in p) (append-nil out),
+    over,
+  )
+  ended (Fault fault) output new end over = (
+    ap (with_prefix out) end
+        ∙ ap (λ (l : List ℕ). let p : Output = (l, Bad fault) in p) (append-nil out),
+    over,
+  )
+
+  -- where the last MCU was made
+  pub within_end : (new : DecoderSeen) (begun : IsBegunPiece s left at out new) → new.left ≡ 0
+      → IsWithin new s 0 begun.now
+  within_end new begun none =
+      let stands = begun.stands in
+      subst (λ (n : ℕ). IsWithin new s n begun.now) (sym stands.still ∙ none) stands
+
+  -- none are left
+  pub last_step : (step : Step) (new last : DecoderSeen) (begun : IsBegunPiece s left at out new)
+      → new.left ≡ 0 → IsEnd step (ending s begun.now) → last.running ≡ false
+      → IsStep step s (next_piece left s at) out last
+  last_step step new last begun none end over =
+      subst (λ (made : Made). IsStep step s made out last)
+      (next_is (AllOf (with_prefix out (ending s begun.now)))
+      (all_made s left at out new begun none))
+      (ended step (ending s begun.now) last end over)
+
+  -- bytes, and this cause
+  abbrev bad_output : List ℕ → ℕ → StreamCause → Output
+  bad_output bytes number cause = (bytes, Bad (record { segment = number; cause = cause }))
+
+  -- there is a cause why there are no more bytes
+  pub bad_step : (step : Step) (number : ℕ) (cause : StreamCause) (new : DecoderSeen)
+      → IsFilled {A = ⊤} (Err cause) s left at out new
+      → step ≡ Fault (record { segment = number; cause = cause }) → number ≡ old.number
+      → (last : DecoderSeen) → last.running ≡ false
+      → IsStep step s (next_piece left s at) out last
+  bad_step step number cause new filled e same last over =
+      let named = same ∙ is.number in
+      subst (λ (made : Made). IsStep step s made out last)
+      (next_is (AllOf (with_prefix out (stopped s cause))) filled)
+      (subst (λ (t : Step). IsStep t s (AllOf (with_prefix out (stopped s cause))) out last)
+      (sym e) (
+        ap (λ (l : List ℕ). bad_output l s.number cause) (append-nil out)
+            ∙ ap (λ (n : ℕ). bad_output out n cause) (sym named),
+        over,
+      ))

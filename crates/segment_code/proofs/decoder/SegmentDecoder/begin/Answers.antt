@@ -1,0 +1,61 @@
+use Rattle.std.proofs.Common.{refl, ap, subst, ◌∙◌}
+use Rattle.handover.specs.Handovers.{HandoverFields}
+use Rattle.segment_meaning.specs.Meanings.{segment_in}
+use Rattle.segment_meaning.specs.Segments.{SegmentFields, first_progress}
+use Rattle.segment_code.specs.Decoding.{StandsAt}
+use Rattle.segment_code.proofs.BoxSegments.{IsCounted, box_suits, counted_in, some_mcus, within_rows, starts_there, same_segment}
+use Rattle.segment_code.proofs.decoder.SegmentDecoder.begin.Goals as goal
+
+-- the segment that is begun
+is_counted : (c : goal.After-pad) → IsCounted c.args.self.now.plan c.args.view.now.parts c.args.segment c.row_of-row.result c.mcus_in-count.result
+is_counted c =
+    counted_in c.args.self.now.plan c.args.view.now.plan c.plan-plan.result.now c.args.view.now.parts
+    c.segments-segments.result c.args.segment c.row_of-row.result c.mcus_in-count.result
+    c.plan-plan.ensures.value c.requires.plan c.segments-segments.ensures.count c.plan-plan.ensures.sound
+    c.requires.segment c.row_of-row.ensures.value c.mcus_in-count.ensures.value
+    c.mcus_in-count.ensures.within
+
+pub begin_at-requires-clause-suits : goal.begin_at-requires-clause-suits
+begin_at-requires-clause-suits c =
+    let is = is_counted c in box_suits c.args.self.now.plan c.args.view.now.parts is.box
+
+pub begin_at-requires-clause-row : goal.begin_at-requires-clause-row
+begin_at-requires-clause-row c =
+    within_rows c.args.self.now.plan c.args.view.now.parts c.args.segment c.row_of-row.result
+    c.mcus_in-count.result (is_counted c)
+
+pub begin_at-requires-clause-restarts : goal.begin_at-requires-clause-restarts
+begin_at-requires-clause-restarts c =
+    ap (λ (h : HandoverFields). h.restarts) c.handover-handover.ensures
+    ∙ starts_there c.args.self.now.plan c.args.view.now.parts c.args.segment c.row_of-row.result
+    c.mcus_in-count.result (is_counted c)
+
+pub begin_at-requires-clause-some : goal.begin_at-requires-clause-some
+begin_at-requires-clause-some c =
+    some_mcus c.args.self.now.plan c.args.view.now.parts c.args.segment c.row_of-row.result
+    c.mcus_in-count.result (is_counted c)
+
+pub returns-clause-stands : goal.returns-clause-stands
+returns-clause-stands c =
+    let is =
+    counted_in c.args.self.now.plan c.args.view.now.plan c.plan-plan.result.now c.args.view.now.parts
+    c.segments-segments.result c.args.segment c.row_of-row.result c.mcus_in-count.result
+    c.plan-plan.ensures.value c.requires.plan c.segments-segments.ensures.count c.plan-plan.ensures.sound
+    c.requires.segment c.row_of-row.ensures.value c.mcus_in-count.ensures.value
+    c.mcus_in-count.ensures.within in
+    subst (λ (s : SegmentFields). StandsAt c.begin_at.new.self s s.count (first_progress s))
+    (same_segment c.args.self.now.plan c.args.view.now.parts c.args.segment c.row_of-row.result
+    c.mcus_in-count.result is c.stream-stream.result.now c.handover-handover.result
+    c.start_after-next.result c.pad.result c.stream-stream.ensures c.handover-handover.ensures
+    c.start_after-next.ensures c.pad.ensures) c.begin_at.ensures.stands
+
+pub returns-clause-owes : goal.returns-clause-owes
+returns-clause-owes c =
+    let s = segment_in c.args.self.now.plan c.args.view.now.parts c.args.segment in
+    record {
+      segment = s;
+      left = s.count;
+      at = first_progress s;
+      stands = returns-clause-stands c;
+      rest = refl;
+    }

@@ -1,0 +1,50 @@
+use Rattle.std.proofs.Common.{rules, ◌≡◌, ◌≤◌, ◌+◌, [], ◌∷◌, ◌++◌, length, map, ap, ◌∙◌, sym, arith}
+use Rattle.std.specs.Prelude.{Ok, Err, None}
+use Rattle.std.proofs.lemmas.Result.{err_from_is_err_and}
+use Rattle.scan_text.specs.ScanReading.{in_zigzag}
+use Rattle.scan_text.specs.Slots.{Shape}
+use Rattle.segment_code.proofs.ReadOn.{count_on, keeps, none_read, one_more, reads_on, refused_on}
+use Rattle.segment_code.proofs.find.read_mcus.Goals as goal
+
+pub next_mcu-requires-clause-more : goal.next_mcu-requires-clause-more
+next_mcu-requires-clause-more c =
+    let so = c.loop.invariant.read in
+    let count = count_on c.loop.counter c.args.reader.now c.loop.reader so.0 so.1 in
+    let total = ap (λ (s : Shape). s.mcus) (keeps c.args.reader.now c.loop.reader
+    so.1.same).shape in
+    omega (arith, count, total, c.requires.count, c.loop-test.true)
+
+pub loop-init : goal.loop-init
+loop-init c = record { long = c.requires.room; read = ([], none_read c.args.reader.now) }
+
+pub loop-preserved : goal.loop-preserved
+loop-preserved c =
+    let so = c.loop.invariant.read in
+    let stop : c.loop.reader.stop ≡ None = (keeps c.args.reader.now c.loop.reader so.1.same).stop
+    ∙ c.requires.start in
+    let read = reads_on c.loop.reader c.next_mcu.new.self (Ok c.in_ok-next_mcu.field-0)
+    c.next_mcu.new.out stop c.in_ok-next_mcu.ensures in
+    let same : length c.next_mcu.new.out ≡ length c.loop.blocks = search rules in
+    record {
+      long = same ∙ c.loop.invariant.long ∙ sym
+          (ap (λ (s : Shape). length s.slots)
+          (keeps c.loop.reader c.next_mcu.new.self read.1).shape);
+      read = (
+        so.0 ++ map in_zigzag c.next_mcu.new.out ∷ [],
+        one_more c.loop.counter c.args.reader.now c.loop.reader c.next_mcu.new.self so.0
+            (map in_zigzag c.next_mcu.new.out) so.1 read.0 read.1,
+      );
+    }
+
+pub returns-in_err-next_mcu-clause-refused : goal.returns-in_err-next_mcu-clause-refused
+returns-in_err-next_mcu-clause-refused c =
+    let so = c.loop.invariant.read in
+    let p = err_from_is_err_and c.from_residual.result c.from_residual.ensures.1 in
+    let stop : c.loop.reader.stop ≡ None = (keeps c.args.reader.now c.loop.reader so.1.same).stop
+    ∙ c.requires.start in
+    let read = reads_on c.loop.reader c.next_mcu.new.self (Err c.in_err-next_mcu.field-0.0)
+    c.next_mcu.new.out stop c.in_err-next_mcu.ensures in
+    let more : c.loop.counter + 1 ≤ c.args.mcus = omega (arith, c.loop-test.true) in
+    let all = refused_on c.loop.counter c.args.mcus c.args.reader.now c.loop.reader so.0
+    c.in_err-next_mcu.field-0.0 so.1 more read.0 in
+    rw (p.1, p.2) all

@@ -1,0 +1,32 @@
+-- What a decoder stands for, and what always holds of it (own).
+use Rattle.std.specs.Prelude.{◌≡◌, ◌+◌, ◌≤◌, length}
+use Rattle.coef_block.specs.TwoRows.{block_count}
+use Rattle.scan_text.specs.Slots.{shape_of}
+use Rattle.block_code.specs.BinBases.{bin_count}
+use Rattle.segment_meaning.specs.ScanStream.{grid_of}
+use Rattle.segment_code.specs.Decoding.{DecoderSeen}
+use Rattle.segment_code.specs.declared.decoder.SegmentDecoder.TheInside.{Inside}
+
+-- its fields
+abbrev pub decoder_of : Inside → DecoderSeen
+decoder_of d = record {
+  plan = d.plan;
+  begun = d.begun;
+  running = d.running;
+  number = d.number;
+  left = d.left;
+  next = d.next;
+  started = d.started;
+  coder = d.coder;
+  segment = d.segment;
+  writer = d.writer;
+}
+
+-- there are bins for all contexts, the rows are those of the plan's grid, and the writer writes its scan, whose MCUs
+-- have as many blocks, and of which no fewer are left than of the segment
+pub record IsDecoder (d : Inside) : Type 0 where
+  pub bins : bin_count ≤ length d.coder.bins
+  pub grid : d.segment.grid ≡ grid_of d.plan
+  pub shape : d.writer.shape ≡ shape_of d.plan
+  pub blocks : length d.writer.shape.slots ≡ block_count d.segment.grid.mcu
+  pub within : d.writer.spot.count + d.left ≤ d.writer.shape.mcus

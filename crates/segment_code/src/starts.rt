@@ -1,0 +1,123 @@
+// Where a file's segments start.
+ghost use Rattle.std.specs.Prelude.{◌≡◌, ◌+◌, ◌<◌, ◌++◌, List, [], ◌∷◌, true, length, get_or, OnOk};
+ghost use Rattle.handover.specs.Handovers.{start};
+ghost use Rattle.segment_code.specs.StartsInside.{no_starts, starts_more};
+
+use handover::Handover;
+use std::alloc::{AllocError, Global};
+use std::marker::Model;
+
+/// Where a file's segments start: of each its row of MCUs, the place of its first byte that the MCUs before don't
+/// complete, and its handover; and the file's pad bit and the place of its trailer.
+///
+/// Clauses see `StartsFields`.
+#[derive(Drop)]
+pub struct Starts {
+    rows: Vec<u32>,
+    places: Vec<usize>,
+    handovers: Vec<Handover>,
+    pad: bool,
+    trailer: usize,
+}
+
+impl Model for Starts {
+    ghost use Rattle.segment_meaning.specs.Files.{StartsFields};
+    ghost use Rattle.segment_code.specs.StartsInside.{starts_in, IsStarts};
+
+    ghost Value = { StartsFields };
+
+    ghost view = { starts_in };
+
+    ghost invariant = { IsStarts };
+}
+
+impl Starts {
+    /// Of no segment yet.
+    pub(crate) fn none(alloc: Global) -> Starts
+        ensures { result ≡ no_starts }
+    {
+        Starts {
+            rows: Vec::new(alloc),
+            places: Vec::new(alloc),
+            handovers: Vec::new(alloc),
+            pad: true,
+            trailer: 0,
+        }
+    }
+
+    /// Adds where the next segment starts. The one error is want of memory.
+    pub(crate) fn push(
+        &mut self,
+        row: u32,
+        place: usize,
+        handover: Handover,
+    ) -> Result<(), AllocError>
+        requires { length self.old.rows < 255 }
+        ensures { OnOk result (self.new ≡ starts_more self.old row place handover) }
+    {
+        self.handovers.push(handover)?;
+        self.places.push(place)?;
+        self.rows.push(row)?;
+        Ok(())
+    }
+
+    /// Sets the pad bit, and the place of the trailer.
+    pub(crate) fn end(&mut self, pad: bool, trailer: usize)
+        ensures { self.new ≡ record self.old { pad = pad; trailer = trailer } }
+    {
+        self.pad = pad;
+        self.trailer = trailer;
+    }
+
+    /// How many segments there are.
+    pub fn segments(&self) -> u8
+        ensures { result ≡ length self.now.rows }
+    {
+        self.rows.len() as u8
+    }
+
+    /// The row of MCUs that a segment starts with.
+    pub fn row(&self, segment: u8) -> u32
+        requires { segment < length self.now.rows }
+        ensures { result ≡ get_or self.now.rows segment 0 }
+    {
+        self.rows[usize::from(segment)]
+    }
+
+    /// The place of the first byte of a segment that the MCUs before it don't complete.
+    pub fn place(&self, segment: u8) -> usize
+        requires { segment < length self.now.rows }
+        ensures { result ≡ get_or self.now.places segment 0 }
+    {
+        self.places[usize::from(segment)]
+    }
+
+    /// What a segment starts from.
+    pub fn handover(&self, segment: u8) -> Handover
+        requires { segment < length self.now.rows }
+        ensures { result ≡ get_or self.now.handovers segment start }
+    {
+        self.handovers[usize::from(segment)]
+    }
+
+    /// What each segment starts from, in their order.
+    pub fn handovers(&self) -> &[Handover]
+        ensures { result.now ≡ self.now.handovers }
+    {
+        &self.handovers
+    }
+
+    /// The bit that fills up the last byte of each interval of the scan; 1 where no bit is padded.
+    pub fn pad(&self) -> bool
+        ensures { result ≡ self.now.pad }
+    {
+        self.pad
+    }
+
+    /// The place after the scan, where the file's trailer starts.
+    pub fn trailer(&self) -> usize
+        ensures { result ≡ self.now.trailer }
+    {
+        self.trailer
+    }
+}

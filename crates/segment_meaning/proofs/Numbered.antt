@@ -1,0 +1,56 @@
+-- Lists by the numbers of their items.
+use Rattle.std.proofs.Common.{◌≡◌, ℕ, zero, suc, ◌+◌, ◌<◌, ◌≤◌, List, [], ◌∷◌, length, map, get_or, refl, ap, ap₂, ◌∙◌, arith, Some, None}
+use Rattle.std.specs.Prelude.{slice_get}
+use Rattle.box_format.specs.Raws.{numbers}
+
+pub numbers_long : (from count : ℕ) → length (numbers from count) ≡ count
+numbers_long from zero = refl
+numbers_long from (suc count) = ap suc (numbers_long (from + 1) count)
+
+pub mapped_long : {A : Type 0} (f : ℕ → A) (from count : ℕ)
+    → length (map f (numbers from count)) ≡ count
+mapped_long f from zero = refl
+mapped_long f from (suc count) = ap suc (mapped_long f (from + 1) count)
+
+-- an item
+pub mapped_at : {A : Type 0} (f : ℕ → A) (from count k : ℕ) (d : A) → k < count
+    → get_or (map f (numbers from count)) k d ≡ f (from + k)
+mapped_at f from zero k d within = absurd (omega (arith, within))
+mapped_at f from (suc count) zero d within = let e : from ≡ from + 0 = omega arith in ap f e
+mapped_at f from (suc count) (suc k) d within =
+    let e : (from + 1) + k ≡ from + suc k = omega arith in
+    mapped_at f (from + 1) count k d (omega (arith, within)) ∙ ap f e
+
+-- a list of these items
+pub mapped_is : {A : Type 0} (f : ℕ → A) (xs : List A) (from : ℕ) (d : A)
+    → ((k : ℕ) → k < length xs → get_or xs k d ≡ f (from + k))
+    → xs ≡ map f (numbers from (length xs))
+mapped_is f [] from d each = refl
+mapped_is f (x ∷ xs) from d each =
+    let e : from + 0 ≡ from = omega arith in
+    ap₂ (λ (y : _) (ys : List _). y ∷ ys) (each 0 (omega arith) ∙ ap f e)
+    (mapped_is f xs (from + 1) d (λ k within.
+    let g : from + suc k ≡ (from + 1) + k = omega arith in
+    each (suc k) (omega (arith, within)) ∙ ap f g))
+
+-- an item that is there, or none
+pub got_at : {A : Type 0} (xs : List A) (k : ℕ) (d : A) → k < length xs
+    → slice_get xs k ≡ Some (get_or xs k d)
+got_at [] k d within = absurd (omega (arith, within))
+got_at (x ∷ xs) zero d within = refl
+got_at (x ∷ xs) (suc k) d within = got_at xs k d (omega (arith, within))
+
+pub got_none : {A : Type 0} (xs : List A) (k : ℕ) → length xs ≤ k → slice_get xs k ≡ None
+got_none [] k past = refl
+got_none (x ∷ xs) zero past = absurd (omega (arith, past))
+got_none (x ∷ xs) (suc k) past = got_none xs k (omega (arith, past))
+
+-- the same items of two functions
+pub mapped_same : {A : Type 0} (f g : ℕ → A) (from count : ℕ)
+    → ((k : ℕ) → from ≤ k → k < from + count → f k ≡ g k)
+    → map f (numbers from count) ≡ map g (numbers from count)
+mapped_same f g from zero same = refl
+mapped_same f g from (suc count) same =
+    ap₂ (λ (y : _) (ys : List _). y ∷ ys) (same from (omega arith) (omega arith))
+    (mapped_same f g (from + 1) count (λ k after within.
+    same k (omega (arith, after)) (omega (arith, within))))

@@ -1,0 +1,174 @@
+-- A file's container stands for the file.
+use Rattle.std.proofs.Common.{◌≡◌, ℕ, ◌+◌, ◌-◌, ◌<◌, Bool, true, false, if◌then◌else◌, List, [], ◌++◌, take, map, get_or, Ok, Some, inl, inr, refl, sym, ap, ap₂, subst, ◌∙◌, arith, append_assoc, zero-add}
+use Rattle.std.specs.Prelude.{slice_get, not, ◌&&◌}
+use Rattle.std.proofs.lemmas.Bool.{cases_lt}
+use Rattle.std.proofs.lemmas.List.{take_all}
+use Rattle.jpeg_marker.specs.Plans.{PlanFields}
+use Rattle.scan_text.specs.Slots.{Shape, shape_of}
+use Rattle.scan_text.specs.Spots.{Spot, first_spot, mcus_put, bytes_done, spot_at}
+use Rattle.scan_text.proofs.DoneBytes.{done_in_parts}
+use Rattle.handover.specs.Handovers.{HandoverFields, start}
+use Rattle.handover.specs.declared.outcome.Outcome.TheVariants.{Good}
+use Rattle.segment_text.specs.Cuts.{first_mcu}
+use Rattle.segment_text.specs.RowHandovers.{segment_bytes}
+use Rattle.segment_text.proofs.Slices.{joined_scan}
+use Rattle.box_format.specs.Parts.{BoxParts, cut_in}
+use Rattle.box_format.specs.Raws.{numbers}
+use Rattle.segment_meaning.specs.ScanStream.{grid_of, stream_of}
+use Rattle.segment_meaning.specs.Segments.{SegmentFields, segment_output}
+use Rattle.segment_meaning.specs.SegmentLaws.{IsNextStart, is_any_padded, segment_between}
+use Rattle.segment_meaning.specs.Files.{IsContainerOf, segment_mcus, segment_start, parts_of_file}
+use Rattle.segment_meaning.specs.Meanings.{Verdict, Restored, PadSpelled, outputs_of, joined, meaning_by, meaning_of}
+use Rattle.segment_meaning.specs.MeaningLaws.{ContainerIsRestored}
+use Rattle.segment_meaning.proofs.CutsOfPlans.{cut_within}
+use Rattle.segment_meaning.proofs.FileParts.{segments, cut, cuts, suits, file_is, box_is}
+use Rattle.segment_meaning.proofs.JoinedSegments.{good_join, joined_good}
+use Rattle.segment_meaning.proofs.Numbered.{mapped_long, mapped_at, got_at, got_none}
+use Rattle.segment_meaning.proofs.PaddedMcus.{padded_told}
+use Rattle.segment_meaning.proofs.PaddedSlices.{padded_all}
+use Rattle.segment_meaning.proofs.SlicesMeant.{slice_output, slice_padded}
+
+restored_by : (pad padded : Bool) → (padded ≡ false → pad ≡ true)
+    → (if not pad && not padded then PadSpelled else Restored) ≡ Restored
+restored_by true padded told = refl
+restored_by false true told = refl
+restored_by false false told = absurd (let e : false ≡ true = told refl in cc)
+
+-- segment i of n in a container, with this stream and start
+abbrev segment_with : PlanFields → BoxParts → ℕ → ℕ → List ℕ → HandoverFields → SegmentFields
+segment_with plan b n i stream start =
+    let cut = cut_in plan n in
+    record {
+      number = i;
+      shape = shape_of plan;
+      grid = grid_of plan;
+      pads = λ m. b.pad;
+      stream = stream;
+      start = start;
+      from = first_mcu cut i;
+      count = first_mcu cut (i + 1) - first_mcu cut i;
+      next = slice_get b.handovers (i + 1);
+    }
+
+-- with its own
+abbrev segment_at : PlanFields → BoxParts → ℕ → ℕ → SegmentFields
+segment_at plan b n i =
+    segment_with plan b n i (get_or b.streams i []) (get_or b.handovers i start)
+
+module _ (most : ℕ) (made file : List ℕ) (some : 0 < most) (is : IsContainerOf most made file) where
+  abbrev shape : Shape
+  shape = shape_of is.plan
+
+  abbrev pads : ℕ → Bool
+  pads n = is.pad
+
+  abbrev count : ℕ
+  count = segments most made file some is
+
+  abbrev d : ℕ → ℕ
+  d i = cut most made file some is i
+
+  abbrev box : BoxParts
+  box = parts_of_file is.plan is.mcus is.pad (take is.plan.header_length file) is.trailer most
+
+  abbrev handed : ℕ → HandoverFields
+  handed i = segment_start is.plan is.mcus is.pad most i
+
+  next_start : (i : ℕ) → IsNextStart shape pads is.mcus (d i) (slice_get box.handovers i)
+  next_start i =
+      let long = mapped_long handed 0 count in
+      elim (cases_lt i count) [
+        | inl within ↦ subst (IsNextStart shape pads is.mcus (d i))
+            (sym (got_at box.handovers i start (omega (arith, long, within))
+            ∙ ap (λ h. Some h) (mapped_at handed 0 count i start within ∙ ap handed (zero-add i))))
+            refl
+        | inr past ↦ subst (IsNextStart shape pads is.mcus (d i))
+            (sym (got_none box.handovers i (omega (arith, long, past)))) tt
+      ]
+
+  segment_is : (i : ℕ) → i < count
+      → segment_at is.plan box count i
+      ≡ segment_between shape (grid_of is.plan) pads is.mcus i (d i) (d (i + 1)) (handed i)
+      (slice_get box.handovers (i + 1))
+  segment_is i within =
+      let stream : ℕ → List ℕ = λ j. stream_of is.plan (segment_mcus is.plan is.mcus most j) in
+      ap₂ (λ (bytes : List ℕ) (h : HandoverFields).
+      segment_with is.plan box count i bytes h)
+      (mapped_at stream 0 count i [] within ∙ ap stream (zero-add i))
+      (mapped_at handed 0 count i start within ∙ ap handed (zero-add i))
+
+  output_is : (i : ℕ) → i < count
+      → segment_output (segment_at is.plan box count i)
+      ≡ (
+        segment_bytes shape pads is.mcus is.is.scan (d i) (d (i + 1)),
+        Good (slice_padded shape pads is.mcus (d i) (d (i + 1))),
+      )
+  output_is i within =
+      let cuts = cuts most made file some is in
+      ap segment_output (segment_is i within)
+      ∙ slice_output shape (grid_of is.plan) pads is.mcus is.is.scan i (d i) (d (i + 1))
+      (slice_get box.handovers (i + 1)) (suits most made file some is) is.is.is.grid is.is.is.text
+      (cuts.order i within) (cut_within d count shape.mcus (i + 1) cuts (omega (arith, within)))
+      (next_start (i + 1))
+
+  all_outputs : outputs_of is.plan box
+      ≡ map (λ i. segment_output (segment_at is.plan box count i)) (numbers 0 count)
+  all_outputs =
+      ap (λ n. map (λ i. segment_output (segment_at is.plan box n i)) (numbers 0 n))
+      (mapped_long handed 0 count)
+
+  all_joined : joined (outputs_of is.plan box)
+      ≡ good_join is.is.scan (is_any_padded shape pads first_spot is.mcus)
+  all_joined =
+      let cuts = cuts most made file some is in
+      let suits = suits most made file some is in
+      ap joined all_outputs
+      ∙ joined_good (λ i. segment_output (segment_at is.plan box count i))
+      (λ a b. segment_bytes shape pads is.mcus is.is.scan a b) d
+      (λ i. slice_padded shape pads is.mcus (d i) (d (i + 1))) count 0
+      (λ i after within. output_is i (omega (arith, within)))
+      ∙ ap₂ good_join
+      (joined_scan shape pads is.mcus is.is.scan d count suits.shape_is is.is.is.grid is.is.is.text
+      cuts.none cuts.whole cuts.order)
+      (padded_all shape pads is.mcus is.is.scan suits.shape_is is.is.is.grid is.is.is.text d count
+      cuts)
+
+  abbrev last : List ℕ × Spot
+  last = (
+    take (bytes_done shape pads is.mcus shape.mcus) is.is.scan,
+    spot_at shape pads is.mcus shape.mcus,
+  )
+
+  whole_put : mcus_put shape pads first_spot is.mcus ≡ Ok last
+  whole_put =
+      let long = is.is.is.grid.count in
+      let suits = suits most made file some is in
+      let parts =
+      done_in_parts shape pads is.mcus is.is.scan shape.mcus suits.shape_is is.is.is.grid
+      is.is.is.text in
+      ap (mcus_put shape pads first_spot) (sym (take_all shape.mcus is.mcus (omega (arith, long))))
+      ∙ parts.0
+
+  -- the pad bit is 1 where no segment padded a bit
+  pad_told : is_any_padded shape pads first_spot is.mcus ≡ false → is.pad ≡ true
+  pad_told none =
+      let tells = padded_told shape pads is.mcus last is.is.is.grid whole_put in
+      is.is.is.told (tells.1 none)
+
+  meaning_is : meaning_of is.plan box ≡ record { bytes = file; verdict = Restored }
+  unfolding meaning_of
+  meaning_is =
+      let header = take is.plan.header_length file in
+      let text : (header ++ is.is.scan) ++ is.trailer ≡ file =
+      append_assoc header is.is.scan is.trailer ∙ sym (file_is most made file some is) in
+      ap (λ all. meaning_by box all all.fault) all_joined
+      ∙ ap₂ (λ (bytes : List ℕ) (v : Verdict). record { bytes = bytes; verdict = v }) text
+      (restored_by is.pad (is_any_padded shape pads first_spot is.mcus) pad_told)
+
+pub container_is_restored : ContainerIsRestored
+container_is_restored most made file some sixteen is = inr (
+  is.plan,
+  parts_of_file is.plan is.mcus is.pad (take is.plan.header_length file) is.trailer most,
+  record { box = box_is most made file some is sixteen; text = is.spelled },
+  sym (meaning_is most made file some is),
+)

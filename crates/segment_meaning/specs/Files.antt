@@ -1,0 +1,78 @@
+-- The container of a file, and where its segments start (own; docs/FORMAT.md).
+use Rattle.std.specs.Prelude.{ℕ, ◌≡◌, ◌+◌, ◌<◌, ◌^◌, Bool, List, length, take, map}
+use Rattle.std.specs.List.{AllByRecursion}
+use Rattle.bit_list.specs.Bits.{IsByte}
+use Rattle.jpeg_marker.specs.Plans.{PlanFields}
+use Rattle.scan_text.specs.FileLaws.{IsFileOf}
+use Rattle.scan_text.specs.Slots.{shape_of}
+use Rattle.scan_text.specs.Scans.{Mcu}
+use Rattle.scan_text.specs.Spots.{bytes_done}
+use Rattle.handover.specs.Handovers.{HandoverFields}
+use Rattle.segment_text.specs.Cuts.{Cut, cut_of, first_mcu, row_of}
+use Rattle.segment_text.specs.RowHandovers.{handover_at, mcus_between}
+use Rattle.box_format.specs.Parts.{BoxParts, box_bytes}
+use Rattle.box_format.specs.Raws.{numbers}
+use Rattle.segment_meaning.specs.ScanStream.{stream_of}
+
+-- the cut of a plan's rows in at most `most` segments
+abbrev pub plan_cut : PlanFields → ℕ → Cut
+plan_cut plan most = cut_of plan.across plan.down most
+
+-- the MCUs of segment i
+abbrev pub segment_mcus : PlanFields → List Mcu → ℕ → ℕ → List Mcu
+segment_mcus plan mcus most i =
+    let cut = plan_cut plan most in mcus_between mcus (first_mcu cut i) (first_mcu cut (i + 1))
+
+-- what segment i starts from
+abbrev pub segment_start : PlanFields → List Mcu → Bool → ℕ → ℕ → HandoverFields
+segment_start plan mcus pad most i =
+    handover_at (shape_of plan) (λ n. pad) mcus (first_mcu (plan_cut plan most) i)
+
+-- the parts of a file's container with at most `most` segments
+abbrev pub parts_of_file : PlanFields → List Mcu → Bool → List ℕ → List ℕ → ℕ → BoxParts
+parts_of_file plan mcus pad header trailer most =
+    let segments = numbers 0 (plan_cut plan most).segments in
+    record {
+      pad = pad;
+      header = header;
+      trailer = trailer;
+      handovers = map (segment_start plan mcus pad most) segments;
+      streams = map (λ i. stream_of plan (segment_mcus plan mcus most i)) segments;
+    }
+
+-- `made` is the container of a file with at most `most` segments, by the plan of the file's header, its MCUs, its pad
+-- bit and its trailer; the lengths of header and trailer have fields of four bytes
+pub record IsContainerOf (most : ℕ) (made file : List ℕ) : Type 0 where
+  pub bytes : AllByRecursion IsByte file
+  pub plan : PlanFields
+  pub mcus : List Mcu
+  pub pad : Bool
+  pub trailer : List ℕ
+  pub is : IsFileOf file plan mcus pad trailer
+  pub header_fits : plan.header_length < 2 ^ 32
+  pub trailer_fits : length trailer < 2 ^ 32
+  pub spelled : made
+      ≡ box_bytes (parts_of_file plan mcus pad (take plan.header_length file) trailer most)
+
+-- where segments start: of each its row, the place of its first byte that the MCUs before don't complete, and its
+-- handover; the file's pad bit, and the place of its trailer
+pub record StartsFields : Type 0 where
+  pub rows : List ℕ
+  pub places : List ℕ
+  pub handovers : List HandoverFields
+  pub pad : Bool
+  pub trailer : ℕ
+
+-- the starts of a file's segments, of at most `most`, its trailer being at a place
+abbrev pub starts_of : PlanFields → List Mcu → Bool → ℕ → ℕ → StartsFields
+starts_of plan mcus pad trailer most =
+    let cut = plan_cut plan most in
+    let segments = numbers 0 cut.segments in
+    record {
+      rows = map (row_of cut) segments;
+      places = map (λ i. plan.header_length
+          + bytes_done (shape_of plan) (λ n. pad) mcus (first_mcu cut i)) segments;
+      handovers = map (segment_start plan mcus pad most) segments;
+      pad = pad;
+      trailer = trailer;
+    }

@@ -1,0 +1,137 @@
+-- What holds of each segment (own).
+use Rattle.std.specs.Prelude.{ℕ, ◌≡◌, ◌-◌, ◌^◌, ◌<◌, ◌≤◌, All, IfSome, Bool, false, ◌||◌, List, [], ◌∷◌, ◌++◌, length, Option, Some, None, Ok}
+use Rattle.std.specs.List.{AllByRecursion}
+use Rattle.coef_block.specs.Block.{IsDc}
+use Rattle.coef_block.specs.TwoRows.{block_count}
+use Rattle.scan_text.specs.Blocks.{blocks_text}
+use Rattle.scan_text.specs.Slots.{Shape}
+use Rattle.scan_text.specs.Scans.{Mcu, IsMcu, AreMcus, scan_bytes}
+use Rattle.scan_text.specs.ScanCalls.{is_padded}
+use Rattle.scan_text.specs.Spots.{Spot, mcu_put, mcus_put, spot_in}
+use Rattle.scan_text.specs.ScanLaws.{IsShape}
+use Rattle.handover.specs.Handovers.{HandoverFields, IsHandover}
+use Rattle.handover.specs.declared.outcome.Outcome.TheVariants.{Good}
+use Rattle.segment_text.specs.RowHandovers.{handover_of, handover_at, segment_bytes, mcus_between}
+use Rattle.block_events.specs.Grid.{Grid, IsGrid}
+use Rattle.block_reading.specs.ReadingLaws.{HaveGiven}
+use Rattle.segment_meaning.specs.ScanStream.{blocks_of, blocks_stream}
+use Rattle.segment_meaning.specs.Segments.{SegmentFields, Progress, with_prefix, ending, mcus_output, rest_output, segment_output}
+use Rattle.segment_meaning.specs.Pieces.{SomeOf, piece, next_piece, output_after}
+
+-- whether a bit is padded after one of the MCUs from a spot on
+abbrev pub is_any_padded : Shape → (ℕ → Bool) → Spot → List Mcu → Bool
+is_any_padded shape pads spot [] = false
+is_any_padded shape pads spot (mcu ∷ mcus) =
+    is_padded shape spot (blocks_text shape.slots spot.before mcu)
+    || is_any_padded shape pads (spot_in (mcu_put shape pads spot mcu)) mcus
+
+-- after these MCUs
+abbrev pub progress_through : SegmentFields → Progress → List Mcu → Spot → Progress
+progress_through s at mcus end = record {
+  blocks = at.blocks ++ blocks_of mcus;
+  spot = end;
+  padded = at.padded || is_any_padded s.shape s.pads at.spot mcus;
+}
+
+-- MCUs whose blocks the stream gives, and that can be put, are read and put
+abbrev pub McusArePut : Type 0
+McusArePut =
+    (s : SegmentFields) (at : Progress) (mcus : List Mcu) (bytes : List ℕ) (end : Spot)
+    → HaveGiven s.grid s.stream (at.blocks ++ blocks_of mcus)
+    → AllByRecursion (IsMcu s.shape.slots) mcus
+    → mcus_put s.shape s.pads at.spot mcus ≡ Ok (bytes, end)
+    → mcus_output (length mcus) s at
+    ≡ with_prefix bytes (ending s (progress_through s at mcus end))
+
+-- however a segment is cut into pieces, they are its bytes
+abbrev pub PieceIsPrefix : Type 0
+PieceIsPrefix =
+    (left used : ℕ) (s : SegmentFields) (at : Progress)
+    → mcus_output left s at ≡ output_after s (piece left s at used)
+
+-- the next piece and what is left after it are what was left before
+abbrev pub NextPieceIsPrefix : Type 0
+NextPieceIsPrefix =
+    (left : ℕ) (s : SegmentFields) (at : Progress)
+    → rest_output left s at ≡ output_after s (next_piece left s at)
+
+-- and fewer MCUs are left after it
+abbrev pub PieceHasAnMcu : Type 0
+PieceHasAnMcu =
+    (left more : ℕ) (s : SegmentFields) (at next : Progress) (bytes : List ℕ)
+    → next_piece left s at ≡ SomeOf bytes more next → more < left
+
+-- a segment of these MCUs, from one to before another
+abbrev pub segment_between : Shape → Grid → (ℕ → Bool) → List Mcu → ℕ → ℕ → ℕ
+    → HandoverFields → Option HandoverFields → SegmentFields
+segment_between shape grid pads mcus number from to start next = record {
+  number = number;
+  shape = shape;
+  grid = grid;
+  pads = pads;
+  stream = blocks_stream grid (blocks_of (mcus_between mcus from to));
+  start = start;
+  from = from;
+  count = to - from;
+  next = next;
+}
+
+-- what the next segment starts from, if there is one, is what is handed over there
+abbrev pub IsNextStart : Shape → (ℕ → Bool) → List Mcu → ℕ → Option HandoverFields → Type 0
+IsNextStart shape pads mcus to None = Unit {0}
+IsNextStart shape pads mcus to (Some kept) = kept ≡ handover_at shape pads mcus to
+
+-- a grid for the blocks of a shape's MCUs
+pub record Suits (shape : Shape) (grid : Grid) : Type 0 where
+  pub shape_is : IsShape shape
+  pub grid_is : IsGrid grid
+  pub blocks : length shape.slots ≡ block_count grid.mcu
+
+-- a segment of a scan stands for its slice of the scan, and ends well
+abbrev pub SegmentIsItsSlice : Type 0
+SegmentIsItsSlice =
+    (shape : Shape) (grid : Grid) (pads : ℕ → Bool) (mcus : List Mcu) (scan : List ℕ)
+    (number from to : ℕ) (next : Option HandoverFields) → Suits shape grid
+    → AreMcus shape mcus → scan_bytes shape pads mcus ≡ Ok scan → from ≤ to → to ≤ shape.mcus
+    → IsNextStart shape pads mcus to next
+    → (padded : Bool)
+    × (segment_output (segment_between shape grid pads mcus number from to
+    (handover_at shape pads mcus from) next)
+    ≡ (segment_bytes shape pads mcus scan from to, Good padded))
+
+-- what is kept for the next segment is what was reached
+abbrev pub Meets : HandoverFields → Option HandoverFields → Type 0
+Meets found None = Unit {0}
+Meets found (Some kept) = found ≡ kept
+
+-- MCUs that were read and put, whose blocks have the whole stream
+pub record IsGood (s : SegmentFields) (at : Progress) (left : ℕ) (bytes : List ℕ) : Type 0 where
+  pub mcus : List Mcu
+  pub end : Spot
+  pub long : length mcus ≡ left
+  pub each : AllByRecursion (IsMcu s.shape.slots) mcus
+  pub text : mcus_put s.shape s.pads at.spot mcus ≡ Ok (bytes, end)
+  pub stream : blocks_stream s.grid (at.blocks ++ blocks_of mcus) ≡ s.stream
+  pub seam : Meets (handover_of s.shape end) s.next
+
+-- a spot that can be handed over: less than a byte is begun, and its DCs are those of blocks
+pub record IsSpot (spot : Spot) : Type 0 where
+  pub few : length spot.begun < 8
+  pub dcs : All IsDc spot.before
+  pub four : length spot.before ≡ 4
+
+-- a segment whose end and the next one's start are told apart by their bytes: fewer markers than have a field of four
+-- bytes, and what the next one starts from is a handover
+pub record CanMeet (s : SegmentFields) : Type 0 where
+  pub few : s.shape.mcus ≤ 2 ^ 32
+  pub next : IfSome s.next IsHandover
+
+-- a segment that ends well has MCUs that were read and put, whose blocks have the whole stream; a bit was padded where
+-- one of them has pad bits
+abbrev pub GoodHasItsStream : Type 0
+GoodHasItsStream =
+    (s : SegmentFields) (at : Progress) (left : ℕ) (bytes : List ℕ) (padded : Bool)
+    → CanMeet s → IsSpot at.spot → HaveGiven s.grid s.stream at.blocks
+    → mcus_output left s at ≡ (bytes, Good padded)
+    → (good : IsGood s at left bytes)
+    × (padded ≡ at.padded || is_any_padded s.shape s.pads at.spot good.mcus)

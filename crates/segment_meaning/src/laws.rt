@@ -1,0 +1,40 @@
+// What holds of all segments, containers and files.
+ghost use Rattle.segment_meaning.specs.SegmentLaws.{PieceIsPrefix, NextPieceIsPrefix, PieceHasAnMcu, McusArePut, SegmentIsItsSlice, GoodHasItsStream};
+ghost use Rattle.segment_meaning.specs.MeaningLaws.{OneMeaning, ContainerIsRestored, RestoredIsContainer, OneContainer, ContainerIsShort};
+ghost use Rattle.segment_meaning.specs.MeaningRows.{zeros_are_put, pieces_are_made, faults_are_told, containers_are_joined, pad_is_spelled};
+
+/// However a segment is cut into pieces, they are its bytes, and fewer MCUs are left after each.
+pub fn segments_come_in_pieces()
+    ensures prefix { PieceIsPrefix }
+    ensures next { NextPieceIsPrefix }
+    ensures fewer { PieceHasAnMcu }
+{}
+
+/// MCUs that a stream gives are put, and so a segment of a scan stands for its slice of the scan.
+pub fn segments_are_slices()
+    ensures put { McusArePut }
+    ensures slice { SegmentIsItsSlice }
+{}
+
+/// A segment that ends well has MCUs with its bytes, and their stream is the whole of its stream.
+pub fn good_segments_have_their_stream()
+    ensures { GoodHasItsStream }
+{}
+
+/// Bytes stand for one thing. A file's container stands for that file, and what stands for a file is its container.
+pub fn containers_stand_for_files()
+    ensures one_meaning { OneMeaning }
+    ensures restored { ContainerIsRestored }
+    ensures spelling { RestoredIsContainer }
+    ensures one_container { OneContainer }
+    ensures short { ContainerIsShort }
+{}
+
+/// The definitions computed on worked segments and containers.
+pub fn rows_of_meanings()
+    ensures zeros { zeros_are_put }
+    ensures pieces { pieces_are_made }
+    ensures faults { faults_are_told }
+    ensures containers { containers_are_joined }
+    ensures pads { pad_is_spelled }
+{}

@@ -1,0 +1,16 @@
+//! What a container stands for: the bytes of a file and how decoding ends, for any bytes whatever (this project's own).
+//!
+//!     streams  --blocks, one after another-->  MCUs  --written from a handover-->  bytes of the scan
+//!     segment  its bytes S, and its outcome O: good, or the first fault
+//!     meaning  header, S 0, S 1, .. and trailer; or all up to the first fault
+//!
+//! These are definitions as functions of the container alone, with their laws: a file's container stands for that file, and
+//! what stands for a file is its container.
+#![tactic(auto)]
+
+mod laws;
+
+pub use laws::{
+    containers_stand_for_files, good_segments_have_their_stream, rows_of_meanings,
+    segments_are_slices, segments_come_in_pieces,
+};

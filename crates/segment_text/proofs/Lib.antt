@@ -1,0 +1,13 @@
+pub mod PartialBytes
+pub mod SpotsBegun
+pub mod Slices
+pub mod BitsOn
+pub mod UnitsBegun
+pub mod BegunHandedOver
+pub mod ScanBytes
+pub mod CursorsAlike
+pub mod McusAlike
+pub mod McusAfter
+pub mod McuOn
+pub mod FirstsRead
+pub mod SegmentsRead
