@@ -52,11 +52,12 @@ module _ {C : Type 0} where
       HasTold emitter_after old new kind amount seen × (seen.cur ≡ old.view.cur)
 
   -- claim, for so many segments: Segment where the board isn't stopped and one is left, NoneLeft where it isn't stopped
-  -- and none is, Stopped where it is
+  -- and none is, Stopped where it is; a seat has claimed no more segments than were claimed at all
   abbrev pub ClaimGives : ℕ → SeatValue C WorkerView → SeatValue C WorkerView → Claim → Type 0
   ClaimGives count old new (Segment i) =
       (seen : Seen) × WorkerTold old new claim_kind 0 seen
       × (seen.stopped ≡ false) × (seen.next < count) × (i ≡ seen.next)
+      × (new.claims ≤ i + 1)
   ClaimGives count old new NoneLeft =
       (seen : Seen) × WorkerTold old new over_kind 0 seen
       × (seen.stopped ≡ false) × (seen.next ≡ count)
@@ -117,6 +118,7 @@ module _ {C : Type 0} where
   OwnGives count old new (Mine i) =
       (seen : Seen) × EmitterTold old new claim_kind 0 seen
       × (seen.next ≡ seen.cur) × (seen.cur < count) × (i ≡ seen.cur) × (old.view.taken ≡ 0)
+      × (new.claims ≤ i + 1)
   OwnGives count old new Other =
       (seen : Seen) × EmitterTold old new nothing_kind 0 seen
       × ((seen.next ≢ seen.cur) ⊎ (seen.cur ≡ count))

@@ -62,7 +62,8 @@ value_of d (Err e) = d
 abbrev here : SegmentFields → Progress → Mcu → Bool
 here s at mcu = is_padded s.shape at.spot (blocks_text s.shape.slots at.spot.before mcu)
 
-record Stepped (s : SegmentFields) (at : Progress) (bytes : List ℕ) (next : Progress) : Type 0 where
+pub record Stepped (s : SegmentFields) (at : Progress) (bytes : List ℕ)
+    (next : Progress) : Type 0 where
   pub mcu : Mcu
   pub spot : Spot
   pub is : IsMcu s.shape.slots mcu
@@ -74,7 +75,7 @@ last_are : (xs ys : List (List ℤ)) → AllByRecursion IsBlock (xs ++ ys) → A
 last_are [] ys all = all
 last_are (x ∷ xs) ys all = last_are xs ys all.1
 
-stepped : (s : SegmentFields) (at : Progress) (bytes : List ℕ) (next : Progress)
+pub stepped : (s : SegmentFields) (at : Progress) (bytes : List ℕ) (next : Progress)
     → HaveGiven s.grid s.stream at.blocks → mcu_step s at ≡ Ok (bytes, next)
     → Stepped s at bytes next
 unfolding mcu_step value_of

@@ -23,3 +23,4 @@ pub mod ReachedSegments
 pub mod ChainedSegments
 pub mod RestoredMeanings
 pub mod FilesOfContainers
+pub mod ShortSegments

@@ -44,7 +44,7 @@ started true s output bytes padded e = e
 started false s output bytes padded e = absurd (let f = ap (λ (o : Output). o.1) e in cc)
 
 -- nothing was given yet
-none_given : (g : Grid) (bytes : List ℕ) → IsGrid g → HaveGiven g bytes []
+pub none_given : (g : Grid) (bytes : List ℕ) → IsGrid g → HaveGiven g bytes []
 unfolding segment_events
 none_given g bytes is = record { grid = is; each = tt; reading = refl }
 

@@ -1,6 +1,6 @@
 // What holds of all segments, containers and files.
 ghost use Rattle.segment_meaning.specs.SegmentLaws.{PieceIsPrefix, NextPieceIsPrefix, PieceHasAnMcu, McusArePut, SegmentIsItsSlice, GoodHasItsStream};
-ghost use Rattle.segment_meaning.specs.MeaningLaws.{OneMeaning, ContainerIsRestored, RestoredIsContainer, OneContainer, ContainerIsShort};
+ghost use Rattle.segment_meaning.specs.MeaningLaws.{OneMeaning, ContainerIsRestored, RestoredIsContainer, OneContainer, ContainerIsShort, SegmentIsShort};
 ghost use Rattle.segment_meaning.specs.MeaningRows.{zeros_are_put, pieces_are_made, faults_are_told, containers_are_joined, pad_is_spelled};
 
 /// However a segment is cut into pieces, they are its bytes, and fewer MCUs are left after each.
@@ -28,6 +28,11 @@ pub fn containers_stand_for_files()
     ensures spelling { RestoredIsContainer }
     ensures one_container { OneContainer }
     ensures short { ContainerIsShort }
+{}
+
+/// Whatever its stream, a segment of a container has fewer bytes than 64 bits count.
+pub fn segments_are_short()
+    ensures { SegmentIsShort }
 {}
 
 /// The definitions computed on worked segments and containers.

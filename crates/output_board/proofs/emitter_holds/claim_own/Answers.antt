@@ -100,4 +100,5 @@ returns-clause-answer g c =
           omega arith),
       refl,
       none_taken g.C.Content.bytes g.C.Content.outcomes _ _ _ _ k.fitted k.at _ role same,
+      search rules,
     )

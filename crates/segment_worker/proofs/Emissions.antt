@@ -1,0 +1,390 @@
+-- What an emitter has written, call by call.
+use Rattle.std.proofs.Common.{◌≡◌, ℕ, zero, suc, ◌+◌, ◌-◌, ◌*◌, ◌^◌, ◌<◌, ◌≤◌, Bool, true, false, List, [], ◌∷◌, ◌++◌, length, map, take, drop, refl, sym, ap, ap₂, subst, ◌∙◌, arith, append_assoc, append-nil, length-append, Option, Some, None, Result, Ok, Err}
+use Rattle.std.specs.Prelude.{◌||◌, slice_get}
+use lib.Seq.{take-append-le, length-take-le, take_all, take-add}
+use lib.ListN.{take-append-drop, length-drop}
+use Rattle.atomic_table.specs.Seated.{TableId}
+use Rattle.handover.specs.declared.outcome.Outcome.{Outcome}
+use Rattle.handover.specs.declared.outcome.Outcome.TheVariants.{Good, Bad}
+use Rattle.handover.specs.declared.outcome.StreamFault.{StreamFault}
+use Rattle.board_core.specs.BoardInvariants.{bytes_at}
+use Rattle.box_format.specs.Raws.{numbers}
+use Rattle.box_format.specs.Seen.{BoxSeen}
+use Rattle.segment_meaning.specs.Segments.{Output, segment_output}
+use Rattle.segment_meaning.specs.Meanings.{Joined, joined, joined_with, segment_in}
+use Rattle.segment_code.specs.Decoding.{DecoderSeen}
+use Rattle.output_board.specs.declared.view.EmitterView.{EmitterView}
+use Rattle.output_board.specs.declared.answers.Take.{Take}
+use Rattle.output_board.specs.declared.answers.Take.TheVariants.{Bytes, Ended, Unclaimed, NotYet, Over}
+use Rattle.output_board.specs.Seats.{SeatValue, HasHeldOnce}
+use Rattle.output_board.specs.Answers.{TakeGives, StopGives}
+use Rattle.segment_worker.specs.declared.ending.Emitted.{Emitted}
+use Rattle.segment_worker.specs.declared.ending.EmitStop.TheVariants.{WriteFault, Fault}
+use Rattle.segment_worker.specs.Contents.{segments_bytes, segments_outcomes, segment_room, AreShort}
+use Rattle.segment_worker.specs.Written.{HasWritten, HasFailed}
+use Rattle.segment_worker.specs.Joining.{joined_from, joined_onto}
+use Rattle.segment_worker.specs.Emitting.{joined_in, IsNewEmitter, IsUsedEmitter, IsThrough, Emits, IsWrittenTo, IsEmitting}
+use Rattle.segment_worker.specs.OwnSegments.{own_rest, OwnEnds}
+use Rattle.segment_worker.proofs.Tails.{some_left, past_end, front}
+use Rattle.segment_worker.proofs.ContentsTold.{output_of, bytes_of, bytes_long, outcome_of, outcome_within, bytes_within}
+use Rattle.segment_worker.proofs.SegmentsJoined.{good_next, bad_next, bytes_next}
+use Rattle.segment_worker.proofs.Writing.{written_none, written_later, failed_first, failed_later}
+
+or_false : (p : Bool) → p || false ≡ p
+or_false true = refl
+or_false false = refl
+
+some_same : {A : Type 0} (a b : A) → ◌≡◌ {A = Option A} (Some a) (Some b) → a ≡ b
+some_same a b e = cc
+
+module _ {Sink : Type 0} (held : Sink → Option (List ℕ)) (faults : Sink → ℕ)
+    (full : Sink → Type 0) (v : BoxSeen) where
+  -- by equal counts
+  pub moved : (cur now taken more : ℕ) (old new : Sink) (written : ℕ) (padded : Bool)
+      → now ≡ cur → more ≡ taken → IsWrittenTo held faults v cur taken old new written padded
+      → IsWrittenTo held faults v now more old new written padded
+  moved cur now taken more old new written padded e f w =
+      subst (λ (z : ℕ × ℕ). IsWrittenTo held faults v z.0 z.1 old new written padded)
+      (λ i. (sym e i, sym f i)) w
+
+  -- nothing yet
+  pub none_emitted : (sink : Sink) → IsWrittenTo held faults v 0 0 sink sink 0 false
+  none_emitted sink = record {
+    bytes = [];
+    all =
+        let e : length v.parts.handovers ≡ length v.parts.handovers - 0 = omega arith in
+        ap (λ (n : ℕ). joined (map (λ i. segment_output (segment_in v.plan v.parts i)) (numbers 0 n))) e;
+    has = written_none held faults full sink;
+    count = refl;
+    within = omega arith;
+    few = omega arith;
+    low = omega arith;
+  }
+
+  -- the next bytes of the segment
+  pub more_emitted : (cur taken n : ℕ) (old mid new : Sink) (written : ℕ) (padded : Bool)
+      → IsWrittenTo held faults v cur taken old mid written padded
+      → taken + n ≤ length (bytes_at (segments_bytes v) cur)
+      → HasWritten held faults mid new (take n (drop taken (bytes_at (segments_bytes v) cur)))
+      → IsWrittenTo held faults v cur (taken + n) old new (written + n) padded
+  more_emitted cur taken n old mid new written padded w within has =
+      let s = bytes_at (segments_bytes v) cur in record {
+        bytes = w.bytes;
+        all = w.all;
+        has = subst (HasWritten held faults old new)
+            (append_assoc w.bytes (take taken s) (take n (drop taken s))
+            ∙ ap (λ (l : List ℕ). w.bytes ++ l) (sym (take-add taken n s)))
+            (written_later held faults full old mid new _ _ w.has has);
+        count = let count = w.count in omega arith;
+        within = within;
+        few = w.few;
+        low = w.low;
+      }
+
+  -- the segment ended well
+  pub good_emitted : AreShort v → (cur taken : ℕ) (old new : Sink) (written : ℕ) (padded more : Bool)
+      → IsWrittenTo held faults v cur taken old new written padded
+      → taken ≡ length (bytes_at (segments_bytes v) cur)
+      → slice_get (segments_outcomes v) cur ≡ Some (Good more)
+      → IsWrittenTo held faults v (cur + 1) 0 old new written (padded || more)
+  good_emitted short cur taken old new written padded more w whole good =
+      let s = bytes_at (segments_bytes v) cur in
+      let under = outcome_within v cur (Good more) good in
+      let is = bytes_of v cur under in
+      let end : Good more ≡ (segment_output (segment_in v.plan v.parts cur)).1 =
+      some_same _ _ (sym good ∙ outcome_of v cur under) in
+      let all : take taken s ≡ s = take_all taken s (omega (arith, whole)) in record {
+        bytes = w.bytes ++ s;
+        all = good_next v.plan v.parts cur w.bytes padded more under w.all end
+            ∙ ap (λ (l : List ℕ). joined_onto (w.bytes ++ l) (padded || more)
+            (joined_from v.plan v.parts (cur + 1))) (sym is);
+        has = subst (HasWritten held faults old new)
+            (ap (λ (l : List ℕ). w.bytes ++ l) all ∙ sym (append-nil (w.bytes ++ s))) w.has;
+        count =
+            let count = w.count in let long = length-append w.bytes s in omega (arith, count, long, whole);
+        within = omega arith;
+        few =
+            let few = w.few in let long = length-append w.bytes s in let room = short cur in
+            omega (arith, few, long, room);
+        low = omega (arith, under);
+      }
+
+  -- the segment ended badly
+  pub bad_emitted : (cur taken : ℕ) (old new : Sink) (written : ℕ) (padded : Bool) (fault : StreamFault)
+      → IsWrittenTo held faults v cur taken old new written padded
+      → taken ≡ length (bytes_at (segments_bytes v) cur)
+      → slice_get (segments_outcomes v) cur ≡ Some (Bad fault)
+      → Emits held faults full old new (joined_in v) (Err (Fault fault))
+  bad_emitted cur taken old new written padded fault w whole bad =
+      let s = bytes_at (segments_bytes v) cur in
+      let under = outcome_within v cur (Bad fault) bad in
+      let end : Bad fault ≡ (segment_output (segment_in v.plan v.parts cur)).1 =
+      some_same _ _ (sym bad ∙ outcome_of v cur under) in
+      let next = bad_next v.plan v.parts cur w.bytes padded fault under w.all end in
+      let all : take taken s ≡ s = take_all taken s (omega (arith, whole)) in (
+        next.0,
+        subst (HasWritten held faults old new)
+            (ap (λ (l : List ℕ). w.bytes ++ l) (all ∙ bytes_of v cur under) ∙ sym next.1) w.has,
+      )
+
+  -- a write failed in the segment's next bytes
+  pub cut_short : (cur taken : ℕ) (old mid new : Sink) (written more : ℕ) (padded : Bool)
+      → IsWrittenTo held faults v cur taken old mid written padded
+      → HasFailed held faults full mid new (drop taken (bytes_at (segments_bytes v) cur)) more
+      → HasFailed held faults full old new (joined_in v).bytes (written + more)
+  cut_short cur taken old mid new written more padded w failed =
+      let s = bytes_at (segments_bytes v) cur in
+      let under = bytes_within v cur (taken + more) (some_left s taken more failed.short) in
+      let next = bytes_next v.plan v.parts cur w.bytes padded under w.all in
+      let parts : s ≡ take taken s ++ drop taken s = sym (take-append-drop taken s) in
+      let whole : (joined_in v).bytes ≡ (w.bytes ++ take taken s) ++ (drop taken s ++ next.0) =
+      next.1 ∙ ap (λ (l : List ℕ). w.bytes ++ (l ++ next.0)) (sym (bytes_of v cur under) ∙ parts)
+      ∙ ap (λ (l : List ℕ). w.bytes ++ l) (append_assoc (take taken s) (drop taken s) next.0)
+      ∙ sym (append_assoc w.bytes (take taken s) (drop taken s ++ next.0)) in
+      let count = w.count in
+      let long = length-append w.bytes (take taken s) in
+      let first = length-take-le taken s w.within in
+      failed_later held faults full old mid new (w.bytes ++ take taken s) (drop taken s) next.0
+      (joined_in v).bytes written more w.has failed whole (omega (arith, count, long, first))
+
+  -- all are emitted
+  pub all_emitted : (cur taken : ℕ) (old new : Sink) (written : ℕ) (padded : Bool)
+      → IsWrittenTo held faults v cur taken old new written padded
+      → cur ≡ length v.parts.handovers
+      → Emits held faults full old new (joined_in v) (Ok (record { bytes = written; padded = padded }))
+  all_emitted cur taken old new written padded w over =
+      let s = bytes_at (segments_bytes v) cur in
+      let long = bytes_long v in
+      let none : s ≡ [] = past_end (segments_bytes v) cur (omega (arith, long, over)) in
+      let left : length v.parts.handovers - cur ≡ 0 = omega (arith, over) in
+      let last : joined_in v ≡ joined_onto w.bytes padded (joined []) =
+      w.all ∙ ap (λ (n : ℕ). joined_onto w.bytes padded
+      (joined (map (λ i. segment_output (segment_in v.plan v.parts i)) (numbers cur n)))) left in
+      let within = w.within in
+      let count = w.count in
+      let empty = ap length none in
+      let whole = ap length (ap (λ (j : Joined). j.bytes) last) ∙ length-append w.bytes [] in (
+        ap (λ (j : Joined). j.fault) last,
+        omega (arith, count, within, empty, whole),
+        sym (ap (λ (j : Joined). j.padded) last ∙ or_false padded),
+        subst (HasWritten held faults old new)
+            (ap (λ (l : List ℕ). w.bytes ++ l)
+            (ap (take taken) none ∙ take_all taken [] (omega arith))
+            ∙ sym (ap (λ (j : Joined). j.bytes) last)) w.has,
+      )
+
+module _ {Sink : Type 0} (held : Sink → Option (List ℕ)) (faults : Sink → ℕ)
+    (full : Sink → Type 0) (table : TableId) (v : BoxSeen) where
+  -- before the first call
+  pub starts_emitting : (s : SeatValue BoxSeen EmitterView) (d : DecoderSeen) (sink : Sink)
+      → IsNewEmitter table v s d → IsEmitting held faults table v s d sink sink 0 false
+  starts_emitting s d sink n = record {
+    used = record {
+      own = n.own;
+      content = n.content;
+      plan = n.plan;
+      begun = n.begun ∙ sym n.claims;
+    };
+    free = n.free;
+    going = n.going;
+    so_far = moved held faults full v 0 s.view.cur 0 s.view.taken sink sink 0 false n.cur n.taken
+        (none_emitted held faults full v sink);
+  }
+
+  -- the seat after one hold that claims nothing
+  pub used_after : (s t : SeatValue BoxSeen EmitterView) (d : DecoderSeen) → IsUsedEmitter table v s d
+      → HasHeldOnce s t → t.claims ≡ s.claims → IsUsedEmitter table v t d
+  used_after s t d u h claims = record {
+    own = h.table ∙ u.own;
+    content = h.content ∙ u.content;
+    plan = u.plan;
+    begun = u.begun ∙ sym claims;
+  }
+
+  -- what a take gives, by the container
+  gives_in : (s t : SeatValue BoxSeen EmitterView) (before now : List ℕ) (answer : Take)
+      → s.content ≡ v
+      → TakeGives (segments_bytes s.content) (segments_outcomes s.content) s t before now answer
+      → TakeGives (segments_bytes v) (segments_outcomes v) s t before now answer
+  gives_in s t before now answer is give =
+      subst (λ (c : BoxSeen). TakeGives (segments_bytes c) (segments_outcomes c) s t before now answer)
+      is give
+
+  -- bytes were taken and written
+  pub bytes_taken : (s t : SeatValue BoxSeen EmitterView) (d : DecoderSeen) (old mid new : Sink)
+      (written n : ℕ) (padded : Bool) (before now : List ℕ)
+      → IsEmitting held faults table v s d old mid written padded → HasHeldOnce s t
+      → TakeGives (segments_bytes s.content) (segments_outcomes s.content) s t before now (Bytes n)
+      → length now ≡ length before → HasWritten held faults mid new (take n now)
+      → IsEmitting held faults table v t d old new (written + n) padded
+  bytes_taken s t d old mid new written n padded before now e h give same has =
+      let g = gives_in s t before now (Bytes n) e.used.content give in
+      let view : t.view ≡ record s.view { taken = s.view.taken + n } = g.1.0.view in
+      let xs = drop s.view.taken (bytes_at (segments_bytes v) s.view.cur) in
+      let least = g.3 in
+      let f = front xs before now n g.4 same (omega (arith, least)) in
+      let long = length-drop s.view.taken (bytes_at (segments_bytes v) s.view.cur) in
+      let few = f.1 in
+      let within = e.so_far.within in
+      record {
+        used = used_after s t d e.used h g.1.0.claims;
+        free = ap (λ (w : EmitterView). w.owns) view ∙ e.free;
+        going = ap (λ (w : EmitterView). w.stopped) view ∙ e.going;
+        so_far = moved held faults full v s.view.cur t.view.cur (s.view.taken + n) t.view.taken
+            old new (written + n) padded (ap (λ (w : EmitterView). w.cur) view)
+            (ap (λ (w : EmitterView). w.taken) view)
+            (more_emitted held faults full v s.view.cur s.view.taken n old mid new written padded
+            e.so_far (omega (arith, few, long, within))
+            (subst (HasWritten held faults mid new) f.0 has));
+      }
+
+  -- a write of bytes that were taken failed
+  pub taken_failed : (s t : SeatValue BoxSeen EmitterView) (d : DecoderSeen) (old mid new : Sink)
+      (written n more : ℕ) (padded : Bool) (before now : List ℕ)
+      → IsEmitting held faults table v s d old mid written padded
+      → TakeGives (segments_bytes s.content) (segments_outcomes s.content) s t before now (Bytes n)
+      → length now ≡ length before → HasFailed held faults full mid new (take n now) more
+      → HasFailed held faults full old new (joined_in v).bytes (written + more)
+  taken_failed s t d old mid new written n more padded before now e give same failed =
+      let g = gives_in s t before now (Bytes n) e.used.content give in
+      let xs = drop s.view.taken (bytes_at (segments_bytes v) s.view.cur) in
+      let least = g.3 in
+      let f = front xs before now n g.4 same (omega (arith, least)) in
+      cut_short held faults full v s.view.cur s.view.taken old mid new written more padded e.so_far
+      (failed_first held faults full mid new (take n xs) (drop n xs) xs more
+      (subst (λ (l : List ℕ). HasFailed held faults full mid new l more) f.0 failed)
+      (sym (take-append-drop n xs)))
+
+  -- the segment that is emitted ended well
+  pub good_taken : AreShort v → (s t : SeatValue BoxSeen EmitterView) (d : DecoderSeen)
+      (old new : Sink) (written : ℕ) (padded more : Bool) (outcome : Outcome)
+      (before now : List ℕ) → IsEmitting held faults table v s d old new written padded
+      → HasHeldOnce s t → outcome ≡ Good more
+      → TakeGives (segments_bytes s.content) (segments_outcomes s.content) s t before now (Ended outcome)
+      → IsEmitting held faults table v t d old new written (padded || more)
+  good_taken short s t d old new written padded more outcome before now e h is give =
+      let g = subst (λ (o : Outcome). TakeGives (segments_bytes v) (segments_outcomes v) s t before now (Ended o))
+      is (gives_in s t before now (Ended outcome) e.used.content give) in
+      let view : t.view ≡ record s.view { cur = s.view.cur + 1; taken = 0 } = g.1.0.view in
+      record {
+        used = used_after s t d e.used h g.1.0.claims;
+        free = ap (λ (w : EmitterView). w.owns) view ∙ e.free;
+        going = ap (λ (w : EmitterView). w.stopped) view ∙ e.going;
+        so_far = moved held faults full v (s.view.cur + 1) t.view.cur 0 t.view.taken
+            old new written (padded || more) (ap (λ (w : EmitterView). w.cur) view)
+            (ap (λ (w : EmitterView). w.taken) view)
+            (good_emitted held faults full v short s.view.cur s.view.taken old new written padded more
+            e.so_far g.6 g.5);
+      }
+
+  -- and badly
+  pub bad_taken : (s t : SeatValue BoxSeen EmitterView) (d : DecoderSeen) (old new : Sink)
+      (written : ℕ) (padded : Bool) (fault : StreamFault) (outcome : Outcome)
+      (before now : List ℕ) → IsEmitting held faults table v s d old new written padded
+      → outcome ≡ Bad fault
+      → TakeGives (segments_bytes s.content) (segments_outcomes s.content) s t before now (Ended outcome)
+      → Emits held faults full old new (joined_in v) (Err (Fault fault))
+  bad_taken s t d old new written padded fault outcome before now e is give =
+      let g = subst (λ (o : Outcome). TakeGives (segments_bytes v) (segments_outcomes v) s t before now (Ended o))
+      is (gives_in s t before now (Ended outcome) e.used.content give) in
+      bad_emitted held faults full v s.view.cur s.view.taken old new written padded fault e.so_far g.6 g.5
+
+  -- a take that gave nothing
+  pub same_emitted : (s t : SeatValue BoxSeen EmitterView) (d : DecoderSeen) (old new : Sink)
+      (written : ℕ) (padded : Bool) → IsEmitting held faults table v s d old new written padded
+      → HasHeldOnce s t → t.claims ≡ s.claims → t.view ≡ s.view
+      → IsEmitting held faults table v t d old new written padded
+  same_emitted s t d old new written padded e h claims view = record {
+    used = used_after s t d e.used h claims;
+    free = ap (λ (w : EmitterView). w.owns) view ∙ e.free;
+    going = ap (λ (w : EmitterView). w.stopped) view ∙ e.going;
+    so_far = moved held faults full v s.view.cur t.view.cur s.view.taken t.view.taken old new written
+        padded (ap (λ (w : EmitterView). w.cur) view) (ap (λ (w : EmitterView). w.taken) view) e.so_far;
+  }
+
+  -- a segment of the emitter's own
+  pub own_emitted : (s t : SeatValue BoxSeen EmitterView) (d later : DecoderSeen) (old mid new : Sink)
+      (written count : ℕ) (padded : Bool)
+      → IsEmitting held faults table v s d old mid written padded
+      → OwnEnds held faults full s t mid new (Ok count)
+      → t.table ≡ s.table → t.content ≡ s.content → later.begun ≡ t.claims → later.plan ≡ d.plan
+      → IsEmitting held faults table v t later old new (written + count) padded
+  own_emitted s t d later old mid new written count padded e own same content begun plan =
+      let view = own.2 in
+      let is : own_rest s ≡ drop s.view.taken (bytes_at (segments_bytes v) s.view.cur) =
+      ap (λ (c : BoxSeen). drop s.view.taken (bytes_at (segments_bytes c) s.view.cur)) e.used.content in
+      record {
+        used = record {
+          own = same ∙ e.used.own;
+          content = content ∙ e.used.content;
+          plan = plan ∙ e.used.plan;
+          begun = begun;
+        };
+        free = ap (λ (w : EmitterView). w.owns) view;
+        going = ap (λ (w : EmitterView). w.stopped) view ∙ e.going;
+        so_far = moved held faults full v s.view.cur t.view.cur (s.view.taken + count) t.view.taken
+            old new (written + count) padded (ap (λ (w : EmitterView). w.cur) view)
+            (ap (λ (w : EmitterView). w.taken) view)
+            (more_emitted held faults full v s.view.cur s.view.taken count old mid new written padded
+            e.so_far
+            (subst (λ (c : BoxSeen). s.view.taken + count ≤ length (bytes_at (segments_bytes c) s.view.cur))
+            e.used.content own.1)
+            (subst (λ (l : List ℕ). HasWritten held faults mid new (take count l)) is own.0));
+      }
+
+  -- in which a write failed
+  pub own_failed : (s t : SeatValue BoxSeen EmitterView) (d : DecoderSeen) (old mid new : Sink)
+      (written more : ℕ) (padded : Bool)
+      → IsEmitting held faults table v s d old mid written padded
+      → OwnEnds held faults full s t mid new (Err more)
+      → HasFailed held faults full old new (joined_in v).bytes (written + more)
+  own_failed s t d old mid new written more padded e own =
+      cut_short held faults full v s.view.cur s.view.taken old mid new written more padded e.so_far
+      (subst (λ (c : BoxSeen). HasFailed held faults full mid new
+      (drop s.view.taken (bytes_at (segments_bytes c) s.view.cur)) more) e.used.content own.0)
+
+  -- the next segment is emitted after a good one
+  pub good_cur : (s t : SeatValue BoxSeen EmitterView) (more : Bool) (outcome : Outcome)
+      (before now : List ℕ) → outcome ≡ Good more
+      → TakeGives (segments_bytes s.content) (segments_outcomes s.content) s t before now (Ended outcome)
+      → t.view.cur ≡ s.view.cur + 1
+  good_cur s t more outcome before now is give =
+      let g = subst (λ (o : Outcome). TakeGives (segments_bytes s.content) (segments_outcomes s.content) s t before now (Ended o))
+      is give in
+      ap (λ (w : EmitterView). w.cur) g.1.0.view
+
+  -- which is a segment of the container
+  pub good_within : (s t : SeatValue BoxSeen EmitterView) (more : Bool) (outcome : Outcome)
+      (before now : List ℕ) → s.content ≡ v → outcome ≡ Good more
+      → TakeGives (segments_bytes s.content) (segments_outcomes s.content) s t before now (Ended outcome)
+      → s.view.cur < length v.parts.handovers
+  good_within s t more outcome before now content is give =
+      let g = subst (λ (o : Outcome). TakeGives (segments_bytes v) (segments_outcomes v) s t before now (Ended o))
+      is (gives_in s t before now (Ended outcome) content give) in
+      outcome_within v s.view.cur (Good more) g.5
+
+joined_after : (bytes : List ℕ) (outcome : Outcome) (more : Joined)
+    → length (joined_with bytes outcome more).bytes ≤ length bytes + length more.bytes
+joined_after bytes (Good padded) more =
+    let long = length-append bytes more.bytes in omega (arith, long)
+joined_after bytes (Bad fault) more = omega arith
+
+joined_few : (f : ℕ → Output) (room from count : ℕ)
+    → ((i : ℕ) → from ≤ i → i < from + count → length (f i).0 ≤ room)
+    → length (joined (map f (numbers from count))).bytes ≤ room * count
+joined_few f room from zero each = omega arith
+joined_few f room from (suc count) each =
+    let more = joined_few f room (from + 1) count
+    (λ i low high. each i (omega (arith, low)) (omega (arith, high))) in
+    let first = each from (omega arith) (omega arith) in
+    let all = joined_after (f from).0 (f from).1 (joined (map f (numbers (from + 1) count))) in
+    omega (arith, more, first, all)
+
+-- all segments have few bytes
+pub few_joined : (v : BoxSeen) (count : ℕ) → AreShort v → length v.parts.handovers ≤ count
+    → length (joined_in v).bytes ≤ segment_room * count
+few_joined v count short few =
+    let all = joined_few (output_of v) segment_room 0 (length v.parts.handovers)
+    (λ i low high. subst (λ (xs : List ℕ). length xs ≤ segment_room)
+    (bytes_of v i (omega (arith, high))) (short i)) in
+    omega (arith, all, few)

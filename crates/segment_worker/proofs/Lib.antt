@@ -1,0 +1,8 @@
+pub mod Tails
+pub mod ContentsTold
+pub mod SegmentsJoined
+pub mod Writing
+pub mod Emissions
+pub mod OwnPieces
+pub mod Putting
+pub mod StreamsMade

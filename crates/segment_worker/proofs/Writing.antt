@@ -1,0 +1,58 @@
+-- Bytes that were written, one part after another.
+use Rattle.std.proofs.Common.{◌≡◌, ℕ, ◌+◌, ◌<◌, ◌≤◌, List, [], ◌++◌, length, take, refl, sym, ap, ap₂, subst, ◌∙◌, arith, append-nil, length-append, Option, Some, None, ◌⊎◌}
+use lib.Seq.{take-append-le, take-append-add}
+use Rattle.std.specs.Io.KnownBytes.{Appends}
+use Rattle.std.proofs.KnownBytes.{Appends-trans, Appends-nil}
+use Rattle.segment_worker.specs.Written.{HasWritten, HasFailed}
+
+-- the first bytes, and some of those that come next
+pub take_into : (first out more : List ℕ) (n : ℕ) → n ≤ length out
+    → take (length first + n) (first ++ (out ++ more)) ≡ first ++ take n out
+take_into first out more n few =
+    take-append-add first (out ++ more) n
+    ∙ ap (λ (l : List ℕ). first ++ l) (take-append-le n out more few)
+
+module _ {Sink : Type 0} (held : Sink → Option (List ℕ)) (faults : Sink → ℕ)
+    (full : Sink → Type 0) where
+  -- nothing was written
+  pub written_none : (sink : Sink) → HasWritten held faults sink sink []
+  written_none sink = record { appended = Appends-nil (held sink); unfailed = refl }
+
+  -- bytes, and then others
+  pub written_later : (old mid sink : Sink) (a b : List ℕ) → HasWritten held faults old mid a
+      → HasWritten held faults mid sink b → HasWritten held faults old sink (a ++ b)
+  written_later old mid sink a b p q = record {
+    appended = Appends-trans (held old) (held mid) (held sink) a b p.appended q.appended;
+    unfailed = q.unfailed ∙ p.unfailed;
+  }
+
+  -- a write failed in the first of some bytes
+  pub failed_first : (old sink : Sink) (first more bytes : List ℕ) (written : ℕ)
+      → HasFailed held faults full old sink first written → bytes ≡ first ++ more
+      → HasFailed held faults full old sink bytes written
+  failed_first old sink first more bytes written f e =
+      let short = f.short in
+      let long = ap length e ∙ length-append first more in
+      record {
+        rose = f.rose;
+        short = omega (arith, short, long);
+        appended = subst (Appends (held old) (held sink))
+            (sym (ap (take written) e ∙ take-append-le written first more (omega arith))) f.appended;
+      }
+
+  -- a write failed after the first of some bytes
+  pub failed_later : (old mid sink : Sink) (first out more bytes : List ℕ) (count written : ℕ)
+      → HasWritten held faults old mid first → HasFailed held faults full mid sink out written
+      → bytes ≡ first ++ (out ++ more) → count ≡ length first
+      → HasFailed held faults full old sink bytes (count + written)
+  failed_later old mid sink first out more bytes count written w f e n =
+      let short = f.short in
+      let long : length bytes ≡ length first + (length out + length more) =
+      ap length e ∙ length-append first (out ++ more) ∙ ap (λ (k : ℕ). length first + k) (length-append out more) in
+      record {
+        rose = subst (λ (k : ℕ). (k < faults sink) ⊎ full sink) w.unfailed f.rose;
+        short = omega (arith, short, long, n);
+        appended = subst (Appends (held old) (held sink))
+            (sym (ap₂ (λ (k : ℕ) (l : List ℕ). take (k + written) l) n e ∙ take_into first out more written (omega arith)))
+            (Appends-trans (held old) (held mid) (held sink) first (take written out) w.appended f.appended);
+      }

@@ -1,0 +1,17 @@
+use Rattle.std.proofs.Common.{◌≡◌, Some, true}
+use Rattle.segment_worker.specs.OwnSegments.{IsSameSeat, OwesRest}
+use Rattle.segment_worker.proofs.claimed.put_segment.Given as goal
+
+abbrev pub invariant-loop-step : goal.invariant-loop-step
+invariant-loop-step g l = record {
+  same : IsSameSeat l.initial.seat l.seat;
+  segment : l.seat.view.segment ≡ Some l.segment;
+  here : l.seat.view.left ≡ l.initial.seat.view.left;
+  running : l.decoder.running ≡ true;
+  owes : OwesRest l.initial.seat.content l.segment l.seat.view.put l.decoder;
+  begun : l.decoder.begun ≡ l.initial.decoder.begun;
+  plan : l.decoder.plan ≡ l.initial.decoder.plan;
+}
+
+abbrev pub decreases-loop-step : goal.decreases-loop-step
+decreases-loop-step g l = l.decoder.left

@@ -1,0 +1,37 @@
+use Rattle.std.proofs.Common.{◌≡◌, ◌<◌, ◌∙◌, sym, ap, subst, arith, ℕ, length}
+use Rattle.jpeg_marker.specs.Plans.{PlanFields}
+use Rattle.box_format.specs.Seen.{BoxSeen}
+use Rattle.segment_meaning.specs.Segments.{segment_output}
+use Rattle.segment_meaning.specs.Meanings.{segment_in}
+use Rattle.segment_code.specs.Decoding.{Owes}
+use Rattle.output_board.specs.declared.view.WorkerView.{WorkerView}
+use Rattle.segment_worker.specs.OwnSegments.{OwesRest}
+use Rattle.segment_worker.proofs.ContentsTold.{bytes_long}
+use Rattle.segment_worker.proofs.OwnPieces.{owes_all}
+use Rattle.segment_worker.proofs.worker.put_segments.Goals as goal
+
+pub begin-requires-clause-segment : goal.begin-requires-clause-segment
+begin-requires-clause-segment g c =
+    let a = c.in-Segment.ensures.answer in
+    let long = bytes_long c.loop.seat.content in
+    let same = ap (λ (v : BoxSeen). length v.parts.handovers) c.loop.invariant.content in
+    let under = a.3 in
+    let is = a.4 in
+    omega (arith, long, same, under, is)
+
+pub put_segment-requires-clause-owes : goal.put_segment-requires-clause-owes
+put_segment-requires-clause-owes g c =
+    let v = c.args.view.now in
+    let i = c.loop.invariant in
+    let a = c.in-Segment.ensures.answer in
+    let long = bytes_long c.loop.seat.content in
+    let same = ap (λ (v : BoxSeen). length v.parts.handovers) i.content in
+    let under = a.3 in
+    let is = a.4 in
+    let within : c.in-Segment.segment < length v.parts.handovers = omega (arith, long, same, under, is) in
+    let content = c.claim.ensures.hold.content ∙ i.content in
+    let none = ap (λ (w : WorkerView). w.put) a.1.view in
+    let owes = subst (λ (p : PlanFields). Owes c.begin.new.self (segment_output (segment_in p v.parts c.in-Segment.segment)).0 (segment_output (segment_in p v.parts c.in-Segment.segment)).1)
+    i.plan c.begin.ensures.owes in
+    subst (λ (z : BoxSeen). OwesRest z c.in-Segment.segment c.claim.new.seat.view.put c.begin.new.self) (sym content)
+    (owes_all v c.in-Segment.segment c.claim.new.seat.view.put c.begin.new.self within none owes)

@@ -1,0 +1,77 @@
+-- An emitter at work, and how it ends (own).
+use Rattle.std.specs.Prelude.{ℕ, ◌≡◌, ◌+◌, ◌*◌, ◌≤◌, Bool, true, false, List, ◌++◌, length, take, Option, Some, None, Result, Ok, Err}
+use Rattle.atomic_table.specs.Seated.{TableId}
+use Rattle.jpeg_marker.specs.Plans.{PlanFields}
+use Rattle.board_core.specs.BoardInvariants.{bytes_at}
+use Rattle.box_format.specs.Seen.{BoxSeen}
+use Rattle.segment_meaning.specs.Meanings.{Joined, joined, outputs_of}
+use Rattle.segment_code.specs.Decoding.{DecoderSeen}
+use Rattle.output_board.specs.declared.view.EmitterView.{EmitterView}
+use Rattle.output_board.specs.Seats.{SeatValue}
+use Rattle.segment_worker.specs.declared.ending.Emitted.{Emitted}
+use Rattle.segment_worker.specs.declared.ending.EmitStop.{EmitStop}
+use Rattle.segment_worker.specs.declared.ending.EmitStop.TheVariants.{WriteFault, Fault}
+use Rattle.segment_worker.specs.Contents.{segments_bytes, segment_room}
+use Rattle.segment_worker.specs.Joining.{joined_from, joined_onto}
+use Rattle.segment_worker.specs.Written.{HasWritten, HasFailed}
+
+-- a container's segments, joined
+abbrev pub joined_in : BoxSeen → Joined
+joined_in v = joined (outputs_of v.plan v.parts)
+
+-- the emitter's seat on a container's board, and its decoder, before the first call
+pub record IsNewEmitter (table : TableId) (v : BoxSeen) (seat : SeatValue BoxSeen EmitterView)
+    (decoder : DecoderSeen) : Type 0 where
+  pub own : seat.table ≡ table
+  pub content : seat.content ≡ v
+  pub cur : seat.view.cur ≡ 0
+  pub taken : seat.view.taken ≡ 0
+  pub free : seat.view.owns ≡ false
+  pub going : seat.view.stopped ≡ false
+  pub claims : seat.claims ≡ 0
+  pub plan : decoder.plan ≡ v.plan
+  pub begun : decoder.begun ≡ 0
+
+-- and after the last one: it is still the same board's, and the decoder began as many segments as the seat claimed
+pub record IsUsedEmitter (table : TableId) (v : BoxSeen) (seat : SeatValue BoxSeen EmitterView)
+    (decoder : DecoderSeen) : Type 0 where
+  pub own : seat.table ≡ table
+  pub content : seat.content ≡ v
+  pub plan : decoder.plan ≡ v.plan
+  pub begun : decoder.begun ≡ seat.claims
+
+-- its view says that all of so many segments are emitted, and the board isn't stopped
+pub record IsThrough (count : ℕ) (e : EmitterView) : Type 0 where
+  pub cur : e.cur ≡ count
+  pub going : e.stopped ≡ false
+
+module _ {Sink : Type 0} (held : Sink → Option (List ℕ)) (faults : Sink → ℕ)
+    (full : Sink → Type 0) where
+  -- how it ends: all segments, or all through the first bad one, or their first bytes
+  abbrev pub Emits : Sink → Sink → Joined → Result Emitted EmitStop → Type 0
+  Emits old new all (Ok emitted) =
+      (all.fault ≡ None) × (emitted.bytes ≡ length all.bytes) × (emitted.padded ≡ all.padded)
+      × HasWritten held faults old new all.bytes
+  Emits old new all (Err (Fault fault)) =
+      (all.fault ≡ Some fault) × HasWritten held faults old new all.bytes
+  Emits old new all (Err (WriteFault written)) = HasFailed held faults full old new all.bytes written
+
+-- the segments before one ended well, and they and the first `taken` bytes of that one are written
+pub record IsWrittenTo {Sink : Type 0} (held : Sink → Option (List ℕ)) (faults : Sink → ℕ)
+    (v : BoxSeen) (cur taken : ℕ) (old new : Sink) (written : ℕ) (padded : Bool) : Type 0 where
+  pub bytes : List ℕ
+  pub all : joined_in v ≡ joined_onto bytes padded (joined_from v.plan v.parts cur)
+  pub has : HasWritten held faults old new (bytes ++ take taken (bytes_at (segments_bytes v) cur))
+  pub count : written ≡ length bytes + taken
+  pub within : taken ≤ length (bytes_at (segments_bytes v) cur)
+  pub few : length bytes ≤ segment_room * cur
+  pub low : cur ≤ length v.parts.handovers
+
+-- between two calls
+pub record IsEmitting {Sink : Type 0} (held : Sink → Option (List ℕ)) (faults : Sink → ℕ)
+    (table : TableId) (v : BoxSeen) (seat : SeatValue BoxSeen EmitterView)
+    (decoder : DecoderSeen) (old new : Sink) (written : ℕ) (padded : Bool) : Type 0 where
+  pub used : IsUsedEmitter table v seat decoder
+  pub free : seat.view.owns ≡ false
+  pub going : seat.view.stopped ≡ false
+  pub so_far : IsWrittenTo held faults v seat.view.cur seat.view.taken old new written padded

@@ -1,0 +1,21 @@
+-- A container's segments joined, from one of them on (own).
+use Rattle.std.specs.Prelude.{ℕ, ◌-◌, Bool, ◌||◌, List, ◌++◌, length, map}
+use Rattle.jpeg_marker.specs.Plans.{PlanFields}
+use Rattle.box_format.specs.Parts.{BoxParts}
+use Rattle.box_format.specs.Raws.{numbers}
+use Rattle.segment_meaning.specs.Segments.{segment_output}
+use Rattle.segment_meaning.specs.Meanings.{Joined, joined, segment_in}
+
+-- the segments from the one with a number on, one after another
+abbrev pub joined_from : PlanFields → BoxParts → ℕ → Joined
+joined_from plan b i =
+    joined (map (λ n. segment_output (segment_in plan b n))
+    (numbers i (length b.handovers - i)))
+
+-- good segments with these bytes before others, of which one padded a bit or none
+abbrev pub joined_onto : List ℕ → Bool → Joined → Joined
+joined_onto bytes padded more = record {
+  bytes = bytes ++ more.bytes;
+  fault = more.fault;
+  padded = padded || more.padded;
+}

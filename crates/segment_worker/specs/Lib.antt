@@ -1,0 +1,6 @@
+pub mod Contents
+pub mod Written
+pub mod Joining
+pub mod Emitting
+pub mod OwnSegments
+pub mod Working

@@ -1,0 +1,53 @@
+-- A segment that its owner decodes (own).
+use Rattle.std.specs.Prelude.{ℕ, ◌≡◌, ◌+◌, ◌≤◌, true, false, List, length, take, drop, Option, Some, None, Result, Ok, Err, slice_get}
+use Rattle.handover.specs.declared.outcome.Outcome.{Outcome}
+use Rattle.board_core.specs.BoardInvariants.{bytes_at}
+use Rattle.box_format.specs.Seen.{BoxSeen}
+use Rattle.segment_code.specs.Decoding.{DecoderSeen, Owes}
+use Rattle.output_board.specs.declared.view.EmitterView.{EmitterView}
+use Rattle.output_board.specs.Seats.{SeatValue}
+use Rattle.segment_worker.specs.Contents.{segments_bytes, segments_outcomes}
+use Rattle.segment_worker.specs.Written.{HasWritten, HasFailed}
+
+-- a decoder owes the bytes of segment i of a container from one on, and its outcome
+pub record OwesRest (v : BoxSeen) (i from : ℕ) (d : DecoderSeen) : Type 0 where
+  pub bytes : List ℕ
+  pub outcome : Outcome
+  pub owes : Owes d bytes outcome
+  pub rest : drop from (bytes_at (segments_bytes v) i) ≡ bytes
+  pub within : from ≤ length (bytes_at (segments_bytes v) i)
+  pub end : slice_get (segments_outcomes v) i ≡ Some outcome
+
+-- two states of one seat
+pub record IsSameSeat {C V : Type 0} (old new : SeatValue C V) : Type 0 where
+  pub table : new.table ≡ old.table
+  pub content : new.content ≡ old.content
+  pub claims : new.claims ≡ old.claims
+
+-- a segment's bytes that its emitter hasn't taken
+abbrev pub own_rest : SeatValue BoxSeen EmitterView → List ℕ
+own_rest seat = drop seat.view.taken (bytes_at (segments_bytes seat.content) seat.view.cur)
+
+-- between two pieces of the emitter's own segment
+pub record IsPassing {Sink : Type 0} (held : Sink → Option (List ℕ)) (faults : Sink → ℕ)
+    (from now : SeatValue BoxSeen EmitterView) (begun d : DecoderSeen) (old new : Sink)
+    (written : ℕ) : Type 0 where
+  pub same : IsSameSeat from now
+  pub view : now.view ≡ record from.view { taken = from.view.taken + written }
+  pub running : d.running ≡ true
+  pub owes : OwesRest from.content from.view.cur (from.view.taken + written) d
+  pub has : HasWritten held faults old new (take written (own_rest from))
+  pub begun_is : d.begun ≡ begun.begun
+  pub plan : d.plan ≡ begun.plan
+
+-- bytes of the segment that is emitted were written, and the emitter owns none; or a write failed in them
+abbrev pub OwnEnds : {Sink : Type 0} → (Sink → Option (List ℕ)) → (Sink → ℕ) → (Sink → Type 0)
+    → SeatValue BoxSeen EmitterView → SeatValue BoxSeen EmitterView → Sink → Sink
+    → Result ℕ ℕ → Type 0
+OwnEnds held faults full from now old new (Ok written) =
+    HasWritten held faults old new (take written (own_rest from))
+    × (from.view.taken + written ≤ length (bytes_at (segments_bytes from.content) from.view.cur))
+    × (now.view ≡ record from.view { taken = from.view.taken + written; owns = false })
+OwnEnds held faults full from now old new (Err written) =
+    HasFailed held faults full old new (own_rest from) written
+    × (now.view.stopped ≡ from.view.stopped)

@@ -1,0 +1,37 @@
+-- A worker at work (own).
+use Rattle.std.specs.Prelude.{ℕ, ◌≡◌, true, false, None}
+use Rattle.atomic_table.specs.Seated.{TableId}
+use Rattle.box_format.specs.Seen.{BoxSeen}
+use Rattle.segment_code.specs.Decoding.{DecoderSeen}
+use Rattle.output_board.specs.declared.view.WorkerView.{WorkerView}
+use Rattle.output_board.specs.Seats.{SeatValue}
+
+-- a worker's seat on a container's board, and its decoder, between two segments: it owns nothing and hasn't left, and its
+-- decoder began as many segments as the seat claimed
+pub record IsIdle (table : TableId) (v : BoxSeen) (seat : SeatValue BoxSeen WorkerView)
+    (decoder : DecoderSeen) : Type 0 where
+  pub own : seat.table ≡ table
+  pub content : seat.content ≡ v
+  pub free : seat.view.segment ≡ None
+  pub here : seat.view.left ≡ false
+  pub plan : decoder.plan ≡ v.plan
+  pub begun : decoder.begun ≡ seat.claims
+
+-- nothing is left for it to do
+pub record IsOver (table : TableId) (v : BoxSeen) (seat : SeatValue BoxSeen WorkerView)
+    (decoder : DecoderSeen) : Type 0 where
+  pub own : seat.table ≡ table
+  pub content : seat.content ≡ v
+  pub over : seat.view.over ≡ true
+  pub here : seat.view.left ≡ false
+  pub plan : decoder.plan ≡ v.plan
+  pub begun : decoder.begun ≡ seat.claims
+
+-- it left
+pub record HasLeft (table : TableId) (v : BoxSeen) (seat : SeatValue BoxSeen WorkerView)
+    (decoder : DecoderSeen) : Type 0 where
+  pub own : seat.table ≡ table
+  pub content : seat.content ≡ v
+  pub left : seat.view.left ≡ true
+  pub plan : decoder.plan ≡ v.plan
+  pub begun : decoder.begun ≡ seat.claims

@@ -1,0 +1,47 @@
+// A segment that a worker claimed, decoded into its ring.
+ghost use Rattle.std.specs.Prelude.{◌≡◌, Some, None, true, false};
+ghost use Rattle.segment_worker.specs.OwnSegments.{IsSameSeat, OwesRest};
+
+use crate::pieces::{end, put_bytes};
+use crate::told::Told;
+use bit_list::Piece;
+use handover::Outcome;
+use output_board::{Board, WorkerSeat};
+use outside_core::Gate;
+use segment_code::{SegmentDecoder, Step};
+use std::sync::Wait;
+
+// Decodes the rest of the worker's segment into its ring, piece by piece, and ends it. Answers whether the board wasn't
+// stopped before.
+pub(crate) fn put_segment<'a, R: Wait, G: Gate>(
+    rt: &R,
+    decoder: &mut SegmentDecoder<'a>,
+    piece: &mut Piece,
+    seat: &mut WorkerSeat<Told<'a>>,
+    board: &Board<Told<'a>>,
+    segment: u8,
+    gate: &G,
+) -> bool
+    requires own { seat.old.table ≡ board.now }
+    requires segment { seat.old.view.segment ≡ Some segment }
+    requires running { decoder.old.running ≡ true }
+    requires owes { OwesRest seat.old.content segment seat.old.view.put decoder.old }
+    ensures same { IsSameSeat seat.old seat.new }
+    ensures free { result ≡ true → seat.new.view.segment ≡ None }
+    ensures over { result ≡ false → seat.new.view.over ≡ true }
+    ensures here { seat.new.view.left ≡ seat.old.view.left }
+    ensures begun { decoder.new.begun ≡ decoder.old.begun }
+    ensures plan { decoder.new.plan ≡ decoder.old.plan }
+{
+    loop {
+        let step = decoder.step(piece);
+        if !put_bytes(rt, seat, board, piece.bytes(), segment, gate) {
+            return false;
+        }
+        match step {
+            Step::More => {}
+            Step::Done { padded } => return end(rt, seat, board, Outcome::Good { padded }),
+            Step::Fault(fault) => return end(rt, seat, board, Outcome::Bad(fault)),
+        }
+    }
+}

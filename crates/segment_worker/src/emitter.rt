@@ -1,0 +1,125 @@
+// The emitter.
+ghost use Rattle.std.specs.Prelude.{◌≡◌, ◌*◌, ◌≤◌, length, OnOk, OnErr, true};
+ghost use Rattle.box_format.specs.Parts.{most_segments};
+ghost use Rattle.segment_worker.specs.Contents.{AreShort, segment_room};
+ghost use Rattle.segment_worker.specs.Emitting.{Emits, IsNewEmitter, IsThrough, IsUsedEmitter, joined_in};
+
+use crate::ending::{EmitStop, Emitted};
+use crate::lengths::segments_are_short;
+use crate::own::emit_unclaimed;
+use crate::told::Told;
+use bit_list::Piece;
+use box_format::BoxView;
+use handover::Outcome;
+use output_board::{Board, EmitterSeat, Take};
+use outside_core::{Gate, Sink, WriteFault, write_all};
+use segment_code::SegmentDecoder;
+use std::sync::Wait;
+
+/// The most bytes that are taken from a ring at a time.
+const MOST_TAKEN: usize = 4_096;
+
+/// Writes the segments in order, the bytes of each from its ring, or decoded here where nobody has claimed it when its turn
+/// comes. It ends after the last one, or after the first that ends badly, or where the sink fails, and stops the board then.
+///
+/// The gate is told of each segment that the emitter asks for. No memory is taken.
+pub fn emit<'a, R: Wait, K: Sink, G: Gate>(
+    rt: &R,
+    decoder: &mut SegmentDecoder<'a>,
+    piece: &mut Piece,
+    seat: &mut EmitterSeat<Told<'a>>,
+    board: &Board<Told<'a>>,
+    view: &BoxView<'a>,
+    sink: &mut K,
+    gate: &G,
+) -> Result<Emitted, EmitStop>
+    requires { IsNewEmitter board.now view.now seat.old decoder.old }
+    ensures ends { Emits K.held K.faults K.full sink.old sink.new (joined_in view.now) result }
+    ensures through { OnOk result (IsThrough (length view.now.parts.handovers) seat.new.view) }
+    ensures stopped { OnErr result (seat.new.view.stopped ≡ true) }
+    ensures used { IsUsedEmitter board.now view.now seat.new decoder.new }
+    ensures few { length (joined_in view.now).bytes ≤ segment_room * most_segments }
+    ensures lasting { K.faults sink.old ≤ K.faults sink.new }
+{
+    segments_are_short(view);
+    let _segments = view.segments();
+    let mut buffer = [0; MOST_TAKEN];
+    emit_through(
+        rt,
+        decoder,
+        piece,
+        seat,
+        board,
+        view,
+        sink,
+        gate,
+        &mut buffer,
+    )
+}
+
+// The same, with a buffer for the bytes that are taken.
+fn emit_through<'a, R: Wait, K: Sink, G: Gate>(
+    rt: &R,
+    decoder: &mut SegmentDecoder<'a>,
+    piece: &mut Piece,
+    seat: &mut EmitterSeat<Told<'a>>,
+    board: &Board<Told<'a>>,
+    view: &BoxView<'a>,
+    sink: &mut K,
+    gate: &G,
+    buffer: &mut [u8],
+) -> Result<Emitted, EmitStop>
+    requires new { IsNewEmitter board.now view.now seat.old decoder.old }
+    requires short { AreShort view.now }
+    requires count { length view.now.parts.handovers ≤ most_segments }
+    requires some { 1 ≤ length buffer.old }
+    ensures ends { Emits K.held K.faults K.full sink.old sink.new (joined_in view.now) result }
+    ensures through { OnOk result (IsThrough (length view.now.parts.handovers) seat.new.view) }
+    ensures stopped { OnErr result (seat.new.view.stopped ≡ true) }
+    ensures used { IsUsedEmitter board.now view.now seat.new decoder.new }
+    ensures lasting { K.faults sink.old ≤ K.faults sink.new }
+{
+    let mut written = 0;
+    let mut padded = false;
+    let mut current = 0;
+    for _ in rt.forever() {
+        match board.take(rt, seat, buffer) {
+            Take::Bytes(count) => {
+                if let Err(WriteFault { written: more }) = write_all(sink, &buffer[..count]) {
+                    board.stop(rt, seat);
+                    return Err(EmitStop::WriteFault {
+                        written: written + more,
+                    });
+                }
+                written += count as u64;
+            }
+            Take::Ended(Outcome::Good { padded: more }) => {
+                padded |= more;
+                current += 1;
+            }
+            Take::Ended(Outcome::Bad(fault)) => {
+                board.stop(rt, seat);
+                return Err(EmitStop::Fault(fault));
+            }
+            Take::Unclaimed => {
+                match emit_unclaimed(rt, decoder, piece, seat, board, view, sink, gate, current) {
+                    Ok(count) => written += count,
+                    Err(more) => {
+                        board.stop(rt, seat);
+                        return Err(EmitStop::WriteFault {
+                            written: written + more,
+                        });
+                    }
+                }
+            }
+            Take::NotYet => board.pause_emitter(rt, seat),
+            Take::Over => {
+                return Ok(Emitted {
+                    bytes: written,
+                    padded,
+                });
+            }
+        }
+    }
+    unreachable!()
+}

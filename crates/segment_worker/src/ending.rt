@@ -1,0 +1,20 @@
+// How an emitter ends.
+use handover::StreamFault;
+
+/// All segments were written, each of which ended well.
+#[derive(Clone, Copy, Debug, PartialEq, Eq)]
+pub struct Emitted {
+    /// How many bytes they have.
+    pub bytes: u64,
+    /// Whether any of them padded a bit.
+    pub padded: bool,
+}
+
+/// Why not all segments were written. The board is stopped then.
+#[derive(Clone, Copy, Debug, PartialEq, Eq)]
+pub enum EmitStop {
+    /// The sink failed after `written` bytes of the segments.
+    WriteFault { written: u64 },
+    /// The first fault in the order of the segments; the bytes before it are written.
+    Fault(StreamFault),
+}

@@ -1,0 +1,26 @@
+//! The segments of a container decoded by workers and an emitter that share a board, and the segments of a file coded side
+//! by side (this project's own).
+//!
+//!     worker   claim --> SegmentDecoder::begin, step --> piece --put--> ring of the segment
+//!     emitter  take  <-- ring of the segment that is emitted                 --write_all--> sink
+//!              claim_own, where nobody has claimed it --> begin, step --> piece --write_all--> sink
+//!
+//! What a call of the board does is `output_board`'s, and what a segment's stream gives `segment_code`'s. Who runs in which
+//! thread is left to others: `work` and `emit` are right with any number of workers, in any order of their calls.
+#![tactic(auto)]
+
+mod claimed;
+mod emitter;
+mod ending;
+mod lengths;
+mod own;
+mod pieces;
+mod streams;
+mod told;
+mod worker;
+
+pub use emitter::emit;
+pub use ending::{EmitStop, Emitted};
+pub use streams::encode_all;
+pub use told::Told;
+pub use worker::work;

@@ -1,0 +1,118 @@
+// The emitter's own segment, decoded into the sink.
+ghost use Rattle.std.specs.Prelude.{◌≡◌, ◌+◌, ◌≤◌, true, false, length};
+ghost use Rattle.board_core.specs.BoardInvariants.{bytes_at};
+ghost use Rattle.segment_worker.specs.Contents.{AreShort, segments_bytes};
+ghost use Rattle.segment_worker.specs.OwnSegments.{IsSameSeat, OwesRest, OwnEnds};
+
+use crate::told::Told;
+use bit_list::Piece;
+use box_format::BoxView;
+use handover::Outcome;
+use output_board::{Board, EmitterSeat, Own};
+use outside_core::{Gate, Sink, WriteFault, write_all};
+use segment_code::{SegmentDecoder, Step};
+use std::sync::Wait;
+
+// Claims the segment that is emitted, where nobody has, and writes it whole, whatever its outcome. Answers how many bytes
+// were written, or how many before the sink failed.
+pub(crate) fn emit_unclaimed<'a, R: Wait, K: Sink, G: Gate>(
+    rt: &R,
+    decoder: &mut SegmentDecoder<'a>,
+    piece: &mut Piece,
+    seat: &mut EmitterSeat<Told<'a>>,
+    board: &Board<Told<'a>>,
+    view: &BoxView<'a>,
+    sink: &mut K,
+    gate: &G,
+    current: u8,
+) -> Result<u64, u64>
+    requires own { seat.old.table ≡ board.now }
+    requires content { seat.old.content ≡ view.now }
+    requires free { seat.old.view.owns ≡ false }
+    requires going { seat.old.view.stopped ≡ false }
+    requires within { seat.old.view.taken
+        ≤ length (bytes_at (segments_bytes seat.old.content) seat.old.view.cur) }
+    requires plan { decoder.old.plan ≡ view.now.plan }
+    requires begun { decoder.old.begun ≡ seat.old.claims }
+    requires short { AreShort view.now }
+    ensures ends { OwnEnds K.held K.faults K.full seat.old seat.new sink.old sink.new result }
+    ensures own { seat.new.table ≡ seat.old.table }
+    ensures content { seat.new.content ≡ seat.old.content }
+    ensures begun { decoder.new.begun ≡ seat.new.claims }
+    ensures plan { decoder.new.plan ≡ decoder.old.plan }
+    ensures lasting { K.faults sink.old ≤ K.faults sink.new }
+{
+    gate.before_own(current);
+    match board.claim_own(rt, seat) {
+        Own::Mine(segment) => {
+            decoder.begin(view, segment);
+            emit_own(rt, decoder, piece, seat, board, sink)
+        }
+        Own::Other => Ok(0),
+    }
+}
+
+// Writes the rest of the emitter's own segment, piece by piece, and ends it.
+fn emit_own<'a, R: Wait, K: Sink>(
+    rt: &R,
+    decoder: &mut SegmentDecoder<'a>,
+    piece: &mut Piece,
+    seat: &mut EmitterSeat<Told<'a>>,
+    board: &Board<Told<'a>>,
+    sink: &mut K,
+) -> Result<u64, u64>
+    requires own { seat.old.table ≡ board.now }
+    requires owns { seat.old.view.owns ≡ true }
+    requires going { seat.old.view.stopped ≡ false }
+    requires running { decoder.old.running ≡ true }
+    requires owes { OwesRest seat.old.content seat.old.view.cur seat.old.view.taken decoder.old }
+    requires short { AreShort seat.old.content }
+    ensures ends { OwnEnds K.held K.faults K.full seat.old seat.new sink.old sink.new result }
+    ensures same { IsSameSeat seat.old seat.new }
+    ensures begun { decoder.new.begun ≡ decoder.old.begun }
+    ensures plan { decoder.new.plan ≡ decoder.old.plan }
+    ensures lasting { K.faults sink.old ≤ K.faults sink.new }
+{
+    let mut written = 0;
+    loop {
+        let step = decoder.step(piece);
+        if let Err(WriteFault { written: more }) = write_all(sink, piece.bytes()) {
+            return Err(written + more);
+        }
+        pass(rt, seat, board, piece);
+        written += piece.len() as u64;
+        match step {
+            Step::More => {}
+            Step::Done { padded } => {
+                board.finish_own(rt, seat, Outcome::Good { padded });
+                return Ok(written);
+            }
+            Step::Fault(fault) => {
+                board.finish_own(rt, seat, Outcome::Bad(fault));
+                return Ok(written);
+            }
+        }
+    }
+}
+
+// Says that a piece of the emitter's own segment was written.
+fn pass<'a, R: Wait>(
+    rt: &R,
+    seat: &mut EmitterSeat<Told<'a>>,
+    board: &Board<Told<'a>>,
+    piece: &Piece,
+)
+    requires own { seat.old.table ≡ board.now }
+    requires owns { seat.old.view.owns ≡ true }
+    requires going { seat.old.view.stopped ≡ false }
+    requires within { seat.old.view.taken + length piece.now
+        ≤ length (bytes_at (segments_bytes seat.old.content) seat.old.view.cur) }
+    ensures same { IsSameSeat seat.old seat.new }
+    ensures view { seat.new.view
+        ≡ record seat.old.view { taken = seat.old.view.taken + length piece.now } }
+{
+    let count = piece.len();
+    if count > 0 {
+        board.pass(rt, seat, count as u64);
+    }
+}

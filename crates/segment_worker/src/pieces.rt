@@ -1,0 +1,68 @@
+// A worker's bytes, put into the ring of its segment.
+ghost use Rattle.std.specs.Prelude.{◌≡◌, ◌+◌, true, false, None, length};
+ghost use Rattle.output_board.specs.Answers.{HasNext, IsAtEnd};
+ghost use Rattle.segment_worker.specs.Contents.{segments_bytes, segments_outcomes};
+ghost use Rattle.segment_worker.specs.OwnSegments.{IsSameSeat};
+
+use crate::told::Told;
+use handover::Outcome;
+use output_board::{Board, Finish, Put, WorkerSeat};
+use outside_core::Gate;
+use std::sync::Wait;
+
+// Puts the next bytes of the worker's segment, as its ring has room, and answers whether all were put before the board was
+// stopped. The gate is told of each call.
+pub(crate) fn put_bytes<'a, R: Wait, G: Gate>(
+    rt: &R,
+    seat: &mut WorkerSeat<Told<'a>>,
+    board: &Board<Told<'a>>,
+    bytes: &[u8],
+    segment: u8,
+    gate: &G,
+) -> bool
+    requires own { seat.old.table ≡ board.now }
+    requires next { HasNext (segments_bytes seat.old.content) seat.old.view bytes.now }
+    ensures same { IsSameSeat seat.old seat.new }
+    ensures put { result ≡ true → seat.new.view
+        ≡ record seat.old.view { put = seat.old.view.put + length bytes.now } }
+    ensures over { result ≡ false → seat.new.view.over ≡ true }
+    ensures here { seat.new.view.left ≡ seat.old.view.left }
+{
+    let mut put = 0;
+    for _ in rt.forever() {
+        let (_, rest) = bytes.split_at(put);
+        if rest.is_empty() {
+            return true;
+        }
+        gate.before_put(segment);
+        let answer = board.put(rt, seat, rest);
+        gate.after_put(segment);
+        match answer {
+            Put::Took(0) => board.pause_worker(rt, seat),
+            Put::Took(count) => put += count,
+            Put::Stopped => return false,
+        }
+    }
+    unreachable!()
+}
+
+// Ends the worker's segment, and answers whether the board wasn't stopped before.
+pub(crate) fn end<'a, R: Wait>(
+    rt: &R,
+    seat: &mut WorkerSeat<Told<'a>>,
+    board: &Board<Told<'a>>,
+    outcome: Outcome,
+) -> bool
+    requires own { seat.old.table ≡ board.now }
+    requires end { IsAtEnd (segments_bytes seat.old.content) (segments_outcomes seat.old.content)
+        seat.old.view outcome }
+    ensures same { IsSameSeat seat.old seat.new }
+    ensures free { result ≡ true → seat.new.view.segment ≡ None }
+    ensures over { result ≡ false → seat.new.view.over ≡ true }
+    ensures here { seat.new.view.left ≡ seat.old.view.left }
+{
+    match board.finish(rt, seat, outcome) {
+        Finish::Kept => true,
+        Finish::Stopped => false,
+    }
+}

@@ -1,0 +1,60 @@
+// A worker.
+ghost use Rattle.segment_worker.specs.Working.{HasLeft, IsIdle, IsOver};
+
+use crate::claimed::put_segment;
+use crate::told::Told;
+use bit_list::Piece;
+use box_format::BoxView;
+use output_board::{Board, Claim, WorkerSeat};
+use outside_core::Gate;
+use segment_code::SegmentDecoder;
+use std::sync::Wait;
+
+/// Claims segments and decodes them into their rings, one after another, until none is left or the board is stopped, and
+/// leaves.
+///
+/// The gate is told of each put, before and after it. No memory is taken.
+pub fn work<'a, R: Wait, G: Gate>(
+    rt: &R,
+    decoder: &mut SegmentDecoder<'a>,
+    piece: &mut Piece,
+    seat: &mut WorkerSeat<Told<'a>>,
+    board: &Board<Told<'a>>,
+    view: &BoxView<'a>,
+    gate: &G,
+)
+    requires { IsIdle board.now view.now seat.old decoder.old }
+    ensures { HasLeft board.now view.now seat.new decoder.new }
+{
+    put_segments(rt, decoder, piece, seat, board, view, gate);
+    board.leave(rt, seat);
+}
+
+// The same, but for leaving.
+fn put_segments<'a, R: Wait, G: Gate>(
+    rt: &R,
+    decoder: &mut SegmentDecoder<'a>,
+    piece: &mut Piece,
+    seat: &mut WorkerSeat<Told<'a>>,
+    board: &Board<Told<'a>>,
+    view: &BoxView<'a>,
+    gate: &G,
+)
+    requires { IsIdle board.now view.now seat.old decoder.old }
+    ensures { IsOver board.now view.now seat.new decoder.new }
+{
+    let _segments = view.segments();
+    for _ in rt.forever() {
+        match board.claim(rt, seat) {
+            Claim::Segment(segment) => {
+                decoder.begin(view, segment);
+                if !put_segment(rt, decoder, piece, seat, board, segment, gate) {
+                    return;
+                }
+            }
+            Claim::NoneLeft => return,
+            Claim::Stopped => return,
+        }
+    }
+    unreachable!()
+}
