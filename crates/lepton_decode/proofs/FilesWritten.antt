@@ -10,10 +10,11 @@ use Rattle.outside_core.specs.Faults.{Rose}
 use Rattle.box_format.specs.Parts.{BoxParts}
 use Rattle.segment_meaning.specs.Meanings.{Joined, Meaning, Verdict, Restored, PadSpelled, Faulty, joined, outputs_of, meaning_by, meaning_of}
 use Rattle.lepton_decode.specs.declared.error.DecodeError.TheVariants as DecodeError
-use Rattle.lepton_decode.specs.declared.error.SegmentsError.TheVariants.{Fault}
-use Rattle.lepton_decode.specs.Joining.{SegmentsEnd}
-use Rattle.lepton_decode.specs.Ends.{HasWritten, HasFailed, Ends}
-use Rattle.lepton_decode.proofs.PiecesWritten.{take_into}
+use Rattle.segment_worker.specs.declared.ending.EmitStop.TheVariants.{Fault}
+use Rattle.segment_worker.specs.Written.{HasWritten}
+use Rattle.segment_worker.specs.Emitting.{Emits}
+use Rattle.segment_worker.proofs.Writing.{written_later}
+use Rattle.lepton_decode.specs.Ends.{Ends}
 
 meaning_bytes : (b : BoxParts) (all : Joined) (fault : Option StreamFault)
     → (more : List ℕ) × ((meaning_by b all fault).bytes ≡ b.header ++ (all.bytes ++ more))
@@ -74,52 +75,16 @@ whole_bytes plan b none =
 
 module _ {Sink : Type 0} (held : Sink → Option (List ℕ)) (faults : Sink → ℕ)
     (full : Sink → Type 0) where
-  pub written_later : (old mid sink : Sink) (a b : List ℕ) → HasWritten held faults old mid a
-      → HasWritten held faults mid sink b → HasWritten held faults old sink (a ++ b)
-  written_later old mid sink a b p q = record {
-    appended = Appends-trans (held old) (held mid) (held sink) a b p.appended q.appended;
-    unfailed = q.unfailed ∙ p.unfailed;
-  }
-
-  pub failed_first : (old sink : Sink) (first more bytes : List ℕ) (written : ℕ)
-      → HasFailed held faults full old sink first written → bytes ≡ first ++ more
-      → HasFailed held faults full old sink bytes written
-  failed_first old sink first more bytes written f e =
-      let short = f.short in
-      let long = ap length e ∙ length-append first more in
-      record {
-        rose = f.rose;
-        short = omega (arith, short, long);
-        appended = subst (Appends (held old) (held sink))
-            (sym (ap (take written) e ∙ take-append-le written first more (omega arith))) f.appended;
-      }
-
-  pub failed_later : (old mid sink : Sink) (first out more bytes : List ℕ) (count written : ℕ)
-      → HasWritten held faults old mid first → HasFailed held faults full mid sink out written
-      → bytes ≡ first ++ (out ++ more) → count ≡ length first
-      → HasFailed held faults full old sink bytes (count + written)
-  failed_later old mid sink first out more bytes count written w f e n =
-      let short = f.short in
-      let long : length bytes ≡ length first + (length out + length more) =
-      ap length e ∙ length-append first (out ++ more) ∙ ap (λ (k : ℕ). length first + k) (length-append out more) in
-      record {
-        rose = subst (λ (k : ℕ). (k < faults sink) ⊎ full sink) w.unfailed f.rose;
-        short = omega (arith, short, long, n);
-        appended = subst (Appends (held old) (held sink))
-            (sym (ap₂ (λ (k : ℕ) (l : List ℕ). take (k + written) l) n e ∙ take_into first out more written (omega arith)))
-            (Appends-trans (held old) (held mid) (held sink) first (take written out) w.appended f.appended);
-      }
-
   -- the first fault
   pub ends_at_fault : (plan : PlanFields) (b : BoxParts) (old mid sink : Sink) (fault : StreamFault)
       → HasWritten held faults old mid b.header
-      → SegmentsEnd held faults full mid sink (joined (outputs_of plan b)) (Err (Fault fault))
+      → Emits held faults full mid sink (joined (outputs_of plan b)) (Err (Fault fault))
       → Ends held faults full old sink (meaning_of plan b) (Err (DecodeError.Fault fault))
   ends_at_fault plan b old mid sink fault first end =
       let m = faulty plan b fault end.0 in (
         ap (λ (x : Meaning). x.verdict) m,
         subst (HasWritten held faults old sink) (sym (ap (λ (x : Meaning). x.bytes) m))
-            (written_later old mid sink b.header (joined (outputs_of plan b)).bytes first end.1),
+            (written_later held faults full old mid sink b.header (joined (outputs_of plan b)).bytes first end.1),
       )
 
   -- all was written
@@ -130,5 +95,5 @@ module _ {Sink : Type 0} (held : Sink → Option (List ℕ)) (faults : Sink → 
       → HasWritten held faults old sink (meaning_of plan b).bytes
   all_bytes plan b old mid later sink none first more last =
       subst (HasWritten held faults old sink) (sym (whole_bytes plan b none))
-      (written_later old later sink (b.header ++ (joined (outputs_of plan b)).bytes) b.trailer
-      (written_later old mid later b.header (joined (outputs_of plan b)).bytes first more) last)
+      (written_later held faults full old later sink (b.header ++ (joined (outputs_of plan b)).bytes) b.trailer
+      (written_later held faults full old mid later b.header (joined (outputs_of plan b)).bytes first more) last)

@@ -1,3 +1,2 @@
-pub mod PiecesWritten
-pub mod SegmentsJoined
-pub mod FilesWritten
+mod FilesWritten
+mod NewTeams

@@ -1,4 +1,3 @@
 pub mod Ends
+pub mod Teams
 pub mod ReadyInside
-pub mod Emitting
-pub mod Joining

@@ -1,12 +1,22 @@
 -- What a container that is ready stands for, and what always holds of it (own).
-use Rattle.std.specs.Prelude.{◌≡◌}
+use Rattle.std.specs.Prelude.{All, ◌≡◌, false}
 use Rattle.lepton_decode.specs.Ends.{ReadySeen}
+use Rattle.lepton_decode.specs.Teams.{IsNewLead, IsIdleWorker}
 use Rattle.lepton_decode.specs.declared.ready.Ready.TheInside.{Inside}
 
--- its view, and the count of its decoder
+-- its view, and the emitter's
 abbrev pub ready_of : Inside → ReadySeen
-ready_of r = record { plan = r.view.plan; parts = r.view.parts; begun = r.decoder.begun }
+ready_of r = record {
+  plan = r.view.plan;
+  parts = r.view.parts;
+  emitter = r.emitter.seat.view;
+  used = r.used;
+}
 
--- the decoder was made for the view's plan
+-- before it is decoded, no seat has been used
+pub record IsUnused (r : Inside) : Type 0 where
+  pub emitter : IsNewLead r.board r.view r.emitter
+  pub team : All (IsIdleWorker r.board r.view) r.team.items
+
 abbrev pub IsReady : Inside → Type 0
-IsReady r = r.decoder.plan ≡ r.view.plan
+IsReady r = r.used ≡ false → IsUnused r

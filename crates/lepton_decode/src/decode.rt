@@ -1,45 +1,67 @@
 // A container decoded into a sink.
-ghost use Rattle.std.specs.Prelude.{◌≡◌, ◌≤◌};
+ghost use Rattle.std.specs.Prelude.{◌≡◌, ◌≤◌, All, false, length, true};
 ghost use Rattle.segment_meaning.specs.Meanings.{meaning_of};
-ghost use Rattle.lepton_decode.specs.Ends.{Ends, meaning_in};
+ghost use Rattle.lepton_decode.specs.Ends.{Ends, HasEmitted, meaning_in};
+ghost use Rattle.lepton_decode.specs.Teams.{IsIdleWorker, IsNewLead};
 
-use crate::error::{DecodeError, SegmentsError};
+use crate::error::DecodeError;
 use crate::ready::Ready;
-use crate::segments::emit_segments;
-use bit_list::Piece;
+use crate::team::{Emitter, Shared, Worker};
+use crate::threads::lead_beside;
 use box_format::BoxView;
+use output_board::{Board, EmitterSeat};
 use outside_core::{Gate, Sink, WriteFault, write_all};
 use segment_code::SegmentDecoder;
+use segment_worker::{EmitStop, Emitted, Told, emit};
+use std::sync::Wait;
+use std::thread;
+use std::thread::Threads;
 
 /// Writes the file that a container stands for, or its first bytes up to where a segment's stream has a fault, and answers
-/// how many bytes these are. It takes no memory. The gate is told of each segment before it is decoded.
-pub fn run<K: Sink, G: Gate>(ready: &mut Ready, sink: &mut K, gate: &G) -> Result<u64, DecodeError>
-    requires fresh { ready.old.begun ≡ 0 }
+/// how many bytes these are, however many workers there are and in whatever order they come to the board. It takes no
+/// memory. It returns once each worker has left.
+///
+/// The gate is told of each segment that the emitter asks for, and of each put of a worker.
+pub fn run<R: Threads + Wait + Sync, K: Sink + Send, G: Gate + Sync>(
+    ready: &mut Ready,
+    rt: &R,
+    sink: &mut K,
+    gate: &G,
+) -> Result<u64, DecodeError>
+    requires { ready.old.used ≡ false }
     ensures ends { Ends K.held K.faults K.full sink.old sink.new (meaning_in ready.old) result }
+    // What the emitter's seat knows then of the board.
+    ensures emitted { HasEmitted (length ready.old.parts.handovers) ready.new.emitter result }
+    ensures used { ready.new.used ≡ true }
     ensures lasting { K.faults sink.old ≤ K.faults sink.new }
 {
+    ready.used = true;
     restore(
+        rt,
         &ready.view,
-        &mut ready.decoder,
-        &mut ready.piece,
+        &ready.board,
+        &mut ready.emitter,
+        &mut ready.team,
         sink,
         gate,
     )
 }
 
 // Header, segments and trailer, and then whether the pad bit is spelled as it has to be.
-fn restore<'a, K: Sink, G: Gate>(
+fn restore<'a, R: Threads + Wait + Sync, K: Sink + Send, G: Gate + Sync>(
+    rt: &R,
     view: &BoxView<'a>,
-    decoder: &mut SegmentDecoder<'a>,
-    piece: &mut Piece,
+    board: &Board<Told<'a>>,
+    emitter: &mut Emitter<'a>,
+    team: &mut Vec<Worker<'a>>,
     sink: &mut K,
     gate: &G,
 ) -> Result<u64, DecodeError>
-    requires plan { decoder.old.plan ≡ view.now.plan }
-    requires fresh { decoder.old.begun ≡ 0 }
+    requires new { IsNewLead board.now view.now emitter.old }
+    requires team { All (IsIdleWorker board.now view.now) team.old.items }
     ensures ends { Ends K.held K.faults K.full sink.old sink.new
         (meaning_of view.now.plan view.now.parts) result }
-    ensures plan { decoder.new.plan ≡ decoder.old.plan }
+    ensures emitted { HasEmitted (length view.now.parts.handovers) emitter.new.seat.view result }
     ensures lasting { K.faults sink.old ≤ K.faults sink.new }
 {
     let header = view.header();
@@ -47,25 +69,26 @@ fn restore<'a, K: Sink, G: Gate>(
         return Err(DecodeError::WriteFault { written });
     }
     let before = header.len() as u64;
-    let (count, padded) = match emit_segments(view, decoder, piece, sink, gate) {
-        Ok(ended) => ended,
-        Err(SegmentsError::WriteFault { written }) => {
+    let shared = Shared { board, view, gate };
+    let emitted = match lead_beside(rt, emitter, team.as_mut_slice(), &shared, sink) {
+        Ok(emitted) => emitted,
+        Err(EmitStop::WriteFault { written }) => {
             return Err(DecodeError::WriteFault {
                 written: before + written,
             });
         }
-        Err(SegmentsError::Fault(fault)) => return Err(DecodeError::Fault(fault)),
+        Err(EmitStop::Fault(fault)) => return Err(DecodeError::Fault(fault)),
     };
     let trailer = view.trailer();
     if let Err(WriteFault { written }) = write_all(sink, trailer) {
         return Err(DecodeError::WriteFault {
-            written: before + count + written,
+            written: before + emitted.bytes + written,
         });
     }
     // A pad bit is 1 where no bit is padded.
-    let told = view.pad() | padded;
+    let told = view.pad() | emitted.padded;
     if !told {
         return Err(DecodeError::PadSpelling);
     }
-    Ok(before + count + trailer.len() as u64)
+    Ok(before + emitted.bytes + trailer.len() as u64)
 }

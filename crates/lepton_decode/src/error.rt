@@ -15,9 +15,3 @@ pub enum DecodeError {
     #[error("PadSpelling")]
     PadSpelling,
 }
-
-/// Why a container's segments didn't end well, as in `DecodeError`; `written` counts the segments' bytes only.
-pub(crate) enum SegmentsError {
-    WriteFault { written: u64 },
-    Fault(StreamFault),
-}

@@ -1,17 +1,20 @@
 //! A container's file, written while it is decoded (this project's own).
 //!
-//!     bytes --read_box--> view --SegmentDecoder--> pieces --write_all--> sink
-//!             header first, then segment after segment, then the trailer
+//!     bytes --read_box--> view --prepare--> board, seats, decoders, pieces
+//!
+//!     run     header --write_all--> sink
+//!             workers in threads of their own   --rings of the board-->  the emitter on this thread --> sink
+//!             trailer --write_all--> sink
 //!
 //! All memory is taken by `prepare`; `run` takes none, so that nothing is lost for want of it once bytes are written.
-//! What a container stands for is `segment_meaning`; what a segment's stream gives is `segment_code`.
+//! What a container stands for is `segment_meaning`; what workers and the emitter do is `segment_worker`'s.
 #![tactic(auto)]
 
 mod decode;
-mod emit;
 mod error;
 mod ready;
-mod segments;
+mod team;
+mod threads;
 
 pub use decode::run;
 pub use error::DecodeError;

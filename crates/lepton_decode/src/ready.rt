@@ -1,24 +1,30 @@
 // A container that is ready to be decoded.
-ghost use Rattle.std.specs.Prelude.{◌≡◌, IfOk, IsErrOf};
+ghost use Rattle.std.specs.Prelude.{◌≡◌, ◌≤◌, IfOk, IsErrOf, false};
 ghost use Rattle.box_format.specs.Parts.{IsBoxOf};
 ghost use Rattle.box_format.specs.BoxChecks.{IsRefusedBox};
 ghost use Rattle.box_format.specs.declared.refusal.BoxRefusal.{BoxRefusal};
 
+use crate::team::{Emitter, Worker, team_of};
 use bit_list::Piece;
 use box_format::{BoxRefusal, BoxView, read_box};
+use output_board::Board;
 use segment_code::SegmentDecoder;
+use segment_worker::{Told, prepare_board};
 use std::alloc::{AllocError, Global};
 use std::marker::Model;
 use thiserror::Error;
 
-/// A container that is ready to be decoded: its parts, and all the memory that decoding needs.
+/// A container that is ready to be decoded, once: its parts, its board with the seats, and all the memory that decoding
+/// needs.
 ///
-/// Clauses see its header's plan, its parts, and how many segments were begun.
+/// Clauses see its header's plan, its parts, what the emitter knows of the board, and whether it was decoded.
 #[derive(Drop)]
 pub struct Ready<'a> {
     pub(crate) view: BoxView<'a>,
-    pub(crate) decoder: SegmentDecoder<'a>,
-    pub(crate) piece: Piece,
+    pub(crate) board: Board<Told<'a>>,
+    pub(crate) emitter: Emitter<'a>,
+    pub(crate) team: Vec<Worker<'a>>,
+    pub(crate) used: bool,
 }
 
 impl<'a> Model for Ready<'a> {
@@ -53,11 +59,18 @@ impl From<AllocError> for PrepareError {
     }
 }
 
-/// Reads a container's parts, and takes all the memory that its decoding needs: for the bins, two MCU rows of blocks, and
-/// a piece of bytes.
-pub fn prepare(alloc: Global, bytes: &[u8]) -> Result<Ready<'_>, PrepareError>
+/// Reads a container's parts, and takes all the memory that its decoding by so many workers needs: for the emitter and
+/// each worker the bins, two MCU rows of blocks and a piece of bytes, and for each segment a ring of `ring` bytes. With 0
+/// workers the emitter decodes all.
+pub fn prepare(
+    alloc: Global,
+    bytes: &[u8],
+    workers: u8,
+    ring: usize,
+) -> Result<Ready<'_>, PrepareError>
+    requires { 1 ≤ ring }
     ensures ready { IfOk result (λ ready. IsBoxOf ready.plan ready.parts bytes.now) }
-    ensures fresh { IfOk result (λ ready. ready.begun ≡ 0) }
+    ensures fresh { IfOk result (λ ready. ready.used ≡ false) }
     ensures refused { (refusal : BoxRefusal) → IsErrOf result (PrepareError.Box refusal)
         → IsRefusedBox bytes.now refusal }
 {
@@ -67,9 +80,17 @@ pub fn prepare(alloc: Global, bytes: &[u8]) -> Result<Ready<'_>, PrepareError>
     };
     let decoder = SegmentDecoder::prepare(alloc, view.plan())?;
     let piece = Piece::new(alloc)?;
+    let (board, seat, seats) = prepare_board(alloc, &view, ring, workers)?;
+    let team = team_of(alloc, &view, &board, seats)?;
     Ok(Ready {
         view,
-        decoder,
-        piece,
+        board,
+        emitter: Emitter {
+            seat,
+            decoder,
+            piece,
+        },
+        team,
+        used: false,
     })
 }

@@ -1,19 +1,32 @@
-// Containers of a few bytes, decoded into memory (docs/FORMAT.md).
+// Containers of a few bytes, decoded into memory (docs/FORMAT.md), by no worker, by one, and by more than there are segments.
+ghost use Rattle.std.specs.Prelude.{◌≤◌};
+
 use super::*;
 use box_format::BoxRefusal;
 use handover::StreamCause;
-use outside_core::{MemSink, OpenGate};
+use outside_core::{Gate, MemSink, OpenGate};
 use std::alloc::{AllocError, Global};
+use std::process::Abort;
+use std::sync::Wait;
 use std::test::Fail;
+use std::thread::Threads;
 
-// The fields of a container with one record or two: a pad bit, a header of 69 bytes and a trailer of 2.
+// The numbers of workers, and of the bytes of a ring, that each container is decoded with.
+const WORKERS: [u8; 4] = [0, 1, 3, 16];
+
+const RINGS: [usize; 3] = [1, 2, 65_536];
+
+// The fields of a container with one record, two or three: a pad bit, a header of 69 bytes or of 75, and a trailer of 2.
 const FRONT: &[u8] = b"LPSG\x01\x01\x01\0\0\0\x45\0\0\0\x02";
 
 const FRONT_PADDED_WITH_ZEROS: &[u8] = b"LPSG\x01\0\x01\0\0\0\x45\0\0\0\x02";
 
 const FRONT_OF_TWO: &[u8] = b"LPSG\x01\x01\x02\0\0\0\x45\0\0\0\x02";
 
-// A record: nothing, two or three bits begun, and a stream of three bytes, or of the five that four blocks take.
+const FRONT_OF_THREE: &[u8] = b"LPSG\x01\x01\x03\0\0\0\x4b\0\0\0\x02";
+
+// A record: nothing begun, two or three bits, one restart marker or two before; and a stream of three bytes, or of the five
+// that four blocks take.
 const START: &[u8] = b"\0\0\0\0\0\0\0\0\0\0\0\0\0\0\0\0\0\0\0\0\0\x03";
 
 const START_OF_FIVE: &[u8] = b"\0\0\0\0\0\0\0\0\0\0\0\0\0\0\0\0\0\0\0\0\0\x05";
@@ -22,7 +35,12 @@ const TWO_BITS: &[u8] = b"\0\x02\0\0\0\0\0\0\0\0\0\0\0\0\0\0\0\0\0\0\0\x03";
 
 const THREE_BITS: &[u8] = b"\0\x03\0\0\0\0\0\0\0\0\0\0\0\0\0\0\0\0\0\0\0\x03";
 
-// Headers of one component, 8 by 8, 8 by 16 and 8 by 32 samples, with one code word in each table.
+const ONE_MARKER: &[u8] = b"\0\0\0\0\0\0\0\0\0\0\0\0\0\x01\0\0\0\0\0\0\0\x03";
+
+const TWO_MARKERS: &[u8] = b"\0\0\0\0\0\0\0\0\0\0\0\0\0\x02\0\0\0\0\0\0\0\x03";
+
+// Headers of one component, 8 by 8, 8 by 16 and 8 by 32 samples, with one code word in each table; and of one of 8 by 24, with
+// a restart after each MCU.
 const HEADER: &[u8] = b"\xff\xd8\xff\xc0\0\x0b\x08\0\x08\0\x08\x01\x01\x11\0\
     \xff\xc4\0\x14\0\x01\0\0\0\0\0\0\0\0\0\0\0\0\0\0\0\0\
     \xff\xc4\0\x14\x10\x01\0\0\0\0\0\0\0\0\0\0\0\0\0\0\0\0\
@@ -38,11 +56,160 @@ const HIGHEST: &[u8] = b"\xff\xd8\xff\xc0\0\x0b\x08\0\x20\0\x08\x01\x01\x11\0\
     \xff\xc4\0\x14\x10\x01\0\0\0\0\0\0\0\0\0\0\0\0\0\0\0\0\
     \xff\xda\0\x08\x01\x01\0\0\x3f\0";
 
+const WITH_RESTARTS: &[u8] = b"\xff\xd8\xff\xc0\0\x0b\x08\0\x18\0\x08\x01\x01\x11\0\
+    \xff\xc4\0\x14\0\x01\0\0\0\0\0\0\0\0\0\0\0\0\0\0\0\0\
+    \xff\xc4\0\x14\x10\x01\0\0\0\0\0\0\0\0\0\0\0\0\0\0\0\0\
+    \xff\xdd\0\x04\0\x01\xff\xda\0\x08\x01\x01\0\0\x3f\0";
+
 const TRAILER: &[u8] = b"\xff\xd9";
 
 const ZEROS: &[u8] = b"\0\0\0";
 
 const FIVE_ZEROS: &[u8] = b"\0\0\0\0\0";
+
+// A stream that is not the one of the bits that are read from it.
+const OTHER_END: &[u8] = b"\0\0\x01";
+
+// A container of three segments, and its file, of 84 bytes.
+const THREE: &[&[u8]] = &[
+    FRONT_OF_THREE,
+    START,
+    ONE_MARKER,
+    TWO_MARKERS,
+    WITH_RESTARTS,
+    TRAILER,
+    ZEROS,
+    ZEROS,
+    ZEROS,
+];
+
+const FILE_OF_THREE: &[&[u8]] = &[WITH_RESTARTS, b"\x3f\xff\xd0\x3f\xff\xd1\x3f", TRAILER];
+
+// How a decode ends: with so many bytes, with a fault of the sink after so many, with a fault of a segment's stream, or with a
+// pad bit that has to be 1.
+#[derive(Clone, Copy, Debug, PartialEq, Eq)]
+enum End {
+    Whole(u64),
+    WriteFault(u64),
+    Seam { segment: u8 },
+    StreamBad { segment: u8 },
+    OtherFault,
+    PadSpelling,
+}
+
+// The parts of a container, the room of a sink and the calls of it that fail, how the decode ends, and the parts that the sink
+// holds then.
+type Row<'a> = (&'a [&'a [u8]], usize, &'a [u64], End, &'a [&'a [u8]]);
+
+const FILES: &[Row] = &[
+    (
+        &[FRONT, START, HEADER, TRAILER, ZEROS],
+        100,
+        &[],
+        End::Whole(72),
+        &[HEADER, b"\x3f", TRAILER],
+    ),
+    // A segment without a byte of its own.
+    (
+        &[FRONT_OF_TWO, START, TWO_BITS, HIGHER, TRAILER, ZEROS, ZEROS],
+        100,
+        &[],
+        End::Whole(72),
+        &[HIGHER, b"\x0f", TRAILER],
+    ),
+    (THREE, 84, &[], End::Whole(84), FILE_OF_THREE),
+];
+
+const FAULTS: &[Row] = &[
+    (
+        &[FRONT, START, HEADER, TRAILER, OTHER_END],
+        100,
+        &[],
+        End::StreamBad { segment: 0 },
+        &[HEADER, b"\x3f"],
+    ),
+    // A handover that isn't the one that is reached.
+    (
+        &[
+            FRONT_OF_TWO,
+            START,
+            THREE_BITS,
+            HIGHER,
+            TRAILER,
+            ZEROS,
+            ZEROS,
+        ],
+        100,
+        &[],
+        End::Seam { segment: 0 },
+        &[HIGHER],
+    ),
+    // The first fault of two, and nothing of the segment after it.
+    (
+        &[
+            FRONT_OF_THREE,
+            START,
+            ONE_MARKER,
+            TWO_MARKERS,
+            WITH_RESTARTS,
+            TRAILER,
+            ZEROS,
+            OTHER_END,
+            OTHER_END,
+        ],
+        100,
+        &[],
+        End::StreamBad { segment: 1 },
+        &[WITH_RESTARTS, b"\x3f\xff\xd0\x3f\xff\xd1"],
+    ),
+];
+
+const PADS: &[Row] = &[(
+    &[
+        FRONT_PADDED_WITH_ZEROS,
+        START_OF_FIVE,
+        HIGHEST,
+        TRAILER,
+        FIVE_ZEROS,
+    ],
+    100,
+    &[],
+    End::PadSpelling,
+    &[HIGHEST, b"\0", TRAILER],
+)];
+
+// The header is the first call of the sink, the segment's byte the second, and the trailer the third.
+const FAILED_WRITES: &[Row] = &[
+    (
+        &[FRONT, START, HEADER, TRAILER, ZEROS],
+        100,
+        &[1],
+        End::WriteFault(0),
+        &[],
+    ),
+    (
+        &[FRONT, START, HEADER, TRAILER, ZEROS],
+        100,
+        &[2],
+        End::WriteFault(69),
+        &[HEADER],
+    ),
+    (
+        &[FRONT, START, HEADER, TRAILER, ZEROS],
+        100,
+        &[3],
+        End::WriteFault(70),
+        &[HEADER, b"\x3f"],
+    ),
+    // Room for all but four bytes.
+    (
+        THREE,
+        80,
+        &[],
+        End::WriteFault(80),
+        &[WITH_RESTARTS, b"\x3f\xff\xd0\x3f\xff"],
+    ),
+];
 
 // The bytes of these parts, one after another.
 fn joined(alloc: Global, parts: &[&[u8]]) -> Result<Vec<u8>, AllocError> {
@@ -53,117 +220,105 @@ fn joined(alloc: Global, parts: &[&[u8]]) -> Result<Vec<u8>, AllocError> {
     Ok(all)
 }
 
-// How a container ends that is decoded into a sink with these failing calls: 0 and how many bytes it has, 4 and how many were
-// written, or the number of the refusal and 0; and whether the sink holds these parts then.
-fn ends_with(
+// How the decode of a container ends.
+fn decoded<R: Threads + Wait + Sync, G: Gate + Sync>(
+    rt: &R,
     alloc: Global,
     container: &[&[u8]],
-    fails: &[u64],
-    wanted: &[&[u8]],
-) -> Result<(u8, u64, bool), Fail> {
+    workers: u8,
+    ring: usize,
+    sink: &mut MemSink,
+    gate: &G,
+) -> Result<End, Fail>
+    requires { 1 ≤ ring }
+{
     let bytes = joined(alloc, container)?;
-    let wanted = joined(alloc, wanted)?;
-    let mut ready = prepare(alloc, bytes.as_slice()).map_err(|_| "not a container")?;
-    let mut sink = MemSink::new(alloc, 100, 100, fails)?;
-    let (number, count) = match run(&mut ready, &mut sink, &OpenGate) {
-        Ok(count) => (0, count),
-        Err(DecodeError::WriteFault { written }) => (4, written),
-        Err(DecodeError::PadSpelling) => (46, 0),
-        Err(DecodeError::Fault(fault)) => (number_of(fault.cause), 0),
+    let mut ready = prepare(alloc, bytes.as_slice(), workers, ring).map_err(|_| "not a container")?;
+    let end = match run(&mut ready, rt, sink, gate) {
+        Ok(count) => End::Whole(count),
+        Err(DecodeError::WriteFault { written }) => End::WriteFault(written),
+        Err(DecodeError::PadSpelling) => End::PadSpelling,
+        Err(DecodeError::Fault(fault)) => end_at(fault.segment, fault.cause),
     };
-    Ok((number, count, sink.bytes() == wanted.as_slice()))
+    Ok(end)
 }
 
-// The number of a refusal, of those that are met here.
-fn number_of(cause: StreamCause) -> u8 {
+// The end at a fault.
+fn end_at(segment: u8, cause: StreamCause) -> End {
     match cause {
-        StreamCause::Seam { .. } => 44,
-        StreamCause::StreamBad => 45,
-        _ => 0,
+        StreamCause::Seam { .. } => End::Seam { segment },
+        StreamCause::StreamBad => End::StreamBad { segment },
+        _ => End::OtherFault,
     }
+}
+
+// Whether each container ends as its row says, whoever decodes it.
+fn come_out<R: Threads + Wait + Abort + Sync>(
+    rt: &R,
+    alloc: Global,
+    rows: &[Row],
+) -> Result<(), Fail> {
+    for (container, room, fails, end, parts) in rows {
+        let held = joined(alloc, parts)?;
+        for workers in WORKERS {
+            for ring in RINGS {
+                assert!(rt; ring > 0);
+                let mut sink = MemSink::new(alloc, *room, 100, fails)?;
+                let ended = decoded(rt, alloc, container, workers, ring, &mut sink, &OpenGate)?;
+                assert_eq!(rt; ended, *end, "{workers} workers, rings of {ring}");
+                assert!(rt;
+                    sink.bytes() == held.as_slice(),
+                    "{workers} workers, rings of {ring}"
+                );
+            }
+        }
+    }
+    Ok(())
 }
 
 #[test]
 fn files_come_back(rt: HostRuntime) -> Result<(), Fail> {
-    let one = ends_with(
-        rt.alloc(),
-        &[FRONT, START, HEADER, TRAILER, ZEROS],
-        &[],
-        &[HEADER, b"\x3f", TRAILER],
-    )?;
-    assert_eq!(rt; one, (0, 72, true));
-    let two = ends_with(
-        rt.alloc(),
-        &[FRONT_OF_TWO, START, TWO_BITS, HIGHER, TRAILER, ZEROS, ZEROS],
-        &[],
-        &[HIGHER, b"\x0f", TRAILER],
-    )?;
-    assert_eq!(rt; two, (0, 72, true));
-    Ok(())
+    come_out(&rt, rt.alloc(), FILES)
 }
 
 #[test]
 fn bytes_before_a_fault_are_written(rt: HostRuntime) -> Result<(), Fail> {
-    let tail = ends_with(
-        rt.alloc(),
-        &[FRONT, START, HEADER, TRAILER, b"\0\0\x01"],
-        &[],
-        &[HEADER, b"\x3f"],
-    )?;
-    assert_eq!(rt; tail, (45, 0, true));
-    let seam = ends_with(
-        rt.alloc(),
-        &[
-            FRONT_OF_TWO,
-            START,
-            THREE_BITS,
-            HIGHER,
-            TRAILER,
-            ZEROS,
-            ZEROS,
-        ],
-        &[],
-        &[HIGHER],
-    )?;
-    assert_eq!(rt; seam, (44, 0, true));
-    Ok(())
+    come_out(&rt, rt.alloc(), FAULTS)
 }
 
 #[test]
 fn a_pad_bit_that_is_not_needed_is_1(rt: HostRuntime) -> Result<(), Fail> {
-    let ended = ends_with(
-        rt.alloc(),
-        &[
-            FRONT_PADDED_WITH_ZEROS,
-            START_OF_FIVE,
-            HIGHEST,
-            TRAILER,
-            FIVE_ZEROS,
-        ],
-        &[],
-        &[HIGHEST, b"\0", TRAILER],
-    )?;
-    assert_eq!(rt; ended, (46, 0, true));
-    Ok(())
+    come_out(&rt, rt.alloc(), PADS)
 }
 
-// The header is the first call of the sink, the segment's byte the second, and the trailer the third.
 #[test]
 fn a_failed_write_leaves_what_was_written(rt: HostRuntime) -> Result<(), Fail> {
-    let container = [FRONT, START, HEADER, TRAILER, ZEROS];
-    let first = ends_with(rt.alloc(), &container, &[1], &[])?;
-    assert_eq!(rt; first, (4, 0, true));
-    let second = ends_with(rt.alloc(), &container, &[2], &[HEADER])?;
-    assert_eq!(rt; second, (4, 69, true));
-    let third = ends_with(rt.alloc(), &container, &[3], &[HEADER, b"\x3f"])?;
-    assert_eq!(rt; third, (4, 70, true));
+    come_out(&rt, rt.alloc(), FAILED_WRITES)
+}
+
+// One byte a call, and each of the 84 calls fails in turn.
+#[test]
+fn a_sink_may_fail_at_any_byte(rt: HostRuntime) -> Result<(), Fail> {
+    let file = joined(rt.alloc(), FILE_OF_THREE)?;
+    for written in 0..84 {
+        let fails = [written + 1];
+        let mut sink = MemSink::new(rt.alloc(), 84, 1, &fails)?;
+        let ended = decoded(&rt, rt.alloc(), THREE, 3, 1, &mut sink, &OpenGate)?;
+        assert_eq!(rt; ended, End::WriteFault(written));
+        assert!(rt;
+            Some(sink.bytes()) == file.get(..written as usize),
+            "after {written} bytes"
+        );
+    }
     Ok(())
 }
 
 #[test]
 fn bytes_that_are_no_container_are_refused(rt: HostRuntime) -> Result<(), Fail> {
     let bytes = joined(rt.alloc(), &[FRONT, START, HEADER, TRAILER, b"\0\0"])?;
-    let refusal = prepare(rt.alloc(), bytes.as_slice()).err();
-    assert_eq!(rt; refusal, Some(PrepareError::Box(BoxRefusal::BoxCut)));
+    for workers in WORKERS {
+        let refusal = prepare(rt.alloc(), bytes.as_slice(), workers, 1).err();
+        assert_eq!(rt; refusal, Some(PrepareError::Box(BoxRefusal::BoxCut)));
+    }
     Ok(())
 }

@@ -1,3 +1,2 @@
 mod FaultsFound
 mod FilesAt
-mod OneMore

@@ -10,15 +10,21 @@ ghost use Rattle.box_format.specs.Parts.{most_segments};
 ghost use Rattle.segment_meaning.specs.Files.{IsContainerOf};
 
 use crate::error::EncodeError;
-use crate::streams::encode_segments;
 use box_format::{Parts, write_box};
 use jpeg_marker::read_header;
 use segment_code::find_starts;
+use segment_worker::encode_all;
 use std::alloc::Global;
+use std::thread::Threads;
 
 /// The container of a file in at most so many segments, and at most as many as rows of MCUs. A refusal is the header's,
-/// or else the scan's.
-pub fn encode(alloc: Global, bytes: &[u8], segments: u8) -> Result<Vec<u8>, EncodeError>
+/// or else the scan's. The segments are made in threads of their own where they can be had.
+pub fn encode<R: Threads + Sync>(
+    rt: &R,
+    alloc: Global,
+    bytes: &[u8],
+    segments: u8,
+) -> Result<Vec<u8>, EncodeError>
     requires length { length bytes.now < 2 ^ 32 }
     requires some { 0 < segments }
     requires few { segments ≤ most_segments }
@@ -31,7 +37,7 @@ pub fn encode(alloc: Global, bytes: &[u8], segments: u8) -> Result<Vec<u8>, Enco
 {
     let plan = read_header(bytes)?;
     let starts = find_starts(alloc, &plan, bytes, segments)?;
-    let streams = encode_segments(alloc, &plan, bytes, &starts)?;
+    let streams = encode_all(rt, alloc, &plan, bytes, &starts)?;
     let (header, _) = bytes.split_at(plan.header_length());
     let (_, trailer) = bytes.split_at(starts.trailer());
     let made = write_box(

@@ -1,15 +1,14 @@
 //! A file's container (this project's own; docs/FORMAT.md).
 //!
-//!     bytes --read_header--> plan --find_starts--> starts --encode_segment, each--> streams --write_box--> container
+//!     bytes --read_header--> plan --find_starts--> starts --encode_all--> streams --write_box--> container
 //!
-//! The segments are made one after another from the file's bytes: beside these, memory is for the streams, for two MCU
-//! rows of blocks and the bins, and for the container. What a segment's stream is is `segment_meaning`'s, and how it is
-//! made `segment_code`'s.
+//! The segments are made side by side from the file's bytes: beside these, memory is for the streams, for each segment's two
+//! MCU rows of blocks and its bins, and for the container. What a segment's stream is is `segment_meaning`'s, how it is made
+//! `segment_code`'s, and in which thread `segment_worker`'s.
 #![tactic(auto)]
 
 mod container;
 mod error;
-mod streams;
 
 pub use container::encode;
 pub use error::EncodeError;

@@ -201,7 +201,7 @@ fn files_have_these_containers(rt: HostRuntime) -> Result<(), Fail> {
     for (file, segments, container, length) in MADE {
         let bytes = joined(rt.alloc(), file)?;
         assert!(rt; bytes.len() < 1 << 32 && *segments > 0 && *segments <= 16);
-        let made = encode(rt.alloc(), bytes.as_slice(), *segments).map_err(|_| "refused")?;
+        let made = encode(&rt, rt.alloc(), bytes.as_slice(), *segments).map_err(|_| "refused")?;
         let wanted = joined(rt.alloc(), container)?;
         assert_eq!(rt; made.len(), *length);
         assert_eq!(rt; made.as_slice(), wanted.as_slice());
@@ -214,7 +214,7 @@ fn other_files_are_refused_for_their_fault(rt: HostRuntime) -> Result<(), Fail> 
     for (file, segments, error) in REFUSED {
         let bytes = joined(rt.alloc(), file)?;
         assert!(rt; bytes.len() < 1 << 32 && *segments > 0 && *segments <= 16);
-        let refused = encode(rt.alloc(), bytes.as_slice(), *segments).err();
+        let refused = encode(&rt, rt.alloc(), bytes.as_slice(), *segments).err();
         assert_eq!(rt; refused, Some(*error));
     }
     Ok(())

@@ -12,7 +12,7 @@ use Rattle.box_format.specs.BoxChecks.{IsRefusedBox}
 use Rattle.box_format.specs.declared.refusal.BoxRefusal.{BoxRefusal}
 use Rattle.segment_meaning.specs.Files.{IsContainerOf}
 use Rattle.segment_meaning.specs.Meanings.{Joined, Meaning, Restored, PadSpelled, Faulty, NoBox, joined, meaning_by, meaning_of, outputs_of}
-use Rattle.lepton_decode.specs.Ends.{HasFailed, HasWritten}
+use Rattle.segment_worker.specs.Written.{HasFailed, HasWritten}
 use Rattle.command_words.specs.declared.command.Command.{Command}
 use Rattle.command_words.specs.declared.command.Command.TheVariants.{Encode, Decode}
 use Rattle.lepton_run.specs.Answers.{Answer, Answers, Early, Late, Made, Makes, Writes, answer_by, bytes_of, limit_of}

@@ -12,12 +12,17 @@ use lepton_decode::{DecodeError, PrepareError, prepare};
 use lepton_encode::EncodeError;
 use outside_core::{Gate, Sink, write_all};
 use std::alloc::Global;
+use std::sync::Wait;
+use std::thread::Threads;
 
 /// The most bytes of a file that is encoded: 64 MiB.
 const MOST_OF_A_FILE: u64 = 67_108_864;
 
 /// The most bytes of a container that is decoded: 8 GiB.
 const MOST_OF_A_CONTAINER: u64 = 8_589_934_592;
+
+/// The bytes of a segment's ring: 1 MiB.
+const RING: usize = 1 << 20;
 
 /// The most bytes that a command reads.
 pub(crate) fn limit(command: Command) -> u64
@@ -30,7 +35,8 @@ pub(crate) fn limit(command: Command) -> u64
 }
 
 /// Writes what the command makes of bytes.
-pub(crate) fn carry_out<K: Sink, G: Gate>(
+pub(crate) fn carry_out<R: Threads + Wait + Sync, K: Sink + Send, G: Gate + Sync>(
+    rt: &R,
     alloc: Global,
     command: Command,
     bytes: &[u8],
@@ -43,20 +49,26 @@ pub(crate) fn carry_out<K: Sink, G: Gate>(
     ensures lasting { K.faults sink.old ≤ K.faults sink.new }
 {
     match command {
-        Command::Encode { segments } => encode(alloc, segments, bytes, sink),
-        Command::Decode { workers } => decode(alloc, workers, bytes, sink, gate),
+        Command::Encode { segments } => encode(rt, alloc, segments, bytes, sink),
+        Command::Decode { workers } => decode(rt, alloc, workers, bytes, sink, gate),
     }
 }
 
 // The container of a file, once it is whole.
-fn encode<K: Sink>(alloc: Global, segments: u8, bytes: &[u8], sink: &mut K) -> Ending
+fn encode<R: Threads + Sync, K: Sink>(
+    rt: &R,
+    alloc: Global,
+    segments: u8,
+    bytes: &[u8],
+    sink: &mut K,
+) -> Ending
     requires short { length bytes.now ≤ limit_of (Encode segments) }
     requires in_range { IsInRange (Encode segments) }
     ensures ending { CarriedOut K.held K.faults K.full (Encode segments) bytes.now sink.old sink.new
         result }
     ensures lasting { K.faults sink.old ≤ K.faults sink.new }
 {
-    let made = match lepton_encode::encode(alloc, bytes, segments) {
+    let made = match lepton_encode::encode(rt, alloc, bytes, segments) {
         Ok(made) => made,
         Err(EncodeError::Header(refusal)) => return Ending::Refused(Refusal::Header(refusal)),
         Err(EncodeError::Scan(refusal)) => return Ending::Refused(Refusal::Scan(refusal)),
@@ -68,8 +80,9 @@ fn encode<K: Sink>(alloc: Global, segments: u8, bytes: &[u8], sink: &mut K) -> E
     }
 }
 
-// The file of a container, while it is decoded: one segment after another on this thread, whatever the number of workers.
-fn decode<K: Sink, G: Gate>(
+// The file of a container, while it is decoded by so many workers.
+fn decode<R: Threads + Wait + Sync, K: Sink + Send, G: Gate + Sync>(
+    rt: &R,
     alloc: Global,
     workers: u8,
     bytes: &[u8],
@@ -81,13 +94,12 @@ fn decode<K: Sink, G: Gate>(
         result }
     ensures lasting { K.faults sink.old ≤ K.faults sink.new }
 {
-    let _ = workers;
-    let mut ready = match prepare(alloc, bytes) {
+    let mut ready = match prepare(alloc, bytes, workers, RING) {
         Ok(ready) => ready,
         Err(PrepareError::Box(refusal)) => return Ending::Refused(Refusal::Box(refusal)),
         Err(PrepareError::NoMemory) => return Ending::NoMemory,
     };
-    match lepton_decode::run(&mut ready, sink, gate) {
+    match lepton_decode::run(&mut ready, rt, sink, gate) {
         Ok(_) => Ending::Done,
         Err(DecodeError::Fault(fault)) => Ending::Refused(Refusal::Fault(fault)),
         Err(DecodeError::PadSpelling) => Ending::Refused(Refusal::PadSpelling),

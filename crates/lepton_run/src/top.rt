@@ -31,9 +31,10 @@ use std::thread::Threads;
 /// | 5 | there was no memory | `lepton: no memory` |
 ///
 /// The words are `encode` with `--segments`, or `decode` with `--workers`, as `command_words` has them. The whole source
-/// is read before anything is written, and all memory is taken before. A fault of the note changes no status.
+/// is read before anything is written, and all memory is taken before. The segments of a file are made, and those of a
+/// container decoded, in threads of their own where these can be had. A fault of the note changes no status.
 pub fn run<R: Threads + Wait + Sync, S: Source, K: Sink + Send, N: Sink + Send, G: Gate + Sync>(
-    _rt: &R,
+    rt: &R,
     alloc: Global,
     words: &[String],
     source: &mut S,
@@ -113,7 +114,7 @@ pub fn run<R: Threads + Wait + Sync, S: Source, K: Sink + Send, N: Sink + Send, 
     ensures sink_lasting { K.faults sink.old ≤ K.faults sink.new }
     ensures note_lasting { N.faults note.old ≤ N.faults note.new }
 {
-    let ending = answer(alloc, words, source, sink, gate);
+    let ending = answer(rt, alloc, words, source, sink, gate);
     tell(note, &ending);
     ending.status()
 }
@@ -130,7 +131,8 @@ pub fn no_memory_for_words<N: Sink>(note: &mut N) -> u8
 }
 
 // What the words ask for, done.
-fn answer<S: Source, K: Sink, G: Gate>(
+fn answer<R: Threads + Wait + Sync, S: Source, K: Sink + Send, G: Gate + Sync>(
+    rt: &R,
     alloc: Global,
     words: &[String],
     source: &mut S,
@@ -145,14 +147,15 @@ fn answer<S: Source, K: Sink, G: Gate>(
     ensures sink_lasting { K.faults sink.old ≤ K.faults sink.new }
 {
     match command_of(alloc, words) {
-        Ok(command) => transfer(alloc, command, source, sink, gate),
+        Ok(command) => transfer(rt, alloc, command, source, sink, gate),
         Err(WordsError::Refused) => Ending::WordsRefused,
         Err(WordsError::NoMemory) => Ending::NoMemory,
     }
 }
 
 // What the command makes of the source's bytes goes into the sink.
-fn transfer<S: Source, K: Sink, G: Gate>(
+fn transfer<R: Threads + Wait + Sync, S: Source, K: Sink + Send, G: Gate + Sync>(
+    rt: &R,
     alloc: Global,
     command: Command,
     source: &mut S,
@@ -172,7 +175,7 @@ fn transfer<S: Source, K: Sink, G: Gate>(
         Err(ReadAll::TooLong) => return Ending::Refused(Refusal::TooLong),
         Err(ReadAll::NoMemory) => return Ending::NoMemory,
     };
-    carry_out(alloc, command, bytes.as_slice(), sink, gate)
+    carry_out(rt, alloc, command, bytes.as_slice(), sink, gate)
 }
 
 // Notes how a command ended.

@@ -9,6 +9,7 @@
 //! thread is left to others: `work` and `emit` are right with any number of workers, in any order of their calls.
 #![tactic(auto)]
 
+mod boards;
 mod claimed;
 mod emitter;
 mod ending;
@@ -19,6 +20,7 @@ mod streams;
 mod told;
 mod worker;
 
+pub use boards::prepare_board;
 pub use emitter::emit;
 pub use ending::{EmitStop, Emitted};
 pub use streams::encode_all;

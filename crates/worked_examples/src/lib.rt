@@ -21,6 +21,8 @@ mod lines;
 #[cfg(test)]
 mod marker_segments;
 #[cfg(test)]
+mod meetings;
+#[cfg(test)]
 mod notes;
 #[cfg(test)]
 mod pictures;

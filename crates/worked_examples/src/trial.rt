@@ -1,7 +1,7 @@
 // The top call, tried over ends in memory.
 use crate::files::joined;
 use lepton_run::run;
-use outside_core::{MemSink, MemSource, OpenGate, read_all};
+use outside_core::{Gate, MemSink, MemSource, OpenGate, read_all};
 use std::alloc::Global;
 use std::sync::Wait;
 use std::test::Fail;
@@ -69,6 +69,18 @@ pub(crate) fn run_over<R: Threads + Wait + Sync>(
     input: &[u8],
     faults: Faults,
 ) -> Result<Trial, Fail> {
+    run_past(rt, alloc, words, input, faults, &OpenGate)
+}
+
+/// The same past a gate.
+pub(crate) fn run_past<R: Threads + Wait + Sync, G: Gate + Sync>(
+    rt: &R,
+    alloc: Global,
+    words: &[&str],
+    input: &[u8],
+    faults: Faults,
+    gate: &G,
+) -> Result<Trial, Fail> {
     let mut texts = Vec::new(alloc);
     texts.push(String::from_str(alloc, "lepton")?)?;
     for word in words {
@@ -84,7 +96,7 @@ pub(crate) fn run_over<R: Threads + Wait + Sync>(
         &mut source,
         &mut sink,
         &mut note,
-        &OpenGate,
+        gate,
     );
     let left = read_all(alloc, &mut source, 1 << 20).map_err(|_| "what is left can't be read")?;
     Ok(Trial {

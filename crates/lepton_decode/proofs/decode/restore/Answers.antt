@@ -1,9 +1,9 @@
 use Rattle.std.proofs.Common.{◌≡◌, ◌≤◌, ◌<◌, ◌+◌, ◌*◌, ◌∙◌, ◌++◌, sym, ap, ap₂, subst, arith, refl, List, [], ℕ, length, take, Bool, true, false, append_assoc, append-nil, length-append, ◌||◌, Option, Some, None, Result, Ok, Err, le_trans}
 use Rattle.std.specs.Io.KnownBytes.{Appends}
 use Rattle.segment_meaning.specs.Meanings.{Meaning, Joined, joined, outputs_of, meaning_of}
-use Rattle.lepton_decode.specs.Ends.{HasWritten, HasFailed}
-use Rattle.lepton_decode.specs.declared.error.SegmentsError.TheVariants.{WriteFault, Fault}
-use Rattle.lepton_decode.proofs.FilesWritten.{first_bytes, pad_spelled, restored, whole_bytes, written_later, failed_first, failed_later, ends_at_fault, all_bytes}
+use Rattle.segment_worker.specs.Written.{HasWritten, HasFailed}
+use Rattle.segment_worker.proofs.Writing.{written_later, failed_first, failed_later}
+use Rattle.lepton_decode.proofs.FilesWritten.{first_bytes, pad_spelled, restored, whole_bytes, ends_at_fault, all_bytes}
 use Rattle.lepton_decode.proofs.decode.restore.Goals as goal
 
 pub returns-in-Err-clause-ends : goal.returns-in-Err-clause-ends
@@ -22,7 +22,7 @@ returns-in-Err-WriteFault-clause-ends g c =
     let first : HasWritten g.K.Sink.held g.K.Sink.faults c.args.sink.now c.write_all.new.sink view.parts.header =
     subst (HasWritten g.K.Sink.held g.K.Sink.faults c.args.sink.now c.write_all.new.sink) c.header-header.ensures.bytes
     (record { appended = c.in_default.ensures.whole; unfailed = c.in_default.ensures.unfailed }) in
-    failed_later g.K.Sink.held g.K.Sink.faults g.K.Sink.full c.args.sink.now c.write_all.new.sink c.emit_segments.new.sink view.parts.header
+    failed_later g.K.Sink.held g.K.Sink.faults g.K.Sink.full c.args.sink.now c.write_all.new.sink c.lead_beside.new.sink view.parts.header
     (joined (outputs_of view.plan view.parts)).bytes f.0 _ _ c.in-Err-WriteFault.written first
     (rw c.in-Err-WriteFault.field-0-is at c.in-Err-WriteFault.ensures.ends) f.1 (ap length c.header-header.ensures.bytes)
 
@@ -32,7 +32,7 @@ returns-in-Err-Fault-clause-ends g c =
     let first : HasWritten g.K.Sink.held g.K.Sink.faults c.args.sink.now c.write_all.new.sink view.parts.header =
     subst (HasWritten g.K.Sink.held g.K.Sink.faults c.args.sink.now c.write_all.new.sink) c.header-header.ensures.bytes
     (record { appended = c.in_default.ensures.whole; unfailed = c.in_default.ensures.unfailed }) in
-    ends_at_fault g.K.Sink.held g.K.Sink.faults g.K.Sink.full view.plan view.parts c.args.sink.now c.write_all.new.sink c.emit_segments.new.sink _ first
+    ends_at_fault g.K.Sink.held g.K.Sink.faults g.K.Sink.full view.plan view.parts c.args.sink.now c.write_all.new.sink c.lead_beside.new.sink _ first
     (rw c.in-Err-Fault.field-0-is at c.in-Err-Fault.ensures.ends)
 
 pub returns-in-Err-write_all-clause-ends : goal.returns-in-Err-write_all-clause-ends
@@ -42,12 +42,12 @@ returns-in-Err-write_all-clause-ends g c =
     let first : HasWritten g.K.Sink.held g.K.Sink.faults c.args.sink.now c.write_all.new.sink view.parts.header =
     subst (HasWritten g.K.Sink.held g.K.Sink.faults c.args.sink.now c.write_all.new.sink) c.header-header.ensures.bytes
     (record { appended = c.in_default.ensures.whole; unfailed = c.in_default.ensures.unfailed }) in
-    let both = written_later g.K.Sink.held g.K.Sink.faults g.K.Sink.full c.args.sink.now c.write_all.new.sink c.emit_segments.new.sink view.parts.header
+    let both = written_later g.K.Sink.held g.K.Sink.faults g.K.Sink.full c.args.sink.now c.write_all.new.sink c.lead_beside.new.sink view.parts.header
     (joined (outputs_of view.plan view.parts)).bytes first all.3 in
-    let failed : HasFailed g.K.Sink.held g.K.Sink.faults g.K.Sink.full c.emit_segments.new.sink c.write_all-2.new.sink view.parts.trailer c.in-Err-write_all.field-0.written =
-    subst (λ (l : List ℕ). HasFailed g.K.Sink.held g.K.Sink.faults g.K.Sink.full c.emit_segments.new.sink c.write_all-2.new.sink l c.in-Err-write_all.field-0.written) c.trailer-trailer.ensures.bytes
+    let failed : HasFailed g.K.Sink.held g.K.Sink.faults g.K.Sink.full c.lead_beside.new.sink c.write_all-2.new.sink view.parts.trailer c.in-Err-write_all.field-0.written =
+    subst (λ (l : List ℕ). HasFailed g.K.Sink.held g.K.Sink.faults g.K.Sink.full c.lead_beside.new.sink c.write_all-2.new.sink l c.in-Err-write_all.field-0.written) c.trailer-trailer.ensures.bytes
     (record { rose = c.in-Err-write_all.ensures.failed; short = c.in-Err-write_all.ensures.short; appended = c.in-Err-write_all.ensures.part }) in
-    failed_later g.K.Sink.held g.K.Sink.faults g.K.Sink.full c.args.sink.now c.emit_segments.new.sink c.write_all-2.new.sink
+    failed_later g.K.Sink.held g.K.Sink.faults g.K.Sink.full c.args.sink.now c.lead_beside.new.sink c.write_all-2.new.sink
     (view.parts.header ++ (joined (outputs_of view.plan view.parts)).bytes) view.parts.trailer [] _ _ c.in-Err-write_all.field-0.written both failed
     (whole_bytes view.plan view.parts all.0 ∙ ap (λ (l : List ℕ). (view.parts.header ++ (joined (outputs_of view.plan view.parts)).bytes) ++ l) (sym (append-nil view.parts.trailer)))
     (ap₂ (λ (m n : ℕ). m + n) (ap length c.header-header.ensures.bytes) all.1 ∙ sym (length-append view.parts.header (joined (outputs_of view.plan view.parts)).bytes))
@@ -59,12 +59,12 @@ returns-then-not-told-clause-ends g c =
     let first : HasWritten g.K.Sink.held g.K.Sink.faults c.args.sink.now c.write_all.new.sink view.parts.header =
     subst (HasWritten g.K.Sink.held g.K.Sink.faults c.args.sink.now c.write_all.new.sink) c.header-header.ensures.bytes
     (record { appended = c.in_default.ensures.whole; unfailed = c.in_default.ensures.unfailed }) in
-    let last : HasWritten g.K.Sink.held g.K.Sink.faults c.emit_segments.new.sink c.write_all-2.new.sink view.parts.trailer =
-    subst (HasWritten g.K.Sink.held g.K.Sink.faults c.emit_segments.new.sink c.write_all-2.new.sink) c.trailer-trailer.ensures.bytes
+    let last : HasWritten g.K.Sink.held g.K.Sink.faults c.lead_beside.new.sink c.write_all-2.new.sink view.parts.trailer =
+    subst (HasWritten g.K.Sink.held g.K.Sink.faults c.lead_beside.new.sink c.write_all-2.new.sink) c.trailer-trailer.ensures.bytes
     (record { appended = c.in_default-write_all.ensures.whole; unfailed = c.in_default-write_all.ensures.unfailed }) in
-    let told : (c.pad.result || c.in-Ok.ended.1) ≡ false = c.if-not-told.true in (
-      pad_spelled view.plan view.parts c.in-Ok.ended.1 all.0 all.2 (sym (ap (λ (p : Bool). p || c.in-Ok.ended.1) c.pad.ensures) ∙ told),
-      all_bytes g.K.Sink.held g.K.Sink.faults g.K.Sink.full view.plan view.parts c.args.sink.now c.write_all.new.sink c.emit_segments.new.sink c.write_all-2.new.sink all.0 first all.3 last,
+    let told : (c.pad.result || c.in-Ok.emitted.padded) ≡ false = c.if-not-told.true in (
+      pad_spelled view.plan view.parts c.in-Ok.emitted.padded all.0 all.2 (sym (ap (λ (p : Bool). p || c.in-Ok.emitted.padded) c.pad.ensures) ∙ told),
+      all_bytes g.K.Sink.held g.K.Sink.faults g.K.Sink.full view.plan view.parts c.args.sink.now c.write_all.new.sink c.lead_beside.new.sink c.write_all-2.new.sink all.0 first all.3 last,
     )
 
 pub returns-clause-ends : goal.returns-clause-ends
@@ -74,14 +74,14 @@ returns-clause-ends g c =
     let first : HasWritten g.K.Sink.held g.K.Sink.faults c.args.sink.now c.write_all.new.sink view.parts.header =
     subst (HasWritten g.K.Sink.held g.K.Sink.faults c.args.sink.now c.write_all.new.sink) c.header-header.ensures.bytes
     (record { appended = c.in_default.ensures.whole; unfailed = c.in_default.ensures.unfailed }) in
-    let last : HasWritten g.K.Sink.held g.K.Sink.faults c.emit_segments.new.sink c.write_all-2.new.sink view.parts.trailer =
-    subst (HasWritten g.K.Sink.held g.K.Sink.faults c.emit_segments.new.sink c.write_all-2.new.sink) c.trailer-trailer.ensures.bytes
+    let last : HasWritten g.K.Sink.held g.K.Sink.faults c.lead_beside.new.sink c.write_all-2.new.sink view.parts.trailer =
+    subst (HasWritten g.K.Sink.held g.K.Sink.faults c.lead_beside.new.sink c.write_all-2.new.sink) c.trailer-trailer.ensures.bytes
     (record { appended = c.in_default-write_all.ensures.whole; unfailed = c.in_default-write_all.ensures.unfailed }) in
-    let told : (c.pad.result || c.in-Ok.ended.1) ≡ true = c.if-not-told.false in (
-      restored view.plan view.parts c.in-Ok.ended.1 all.0 all.2 (sym (ap (λ (p : Bool). p || c.in-Ok.ended.1) c.pad.ensures) ∙ told),
+    let told : (c.pad.result || c.in-Ok.emitted.padded) ≡ true = c.if-not-told.false in (
+      restored view.plan view.parts c.in-Ok.emitted.padded all.0 all.2 (sym (ap (λ (p : Bool). p || c.in-Ok.emitted.padded) c.pad.ensures) ∙ told),
       ap₂ (λ (m n : ℕ). m + n) (ap₂ (λ (m n : ℕ). m + n) (ap length c.header-header.ensures.bytes) all.1) (ap length c.trailer-trailer.ensures.bytes)
           ∙ sym (ap length (whole_bytes view.plan view.parts all.0)
           ∙ length-append (view.parts.header ++ (joined (outputs_of view.plan view.parts)).bytes) view.parts.trailer
           ∙ ap (λ (k : ℕ). k + length view.parts.trailer) (length-append view.parts.header (joined (outputs_of view.plan view.parts)).bytes)),
-      all_bytes g.K.Sink.held g.K.Sink.faults g.K.Sink.full view.plan view.parts c.args.sink.now c.write_all.new.sink c.emit_segments.new.sink c.write_all-2.new.sink all.0 first all.3 last,
+      all_bytes g.K.Sink.held g.K.Sink.faults g.K.Sink.full view.plan view.parts c.args.sink.now c.write_all.new.sink c.lead_beside.new.sink c.write_all-2.new.sink all.0 first all.3 last,
     )

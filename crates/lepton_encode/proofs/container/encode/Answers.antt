@@ -12,7 +12,7 @@ use Rattle.lepton_encode.proofs.FilesAt.{are_bytes, found, has_container, is_box
 use Rattle.lepton_encode.proofs.container.encode.Goals as goal
 
 pub returns-in_err-starts-clause-scan : goal.returns-in_err-starts-clause-scan
-returns-in_err-starts-clause-scan c =
+returns-in_err-starts-clause-scan g c =
     let p = err_from_is_err_and c.from_residual-in_err-starts.result
     c.from_residual-in_err-starts.ensures.1 in
     rw (p.1, p.2) (λ refusal is.
@@ -21,7 +21,7 @@ returns-in_err-starts-clause-scan c =
     (c.in_ok-plan.plan, c.in_ok-plan.ensures.accepted, c.in_err-starts.ensures.refused refusal cause))
 
 pub write_box-requires : goal.write_box-requires
-write_box-requires c =
+write_box-requires g c =
     let plan = c.in_ok-plan.plan in
     let bytes = c.args.bytes.now in
     let starts = c.in_ok-starts.starts in
@@ -37,7 +37,7 @@ write_box-requires c =
     (plan, subst (IsBox plan) (sym same) is)
 
 pub returns-clause-made : goal.returns-clause-made
-returns-clause-made c =
+returns-clause-made g c =
     let plan = c.in_ok-plan.plan in
     let bytes = c.args.bytes.now in
     let starts = c.in_ok-starts.starts in

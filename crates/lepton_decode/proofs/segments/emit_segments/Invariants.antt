@@ -1,7 +1,0 @@
-use Rattle.lepton_decode.specs.Joining.{SegmentsWritten}
-use Rattle.lepton_decode.proofs.segments.emit_segments.Given as goal
-
-abbrev pub invariant-loop-segment : goal.invariant-loop-segment
-invariant-loop-segment g l =
-    SegmentsWritten g.K.Sink.held g.K.Sink.faults l.view.plan l.view.parts l.segment l.decoder
-    l.initial.sink l.sink l.written l.padded

@@ -1,0 +1,49 @@
+-- The workers of a decode (own).
+use Rattle.std.specs.Prelude.{All, ℕ, ◌≡◌, ◌*◌, ◌≤◌, None, true, false, List, length, Option, Result, OnOk, OnErr}
+use Rattle.atomic_table.specs.Seated.{TableId}
+use Rattle.box_format.specs.Parts.{most_segments}
+use Rattle.box_format.specs.Seen.{BoxSeen}
+use Rattle.output_board.specs.declared.view.WorkerView.{WorkerView}
+use Rattle.output_board.specs.Seats.{SeatValue}
+use Rattle.segment_worker.specs.declared.ending.Emitted.{Emitted}
+use Rattle.segment_worker.specs.declared.ending.EmitStop.{EmitStop}
+use Rattle.segment_worker.specs.Contents.{segment_room}
+use Rattle.segment_worker.specs.Emitting.{Emits, IsNewEmitter, IsThrough, joined_in}
+use Rattle.segment_worker.specs.Working.{IsIdle, HasLeft}
+use Rattle.lepton_decode.specs.declared.team.Emitter.{Emitter}
+use Rattle.lepton_decode.specs.declared.team.Worker.{Worker}
+
+-- a worker between two segments of a container's board
+abbrev pub IsIdleWorker : TableId → BoxSeen → Worker → Type 0
+IsIdleWorker table v worker = IsIdle table v worker.seat worker.decoder
+
+-- a worker that left
+abbrev pub IsLeftWorker : TableId → BoxSeen → Worker → Type 0
+IsLeftWorker table v worker = HasLeft table v worker.seat worker.decoder
+
+-- the emitter before its first call
+abbrev pub IsNewLead : TableId → BoxSeen → Emitter → Type 0
+IsNewLead table v emitter = IsNewEmitter table v emitter.seat emitter.decoder
+
+-- and after its last one
+pub record LeadEnds {Sink : Type 0} (held : Sink → Option (List ℕ)) (faults : Sink → ℕ)
+    (full : Sink → Type 0) (v : BoxSeen) (emitter : Emitter) (old new : Sink)
+    (result : Result Emitted EmitStop) : Type 0 where
+  pub ends : Emits held faults full old new (joined_in v) result
+  pub through : OnOk result (IsThrough (length v.parts.handovers) emitter.seat.view)
+  pub stopped : OnErr result (emitter.seat.view.stopped ≡ true)
+  pub few : length (joined_in v).bytes ≤ segment_room * most_segments
+  pub lasting : faults old ≤ faults new
+
+-- a worker's seat before its first call
+pub record IsNewSeat (table : TableId) (v : BoxSeen) (seat : SeatValue BoxSeen WorkerView)
+    : Type 0 where
+  pub own : seat.table ≡ table
+  pub content : seat.content ≡ v
+  pub free : seat.view.segment ≡ None
+  pub here : seat.view.left ≡ false
+  pub claims : seat.claims ≡ 0
+
+-- workers' seats before their first calls
+abbrev pub AreNewSeats : TableId → BoxSeen → List (SeatValue BoxSeen WorkerView) → Type 0
+AreNewSeats table v seats = All (IsNewSeat table v) seats

@@ -1,0 +1,74 @@
+// Tasks side by side, one of them on this thread.
+ghost use Rattle.std.specs.Prelude.{All};
+
+use std::sync::Wait;
+use std::thread;
+use std::thread::Threads;
+
+// What a thread does with a value of its own, beside what all threads share.
+pub(crate) trait Task<S> {
+    // What it starts from.
+    ghost ready: { Self → S → Type 0 };
+
+    // What it comes to.
+    ghost done: { Self → S → Type 0 };
+
+    fn perform<R: Wait>(&mut self, rt: &R, shared: &S)
+        requires { ready self.old shared.now }
+        ensures { done self.new shared.now };
+}
+
+// What this thread does beside them, with a value to which it writes.
+pub(crate) trait Lead<S, K> {
+    type Answer;
+
+    // What it starts from.
+    ghost begins: { Self → S → Type 0 };
+
+    // What it comes to: from one state to another, from what the value was to what it is, and with which answer.
+    ghost ends: { Self → Self → S → K → K → Self.Answer → Type 0 };
+
+    fn lead<R: Wait>(&mut self, rt: &R, shared: &S, sink: &mut K) -> Self::Answer
+        requires { begins self.old shared.now }
+        ensures { ends self.old self.new shared.now sink.old sink.new result };
+}
+
+// Each task in a thread of its own where one can be had.
+fn perform_all<R: Threads + Wait + Sync, S: Sync, T: Task<S> + Send>(
+    rt: &R,
+    tasks: &mut [T],
+    shared: &S,
+)
+    requires { All (λ task. T.ready task shared.now) tasks.old }
+    ensures { All (λ task. T.done task shared.now) tasks.new }
+{
+    let threads = tasks.len();
+    if threads > 0 {
+        thread::for_each_mut(rt, tasks, threads, &|_, task| task.perform(rt, shared));
+    }
+}
+
+// The lead on this thread, beside the tasks in theirs. Where no thread can be had the lead comes first.
+pub(crate) fn lead_beside<R: Threads + Wait + Sync, S: Sync, K, L: Lead<S, K>, T: Task<S> + Send>(
+    rt: &R,
+    lead: &mut L,
+    tasks: &mut [T],
+    shared: &S,
+    sink: &mut K,
+) -> L::Answer
+    requires lead { L.begins lead.old shared.now }
+    requires tasks { All (λ task. T.ready task shared.now) tasks.old }
+    ensures { L.ends lead.old lead.new shared.now sink.old sink.new result }
+{
+    if tasks.is_empty() {
+        return lead.lead(rt, shared, sink);
+    }
+    let ((), answer) = thread::join_mut(
+        rt,
+        &mut ||
+            requires { All (λ task. T.ready task shared.now) tasks.now }
+        { perform_all(rt, tasks, shared) },
+        &mut || lead.lead(rt, shared, sink),
+    );
+    answer
+}

@@ -1,0 +1,34 @@
+// The board of a container.
+ghost use Rattle.std.specs.Prelude.{◌≡◌, ◌≤◌, IfOk};
+ghost use Rattle.output_board.specs.Seats.{new_emitter_seat, new_worker_seats};
+
+use crate::lengths::segments_are_short;
+use crate::told::Told;
+use box_format::BoxView;
+use output_board::{Board, EmitterSeat, WorkerSeat};
+use std::alloc::{AllocError, Global};
+
+/// The board of a container's segments before the first call, the emitter's seat, and the seats of so many workers. Each
+/// segment's ring holds at most `ring` bytes. The one error is want of memory.
+pub fn prepare_board<'a>(
+    alloc: Global,
+    view: &BoxView<'a>,
+    ring: usize,
+    workers: u8,
+) -> Result<
+    (
+        Board<Told<'a>>,
+        EmitterSeat<Told<'a>>,
+        Vec<WorkerSeat<Told<'a>>>,
+    ),
+    AllocError,
+>
+    requires { 1 ≤ ring }
+    ensures emitter { IfOk result (λ made. made.1 ≡ new_emitter_seat made.0 view.now workers) }
+    ensures workers { IfOk result (λ made.
+        made.2.items ≡ new_worker_seats made.0 view.now workers) }
+{
+    segments_are_short(view);
+    let content = Told::new(view);
+    Board::prepare(alloc, &content, view.segments(), ring, workers)
+}

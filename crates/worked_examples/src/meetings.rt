@@ -1,0 +1,161 @@
+// A decode in which two workers have to decode at the same time.
+ghost use Rattle.std.specs.Prelude.{◌≤◌};
+
+use crate::containers::{LEVEL_SEGMENT, Segment, container_of};
+use crate::files::{END, RESTARTS, START, joined};
+use crate::segments::AFTER_A_MARKER;
+use crate::trial::{NONE, run_past};
+use lepton_decode::{prepare, run};
+use outside_core::{Gate, MemSink};
+use std::alloc::{AllocError, Global};
+use std::hint;
+use std::sync::atomic::{AtomicBool, Ordering};
+use std::test::Fail;
+
+// Three blocks of zeros, one below another, each with a restart interval of its own: 84 bytes.
+const SIZE: [u8; 4] = [0, 24, 0, 8];
+
+const SCAN: [u8; 7] = [0x3f, 0xff, 0xd0, 0x3f, 0xff, 0xd1, 0x3f];
+
+const SEGMENTS: [Segment<'static>; 3] = [
+    LEVEL_SEGMENT,
+    AFTER_A_MARKER,
+    Segment {
+        start: [0, 0, 0, 0, 0, 0, 0, 0, 0, 0, 0, 0, 0, 2],
+        stream: &[0, 0, 0],
+    },
+];
+
+// How often a hold looks where it is let go, and where it isn't.
+const MANY_LOOKS: u64 = 100_000_000;
+
+const FEW_LOOKS: u64 = 1_000;
+
+// Holds the emitter at each segment of its own, and the worker of segment 1 at its first put, until a put of segment 2 was
+// answered; and the worker of segment 2 at its first put, until segment 1 comes to its own. Only two workers that decode at the
+// same time pass.
+#[derive(Drop)]
+struct Meeting {
+    // How often a hold looks at most.
+    looks: u64,
+    // Whether a put of each segment was asked for.
+    asked_first: AtomicBool,
+    asked_second: AtomicBool,
+    asked_third: AtomicBool,
+    // Whether a put of segment 2 was answered.
+    put_third: AtomicBool,
+    // Whether a hold looked that often.
+    ran_out: AtomicBool,
+}
+
+impl Meeting {
+    fn new(looks: u64) -> Meeting {
+        Meeting {
+            looks,
+            asked_first: AtomicBool::new(false),
+            asked_second: AtomicBool::new(false),
+            asked_third: AtomicBool::new(false),
+            put_third: AtomicBool::new(false),
+            ran_out: AtomicBool::new(false),
+        }
+    }
+
+    // Holds until the flag is up. Once a hold has run out all pass.
+    fn hold(&self, flag: &AtomicBool) {
+        for _ in 0..self.looks {
+            if flag.load(Ordering::SeqCst) || self.ran_out.load(Ordering::SeqCst) {
+                return;
+            }
+            hint::spin_loop();
+        }
+        self.ran_out.store(true, Ordering::SeqCst);
+    }
+
+    fn ran_out(&self) -> bool {
+        self.ran_out.load(Ordering::SeqCst)
+    }
+
+    // Whether a put of each segment was asked for, and one of segment 2 answered.
+    fn all_came(&self) -> bool {
+        self.asked_first.load(Ordering::SeqCst)
+            && self.asked_second.load(Ordering::SeqCst)
+            && self.asked_third.load(Ordering::SeqCst)
+            && self.put_third.load(Ordering::SeqCst)
+    }
+}
+
+impl Gate for Meeting {
+    fn before_put(&self, segment: u8) {
+        match segment {
+            0 => self.asked_first.store(true, Ordering::SeqCst),
+            1 => {
+                if !self.asked_second.swap(true, Ordering::SeqCst) {
+                    self.hold(&self.put_third);
+                }
+            }
+            _ => {
+                if !self.asked_third.swap(true, Ordering::SeqCst) {
+                    self.hold(&self.asked_second);
+                }
+            }
+        }
+    }
+
+    fn after_put(&self, segment: u8) {
+        if segment == 2 {
+            self.put_third.store(true, Ordering::SeqCst);
+        }
+    }
+
+    fn before_own(&self, _segment: u8) {
+        self.hold(&self.put_third);
+    }
+}
+
+fn file(alloc: Global) -> Result<Vec<u8>, AllocError> {
+    joined(alloc, &[&START, &SIZE, &RESTARTS, &SCAN, &END])
+}
+
+fn container(alloc: Global) -> Result<Vec<u8>, AllocError> {
+    let header = joined(alloc, &[&START, &SIZE, &RESTARTS])?;
+    container_of(alloc, 1, &SEGMENTS, header.as_slice(), &END)
+}
+
+#[test]
+fn workers_decode_at_the_same_time(rt: HostRuntime) -> Result<(), Fail> {
+    let alloc = rt.alloc();
+    let file = file(alloc)?;
+    let container = container(alloc)?;
+    let meeting = Meeting::new(MANY_LOOKS);
+    let mut ready = prepare(alloc, container.as_slice(), 3, 2).map_err(|_| "not a container")?;
+    let mut sink = MemSink::new(alloc, 84, 100, &[])?;
+    let ended = run(&mut ready, &rt, &mut sink, &meeting);
+    assert_eq!(rt; ended, Ok(84));
+    assert!(rt; sink.bytes() == file.as_slice());
+    assert!(rt; meeting.all_came());
+    assert!(rt; !meeting.ran_out());
+    // And through the top call.
+    let meeting = Meeting::new(MANY_LOOKS);
+    let words = ["decode", "--workers", "3"];
+    let tried = run_past(&rt, alloc, &words, container.as_slice(), NONE, &meeting)?;
+    assert!(rt; tried.is_done(file.as_slice()));
+    assert!(rt; meeting.all_came());
+    assert!(rt; !meeting.ran_out());
+    Ok(())
+}
+
+// Without a second worker a hold runs out, and all pass.
+#[test]
+fn one_thread_runs_out(rt: HostRuntime) -> Result<(), Fail> {
+    let alloc = rt.alloc();
+    let file = file(alloc)?;
+    let container = container(alloc)?;
+    for workers in ["0", "1"] {
+        let meeting = Meeting::new(FEW_LOOKS);
+        let words = ["decode", "--workers", workers];
+        let tried = run_past(&rt, alloc, &words, container.as_slice(), NONE, &meeting)?;
+        assert!(rt; tried.is_done(file.as_slice()), "{workers} workers");
+        assert!(rt; meeting.ran_out(), "{workers} workers");
+    }
+    Ok(())
+}
