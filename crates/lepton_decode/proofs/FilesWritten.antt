@@ -1,14 +1,10 @@
 -- A file written: its header, its segments, its trailer.
-use Rattle.std.proofs.Common.{◌≡◌, ℕ, zero, suc, ◌+◌, ◌-◌, ◌*◌, ◌^◌, ◌<◌, ◌≤◌, Bool, true, false, List, [], ◌∷◌, ◌++◌, length, map, take, refl, sym, ap, ap₂, subst, ◌∙◌, arith, append_assoc, append-nil, length-append, Option, Some, None, ◌⊎◌, true≢false, Result, Ok, Err}
+use Rattle.std.proofs.Common.{◌≡◌, ℕ, Bool, true, false, List, [], ◌++◌, refl, sym, ap, subst, ◌∙◌, append_assoc, append-nil, Option, Some, None, true≢false, Err}
 use Rattle.std.specs.Prelude.{not, ◌&&◌, ◌||◌, if◌then◌else◌}
-use Rattle.std.specs.Io.KnownBytes.{Appends}
-use Rattle.std.proofs.KnownBytes.{Appends-trans}
-use Rattle.std.proofs.lemmas.List.{take-append-le}
 use Rattle.jpeg_marker.specs.Plans.{PlanFields}
 use Rattle.handover.specs.declared.outcome.StreamFault.{StreamFault}
-use Rattle.outside_core.specs.Faults.{Rose}
 use Rattle.box_format.specs.Parts.{BoxParts}
-use Rattle.segment_meaning.specs.Meanings.{Joined, Meaning, Verdict, Restored, PadSpelled, Faulty, joined, outputs_of, meaning_by, meaning_of}
+use Rattle.segment_meaning.specs.Meanings.{Joined, Meaning, Restored, PadSpelled, Faulty, joined, outputs_of, meaning_by, meaning_of}
 use Rattle.lepton_decode.specs.declared.error.DecodeError.TheVariants as DecodeError
 use Rattle.segment_worker.specs.declared.ending.EmitStop.TheVariants.{Fault}
 use Rattle.segment_worker.specs.Written.{HasWritten}

@@ -1,19 +1,22 @@
 -- How a decode ends, and what it leaves in a sink (own).
-use Rattle.std.specs.Prelude.{ℕ, ◌≡◌, Bool, true, List, length, Option, Result, Ok, Err}
+use Rattle.std.specs.Prelude.{All, ℕ, ◌≡◌, Bool, true, List, length, Option, Result, Ok, Err}
 use Rattle.jpeg_marker.specs.Plans.{PlanFields}
 use Rattle.box_format.specs.Parts.{BoxParts}
 use Rattle.segment_meaning.specs.Meanings.{Meaning, Restored, PadSpelled, Faulty, meaning_of}
 use Rattle.output_board.specs.declared.view.EmitterView.{EmitterView}
+use Rattle.output_board.specs.declared.view.WorkerView.{WorkerView}
 use Rattle.segment_worker.specs.Written.{HasWritten, HasFailed}
 use Rattle.segment_worker.specs.Emitting.{IsThrough}
 use Rattle.lepton_decode.specs.declared.error.DecodeError.{DecodeError}
 use Rattle.lepton_decode.specs.declared.error.DecodeError.TheVariants.{WriteFault, Fault, PadSpelling}
 
--- a container that is ready: its header's plan, its parts, what the emitter knows of its board, and whether it was decoded
+-- a container that is ready: its header's plan, its parts, what the emitter and each worker know of its board, and whether it
+-- was decoded
 pub record ReadySeen : Type 0 where
   pub plan : PlanFields
   pub parts : BoxParts
   pub emitter : EmitterView
+  pub team : List WorkerView
   pub used : Bool
 
 -- what it stands for
@@ -39,3 +42,10 @@ HasEmitted count e (Ok written) = IsThrough count e
 HasEmitted count e (Err PadSpelling) = IsThrough count e
 HasEmitted count e (Err (Fault fault)) = e.stopped ≡ true
 HasEmitted count e (Err (WriteFault written)) = Unit {0}
+
+-- each worker has left, unless a write failed
+abbrev pub HaveLeft : List WorkerView → Result ℕ DecodeError → Type 0
+HaveLeft team (Ok written) = All (λ w. w.left ≡ true) team
+HaveLeft team (Err PadSpelling) = All (λ w. w.left ≡ true) team
+HaveLeft team (Err (Fault fault)) = All (λ w. w.left ≡ true) team
+HaveLeft team (Err (WriteFault written)) = Unit {0}

@@ -1,5 +1,5 @@
--- The workers of a decode (own).
-use Rattle.std.specs.Prelude.{All, ℕ, ◌≡◌, ◌*◌, ◌≤◌, None, true, false, List, length, Option, Result, OnOk, OnErr}
+-- The emitter and the workers of a decode (own).
+use Rattle.std.specs.Prelude.{All, ℕ, ◌≡◌, ◌*◌, ◌≤◌, None, true, false, List, length, map, Option, Result, OnOk, OnErr}
 use Rattle.atomic_table.specs.Seated.{TableId}
 use Rattle.box_format.specs.Parts.{most_segments}
 use Rattle.box_format.specs.Seen.{BoxSeen}
@@ -12,6 +12,10 @@ use Rattle.segment_worker.specs.Emitting.{Emits, IsNewEmitter, IsThrough, joined
 use Rattle.segment_worker.specs.Working.{IsIdle, HasLeft}
 use Rattle.lepton_decode.specs.declared.team.Emitter.{Emitter}
 use Rattle.lepton_decode.specs.declared.team.Worker.{Worker}
+
+-- what each worker knows of the board
+abbrev pub views_of : List Worker → List WorkerView
+views_of team = map (λ (worker : Worker). worker.seat.view) team
 
 -- a worker between two segments of a container's board
 abbrev pub IsIdleWorker : TableId → BoxSeen → Worker → Type 0

@@ -1,25 +1,23 @@
 // A container decoded into a sink.
 ghost use Rattle.std.specs.Prelude.{◌≡◌, ◌≤◌, All, false, length, true};
 ghost use Rattle.segment_meaning.specs.Meanings.{meaning_of};
-ghost use Rattle.lepton_decode.specs.Ends.{Ends, HasEmitted, meaning_in};
-ghost use Rattle.lepton_decode.specs.Teams.{IsIdleWorker, IsNewLead};
+ghost use Rattle.lepton_decode.specs.Ends.{Ends, HasEmitted, HaveLeft, meaning_in};
+ghost use Rattle.lepton_decode.specs.Teams.{IsIdleWorker, IsNewLead, views_of};
 
 use crate::error::DecodeError;
 use crate::ready::Ready;
 use crate::team::{Emitter, Shared, Worker};
 use crate::threads::lead_beside;
 use box_format::BoxView;
-use output_board::{Board, EmitterSeat};
+use output_board::Board;
 use outside_core::{Gate, Sink, WriteFault, write_all};
-use segment_code::SegmentDecoder;
-use segment_worker::{EmitStop, Emitted, Told, emit};
+use segment_worker::{EmitStop, Told};
 use std::sync::Wait;
-use std::thread;
 use std::thread::Threads;
 
 /// Writes the file that a container stands for, or its first bytes up to where a segment's stream has a fault, and answers
-/// how many bytes these are, however many workers there are and in whatever order they come to the board. It takes no
-/// memory. It returns once each worker has left.
+/// how many bytes these are, however many workers there are and in whatever order they come to the board. It asks no allocator
+/// for memory; where a thread can't be had, it does without.
 ///
 /// The gate is told of each segment that the emitter asks for, and of each put of a worker.
 pub fn run<R: Threads + Wait + Sync, K: Sink + Send, G: Gate + Sync>(
@@ -30,8 +28,9 @@ pub fn run<R: Threads + Wait + Sync, K: Sink + Send, G: Gate + Sync>(
 ) -> Result<u64, DecodeError>
     requires { ready.old.used ≡ false }
     ensures ends { Ends K.held K.faults K.full sink.old sink.new (meaning_in ready.old) result }
-    // What the emitter's seat knows then of the board.
+    // What the emitter's seat knows then of the board, and that each worker has left it.
     ensures emitted { HasEmitted (length ready.old.parts.handovers) ready.new.emitter result }
+    ensures left { HaveLeft ready.new.team result }
     ensures used { ready.new.used ≡ true }
     ensures lasting { K.faults sink.old ≤ K.faults sink.new }
 {
@@ -62,6 +61,7 @@ fn restore<'a, R: Threads + Wait + Sync, K: Sink + Send, G: Gate + Sync>(
     ensures ends { Ends K.held K.faults K.full sink.old sink.new
         (meaning_of view.now.plan view.now.parts) result }
     ensures emitted { HasEmitted (length view.now.parts.handovers) emitter.new.seat.view result }
+    ensures left { HaveLeft (views_of team.new.items) result }
     ensures lasting { K.faults sink.old ≤ K.faults sink.new }
 {
     let header = view.header();

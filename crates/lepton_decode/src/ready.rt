@@ -1,5 +1,5 @@
 // A container that is ready to be decoded.
-ghost use Rattle.std.specs.Prelude.{◌≡◌, ◌≤◌, IfOk, IsErrOf, false};
+ghost use Rattle.std.specs.Prelude.{◌≡◌, ◌≤◌, IfOk, IsErrOf, false, length};
 ghost use Rattle.box_format.specs.Parts.{IsBoxOf};
 ghost use Rattle.box_format.specs.BoxChecks.{IsRefusedBox};
 ghost use Rattle.box_format.specs.declared.refusal.BoxRefusal.{BoxRefusal};
@@ -17,7 +17,7 @@ use thiserror::Error;
 /// A container that is ready to be decoded, once: its parts, its board with the seats, and all the memory that decoding
 /// needs.
 ///
-/// Clauses see its header's plan, its parts, what the emitter knows of the board, and whether it was decoded.
+/// Clauses see its header's plan, its parts, what the emitter and each worker know of the board, and whether it was decoded.
 #[derive(Drop)]
 pub struct Ready<'a> {
     pub(crate) view: BoxView<'a>,
@@ -36,6 +36,15 @@ impl<'a> Model for Ready<'a> {
     ghost view = { ready_of };
 
     ghost invariant = { IsReady };
+}
+
+impl<'a> Ready<'a> {
+    /// Whether it was decoded.
+    pub fn used(&self) -> bool
+        ensures { result ≡ self.now.used }
+    {
+        self.used
+    }
 }
 
 /// Why a container can't be decoded.
@@ -71,6 +80,7 @@ pub fn prepare(
     requires { 1 ≤ ring }
     ensures ready { IfOk result (λ ready. IsBoxOf ready.plan ready.parts bytes.now) }
     ensures fresh { IfOk result (λ ready. ready.used ≡ false) }
+    ensures team { IfOk result (λ ready. length ready.team ≡ workers) }
     ensures refused { (refusal : BoxRefusal) → IsErrOf result (PrepareError.Box refusal)
         → IsRefusedBox bytes.now refusal }
 {

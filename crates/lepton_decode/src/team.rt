@@ -1,5 +1,5 @@
 // The emitter and the workers of a decode, each with what it needs.
-ghost use Rattle.std.specs.Prelude.{◌≡◌, All, IfOk};
+ghost use Rattle.std.specs.Prelude.{◌≡◌, All, IfOk, length};
 ghost use Rattle.lepton_decode.specs.Teams.{IsIdleWorker, IsNewSeat, AreNewSeats};
 
 use crate::threads::{Lead, Task};
@@ -93,7 +93,8 @@ pub(crate) fn team_of<'a>(
     seats: Vec<WorkerSeat<Told<'a>>>,
 ) -> Result<Vec<Worker<'a>>, AllocError>
     requires { AreNewSeats board.now view.now seats.items }
-    ensures { IfOk result (λ team. All (IsIdleWorker board.now view.now) team.items) }
+    ensures idle { IfOk result (λ team. All (IsIdleWorker board.now view.now) team.items) }
+    ensures count { IfOk result (λ team. length team.items ≡ length seats.entry.items) }
 {
     let mut team = Vec::with_capacity(alloc, seats.len())?;
     for seat in seats {

@@ -58,7 +58,8 @@ pub(crate) fn lead_beside<R: Threads + Wait + Sync, S: Sync, K, L: Lead<S, K>, T
 ) -> L::Answer
     requires lead { L.begins lead.old shared.now }
     requires tasks { All (λ task. T.ready task shared.now) tasks.old }
-    ensures { L.ends lead.old lead.new shared.now sink.old sink.new result }
+    ensures lead { L.ends lead.old lead.new shared.now sink.old sink.new result }
+    ensures tasks { All (λ task. T.done task shared.now) tasks.new }
 {
     if tasks.is_empty() {
         return lead.lead(rt, shared, sink);
@@ -67,6 +68,7 @@ pub(crate) fn lead_beside<R: Threads + Wait + Sync, S: Sync, K, L: Lead<S, K>, T
         rt,
         &mut ||
             requires { All (λ task. T.ready task shared.now) tasks.now }
+            ensures { All (λ task. T.done task shared.entry.now) tasks.exit.now }
         { perform_all(rt, tasks, shared) },
         &mut || lead.lead(rt, shared, sink),
     );

@@ -3,7 +3,7 @@ use Rattle.std.proofs.Common.{◌≡◌}
 use Rattle.scan_text.specs.declared.refusal.ScanRefusal.{ScanRefusal}
 use Rattle.segment_code.specs.declared.find.FindError.{FindError}
 use Rattle.segment_code.specs.declared.find.FindError.TheVariants as found
-use Rattle.lepton_encode.specs.declared.error.EncodeError.TheVariants.{Scan, NoMemory}
+use Rattle.lepton_encode.specs.declared.error.EncodeError.TheVariants.{Scan}
 use Rattle.lepton_encode.specs.Errors.{error_of}
 
 pub scan_found : (error : FindError) (refusal : ScanRefusal) → error_of error ≡ Scan refusal

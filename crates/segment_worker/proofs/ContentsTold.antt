@@ -1,5 +1,5 @@
 -- The bytes and the outcomes that a container's board is for.
-use Rattle.std.proofs.Common.{◌≡◌, ℕ, zero, suc, ◌+◌, ◌*◌, ◌^◌, ◌<◌, ◌≤◌, Bool, true, false, List, [], ◌∷◌, length, map, get_or, refl, sym, ap, subst, ◌∙◌, arith, Some, None, ◌⊎◌, ⊎_elim, inl, inr, zero-add}
+use Rattle.std.proofs.Common.{◌≡◌, ℕ, ◌<◌, ◌≤◌, false, List, [], length, get_or, sym, ap, subst, ◌∙◌, arith, Some, None, ⊎_elim, zero-add}
 use Rattle.std.specs.Prelude.{slice_get}
 use Rattle.std.proofs.lemmas.Bool.{cases_lt}
 use Rattle.handover.specs.declared.outcome.Outcome.{Outcome}
@@ -8,7 +8,7 @@ use Rattle.board_core.specs.BoardInvariants.{bytes_at}
 use Rattle.box_format.specs.Parts.{IsBox}
 use Rattle.box_format.specs.Seen.{BoxSeen}
 use Rattle.segment_meaning.specs.Segments.{Output, segment_output}
-use Rattle.segment_meaning.specs.Meanings.{segment_in, outputs_of}
+use Rattle.segment_meaning.specs.Meanings.{segment_in}
 use Rattle.segment_meaning.proofs.Numbered.{mapped_long, mapped_at, got_at, got_none}
 use Rattle.segment_meaning.proofs.ShortSegments.{segment_is_short}
 use Rattle.segment_worker.specs.Contents.{segments_bytes, segments_outcomes, segment_room, AreShort}

@@ -1,7 +1,7 @@
 -- What an emitter has written, call by call.
-use Rattle.std.proofs.Common.{◌≡◌, ℕ, zero, suc, ◌+◌, ◌-◌, ◌*◌, ◌^◌, ◌<◌, ◌≤◌, Bool, true, false, List, [], ◌∷◌, ◌++◌, length, map, take, drop, refl, sym, ap, ap₂, subst, ◌∙◌, arith, append_assoc, append-nil, length-append, Option, Some, None, Result, Ok, Err}
+use Rattle.std.proofs.Common.{◌≡◌, ℕ, zero, suc, ◌+◌, ◌-◌, ◌*◌, ◌<◌, ◌≤◌, Bool, true, false, List, [], ◌++◌, length, map, take, drop, refl, sym, ap, subst, ◌∙◌, arith, append_assoc, append-nil, length-append, Option, Some, Ok, Err}
 use Rattle.std.specs.Prelude.{◌||◌, slice_get}
-use lib.Seq.{take-append-le, length-take-le, take_all, take-add}
+use lib.Seq.{length-take-le, take_all, take-add}
 use lib.ListN.{take-append-drop, length-drop}
 use Rattle.atomic_table.specs.Seated.{TableId}
 use Rattle.handover.specs.declared.outcome.Outcome.{Outcome}
@@ -15,15 +15,14 @@ use Rattle.segment_meaning.specs.Meanings.{Joined, joined, joined_with, segment_
 use Rattle.segment_code.specs.Decoding.{DecoderSeen}
 use Rattle.output_board.specs.declared.view.EmitterView.{EmitterView}
 use Rattle.output_board.specs.declared.answers.Take.{Take}
-use Rattle.output_board.specs.declared.answers.Take.TheVariants.{Bytes, Ended, Unclaimed, NotYet, Over}
+use Rattle.output_board.specs.declared.answers.Take.TheVariants.{Bytes, Ended}
 use Rattle.output_board.specs.Seats.{SeatValue, HasHeldOnce}
-use Rattle.output_board.specs.Answers.{TakeGives, StopGives}
-use Rattle.segment_worker.specs.declared.ending.Emitted.{Emitted}
-use Rattle.segment_worker.specs.declared.ending.EmitStop.TheVariants.{WriteFault, Fault}
+use Rattle.output_board.specs.Answers.{TakeGives}
+use Rattle.segment_worker.specs.declared.ending.EmitStop.TheVariants.{Fault}
 use Rattle.segment_worker.specs.Contents.{segments_bytes, segments_outcomes, segment_room, AreShort}
 use Rattle.segment_worker.specs.Written.{HasWritten, HasFailed}
 use Rattle.segment_worker.specs.Joining.{joined_from, joined_onto}
-use Rattle.segment_worker.specs.Emitting.{joined_in, IsNewEmitter, IsUsedEmitter, IsThrough, Emits, IsWrittenTo, IsEmitting}
+use Rattle.segment_worker.specs.Emitting.{joined_in, IsNewEmitter, IsUsedEmitter, Emits, IsWrittenTo, IsEmitting}
 use Rattle.segment_worker.specs.OwnSegments.{own_rest, OwnEnds}
 use Rattle.segment_worker.proofs.Tails.{some_left, past_end, front}
 use Rattle.segment_worker.proofs.ContentsTold.{output_of, bytes_of, bytes_long, outcome_of, outcome_within, bytes_within}

@@ -1,6 +1,6 @@
 -- A worker's bytes, put into its ring.
-use Rattle.std.proofs.Common.{◌≡◌, ℕ, zero, suc, ◌+◌, ◌-◌, ◌<◌, ◌≤◌, Bool, true, false, List, [], ◌∷◌, ◌++◌, length, take, drop, refl, sym, ap, ap₂, subst, ◌∙◌, arith, Option, Some, None}
-use lib.Seq.{drop-drop, take_all}
+use Rattle.std.proofs.Common.{◌≡◌, ℕ, zero, suc, ◌+◌, ◌≤◌, List, [], ◌∷◌, length, take, drop, sym, ap, subst, ◌∙◌, arith, Some}
+use lib.Seq.{drop-drop}
 use lib.ListN.{length-drop}
 use Rattle.board_core.specs.BoardInvariants.{bytes_at}
 use Rattle.output_board.specs.declared.view.WorkerView.{WorkerView}

@@ -1,5 +1,5 @@
 -- What the board of a container is for (own).
-use Rattle.std.specs.Prelude.{ℕ, ◌≡◌, ◌*◌, ◌^◌, ◌≤◌, List, length, map}
+use Rattle.std.specs.Prelude.{ℕ, ◌*◌, ◌^◌, ◌≤◌, List, length, map}
 use Rattle.handover.specs.declared.outcome.Outcome.{Outcome}
 use Rattle.scan_write.specs.Outputs.{mcu_room}
 use Rattle.board_core.specs.BoardInvariants.{bytes_at}

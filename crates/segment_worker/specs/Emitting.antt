@@ -1,7 +1,6 @@
 -- An emitter at work, and how it ends (own).
-use Rattle.std.specs.Prelude.{ℕ, ◌≡◌, ◌+◌, ◌*◌, ◌≤◌, Bool, true, false, List, ◌++◌, length, take, Option, Some, None, Result, Ok, Err}
+use Rattle.std.specs.Prelude.{ℕ, ◌≡◌, ◌+◌, ◌*◌, ◌≤◌, Bool, false, List, ◌++◌, length, take, Option, Some, None, Result, Ok, Err}
 use Rattle.atomic_table.specs.Seated.{TableId}
-use Rattle.jpeg_marker.specs.Plans.{PlanFields}
 use Rattle.board_core.specs.BoardInvariants.{bytes_at}
 use Rattle.box_format.specs.Seen.{BoxSeen}
 use Rattle.segment_meaning.specs.Meanings.{Joined, joined, outputs_of}

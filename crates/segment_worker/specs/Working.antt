@@ -1,5 +1,5 @@
 -- A worker at work (own).
-use Rattle.std.specs.Prelude.{ℕ, ◌≡◌, true, false, None}
+use Rattle.std.specs.Prelude.{◌≡◌, true, false, None}
 use Rattle.atomic_table.specs.Seated.{TableId}
 use Rattle.box_format.specs.Seen.{BoxSeen}
 use Rattle.segment_code.specs.Decoding.{DecoderSeen}

@@ -13,7 +13,7 @@ use std::sync::Wait;
 /// Claims segments and decodes them into their rings, one after another, until none is left or the board is stopped, and
 /// leaves.
 ///
-/// The gate is told of each put, before and after it. No memory is taken.
+/// The gate is told of each put, before and after it.
 pub fn work<'a, R: Wait, G: Gate>(
     rt: &R,
     decoder: &mut SegmentDecoder<'a>,

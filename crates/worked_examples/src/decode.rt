@@ -122,7 +122,7 @@ fn changed_bytes_of_two_segments(rt: HostRuntime) -> Result<(), Fail> {
 }
 
 // Each byte as each other value. Counts the containers of a file: each is exactly the one of the file that it gives, in so
-// many segments. All others are refused.
+// many segments. All others are refused. No threads are started for so many.
 fn files_of_changed<R: Threads + Wait + Sync + Abort>(
     rt: &R,
     alloc: Global,
@@ -135,7 +135,8 @@ fn files_of_changed<R: Threads + Wait + Sync + Abort>(
         for _ in 0..255 {
             assert!(rt; place < changed.len());
             changed[place] = changed[place].wrapping_add(1);
-            let tried = run_over(rt, alloc, &["decode"], changed.as_slice(), NONE)?;
+            let words = ["decode", "--workers", "0"];
+            let tried = run_over(rt, alloc, &words, changed.as_slice(), NONE)?;
             if tried.status == 0 {
                 let words = ["encode", "--segments", asked];
                 let again = run_over(rt, alloc, &words, tried.written.as_slice(), NONE)?;

@@ -1,7 +1,6 @@
-use Rattle.std.proofs.Common.{rules, ◌≡◌, ◌∷◌, sym, subst}
+use Rattle.std.proofs.Common.{rules, ◌≡◌, ◌∷◌, [], ◌∙◌, sym, ap, subst, length, length-append, arith}
 use Rattle.std.specs.Prelude.{All}
 use Rattle.std.proofs.lemmas.List.Elements.{All-push}
-use Rattle.lepton_decode.specs.declared.team.Worker.{Worker}
 use Rattle.lepton_decode.specs.Teams.{IsIdleWorker, IsNewSeat}
 use Rattle.lepton_decode.proofs.NewTeams.{tail_is}
 use Rattle.lepton_decode.proofs.team.team_of.Goals as goal
@@ -9,13 +8,19 @@ use Rattle.lepton_decode.proofs.team.team_of.Goals as goal
 pub loop-seat-preserved : goal.loop-seat-preserved
 loop-seat-preserved c =
     let before = c.loop-seat.invariant in
+    let next : c.loop-seat.seat-iterator.rest.items ≡ c.in-Some.seat ∷ c.next.new.self.rest.items =
+    search rules in
     record {
       team = subst (All (IsIdleWorker c.args.board.now c.args.view.now)) (sym c.in_ok-push.ensures.items)
           (All-push (IsIdleWorker c.args.board.now c.args.view.now) c.loop-seat.team.items c.in_ok-worker.worker
           before.team c.in_ok-worker.ensures);
+      count =
+          let longer = ap length c.in_ok-push.ensures.items
+          ∙ length-append c.loop-seat.team.items (c.in_ok-worker.worker ∷ []) in
+          let shorter = ap length next in
+          let count = before.count in
+          omega (arith, longer, shorter, count);
       rest =
-          let next : c.loop-seat.seat-iterator.rest.items ≡ c.in-Some.seat ∷ c.next.new.self.rest.items =
-          search rules in
           tail_is (IsNewSeat c.args.board.now c.args.view.now) c.in-Some.seat c.next.new.self.rest.items
           (subst (All (IsNewSeat c.args.board.now c.args.view.now)) next before.rest);
     }

@@ -1,6 +1,5 @@
-use Rattle.std.proofs.Common.{rules, ◌≡◌, ◌+◌, ◌≤◌, ◌<◌, ◌∙◌, sym, ap, subst, arith, List, ℕ, length, take}
+use Rattle.std.proofs.Common.{rules, ◌≡◌, ◌+◌, ◌∙◌, sym, ap, arith, ℕ, length}
 use Rattle.output_board.specs.declared.view.EmitterView.{EmitterView}
-use Rattle.segment_worker.specs.Written.{HasWritten, HasFailed}
 use Rattle.segment_worker.proofs.Emissions.{starts_emitting, bytes_taken, taken_failed, good_taken, good_cur, bad_taken, same_emitted, own_emitted, own_failed, all_emitted}
 use Rattle.segment_worker.proofs.ContentsTold.{bytes_long}
 use Rattle.box_format.specs.Seen.{BoxSeen}

@@ -1,9 +1,8 @@
-use Rattle.std.proofs.Common.{◌≡◌, ◌+◌, ◌≤◌, ◌<◌, ◌∙◌, sym, ap, subst, arith, List, ℕ, length, take}
-use Rattle.std.specs.Io.KnownBytes.{Appends}
+use Rattle.std.proofs.Common.{◌+◌, sym, subst, List, ℕ, length}
 use Rattle.segment_code.specs.declared.step.Step.TheVariants.{Done, Fault}
 use Rattle.handover.specs.declared.outcome.Outcome.TheVariants.{Good, Bad}
 use Rattle.segment_worker.specs.Written.{HasWritten, HasFailed}
-use Rattle.segment_worker.specs.OwnSegments.{IsPassing, OwnEnds}
+use Rattle.segment_worker.specs.OwnSegments.{IsPassing}
 use Rattle.segment_worker.proofs.OwnPieces.{starts_passing, piece_passed, piece_within, all_passed, piece_failed, owed_later, owed_done, owed_fault, ends_there}
 use Rattle.segment_worker.proofs.own.emit_own.Goals as goal
 

@@ -1,4 +1,4 @@
-use Rattle.std.proofs.Common.{◌≡◌, ◌<◌, ◌+◌, ◌≤◌, ◌∙◌, sym, ap, subst, arith, ℕ, length}
+use Rattle.std.proofs.Common.{◌≡◌, ◌<◌, ◌∙◌, sym, ap, subst, arith, ℕ, length}
 use Rattle.jpeg_marker.specs.Plans.{PlanFields}
 use Rattle.box_format.specs.Seen.{BoxSeen}
 use Rattle.segment_meaning.specs.Segments.{segment_output}
@@ -7,7 +7,7 @@ use Rattle.segment_code.specs.Decoding.{Owes}
 use Rattle.output_board.specs.declared.view.EmitterView.{EmitterView}
 use Rattle.segment_worker.specs.OwnSegments.{OwesRest}
 use Rattle.segment_worker.proofs.ContentsTold.{bytes_long}
-use Rattle.segment_worker.proofs.OwnPieces.{owes_all, own_claimed, own_none}
+use Rattle.segment_worker.proofs.OwnPieces.{owes_all}
 use Rattle.segment_worker.proofs.own.emit_unclaimed.Goals as goal
 
 pub begin-requires-clause-segment : goal.begin-requires-clause-segment

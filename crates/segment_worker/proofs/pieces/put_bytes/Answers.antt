@@ -1,4 +1,4 @@
-use Rattle.std.proofs.Common.{◌≡◌, ◌∙◌, sym, ap, subst, List, ℕ, drop}
+use Rattle.std.proofs.Common.{sym, subst, List, ℕ}
 use Rattle.box_format.specs.Seen.{BoxSeen}
 use Rattle.output_board.specs.Answers.{HasNext}
 use Rattle.segment_worker.specs.Contents.{segments_bytes}
