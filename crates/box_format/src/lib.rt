@@ -2,8 +2,8 @@
 //!
 //!     LPSG | 1 | pad | K | lengths of header and trailer | K records | header | trailer | K streams
 //!
-//! A record has what a segment starts from and the length of its stream. A container has one spelling: what can be said in
-//! one way only is checked, and every check that fails has a refusal of its own. What a stream stands for is left to
+//! A record has what a segment starts from and the length of its stream. A container has one spelling: what can be said
+//! in one way only is checked, and every check that fails has a refusal of its own. What a stream stands for is left to
 //! others.
 #![tactic(auto)]
 

@@ -21,8 +21,8 @@ pub(crate) fn given_words<R: Env>(rt: &R, alloc: Global) -> Result<Vec<String>, 
     Ok(words)
 }
 
-// The word of this number, if there is one. One that is no text, or longer, is another word in its place that no command
-// has.
+// The word of this number, if there is one. One that is no text, or longer, is another word in its place that no
+// command has.
 fn word<R: Env>(rt: &R, alloc: Global, number: usize) -> Result<Option<String>, AllocError> {
     let mut bytes = [0; LONGEST];
     match rt.arg(number, &mut bytes) {

@@ -10,8 +10,8 @@ use Rattle.segment_worker.specs.Emitting.{IsThrough}
 use Rattle.lepton_decode.specs.declared.error.DecodeError.{DecodeError}
 use Rattle.lepton_decode.specs.declared.error.DecodeError.TheVariants.{WriteFault, Fault, PadSpelling}
 
--- a container that is ready: its header's plan, its parts, what the emitter and each worker know of its board, and whether it
--- was decoded
+-- a container that is ready: its header's plan, its parts, what the emitter and each worker know of its board, and
+-- whether it was decoded
 pub record ReadySeen : Type 0 where
   pub plan : PlanFields
   pub parts : BoxParts

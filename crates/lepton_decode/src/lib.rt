@@ -6,8 +6,8 @@
 //!             workers in threads of their own   --rings of the board-->  the emitter on this thread --> sink
 //!             trailer --write_all--> sink
 //!
-//! `prepare` takes the memory; `run` is given no allocator, so that nothing is lost for want of it once bytes are written.
-//! What a container stands for is `segment_meaning`; what workers and the emitter do is `segment_worker`'s.
+//! `prepare` takes the memory; `run` is given no allocator, so that nothing is lost for want of it once bytes are
+//! written. What a container stands for is `segment_meaning`; what workers and the emitter do is `segment_worker`'s.
 #![tactic(auto)]
 
 mod decode;

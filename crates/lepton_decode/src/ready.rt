@@ -17,7 +17,8 @@ use thiserror::Error;
 /// A container that is ready to be decoded, once: its parts, its board with the seats, and all the memory that decoding
 /// needs.
 ///
-/// Clauses see its header's plan, its parts, what the emitter and each worker know of the board, and whether it was decoded.
+/// Clauses see its header's plan, its parts, what the emitter and each worker know of the board, and whether it was
+/// decoded.
 #[derive(Drop)]
 pub struct Ready<'a> {
     pub(crate) view: BoxView<'a>,
@@ -69,8 +70,8 @@ impl From<AllocError> for PrepareError {
 }
 
 /// Reads a container's parts, and takes all the memory that its decoding by so many workers needs: for the emitter and
-/// each worker the bins, two MCU rows of blocks and a piece of bytes, and for each segment a ring of `ring` bytes. With 0
-/// workers the emitter decodes all.
+/// each worker the bins, two MCU rows of blocks and a piece of bytes, and for each segment a ring of `ring` bytes. With
+/// 0 workers the emitter decodes all.
 pub fn prepare(
     alloc: Global,
     bytes: &[u8],

@@ -1,4 +1,5 @@
-// Containers of a few bytes, decoded into memory (docs/FORMAT.md), by no worker, by one, and by more than there are segments.
+// Containers of a few bytes, decoded into memory (docs/FORMAT.md), by no worker, by one, and by more than there are
+// segments.
 ghost use Rattle.std.specs.Prelude.{◌≤◌};
 
 use super::*;
@@ -16,7 +17,8 @@ const WORKERS: [u8; 4] = [0, 1, 3, 16];
 
 const RINGS: [usize; 3] = [1, 2, 65_536];
 
-// The fields of a container with one record, two or three: a pad bit, a header of 69 bytes or of 75, and a trailer of 2.
+// The fields of a container with one record, two or three: a pad bit, a header of 69 bytes or of 75, and a trailer of
+// 2.
 const FRONT: &[u8] = b"LPSG\x01\x01\x01\0\0\0\x45\0\0\0\x02";
 
 const FRONT_PADDED_WITH_ZEROS: &[u8] = b"LPSG\x01\0\x01\0\0\0\x45\0\0\0\x02";
@@ -25,8 +27,8 @@ const FRONT_OF_TWO: &[u8] = b"LPSG\x01\x01\x02\0\0\0\x45\0\0\0\x02";
 
 const FRONT_OF_THREE: &[u8] = b"LPSG\x01\x01\x03\0\0\0\x4b\0\0\0\x02";
 
-// A record: nothing begun, two or three bits, one restart marker or two before; and a stream of three bytes, or of the five
-// that four blocks take.
+// A record: nothing begun, two or three bits, one restart marker or two before; and a stream of three bytes, or of the
+// five that four blocks take.
 const START: &[u8] = b"\0\0\0\0\0\0\0\0\0\0\0\0\0\0\0\0\0\0\0\0\0\x03";
 
 const START_OF_FIVE: &[u8] = b"\0\0\0\0\0\0\0\0\0\0\0\0\0\0\0\0\0\0\0\0\0\x05";
@@ -39,8 +41,8 @@ const ONE_MARKER: &[u8] = b"\0\0\0\0\0\0\0\0\0\0\0\0\0\x01\0\0\0\0\0\0\0\x03";
 
 const TWO_MARKERS: &[u8] = b"\0\0\0\0\0\0\0\0\0\0\0\0\0\x02\0\0\0\0\0\0\0\x03";
 
-// Headers of one component, 8 by 8, 8 by 16 and 8 by 32 samples, with one code word in each table; and of one of 8 by 24, with
-// a restart after each MCU.
+// Headers of one component, 8 by 8, 8 by 16 and 8 by 32 samples, with one code word in each table; and of one of 8 by
+// 24, with a restart after each MCU.
 const HEADER: &[u8] = b"\xff\xd8\xff\xc0\0\x0b\x08\0\x08\0\x08\x01\x01\x11\0\
     \xff\xc4\0\x14\0\x01\0\0\0\0\0\0\0\0\0\0\0\0\0\0\0\0\
     \xff\xc4\0\x14\x10\x01\0\0\0\0\0\0\0\0\0\0\0\0\0\0\0\0\
@@ -85,8 +87,8 @@ const THREE: &[&[u8]] = &[
 
 const FILE_OF_THREE: &[&[u8]] = &[WITH_RESTARTS, b"\x3f\xff\xd0\x3f\xff\xd1\x3f", TRAILER];
 
-// How a decode ends: with so many bytes, with a fault of the sink after so many, with a fault of a segment's stream, or with a
-// pad bit that has to be 1.
+// How a decode ends: with so many bytes, with a fault of the sink after so many, with a fault of a segment's stream, or
+// with a pad bit that has to be 1.
 #[derive(Clone, Copy, Debug, PartialEq, Eq)]
 enum End {
     Whole(u64),
@@ -97,8 +99,8 @@ enum End {
     PadSpelling,
 }
 
-// The parts of a container, the room of a sink and the calls of it that fail, how the decode ends, and the parts that the sink
-// holds then.
+// The parts of a container, the room of a sink and the calls of it that fail, how the decode ends, and the parts that
+// the sink holds then.
 type Row<'a> = (&'a [&'a [u8]], usize, &'a [u64], End, &'a [&'a [u8]]);
 
 const FILES: &[Row] = &[

@@ -2,9 +2,9 @@
 //!
 //!     bytes --read_header--> plan --find_starts--> starts --encode_all--> streams --write_box--> container
 //!
-//! The segments are made side by side from the file's bytes: beside these, memory is for the streams, for each segment's two
-//! MCU rows of blocks and its bins, and for the container. What a segment's stream is is `segment_meaning`'s, how it is made
-//! `segment_code`'s, and in which thread `segment_worker`'s.
+//! The segments are made side by side from the file's bytes: beside these, memory is for the streams, for each
+//! segment's two MCU rows of blocks and its bins, and for the container. What a segment's stream is is
+//! `segment_meaning`'s, how it is made `segment_code`'s, and in which thread `segment_worker`'s.
 #![tactic(auto)]
 
 mod container;

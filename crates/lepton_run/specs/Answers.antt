@@ -1,5 +1,5 @@
--- What the top call answers (this project's own): for a command and bytes one answer, with the bytes that it writes, its
--- status and its line.
+-- What the top call answers (this project's own): for a command and bytes one answer, with the bytes that it writes,
+-- its status and its line.
 use Rattle.std.specs.Prelude.{ℕ, ◌≡◌, ◌⊎◌, ◌+◌, ◌<◌, ◌≤◌, List, [], length, take, Option}
 use Rattle.std.specs.List.{AllByRecursion}
 use Rattle.std.specs.Io.KnownBytes.{Appends, Consumes, IsAtEnd}
@@ -17,8 +17,8 @@ use Rattle.lepton_run.specs.Lines.{refusal_line}
 use Rattle.lepton_run.specs.declared.refusal.Refusal.{Refusal}
 use Rattle.lepton_run.specs.declared.refusal.Refusal.TheVariants.{Header, Scan, Box, Fault, PadSpelling, TooLong}
 
--- how a command ends where no end fails and there is memory: these bytes are made; or the bytes given are refused, before
--- one is written or behind some
+-- how a command ends where no end fails and there is memory: these bytes are made; or the bytes given are refused,
+-- before one is written or behind some
 pub data Answer : Type 0 where
   Made : List ℕ → Answer
   Early : Refusal → Answer
@@ -66,8 +66,8 @@ ScanRefuses bytes refusal =
     (plan : PlanFields) × Accepts bytes plan
     × ItemsRefuse (shape_of plan) bytes plan.header_length refusal
 
--- what a command makes of bytes: encode the container of a file in at most so many segments, or it refuses the header or
--- else the scan; decode what the bytes stand for as a container, whatever the number of workers
+-- what a command makes of bytes: encode the container of a file in at most so many segments, or it refuses the header
+-- or else the scan; decode what the bytes stand for as a container, whatever the number of workers
 abbrev pub Makes : Command → List ℕ → Answer → Type 0
 Makes (Encode segments) bytes (Made made) = IsContainerOf segments made bytes
 Makes (Encode segments) bytes (Early (Header refusal)) = HeaderRefuses bytes refusal

@@ -1,4 +1,5 @@
--- How the top call ends: with an answer, or because an end failed, there was no memory, or the words mean nothing (own).
+-- How the top call ends: with an answer, or because an end failed, there was no memory, or the words mean nothing
+-- (own).
 use Rattle.std.specs.Prelude.{ℕ, ◌≡◌, List, [], codes, take, Option, ◌==◌, if◌then◌else◌}
 use Rattle.std.specs.Io.KnownBytes.{Appends}
 use Rattle.outside_core.specs.Faults.{Rose}
@@ -49,8 +50,8 @@ pub record Notes {Note : Type 0} (held : Note → Option (List ℕ)) (faults : N
 
 module _ {Sink : Type 0} (held : Sink → Option (List ℕ)) (faults : Sink → ℕ)
     (full : Sink → Type 0) where
-  -- an answer to these bytes was given: its bytes are appended and no write failed; where it writes none the sink is as it
-  -- was
+  -- an answer to these bytes was given: its bytes are appended and no write failed; where it writes none the sink is as
+  -- it was
   pub record Given (command : Command) (bytes : List ℕ) (answer : Answer) (old new : Sink)
       : Type 0 where
     pub answers : Answers command bytes answer

@@ -30,9 +30,9 @@ use std::thread::Threads;
 /// | 4 | the sink failed | `lepton: write failed` |
 /// | 5 | there was no memory | `lepton: no memory` |
 ///
-/// The words are `encode` with `--segments`, or `decode` with `--workers`, as `command_words` has them. The whole source
-/// is read before anything is written, and all memory is taken before. The segments of a file are made, and those of a
-/// container decoded, in threads of their own where these can be had. A fault of the note changes no status.
+/// The words are `encode` with `--segments`, or `decode` with `--workers`, as `command_words` has them. The whole
+/// source is read before anything is written, and all memory is taken before. The segments of a file are made, and
+/// those of a container decoded, in threads of their own where these can be had. A fault of the note changes no status.
 pub fn run<R: Threads + Wait + Sync, S: Source, K: Sink + Send, N: Sink + Send, G: Gate + Sync>(
     rt: &R,
     alloc: Global,

@@ -65,8 +65,8 @@ impl<'a> Reader<'a> {
         }
     }
 
-    /// Before the first MCU of a row of MCUs. `place` is that of the first byte that the MCUs before don't complete, and
-    /// `handover` is what they hand over (own).
+    /// Before the first MCU of a row of MCUs. `place` is that of the first byte that the MCUs before don't complete,
+    /// and `handover` is what they hand over (own).
     pub fn at(
         plan: &Plan,
         codes: &PlanCodes,
@@ -142,8 +142,8 @@ impl<'a> Reader<'a> {
         }
     }
 
-    /// The pad bit, if a bit was padded so far, and the place after the last byte that was read: after the last MCU, the
-    /// place after the scan.
+    /// The pad bit, if a bit was padded so far, and the place after the last byte that was read: after the last MCU,
+    /// the place after the scan.
     pub fn end(&self) -> (Option<bool>, usize)
         ensures pad { result.0 ≡ self.now.at.pad }
         ensures place { result.1 ≡ self.now.at.cursor.next }

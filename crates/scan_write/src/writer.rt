@@ -74,8 +74,8 @@ impl Writer {
         }
     }
 
-    /// Before the first MCU of a row of MCUs, given what the MCUs before it hand over: the row is one of the grid, from 0.
-    /// `pad` is the bit that fills up the last byte of each interval.
+    /// Before the first MCU of a row of MCUs, given what the MCUs before it hand over: the row is one of the grid, from
+    /// 0. `pad` is the bit that fills up the last byte of each interval.
     pub fn at(plan: &Plan, codes: &PlanCodes, handover: Handover, row: u32, pad: bool) -> Writer
         requires codes { codes.now ≡ map tables_of plan.now.components }
         requires row { row < plan.now.down }

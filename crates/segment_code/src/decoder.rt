@@ -156,8 +156,8 @@ impl<'a> SegmentDecoder<'a> {
     }
 
     /// The segment's next bytes, in place of those in `out`: whole MCUs while any one more has room, one at least where
-    /// one is left. After `Done` and after `Fault` the segment is over; a fault comes after the bytes of the MCUs before
-    /// it.
+    /// one is left. After `Done` and after `Fault` the segment is over; a fault comes after the bytes of the MCUs
+    /// before it.
     pub fn step(&mut self, out: &mut Piece) -> Step
         requires running { self.old.running ≡ true }
         ensures step { Steps result out.new self.old self.new }

@@ -10,8 +10,8 @@ use handover::StreamCause;
 use std::alloc::{AllocError, Global};
 use std::test::Fail;
 
-// A segment's number, its bytes, and its end: 0 where it is complete, 1 where a bit was padded too, or the number of the
-// refusal.
+// A segment's number, its bytes, and its end: 0 where it is complete, 1 where a bit was padded too, or the number of
+// the refusal.
 type Segment<'a> = (u8, &'a [u8], u8);
 
 // A container by its parts, and two of its segments that are decoded one after the other.

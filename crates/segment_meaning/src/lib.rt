@@ -4,8 +4,8 @@
 //!     segment  its bytes S, and its outcome O: good, or the first fault
 //!     meaning  header, S 0, S 1, .. and trailer; or all up to the first fault
 //!
-//! These are definitions as functions of the container alone, with their laws: a file's container stands for that file, and
-//! what stands for a file is its container.
+//! These are definitions as functions of the container alone, with their laws: a file's container stands for that file,
+//! and what stands for a file is its container.
 #![tactic(auto)]
 
 mod laws;

@@ -6,8 +6,8 @@ use Rattle.segment_code.specs.Decoding.{DecoderSeen}
 use Rattle.output_board.specs.declared.view.WorkerView.{WorkerView}
 use Rattle.output_board.specs.Seats.{SeatValue}
 
--- a worker's seat on a container's board, and its decoder, between two segments: it owns nothing and hasn't left, and its
--- decoder began as many segments as the seat claimed
+-- a worker's seat on a container's board, and its decoder, between two segments: it owns nothing and hasn't left, and
+-- its decoder began as many segments as the seat claimed
 pub record IsIdle (table : TableId) (v : BoxSeen) (seat : SeatValue BoxSeen WorkerView)
     (decoder : DecoderSeen) : Type 0 where
   pub own : seat.table ≡ table

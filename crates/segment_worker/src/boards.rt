@@ -8,8 +8,8 @@ use box_format::BoxView;
 use output_board::{Board, EmitterSeat, WorkerSeat};
 use std::alloc::{AllocError, Global};
 
-/// The board of a container's segments before the first call, the emitter's seat, and the seats of so many workers. Each
-/// segment's ring holds at most `ring` bytes. The one error is want of memory.
+/// The board of a container's segments before the first call, the emitter's seat, and the seats of so many workers.
+/// Each segment's ring holds at most `ring` bytes. The one error is want of memory.
 pub fn prepare_board<'a>(
     alloc: Global,
     view: &BoxView<'a>,

@@ -19,8 +19,9 @@ use std::sync::Wait;
 /// The most bytes that are taken from a ring at a time.
 const MOST_TAKEN: usize = 4_096;
 
-/// Writes the segments in order, the bytes of each from its ring, or decoded here where nobody has claimed it when its turn
-/// comes. It ends after the last one; or it stops the board, after the first that ends badly or where the sink fails.
+/// Writes the segments in order, the bytes of each from its ring, or decoded here where nobody has claimed it when its
+/// turn comes. It ends after the last one; or it stops the board, after the first that ends badly or where the sink
+/// fails.
 ///
 /// The gate is told of each segment that the emitter asks for.
 pub fn emit<'a, R: Wait, K: Sink, G: Gate>(

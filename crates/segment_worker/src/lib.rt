@@ -1,12 +1,12 @@
-//! The segments of a container decoded by workers and an emitter that share a board, and the segments of a file coded side
-//! by side (this project's own).
+//! The segments of a container decoded by workers and an emitter that share a board, and the segments of a file coded
+//! side by side (this project's own).
 //!
 //!     worker   claim --> SegmentDecoder::begin, step --> piece --put--> ring of the segment
 //!     emitter  take  <-- ring of the segment that is emitted                 --write_all--> sink
 //!              claim_own, where nobody has claimed it --> begin, step --> piece --write_all--> sink
 //!
-//! What a call of the board does is `output_board`'s, and what a segment's stream gives `segment_code`'s. Who runs in which
-//! thread is left to others: `work` and `emit` are right with any number of workers, in any order of their calls.
+//! What a call of the board does is `output_board`'s, and what a segment's stream gives `segment_code`'s. Who runs in
+//! which thread is left to others: `work` and `emit` are right with any number of workers, in any order of their calls.
 #![tactic(auto)]
 
 mod boards;

@@ -13,8 +13,8 @@ use outside_core::{Gate, Sink, WriteFault, write_all};
 use segment_code::{SegmentDecoder, Step};
 use std::sync::Wait;
 
-// Claims the segment that is emitted, where nobody has, and writes it whole, whatever its outcome. Answers how many bytes
-// were written, or how many before the sink failed.
+// Claims the segment that is emitted, where nobody has, and writes it whole, whatever its outcome. Answers how many
+// bytes were written, or how many before the sink failed.
 pub(crate) fn emit_unclaimed<'a, R: Wait, K: Sink, G: Gate>(
     rt: &R,
     decoder: &mut SegmentDecoder<'a>,

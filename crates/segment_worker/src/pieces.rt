@@ -10,8 +10,8 @@ use output_board::{Board, Finish, Put, WorkerSeat};
 use outside_core::Gate;
 use std::sync::Wait;
 
-// Puts the next bytes of the worker's segment, as its ring has room, and answers whether all were put before the board was
-// stopped. The gate is told of each call.
+// Puts the next bytes of the worker's segment, as its ring has room, and answers whether all were put before the board
+// was stopped. The gate is told of each call.
 pub(crate) fn put_bytes<'a, R: Wait, G: Gate>(
     rt: &R,
     seat: &mut WorkerSeat<Told<'a>>,

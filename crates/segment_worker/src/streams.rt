@@ -12,8 +12,8 @@ use std::alloc::{AllocError, Global};
 use std::thread;
 use std::thread::Threads;
 
-/// The stream of each segment of a file, in order. Each is made in a thread of its own where one can be had. The one error
-/// is want of memory.
+/// The stream of each segment of a file, in order. Each is made in a thread of its own where one can be had. The one
+/// error is want of memory.
 pub fn encode_all<R: Threads + Sync>(
     rt: &R,
     alloc: Global,

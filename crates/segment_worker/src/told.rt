@@ -6,8 +6,8 @@ use output_board::Content;
 use std::marker::Model;
 use std::snapshot::Snapshot;
 
-/// The bytes and the outcome of each segment of a container, which its board's clauses speak of. It holds nothing when the
-/// program runs.
+/// The bytes and the outcome of each segment of a container, which its board's clauses speak of. It holds nothing when
+/// the program runs.
 ///
 /// Clauses see the container.
 #[derive(Drop)]

@@ -10,8 +10,8 @@ use outside_core::Gate;
 use segment_code::SegmentDecoder;
 use std::sync::Wait;
 
-/// Claims segments and decodes them into their rings, one after another, until none is left or the board is stopped, and
-/// leaves.
+/// Claims segments and decodes them into their rings, one after another, until none is left or the board is stopped,
+/// and leaves.
 ///
 /// The gate is told of each put, before and after it.
 pub fn work<'a, R: Wait, G: Gate>(

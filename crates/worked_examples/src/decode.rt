@@ -121,8 +121,8 @@ fn changed_bytes_of_two_segments(rt: HostRuntime) -> Result<(), Fail> {
     Ok(())
 }
 
-// Each byte as each other value. Counts the containers of a file: each is exactly the one of the file that it gives, in so
-// many segments. All others are refused. No threads are started for so many.
+// Each byte as each other value. Counts the containers of a file: each is exactly the one of the file that it gives, in
+// so many segments. All others are refused. No threads are started for so many.
 fn files_of_changed<R: Threads + Wait + Sync + Abort>(
     rt: &R,
     alloc: Global,
@@ -164,8 +164,8 @@ fn is_refused_somehow(tried: &Trial) -> bool {
         && tried.noted.as_slice().starts_with(number.as_slice())
 }
 
-// A stream that isn't the one of a block: what is wrong with it, what stands after the size, the stream, the line, and the
-// bytes of the scan that are written before it.
+// A stream that isn't the one of a block: what is wrong with it, what stands after the size, the stream, the line, and
+// the bytes of the scan that are written before it.
 type Wrong<'a> = (&'a str, &'a [u8], &'a [u8], &'a str, &'a [u8]);
 
 const NO_CODE: &str = "lepton: refused 43 NoCode segment 0";

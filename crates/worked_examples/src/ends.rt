@@ -78,9 +78,9 @@ fn a_read_that_fails_on_the_way_back(rt: HostRuntime) -> Result<(), Fail> {
     Ok(())
 }
 
-// A decode writes while it goes on: nine pieces of 7 bytes and one of 6 for the header, then a byte of the scan, and then
-// the trailer; where the stream has a fault, the header alone. Before a call that fails there are the bytes of the calls
-// before it, and one that isn't reached changes nothing.
+// A decode writes while it goes on: nine pieces of 7 bytes and one of 6 for the header, then a byte of the scan, and
+// then the trailer; where the stream has a fault, the header alone. Before a call that fails there are the bytes of the
+// calls before it, and one that isn't reached changes nothing.
 #[test]
 fn a_write_that_fails_on_the_way_back(rt: HostRuntime) -> Result<(), Fail> {
     let alloc = rt.alloc();

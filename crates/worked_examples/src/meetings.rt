@@ -31,9 +31,9 @@ const MANY_LOOKS: u64 = 100_000_000;
 
 const FEW_LOOKS: u64 = 1_000;
 
-// Holds the emitter at each segment of its own, and the worker of segment 1 at its first put, until a put of segment 2 was
-// answered; and the worker of segment 2 at its first put, until segment 1 comes to its own. Only two workers that decode at the
-// same time pass.
+// Holds the emitter at each segment of its own, and the worker of segment 1 at its first put, until a put of segment 2
+// was answered; and the worker of segment 2 at its first put, until segment 1 comes to its own. Only two workers that
+// decode at the same time pass.
 #[derive(Drop)]
 struct Meeting {
     // How often a hold looks at most.
