@@ -1,0 +1,9 @@
+pub mod SampleWords
+pub mod SampleHeaders
+pub mod SampleTexts
+pub mod DrawnBlocks
+pub mod SampleMcus
+pub mod SampleScans
+pub mod SampleLaws
+pub mod PlansRead
+pub mod DrawnTurns

@@ -1,0 +1,5 @@
+pub mod Draws
+pub mod DrawnMcus
+pub mod SampleHeader
+pub mod SampleFile
+pub mod SampleWriting

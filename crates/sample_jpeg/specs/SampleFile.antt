@@ -1,0 +1,46 @@
+-- The file that a seed and a size give (own; docs/SAMPLE.md).
+use Rattle.std.specs.Prelude.{ℕ, ◌*◌, ◌≤◌, true, List, [], ◌∷◌, ◌++◌, length, Ok, Err}
+use Rattle.std.specs.List.{AllByRecursion}
+use Rattle.bit_list.specs.Bits.{IsByte}
+use Rattle.scan_text.specs.FileLaws.{IsFileOf}
+use Rattle.scan_text.specs.Scans.{Bytes, Mcu, scan_bytes}
+use Rattle.scan_text.specs.Slots.{shape_of}
+use Rattle.sample_jpeg.specs.DrawnMcus.{drawn_mcus}
+use Rattle.sample_jpeg.specs.declared.extent.Extent.{Extent}
+use Rattle.sample_jpeg.specs.SampleHeader.{IsExtent, extent_of, sample_header, sample_plan}
+
+-- EOI (B.2.1)
+abbrev pub end_of_image : List ℕ
+end_of_image = 0xff ∷ 0xd9 ∷ []
+
+-- the MCUs of a picture, row by row
+abbrev pub sample_mcus : ℕ → Extent → List Mcu
+sample_mcus seed e = (drawn_mcus (e.columns * e.rows) seed).value
+
+-- bytes where there are any
+abbrev pub bytes_or_none : Bytes → List ℕ
+bytes_or_none (Ok bytes) = bytes
+bytes_or_none (Err stop) = []
+
+-- the bytes of the scan, with pad bits of ones; the law below says that there are some
+abbrev pub sample_scan : ℕ → Extent → List ℕ
+sample_scan seed e =
+    bytes_or_none (scan_bytes (shape_of (sample_plan e)) (λ n. true) (sample_mcus seed e))
+
+-- the file
+unfoldable pub sample_file : ℕ → ℕ → ℕ → List ℕ
+sample_file seed columns rows =
+    let e = extent_of seed columns rows in
+    sample_header e ++ (sample_scan seed e ++ end_of_image)
+
+-- it is a file of its header, its MCUs and pad bits of ones, and far below 64 MiB
+pub record IsSample (seed : ℕ) (e : Extent) (file : List ℕ) : Type 0 where
+  pub bytes : AllByRecursion IsByte file
+  pub is : IsFileOf file (sample_plan e) (sample_mcus seed e) true end_of_image
+  pub short : length file ≤ 40000000
+
+-- and this for every seed and size
+abbrev pub SamplesAreFiles : Type 0
+SamplesAreFiles =
+    (seed columns rows : ℕ) → IsExtent (extent_of seed columns rows)
+    → IsSample seed (extent_of seed columns rows) (sample_file seed columns rows)
