@@ -1,5 +1,5 @@
--- A command that words mean has a number in its range.
-use Rattle.std.proofs.Common.{◌≡◌, ◌≤◌, ◌<◌, ◌||◌, ◌++◌, ap, ℕ, Bool, true, false, cond, refl, sym, subst, List, [], ◌∷◌, Option, Some, None, arith, codes, is_some, length, option_map}
+-- A command that words mean has its numbers in their ranges.
+use Rattle.std.proofs.Common.{◌≡◌, ◌≤◌, ◌<◌, ◌||◌, ◌++◌, ◌∙◌, ◌^◌, ap, fold, ℕ, Bool, true, false, cond, refl, sym, subst, List, [], ◌∷◌, Option, Some, None, arith, codes, is_some, length, option_map}
 use Rattle.std.specs.Prelude.{find, option_and_then, pos, slice_get}
 use Rattle.std.specs.List.{AllByRecursion}
 use Rattle.std.specs.Option.{option_map_or}
@@ -8,26 +8,28 @@ use Rattle.std.specs.Str.Parse.{ParsesUnsigned}
 use Rattle.std.specs.declared.num.ParseIntError.{ParseIntError}
 use Rattle.clap.specs.Kinds.{Kinds, or_else, range_kinds, value_kinds, values_kinds}
 use Rattle.clap.specs.ValueTests.{accepts}
-use Rattle.clap.specs.Values.{read_as}
-use Rattle.clap.specs.Walk.{Held, Row, Rule, Text, answers_to, at_row, finished, has_row, more_values, nothing_held, row_text, rows_after, settled, stop_after, used, values_or_missing, walk, walk_from, with_default, with_values, without}
-use Rattle.clap.specs.Simple.{App, Shape, argument_words, built, entered, filled, help_rule, label_of, names_of, rows_at, with_index}
-use Rattle.clap.specs.Faults.{built_fault, check_fault, settle_fault, walk_fault, default_fault, defaults_fault, entered_fault, given_default_fault, level_fault, repeat_fault, set_fault, use_fault, values_fault}
+use Rattle.clap.specs.Values.{read_as, reading_of}
+use Rattle.clap.specs.Walk.{Held, Row, Rule, Text, answers_to, at_row, default_rows, finished, has_row, is_empty, more_values, nothing_held, row_text, rows_after, settled, stop_after, used, values_or_missing, walk, walk_from, with_default, with_values, without}
+use Rattle.clap.specs.Simple.{App, Shape, argument_words, built, entered, filled, help_rule, label_of, names_of, new_rule, rows_at, with_index}
+use Rattle.clap.specs.Faults.{built_fault, check_fault, settle_fault, walk_fault, default_fault, defaults_fault, entered_fault, level_fault, repeat_fault, set_fault, use_fault, values_fault}
 use Rattle.clap.specs.Lexer.{without_minus}
 use Rattle.clap.specs.declared.error.kind.ErrorKind.TheVariants.{DisplayHelp, ValueValidation}
 use Rattle.clap.specs.declared.builder.value_parser.Reading.{Reading}
 use Rattle.clap.specs.declared.builder.value_parser.Reading.TheVariants.{WithoutMinus}
 use Rattle.clap.specs.declared.builder.value_parser.ValueParser.{ValueParser}
 use Rattle.clap.specs.declared.builder.value_parser.ValueParser.TheVariants.{Signed}
+use Rattle.clap.specs.declared.builder.action.ArgAction.TheVariants.{Set}
 use Rattle.clap.specs.declared.parser.matches.ValueSource.{ValueSource}
 use Rattle.clap.specs.declared.parser.matches.ValueSource.TheVariants.{CommandLine, DefaultValue}
 use Rattle.std.proofs.lemmas.Slice.Eq.{bytes_eq-Decides}
+use Rattle.std.proofs.lemmas.Bool.{ne_eqb}
 use Rattle.clap.proofs.CallerReads.{signed_reads}
 use Rattle.clap.proofs.ValueTestLemmas.{accepts-Accepts}
-use Rattle.command_words.specs.LeptonApp.{faults, given, lepton_app, number_rule}
-use Rattle.command_words.specs.Meaning.{Asks, IsInRange, IsNumbered, Means, Reads, ReadsAs}
+use Rattle.command_words.specs.LeptonApp.{faults, given, lepton_app}
+use Rattle.command_words.specs.Meaning.{Asks, IsInRange, Means, Reads, ReadsAs}
 use Rattle.command_words.specs.declared.command.Command.{Command}
-use Rattle.command_words.specs.declared.command.Command.TheVariants.{Decode, Encode}
-use Rattle.command_words.proofs.Reading.{name_in, rows_in}
+use Rattle.command_words.specs.declared.command.Command.TheVariants.{Decode, Encode, Sample}
+use Rattle.command_words.proofs.Reading.{name_in, other_name, rows_in}
 use Rattle.command_words.proofs.RowsKept.{no_else, settled_keeps, walk_keeps}
 
 module _ {X : Type 0} (P : X → Type 0) where
@@ -40,29 +42,53 @@ module _ {X : Type 0} (P : X → Type 0) where
   found_holds p [] x all found = absurd cc
   found_holds p (y ∷ ys) x all found = first_or (p y) x y (find p ys) all.0 (found_holds p ys x all.1) found
 
+-- an element that was found answers to the test
+found_answers : {X : Type 0} (p : X → Bool) (xs : List X) (x : X) → find p xs ≡ Some x → p x ≡ true
+found_answers p [] x found = absurd cc
+found_answers p (y ∷ ys) x found = go (p y) refl (found_answers p ys x) found
+  where
+    go : (b : Bool) → p y ≡ b → (find p ys ≡ Some x → p x ≡ true) → cond b (Some y) (find p ys) ≡ Some x → p x ≡ true
+    go true is later found = let same : y ≡ x = cc in subst (λ z. p z ≡ true) same is
+    go false is later found = later found
+
 is_accepted : (b : Bool) → cond b [] (ValueValidation ∷ []) ≡ [] → b ≡ true
 is_accepted true none = refl
 is_accepted false none = absurd cc
 
-module _ (name : Text) (low high : ℕ) (usual : Text) where
+-- an option `--id` with values that a parser takes, as clap builds it; `usual` stands for it where it is left out
+abbrev option_built : Text → ValueParser → List Text → Bool → Rule
+option_built id parser usual required = record (new_rule id) {
+  long = Some id;
+  action = Some Set;
+  range = Some (record { start_inclusive = 1; end_inclusive = 1 });
+  defaults = usual;
+  parser = Some parser;
+  required = required;
+}
+
+abbrev help_built : Rule
+help_built = with_index 1 (filled help_rule)
+
+module _ (name : Text) (low high : ℕ) where
   abbrev numbers : ValueParser
   numbers = Signed (pos low) (pos high)
 
-  abbrev number_built : Rule
-  number_built = with_index 1 (filled (number_rule name numbers usual))
+  -- values of the option are numbers of the range, and are read without a minus
+  abbrev ValuesPass : Text → Reading → List Text → Type 0
+  ValuesPass id how values = id ≡ name → (how ≡ WithoutMinus) × (values_kinds false numbers values ≡ [])
 
-  abbrev help_built : Rule
-  help_built = with_index 1 (filled help_rule)
-
-  abbrev leaf_rules : List Rule
-  leaf_rules = number_built ∷ help_built ∷ []
-
-  -- its values are numbers of the range, and are read without a minus
+  -- a row of another option always passes
   abbrev RowPasses : Row → Type 0
-  RowPasses r = (r.reading ≡ WithoutMinus) × (values_kinds false numbers r.values ≡ [])
+  RowPasses r = ValuesPass r.id r.reading r.values
 
   abbrev RowsPass : List Row → Type 0
   RowsPass = AllByRecursion RowPasses
+
+  -- a rule keeps rows passing: where it is used, and where its usual values stand for it
+  record Keeps (a : Rule) : Type 0 where
+    pub used_keeps : (again : Bool) (values : List Text) (rows : List Row) → use_fault again a values rows ≡ []
+        → RowsPass rows → RowsPass (used a values rows)
+    pub usual_keeps : (rows : List Row) → default_fault rows a ≡ [] → RowsPass rows → RowsPass (with_default rows a)
 
   values_append : (xs ys : List Text) → values_kinds false numbers xs ≡ [] → values_kinds false numbers ys ≡ []
       → values_kinds false numbers (xs ++ ys) ≡ []
@@ -75,32 +101,69 @@ module _ (name : Text) (low high : ℕ) (usual : Text) where
   rows_append [] ys one two = two
   rows_append (x ∷ xs) ys one two = (one.0, rows_append xs ys one.1 two)
 
-  either_passes : (b : Bool) (xs ys : List Row) → RowsPass xs → RowsPass ys → RowsPass (cond b xs ys)
-  either_passes true xs ys one two = one
-  either_passes false xs ys one two = two
+  either_passes : (b c : Bool) (xs ys : List Row) → b ≡ c → (c ≡ true → RowsPass xs) → RowsPass ys → RowsPass (cond b xs ys)
+  either_passes true c xs ys is one two = one (sym is)
+  either_passes false c xs ys is one two = two
 
   at_row_keeps : (id : Text) (change : Row → List Row) (missing : List Row) (rows : List Row)
-      → ((r : Row) → RowPasses r → RowsPass (change r)) → RowsPass missing → RowsPass rows
+      → ((r : Row) → r.id ≡ id → RowPasses r → RowsPass (change r)) → RowsPass missing → RowsPass rows
       → RowsPass (at_row id change missing rows)
   at_row_keeps id change missing [] changed new q = new
   at_row_keeps id change missing (r ∷ rs) changed new q =
-      either_passes (bytes_eq r.id id) _ _ (rows_append (change r) rs (changed r q.0) q.1)
+      either_passes (bytes_eq r.id id) _ _ _ refl
+      (λ same. rows_append (change r) rs (changed r ((bytes_eq-Decides r.id id).0 same) q.0) q.1)
       (q.0, at_row_keeps id change missing rs changed new q.1)
 
-  with_values_keeps : (source : ValueSource) (values : List Text) (rows : List Row) → values_kinds false numbers values ≡ []
-      → RowsPass rows → RowsPass (with_values name WithoutMinus source values rows)
-  with_values_keeps source values rows fine q =
-      at_row_keeps name (more_values source values) _ rows
-      (λ r passes. ((passes.0, values_append r.values values passes.1 fine), tt)) ((refl, fine), tt) q
+  with_values_keeps : (id : Text) (how : Reading) (source : ValueSource) (values : List Text) (rows : List Row)
+      → ValuesPass id how values → RowsPass rows → RowsPass (with_values id how source values rows)
+  with_values_keeps id how source values rows fine q =
+      at_row_keeps id (more_values source values) _ rows
+      (λ r is passes. (
+        (λ named. let old = passes named in
+            (old.0, values_append r.values values old.1 (fine (sym is ∙ named)).1)),
+        tt,
+      ))
+      (fine, tt) q
 
-  number_used : (again : Bool) (values : List Text) (rows : List Row) → use_fault again number_built values rows ≡ []
-      → RowsPass rows → RowsPass (used number_built values rows)
-  number_used again values rows none q =
-      let given = values_or_missing number_built values in
-      let set = (no_else (range_kinds 1 1 (length values)) (set_fault again number_built given rows) none).1 in
-      let fine = (no_else (repeat_fault again name rows) (values_fault number_built given) set).1 in
-      with_values_keeps CommandLine given (without name rows) fine
-      (at_row_keeps name (λ r. []) [] rows (λ r passes. tt) tt q)
+  -- such an option keeps rows passing, if it has the range or another name
+  module _ (id : Text) (parser : ValueParser) (usual : List Text) (required : Bool) (own : id ≡ name → parser ≡ numbers) where
+    abbrev built_here : Rule
+    built_here = option_built id parser usual required
+
+    taken_pass : (values : List Text) → values_kinds false parser values ≡ [] → ValuesPass id (reading_of parser) values
+    taken_pass values fine named =
+        (ap reading_of (own named), subst (λ p. values_kinds false p values ≡ []) (own named) fine)
+
+    option_used : (again : Bool) (values : List Text) (rows : List Row) → use_fault again built_here values rows ≡ []
+        → RowsPass rows → RowsPass (used built_here values rows)
+    option_used again values rows none q =
+        let given = values_or_missing built_here values in
+        let set = (no_else (range_kinds 1 1 (length values)) (set_fault again built_here given rows) none).1 in
+        let fine = (no_else (repeat_fault again id rows) (values_fault built_here given) set).1 in
+        with_values_keeps id (reading_of parser) CommandLine given (without id rows) (taken_pass given fine)
+        (at_row_keeps id (λ r. []) [] rows (λ r is passes. tt) tt q)
+
+    option_usual : (rows : List Row) → default_fault rows built_here ≡ [] → RowsPass rows → RowsPass (with_default rows built_here)
+    option_usual rows none q = go (has_row id rows) usual none
+      where
+        go : (b : Bool) (vs : List Text) → cond (b || is_empty vs) [] (values_kinds false parser vs) ≡ []
+            → RowsPass (cond b rows (default_rows id (reading_of parser) vs rows))
+        go true vs none = q
+        go false [] none = q
+        go false (v ∷ vs) none =
+            let some : is_empty (v ∷ vs) ≡ false = ne_eqb _ _ (λ e. omega arith) in
+            let fine : values_kinds false parser (v ∷ vs) ≡ [] = rw some at none in
+            with_values_keeps id (reading_of parser) DefaultValue (v ∷ vs) rows (taken_pass (v ∷ vs) fine) q
+
+    option_keeps : Keeps built_here
+    option_keeps = record { used_keeps = option_used; usual_keeps = option_usual }
+
+  own_keeps : (usual : List Text) (required : Bool) → Keeps (option_built name numbers usual required)
+  own_keeps usual required = option_keeps name numbers usual required (λ named. refl)
+
+  other_keeps : (id : Text) (parser : ValueParser) (usual : List Text) (required : Bool) → bytes_eq id name ≡ false
+      → Keeps (option_built id parser usual required)
+  other_keeps id parser usual required apart = option_keeps id parser usual required (λ named. other_name id name named apart)
 
   help_used : (again : Bool) (values : List Text) (rows : List Row) → use_fault again help_built values rows ≡ []
       → RowsPass rows → RowsPass (used help_built values rows)
@@ -108,65 +171,70 @@ module _ (name : Text) (low high : ℕ) (usual : Text) where
       let asks : DisplayHelp ∷ [] ≡ [] = (no_else (range_kinds 0 0 (length values)) (DisplayHelp ∷ []) none).1 in
       absurd cc
 
-  uses : (again : Bool) (p : Rule → Bool) (a : Rule) (values : List Text) (rows : List Row) → find p leaf_rules ≡ Some a
-      → use_fault again a values rows ≡ [] → RowsPass rows → RowsPass (used a values rows)
-  uses again p a values rows found = found_holds
-      (λ b. use_fault again b values rows ≡ [] → RowsPass rows → RowsPass (used b values rows)) p leaf_rules a
-      (number_used again values rows, (help_used again values rows, tt)) found
-
-  default_keeps : (rows : List Row) → default_fault rows number_built ≡ [] → RowsPass rows
-      → RowsPass (with_default rows number_built)
-  default_keeps rows none q = go (has_row name rows) none
-    where
-      go : (b : Bool) → cond (b || false) [] (given_default_fault number_built (usual ∷ [])) ≡ []
-          → RowsPass (cond b rows (with_values name WithoutMinus DefaultValue (usual ∷ []) rows))
-      go true none = q
-      go false none = with_values_keeps DefaultValue (usual ∷ []) rows none q
-
-  help_keeps : (rows : List Row) → RowsPass rows → RowsPass (with_default rows help_built)
-  help_keeps rows q = go (has_row (codes "help") rows)
+  help_usual : (rows : List Row) → default_fault rows help_built ≡ [] → RowsPass rows → RowsPass (with_default rows help_built)
+  help_usual rows none q = go (has_row (codes "help") rows)
     where
       go : (b : Bool) → RowsPass (cond b rows rows)
       go true = q
       go false = q
 
-  -- the rows of a subcommand with such rules, at words without a fault
-  level_keeps : (base : Shape) (words : List Text)
-      → level_fault (record base { rules = leaf_rules }) [] nothing_held words false [] ≡ []
-      → RowsPass (rows_after leaf_rules [] words)
+  help_keeps : Keeps help_built
+  help_keeps = record { used_keeps = help_used; usual_keeps = help_usual }
+
+  defaults_keep : (rules : List Rule) (rows : List Row) → AllByRecursion Keeps rules → defaults_fault rows rules ≡ []
+      → RowsPass rows → RowsPass (fold with_default rows rules)
   unfolding defaults_fault
-  level_keeps base words none =
-      let s : Shape = record base { rules = leaf_rules } in
+  defaults_keep [] rows all none q = q
+  defaults_keep (a ∷ rest) rows all none q =
+      let parts = no_else (default_fault rows a) (defaults_fault (with_default rows a) rest) none in
+      defaults_keep rest (with_default rows a) all.1 parts.1 (all.0.usual_keeps rows parts.0 q)
+
+  -- the rows of a subcommand with such rules, at words without a fault
+  level_keeps : (s : Shape) → AllByRecursion Keeps s.rules → (words : List Text)
+      → level_fault s [] nothing_held words false [] ≡ [] → RowsPass (rows_after s.rules [] words)
+  level_keeps s all words none =
+      let uses : (p : Rule → Bool) (a : Rule) (values : List Text) (rows : List Row) → find p s.rules ≡ Some a
+      → use_fault s.args_override_self a values rows ≡ [] → RowsPass rows → RowsPass (used a values rows) =
+      λ p a values rows found. (found_holds Keeps p s.rules a all found).used_keeps s.args_override_self values rows in
       let walked = no_else _ _ none in
       let rest = no_else _ _ walked.1 in
-      let defaults = no_else _ _ (no_else _ _ rest.1).0 in
-      let end = walk_keeps s RowsPass (uses s.args_override_self) [] words (walk_from nothing_held) walked.0 tt in
-      help_keeps _ (default_keeps _ defaults.0
-      (settled_keeps s RowsPass (uses s.args_override_self) (walk leaf_rules [] nothing_held words).held rest.0 end))
+      let defaults = (no_else _ _ rest.1).0 in
+      let end = walk_keeps s RowsPass uses [] words (walk_from nothing_held) walked.0 tt in
+      defaults_keep s.rules _ all defaults
+      (settled_keeps s RowsPass uses (walk s.rules [] nothing_held words).held rest.0 end)
 
   -- a number that is read of such rows
-  value_in_range : high < 256 → (how : Reading) (vs : List Text) (text : Text) (number : ℕ) → how ≡ WithoutMinus
-      → values_kinds false numbers vs ≡ [] → option_map (read_as how) (slice_get vs 0) ≡ Some text → ReadsAs text number
-      → (low ≤ number) × (number ≤ high)
-  value_in_range small how [] text number plain fine is reads = absurd cc
-  value_in_range small how (v ∷ vs) text number plain fine is reads =
-      let accepted : accepts false numbers v ≡ true = is_accepted (accepts false numbers v) (no_else _ _ fine).0 in
-      let same : text ≡ without_minus v = cc in
-      let read = signed_reads ParseIntError (ParsesUnsigned 8 10) 8 low high v (Some number)
-      (subst (λ t. ReadsAs t number) same reads) (λ u x given. given) small (accepts-Accepts false numbers v accepted) in
-      let equal : read.0 ≡ number = cc in
-      subst (λ n. (low ≤ n) × (n ≤ high)) equal (read.2, read.3)
+  module _ (bits : ℕ) (small : high < 2 ^ bits) where
+    value_in_range : (how : Reading) (vs : List Text) (text : Text) (number : ℕ) → how ≡ WithoutMinus
+        → values_kinds false numbers vs ≡ [] → option_map (read_as how) (slice_get vs 0) ≡ Some text → ReadsAs bits text number
+        → (low ≤ number) × (number ≤ high)
+    value_in_range how [] text number plain fine is reads = absurd cc
+    value_in_range how (v ∷ vs) text number plain fine is reads =
+        let accepted : accepts false numbers v ≡ true = is_accepted (accepts false numbers v) (no_else _ _ fine).0 in
+        let same : text ≡ without_minus v = cc in
+        let read = signed_reads ParseIntError (ParsesUnsigned bits 10) bits low high v (Some number)
+        (subst (λ t. ReadsAs bits t number) same reads) (λ u x given. given) small (accepts-Accepts false numbers v accepted) in
+        let equal : read.0 ≡ number = cc in
+        subst (λ n. (low ≤ n) × (n ≤ high)) equal (read.2, read.3)
 
-  read_in_range : high < 256 → (rows : List Row) (number : ℕ) → RowsPass rows → Reads rows name number
-      → (low ≤ number) × (number ≤ high)
-  read_in_range small rows number q reads = go (find (λ r. bytes_eq r.id name) rows) refl reads.first
-    where
-      go : (o : Option Row) → find (λ r. bytes_eq r.id name) rows ≡ o → option_and_then row_text o ≡ Some reads.text
-          → (low ≤ number) × (number ≤ high)
-      go None found is = absurd cc
-      go (Some r) found is =
-          let passes = found_holds RowPasses (λ (r : Row). bytes_eq r.id name) rows r q found in
-          value_in_range small r.reading r.values reads.text number passes.0 passes.1 is reads.number_is
+    read_in_range : (rows : List Row) (number : ℕ) → RowsPass rows → Reads bits rows name number
+        → (low ≤ number) × (number ≤ high)
+    read_in_range rows number q reads = go (find (λ r. bytes_eq r.id name) rows) refl reads.first
+      where
+        go : (o : Option Row) → find (λ r. bytes_eq r.id name) rows ≡ o → option_and_then row_text o ≡ Some reads.text
+            → (low ≤ number) × (number ≤ high)
+        go None found is = absurd cc
+        go (Some r) found is =
+            let named = (bytes_eq-Decides r.id name).0 (found_answers (λ (x : Row). bytes_eq x.id name) rows r found) in
+            let passes = found_holds RowPasses (λ (x : Row). bytes_eq x.id name) rows r q found named in
+            value_in_range r.reading r.values reads.text number passes.0 passes.1 is reads.number_is
+
+    -- the number that a subcommand's option reads as is in its range, where the words have no fault
+    number_fine : (s : Shape) → AllByRecursion Keeps s.rules → (words : List Text) → level_fault s [] nothing_held words false [] ≡ []
+        → (called : Text) (rows : List Row) → Some (rows_at s words) ≡ Some (called, rows) → (number : ℕ)
+        → Reads bits rows name number → (low ≤ number) × (number ≤ high)
+    number_fine s all words none called rows is number reads =
+        read_in_range rows number (subst RowsPass (ap rows_in is) (level_keeps s all words none)) reads
 
 -- ---- the subcommands
 
@@ -175,56 +243,89 @@ record IsFine (s : Shape) : Type 0 where
   pub fine : (words : List Text) (command : Command) → level_fault s [] nothing_held words false [] ≡ []
       → Asks (Some (rows_at s words)) command → IsInRange command
 
-with_rules : (s : Shape) (rules : List Rule) → s.rules ≡ rules → IsFine (record s { rules = rules }) → IsFine s
-with_rules s rules is fine = subst IsFine (sym (ap (λ rs. record s { rules = rs }) is)) fine
-
 -- a subcommand of another name asks for no such command
-other_name : {P : Type 0} (a b : Text) → a ≡ b → bytes_eq a b ≡ false → P
-other_name a b same apart =
-    let equal : bytes_eq a b ≡ true = (bytes_eq-Decides a b).1 same in
-    absurd cc
+other_command : {P : Type 0} (name : Text) (s : Shape) (words : List Text) (rows : List Row) (called : Text) → s.name ≡ name
+    → Some (rows_at s words) ≡ Some (called, rows) → bytes_eq name called ≡ false → P
+other_command name s words rows called named is apart = other_name name called (sym named ∙ ap name_in is) apart
 
--- the number of a subcommand with such an option is in its range
-number_fine : (base : Shape) (option : Text) (low high : ℕ) (usual : Text) → high < 256 → (words : List Text) (name : Text) (number : ℕ)
-    → level_fault (record base { rules = leaf_rules option low high usual }) [] nothing_held words false [] ≡ []
-    → IsNumbered (Some (base.name, rows_after (leaf_rules option low high usual) [] words)) name option number
-    → (low ≤ number) × (number ≤ high)
-number_fine base option low high usual small words name number none asks =
-    read_in_range option low high usual small asks.rows number
-    (subst (RowsPass option low high usual) (ap rows_in asks.is) (level_keeps option low high usual base words none)) asks.reads
+abbrev encode_rules : List Rule
+encode_rules = option_built (codes "segments") (Signed (pos 1) (pos 16)) (codes "8" ∷ []) false ∷ help_built ∷ []
 
-encode_fine : (s : Shape) → s.name ≡ codes "encode" → s.rules ≡ leaf_rules (codes "segments") 1 16 (codes "8") → IsFine s
-encode_fine s named rules = with_rules s _ rules (record { fine = go })
+abbrev decode_rules : List Rule
+decode_rules = option_built (codes "workers") (Signed (pos 0) (pos 16)) (codes "4" ∷ []) false ∷ help_built ∷ []
+
+abbrev sample_rules : List Rule
+sample_rules = option_built (codes "seed") (Signed (pos 0) (pos 4294967295)) [] true
+    ∷ option_built (codes "columns") (Signed (pos 1) (pos 256)) [] true
+    ∷ option_built (codes "rows") (Signed (pos 1) (pos 256)) [] true ∷ help_built ∷ []
+
+encode_fine : (s : Shape) → s.name ≡ codes "encode" → s.rules ≡ encode_rules → IsFine s
+encode_fine s named rules = record { fine = go }
   where
-    go : (words : List Text) (command : Command)
-        → level_fault (record s { rules = leaf_rules (codes "segments") 1 16 (codes "8") }) [] nothing_held words false [] ≡ []
-        → Asks (Some (s.name, rows_after (leaf_rules (codes "segments") 1 16 (codes "8")) [] words)) command → IsInRange command
-    go words (Encode n) none asks = number_fine s (codes "segments") 1 16 (codes "8") (omega arith) words (codes "encode") n none asks
-    go words (Decode n) none asks = other_name s.name (codes "decode") (ap name_in asks.is) (ap (λ t. bytes_eq t (codes "decode")) named)
+    segments : AllByRecursion (Keeps (codes "segments") 1 16) s.rules
+    segments = subst (AllByRecursion (Keeps (codes "segments") 1 16)) (sym rules) (own_keeps _ _ _ _ _, (help_keeps _ _ _, tt))
 
-decode_fine : (s : Shape) → s.name ≡ codes "decode" → s.rules ≡ leaf_rules (codes "workers") 0 16 (codes "4") → IsFine s
-decode_fine s named rules = with_rules s _ rules (record { fine = go })
+    go : (words : List Text) (command : Command) → level_fault s [] nothing_held words false [] ≡ []
+        → Asks (Some (rows_at s words)) command → IsInRange command
+    go words (Encode n) none asks =
+        number_fine (codes "segments") 1 16 8 (omega arith) s segments words none _ asks.rows asks.is n asks.reads
+    go words (Decode n) none asks = other_command _ s words _ _ named asks.is refl
+    go words (Sample k c r) none asks = other_command _ s words _ _ named asks.is refl
+
+decode_fine : (s : Shape) → s.name ≡ codes "decode" → s.rules ≡ decode_rules → IsFine s
+decode_fine s named rules = record { fine = go }
   where
-    go : (words : List Text) (command : Command)
-        → level_fault (record s { rules = leaf_rules (codes "workers") 0 16 (codes "4") }) [] nothing_held words false [] ≡ []
-        → Asks (Some (s.name, rows_after (leaf_rules (codes "workers") 0 16 (codes "4")) [] words)) command → IsInRange command
-    go words (Decode n) none asks = (number_fine s (codes "workers") 0 16 (codes "4") (omega arith) words (codes "decode") n none asks).1
-    go words (Encode n) none asks = other_name s.name (codes "encode") (ap name_in asks.is) (ap (λ t. bytes_eq t (codes "encode")) named)
+    workers : AllByRecursion (Keeps (codes "workers") 0 16) s.rules
+    workers = subst (AllByRecursion (Keeps (codes "workers") 0 16)) (sym rules) (own_keeps _ _ _ _ _, (help_keeps _ _ _, tt))
+
+    go : (words : List Text) (command : Command) → level_fault s [] nothing_held words false [] ≡ []
+        → Asks (Some (rows_at s words)) command → IsInRange command
+    go words (Decode n) none asks =
+        (number_fine (codes "workers") 0 16 8 (omega arith) s workers words none _ asks.rows asks.is n asks.reads).1
+    go words (Encode n) none asks = other_command _ s words _ _ named asks.is refl
+    go words (Sample k c r) none asks = other_command _ s words _ _ named asks.is refl
+
+sample_fine : (s : Shape) → s.name ≡ codes "sample" → s.rules ≡ sample_rules → IsFine s
+sample_fine s named rules = record { fine = go }
+  where
+    seeds : AllByRecursion (Keeps (codes "seed") 0 4294967295) s.rules
+    seeds = subst (AllByRecursion (Keeps (codes "seed") 0 4294967295)) (sym rules)
+        (own_keeps _ _ _ _ _, (other_keeps _ _ _ _ _ _ _ refl, (other_keeps _ _ _ _ _ _ _ refl, (help_keeps _ _ _, tt))))
+
+    columns : AllByRecursion (Keeps (codes "columns") 1 256) s.rules
+    columns = subst (AllByRecursion (Keeps (codes "columns") 1 256)) (sym rules)
+        (other_keeps _ _ _ _ _ _ _ refl, (own_keeps _ _ _ _ _, (other_keeps _ _ _ _ _ _ _ refl, (help_keeps _ _ _, tt))))
+
+    rows : AllByRecursion (Keeps (codes "rows") 1 256) s.rules
+    rows = subst (AllByRecursion (Keeps (codes "rows") 1 256)) (sym rules)
+        (other_keeps _ _ _ _ _ _ _ refl, (other_keeps _ _ _ _ _ _ _ refl, (own_keeps _ _ _ _ _, (help_keeps _ _ _, tt))))
+
+    go : (words : List Text) (command : Command) → level_fault s [] nothing_held words false [] ≡ []
+        → Asks (Some (rows_at s words)) command → IsInRange command
+    go words (Sample k c r) none asks =
+        let seed = number_fine (codes "seed") 0 4294967295 32 (omega arith) s seeds words none _ asks.options asks.is k asks.seed_is in
+        let wide = number_fine (codes "columns") 1 256 16 (omega arith) s columns words none _ asks.options asks.is c asks.columns_is in
+        let high = number_fine (codes "rows") 1 256 16 (omega arith) s rows words none _ asks.options asks.is r asks.rows_is in
+        (omega arith, wide.0, wide.1, high.0, high.1)
+    go words (Encode n) none asks = other_command _ s words _ _ named asks.is refl
+    go words (Decode n) none asks = other_command _ s words _ _ named asks.is refl
 
 help_fine : (s : Shape) → s.name ≡ codes "help" → IsFine s
 help_fine s named = record { fine = go }
   where
     go : (words : List Text) (command : Command) → level_fault s [] nothing_held words false [] ≡ []
-        → Asks (Some (s.name, rows_after s.rules [] words)) command → IsInRange command
-    go words (Encode n) none asks = other_name s.name (codes "encode") (ap name_in asks.is) (ap (λ t. bytes_eq t (codes "encode")) named)
-    go words (Decode n) none asks = other_name s.name (codes "decode") (ap name_in asks.is) (ap (λ t. bytes_eq t (codes "decode")) named)
+        → Asks (Some (rows_at s words)) command → IsInRange command
+    go words (Encode n) none asks = other_command _ s words _ _ named asks.is refl
+    go words (Decode n) none asks = other_command _ s words _ _ named asks.is refl
+    go words (Sample k c r) none asks = other_command _ s words _ _ named asks.is refl
 
 subs_fine : AllByRecursion IsFine (built lepton_app).subs
-subs_fine = (encode_fine _ refl refl, (decode_fine _ refl refl, (help_fine _ refl, tt)))
+subs_fine = (encode_fine _ refl refl, (decode_fine _ refl refl, (sample_fine _ refl refl, (help_fine _ refl, tt))))
 
 asked_nothing : (command : Command) → Asks None command → IsInRange command
 asked_nothing (Encode n) asks = let bad : true ≡ false = ap (λ o. is_some o) (sym asks.is) in absurd cc
 asked_nothing (Decode n) asks = let bad : true ≡ false = ap (λ o. is_some o) (sym asks.is) in absurd cc
+asked_nothing (Sample k c r) asks = let bad : true ≡ false = ap (λ o. is_some o) (sym asks.is) in absurd cc
 
 module _ (subs : List Shape) (all : AllByRecursion IsFine subs) (command : Command) where
   found_in_range : (p : Shape → Bool) (words : List Text) (o : Option Shape) → find p subs ≡ o

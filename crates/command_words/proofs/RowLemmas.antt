@@ -5,7 +5,7 @@ use Rattle.clap.specs.Words.{Row, Text, one_of}
 use Rattle.clap.specs.Walk.{is_empty}
 use Rattle.clap.proofs.OnLiterals.{clap_on_literals}
 use Rattle.command_words.specs.LeptonApp.{faults, given}
-use Rattle.command_words.specs.Meaning.{IsNumbered, Means, ReadsAs}
+use Rattle.command_words.specs.Meaning.{IsNumbered, IsSampled, Means, ReadsAs}
 use Rattle.command_words.specs.Rows.{line, meaningless, meant}
 use Rattle.command_words.specs.declared.command.Command.{Command}
 
@@ -22,12 +22,32 @@ value_shown None = None
 value_shown (Some p) = p.1
 
 numbered : (met : Option (Text × List Row)) (name option text : Text) (number : ℕ) → shown option met ≡ Some (name, Some text)
-    → ReadsAs text number → IsNumbered met name option number
+    → ReadsAs 8 text number → IsNumbered met name option number
 numbered None name option text number is reads = let bad : false ≡ true = ap (λ o. is_some o) is in absurd cc
 numbered (Some p) name option text number is reads = record {
   rows = p.1;
   is = ap (λ n. Some (n, p.1)) (ap name_shown is);
   reads = record { text = text; first = ap value_shown is; number_is = reads };
+}
+
+-- what the options of `sample` have
+abbrev three : Option (Text × List Row) → Option (Text × Option Text × Option Text × Option Text)
+three = option_map (λ p. (p.0, one_of (codes "seed") p.1, one_of (codes "columns") p.1, one_of (codes "rows") p.1))
+
+abbrev parts : Option (Text × Option Text × Option Text × Option Text) → Text × Option Text × Option Text × Option Text
+parts None = ([], None, None, None)
+parts (Some p) = p
+
+sampled : (met : Option (Text × List Row)) (s c r : Text) (seed columns rows : ℕ)
+    → three met ≡ Some (codes "sample", Some s, Some c, Some r)
+    → ReadsAs 32 s seed → ReadsAs 16 c columns → ReadsAs 16 r rows → IsSampled met seed columns rows
+sampled None s c r seed columns rows is one two last = let bad : false ≡ true = ap (λ o. is_some o) is in absurd cc
+sampled (Some p) s c r seed columns rows is one two last = record {
+  options = p.1;
+  is = ap (λ q. Some ((parts q).0, p.1)) is;
+  seed_is = record { text = s; first = ap (λ q. (parts q).1) is; number_is = one };
+  columns_is = record { text = c; first = ap (λ q. (parts q).2) is; number_is = two };
+  rows_is = record { text = r; first = ap (λ q. (parts q).3) is; number_is = last };
 }
 
 not_meant : (words : List Text) → is_empty (faults words) ≡ false → (command : Command) → ¬ Means words command
@@ -49,7 +69,13 @@ means_rows = (
             record { taken = refl; asks = numbered _ (codes "decode") (codes "workers") (codes "0") 0 refl (search rules) },
             (
               record { taken = refl; asks = numbered _ (codes "decode") (codes "workers") (codes "16") 16 refl (search rules) },
-              tt,
+              (
+                record { taken = refl; asks = sampled _ (codes "2") (codes "256") (codes "256") 2 256 256 refl (search rules) (search rules) (search rules) },
+                (
+                  record { taken = refl; asks = sampled _ (codes "0") (codes "4") (codes "3") 0 4 3 refl (search rules) (search rules) (search rules) },
+                  (record { taken = refl; asks = sampled _ (codes "4294967295") (codes "1") (codes "1") 4294967295 1 1 refl (search rules) (search rules) (search rules) }, tt),
+                ),
+              ),
             ),
           ),
         ),
@@ -60,4 +86,4 @@ means_rows = (
 
 pub meaningless_rows : AllByRecursion (λ words. (command : Command) → ¬ Means (line words) command) meaningless
 unfolding clap_on_literals faults
-meaningless_rows = (not_meant _ refl, (not_meant _ refl, (not_meant _ refl, (not_meant _ refl, (not_meant _ refl, (not_meant _ refl, (not_meant _ refl, (not_meant _ refl, (not_meant _ refl, (not_meant _ refl, (not_meant _ refl, (not_meant _ refl, (not_meant _ refl, (not_meant _ refl, (not_meant _ refl, (not_meant _ refl, tt))))))))))))))))
+meaningless_rows = (not_meant _ refl, (not_meant _ refl, (not_meant _ refl, (not_meant _ refl, (not_meant _ refl, (not_meant _ refl, (not_meant _ refl, (not_meant _ refl, (not_meant _ refl, (not_meant _ refl, (not_meant _ refl, (not_meant _ refl, (not_meant _ refl, (not_meant _ refl, (not_meant _ refl, (not_meant _ refl, (not_meant _ refl, (not_meant _ refl, (not_meant _ refl, (not_meant _ refl, (not_meant _ refl, (not_meant _ refl, (not_meant _ refl, (not_meant _ refl, (not_meant _ refl, (not_meant _ refl, (not_meant _ refl, tt)))))))))))))))))))))))))))

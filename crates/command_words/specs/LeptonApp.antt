@@ -15,6 +15,14 @@ number_rule name numbers usual = record (new_rule name) {
   defaults = usual ∷ [];
 }
 
+-- an option `--name` with a number that has to be given
+abbrev pub required_rule : Text → ValueParser → Rule
+required_rule name numbers = record (new_rule name) {
+  long = Some name;
+  parser = Some numbers;
+  required = true;
+}
+
 -- `encode`, with `--segments` from 1 to 16, 8 where it is left out
 abbrev pub encode_app : App
 encode_app = with_rule (new_app (codes "encode"))
@@ -25,15 +33,23 @@ abbrev pub decode_app : App
 decode_app = with_rule (new_app (codes "decode"))
     (number_rule (codes "workers") (Signed (pos 0) (pos 16)) (codes "4"))
 
+-- `sample`, with `--seed` from 0 to 4294967295, and `--columns` and `--rows` from 1 to 256 each;
+-- all three have to be given
+abbrev pub sample_app : App
+sample_app = with_rule (with_rule (with_rule (new_app (codes "sample"))
+    (required_rule (codes "seed") (Signed (pos 0) (pos 4294967295))))
+    (required_rule (codes "columns") (Signed (pos 1) (pos 256))))
+    (required_rule (codes "rows") (Signed (pos 1) (pos 256)))
+
 -- one of the subcommands has to be named
 abbrev pub requiring_subcommand : App → App
 requiring_subcommand = on_top (λ s. record s { subcommand_required = true })
 
--- the program with the two
+-- the program with the three
 abbrev pub lepton_app : App
-lepton_app = with_subcommand
+lepton_app = with_subcommand (with_subcommand
     (with_subcommand (requiring_subcommand (new_app (codes "lepton"))) encode_app.top)
-    decode_app.top
+    decode_app.top) sample_app.top
 
 -- the kinds of error that clap may give at the words: none where it takes them
 unfoldable pub faults : List Text → Kinds

@@ -1,40 +1,51 @@
 -- What words ask for, in clap's terms (this project's own).
-use Rattle.std.specs.Prelude.{◌≡◌, ◌≤◌, ℕ, List, [], Option, Some, Ok, codes}
+use Rattle.std.specs.Prelude.{◌≡◌, ◌≤◌, ◌<◌, ◌^◌, ℕ, List, [], Option, Some, Ok, codes}
 use Rattle.std.specs.Str.Parse.{ParsesUnsigned}
 use Rattle.std.specs.declared.num.ParseIntError.{ParseIntError}
 use Rattle.clap.specs.Words.{Row, Text, one_of}
 use Rattle.command_words.specs.LeptonApp.{faults, given}
 use Rattle.command_words.specs.declared.command.Command.{Command}
-use Rattle.command_words.specs.declared.command.Command.TheVariants.{Encode, Decode}
+use Rattle.command_words.specs.declared.command.Command.TheVariants.{Encode, Decode, Sample}
 
--- the text reads as this number of a byte: `text.parse::<u8>()`
-abbrev pub ReadsAs : Text → ℕ → Type 0
-ReadsAs text number = ParsesUnsigned {E = ParseIntError} 8 10 text (Ok number)
+-- the text reads as this number of so many bits: of 8, `text.parse::<u8>()`
+abbrev pub ReadsAs : ℕ → Text → ℕ → Type 0
+ReadsAs bits text number = ParsesUnsigned {E = ParseIntError} bits 10 text (Ok number)
 
--- the first value of an option reads as this number
-pub record Reads (rows : List Row) (option : Text) (number : ℕ) : Type 0 where
+-- the first value of an option reads as this number of so many bits
+pub record Reads (bits : ℕ) (rows : List Row) (option : Text) (number : ℕ) : Type 0 where
   pub text : Text
   pub first : one_of option rows ≡ Some text
-  pub number_is : ReadsAs text number
+  pub number_is : ReadsAs bits text number
 
--- the subcommand `name` was met, and its option reads as this number
+-- the subcommand `name` was met, and its option reads as this number of a byte
 pub record IsNumbered (met : Option (Text × List Row)) (name option : Text) (number : ℕ)
     : Type 0 where
   pub rows : List Row
   pub is : met ≡ Some (name, rows)
-  pub reads : Reads rows option number
+  pub reads : Reads 8 rows option number
 
--- the subcommand that was met is the command's, with its number
+-- `sample` was met, and its options read as these numbers, the seed of 32 bits and the others of 16
+pub record IsSampled (met : Option (Text × List Row)) (seed columns rows : ℕ) : Type 0 where
+  pub options : List Row
+  pub is : met ≡ Some (codes "sample", options)
+  pub seed_is : Reads 32 options (codes "seed") seed
+  pub columns_is : Reads 16 options (codes "columns") columns
+  pub rows_is : Reads 16 options (codes "rows") rows
+
+-- the subcommand that was met is the command's, with its numbers
 abbrev pub Asks : Option (Text × List Row) → Command → Type 0
 Asks met (Encode segments) = IsNumbered met (codes "encode") (codes "segments") segments
 Asks met (Decode workers) = IsNumbered met (codes "decode") (codes "workers") workers
+Asks met (Sample seed columns rows) = IsSampled met seed columns rows
 
--- clap takes the words, and they name the command's subcommand with its number
+-- clap takes the words, and they name the command's subcommand with its numbers
 pub record Means (words : List Text) (command : Command) : Type 0 where
   pub taken : faults words ≡ []
   pub asks : Asks (given words) command
 
--- from 1 to 16 segments, and from 0 to 16 workers
+-- from 1 to 16 segments, from 0 to 16 workers; a seed of 32 bits, from 1 to 256 columns and rows
 abbrev pub IsInRange : Command → Type 0
 IsInRange (Encode segments) = (1 ≤ segments) × (segments ≤ 16)
 IsInRange (Decode workers) = workers ≤ 16
+IsInRange (Sample seed columns rows) =
+    (seed < 2 ^ 32) × (1 ≤ columns) × (columns ≤ 256) × (1 ≤ rows) × (rows ≤ 256)

@@ -2,18 +2,26 @@
 use Rattle.std.specs.Prelude.{List, [], ◌∷◌, codes}
 use Rattle.clap.specs.Words.{Text}
 use Rattle.command_words.specs.declared.command.Command.{Command}
-use Rattle.command_words.specs.declared.command.Command.TheVariants.{Decode, Encode}
+use Rattle.command_words.specs.declared.command.Command.TheVariants.{Decode, Encode, Sample}
 
 -- a line of words begins with the program's name
 abbrev pub line : List Text → List Text
 line words = codes "lepton" ∷ words
 
--- `encode`, and `decode`, with these words after it
+-- `encode`, `decode` and `sample`, with these words after it
 abbrev pub encode_with : List Text → List Text
 encode_with words = codes "encode" ∷ words
 
 abbrev pub decode_with : List Text → List Text
 decode_with words = codes "decode" ∷ words
+
+abbrev pub sample_with : List Text → List Text
+sample_with words = codes "sample" ∷ words
+
+-- `sample` with its options in the order seed, columns, rows
+abbrev pub sample_of : Text → Text → Text → List Text
+sample_of seed columns rows = sample_with (codes "--seed" ∷ seed ∷ codes "--columns" ∷ columns
+    ∷ codes "--rows" ∷ rows ∷ [])
 
 -- words with the command that they mean
 abbrev pub meant : List (List Text × Command)
@@ -24,6 +32,12 @@ meant = (encode_with [], Encode 8)
     ∷ (encode_with (codes "--segments" ∷ codes "08" ∷ []), Encode 8)
     ∷ (decode_with (codes "--workers" ∷ codes "0" ∷ []), Decode 0)
     ∷ (decode_with (codes "--workers=16" ∷ []), Decode 16)
+    ∷ (sample_of (codes "2") (codes "256") (codes "256"), Sample 2 256 256)
+    ∷ (
+      sample_with (codes "--rows=3" ∷ codes "--seed=0" ∷ codes "--columns" ∷ codes "4" ∷ []),
+      Sample 0 4 3,
+    )
+    ∷ (sample_of (codes "4294967295") (codes "1") (codes "1"), Sample 4294967295 1 1)
     ∷ []
 
 -- words that mean no command
@@ -44,4 +58,15 @@ meaningless = []
     ∷ encode_with (codes "--segments" ∷ codes "8" ∷ codes "--segments" ∷ codes "9" ∷ [])
     ∷ decode_with (codes "--workers" ∷ codes "17" ∷ [])
     ∷ decode_with (codes "--segments" ∷ codes "8" ∷ [])
+    ∷ sample_with []
+    ∷ sample_with (codes "--seed" ∷ codes "1" ∷ codes "--columns" ∷ codes "1" ∷ [])
+    ∷ sample_with (codes "--seed" ∷ codes "1" ∷ codes "--rows" ∷ codes "1" ∷ [])
+    ∷ sample_with (codes "--columns" ∷ codes "1" ∷ codes "--rows" ∷ codes "1" ∷ [])
+    ∷ sample_of (codes "1") (codes "0") (codes "1")
+    ∷ sample_of (codes "1") (codes "257") (codes "1")
+    ∷ sample_of (codes "1") (codes "1") (codes "0")
+    ∷ sample_of (codes "1") (codes "1") (codes "257")
+    ∷ sample_of (codes "4294967296") (codes "1") (codes "1")
+    ∷ sample_of (codes "-1") (codes "1") (codes "1")
+    ∷ encode_with (codes "--seed" ∷ codes "1" ∷ [])
     ∷ []

@@ -16,6 +16,8 @@ pub enum Command {
     Encode { segments: u8 },
     /// Give the file back with at most this many workers, 0 to 16.
     Decode { workers: u8 },
+    /// Make a sample from this seed, 0 to 4294967295, with so many columns and rows, 1 to 256 each.
+    Sample { seed: u32, columns: u16, rows: u16 },
 }
 
 /// Why words have no command.
@@ -58,7 +60,7 @@ fn parsed<'a>(alloc: Global, words: &'a [String]) -> Result<ArgMatches<'a>, Word
     }
 }
 
-// The command that the subcommand stands for, where its option has a number.
+// The command that the subcommand stands for, where its options have numbers.
 fn asked(matches: &ArgMatches) -> Option<Command>
     ensures some { IfSome result (Asks (subcommand_rows_of matches.now)) }
     ensures none { IfNone result ((command : Command)
@@ -66,22 +68,50 @@ fn asked(matches: &ArgMatches) -> Option<Command>
 {
     match matches.subcommand()? {
         ("encode", options) => {
-            let segments = number(options, "segments")?;
+            let segments = u8_of(options, "segments")?;
             Some(Command::Encode { segments })
         }
         ("decode", options) => {
-            let workers = number(options, "workers")?;
+            let workers = u8_of(options, "workers")?;
             Some(Command::Decode { workers })
+        }
+        ("sample", options) => {
+            let seed = u32_of(options, "seed")?;
+            let columns = u16_of(options, "columns")?;
+            let rows = u16_of(options, "rows")?;
+            Some(Command::Sample {
+                seed,
+                columns,
+                rows,
+            })
         }
         _ => None,
     }
 }
 
-// The number that an option was given, or else its usual one.
-fn number(options: &ArgMatches, option: &str) -> Option<u8>
-    ensures some { IfSome result (Reads (rows_of (found_of options.now)) option.now) }
+// The number of 8 bits that an option was given, or else its usual one.
+fn u8_of(options: &ArgMatches, option: &str) -> Option<u8>
+    ensures some { IfSome result (Reads 8 (rows_of (found_of options.now)) option.now) }
     ensures none { IfNone result ((number : ℕ)
-        → ¬ Reads (rows_of (found_of options.now)) option.now number) }
+        → ¬ Reads 8 (rows_of (found_of options.now)) option.now number) }
 {
     options.get_one::<u8>(option)
+}
+
+// The same, of 16 bits.
+fn u16_of(options: &ArgMatches, option: &str) -> Option<u16>
+    ensures some { IfSome result (Reads 16 (rows_of (found_of options.now)) option.now) }
+    ensures none { IfNone result ((number : ℕ)
+        → ¬ Reads 16 (rows_of (found_of options.now)) option.now number) }
+{
+    options.get_one::<u16>(option)
+}
+
+// The same, of 32 bits.
+fn u32_of(options: &ArgMatches, option: &str) -> Option<u32>
+    ensures some { IfSome result (Reads 32 (rows_of (found_of options.now)) option.now) }
+    ensures none { IfNone result ((number : ℕ)
+        → ¬ Reads 32 (rows_of (found_of options.now)) option.now number) }
+{
+    options.get_one::<u32>(option)
 }

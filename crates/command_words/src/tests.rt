@@ -6,7 +6,7 @@ use std::test::Fail;
 // The words after the program's name, and the command that they mean.
 #[test]
 fn rows(rt: HostRuntime) -> Result<(), Fail> {
-    let rows: [(&[&str], Option<Command>); 33] = [
+    let rows: [(&[&str], Option<Command>); 53] = [
         (&["encode"], encode(8)),
         (&["decode"], decode(4)),
         (&["encode", "--segments", "1"], encode(1)),
@@ -18,6 +18,22 @@ fn rows(rt: HostRuntime) -> Result<(), Fail> {
         (&["decode", "--workers", "0"], decode(0)),
         (&["decode", "--workers=-0"], decode(0)),
         (&["decode", "--workers=16"], decode(16)),
+        (
+            &["sample", "--seed=2", "--columns=256", "--rows=256"],
+            sample(2, 256, 256),
+        ),
+        (
+            &["sample", "--rows=3", "--seed=0", "--columns", "4"],
+            sample(0, 4, 3),
+        ),
+        (
+            &["sample", "--seed=4294967295", "--columns=1", "--rows=1"],
+            sample(4294967295, 1, 1),
+        ),
+        (
+            &["sample", "--columns", "08", "--rows=+9", "--seed=-0"],
+            sample(0, 8, 9),
+        ),
         (&[], None),
         (&[""], None),
         (&["recode"], None),
@@ -40,6 +56,34 @@ fn rows(rt: HostRuntime) -> Result<(), Fail> {
         (&["--segments", "3", "encode"], None),
         (&["decode", "--workers", "17"], None),
         (&["decode", "--segments", "8"], None),
+        (&["sample"], None),
+        (&["sample", "--seed=1", "--columns=1"], None),
+        (&["sample", "--seed=1", "--rows=1"], None),
+        (&["sample", "--columns=1", "--rows=1"], None),
+        (&["sample", "--seed=1", "--columns=1", "--rows"], None),
+        (&["sample", "--seed=1", "--columns=0", "--rows=1"], None),
+        (&["sample", "--seed=1", "--columns=257", "--rows=1"], None),
+        (&["sample", "--seed=1", "--columns=1", "--rows=0"], None),
+        (&["sample", "--seed=1", "--columns=1", "--rows=257"], None),
+        (&["sample", "--seed=1", "--columns=1", "--rows=65537"], None),
+        (
+            &["sample", "--seed=4294967296", "--columns=1", "--rows=1"],
+            None,
+        ),
+        (&["sample", "--seed=-1", "--columns=1", "--rows=1"], None),
+        (
+            &["sample", "--seed=1", "--seed=1", "--columns=1", "--rows=1"],
+            None,
+        ),
+        (
+            &["sample", "--seed=1", "--columns=1", "--rows=1", "-h"],
+            None,
+        ),
+        (
+            &["sample", "--seed=1", "--columns=1", "--rows=1", "x"],
+            None,
+        ),
+        (&["encode", "--seed", "1"], None),
     ];
     for (given, meant) in rows {
         let words = line(rt.alloc(), given)?;
@@ -67,6 +111,14 @@ fn encode(segments: u8) -> Option<Command> {
 
 fn decode(workers: u8) -> Option<Command> {
     Some(Command::Decode { workers })
+}
+
+fn sample(seed: u32, columns: u16, rows: u16) -> Option<Command> {
+    Some(Command::Sample {
+        seed,
+        columns,
+        rows,
+    })
 }
 
 // Not even the program's name.

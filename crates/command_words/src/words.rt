@@ -1,24 +1,52 @@
 // The words that are known, as clap is told of them.
 ghost use Rattle.std.specs.Prelude.{◌≡◌, false, IfOk, Some, [], ◌∷◌};
-ghost use Rattle.clap.specs.Words.{app_of, rule_of};
-ghost use Rattle.command_words.specs.LeptonApp.{lepton_app, number_rule};
+ghost use Rattle.clap.specs.Words.{app_of, rule_of, with_subcommand};
+ghost use Rattle.command_words.specs.LeptonApp.{decode_app, encode_app, lepton_app, number_rule, required_rule, sample_app};
 
 use clap::builder::ValueParser;
 use clap::{Arg, value_parser};
 use std::alloc::{AllocError, Global};
 
-/// The program with its two subcommands, of which one has to be named.
+/// The program with its three subcommands, of which one has to be named.
 pub(crate) fn known_words<'a>(alloc: Global) -> Result<clap::Command<'a>, AllocError>
     ensures { IfOk result (λ known. app_of known ≡ lepton_app) }
 {
+    let known = clap::Command::new(alloc, "lepton").subcommand_required(true);
+    let known = with_encode(alloc, known)?;
+    let known = with_decode(alloc, known)?;
+    with_sample(alloc, known)
+}
+
+// The program with one subcommand more.
+fn with_encode<'a>(alloc: Global, known: clap::Command<'a>) -> Result<clap::Command<'a>, AllocError>
+    ensures { IfOk result (λ more. app_of more
+        ≡ with_subcommand (app_of known.entry) encode_app.top) }
+{
     let segments = number_option(alloc, "segments", value_parser!(u8).range(1..=16), "8");
-    let workers = number_option(alloc, "workers", value_parser!(u8).range(0..=16), "4");
     let encode = clap::Command::new(alloc, "encode").arg(segments)?;
+    known.subcommand(encode)
+}
+
+fn with_decode<'a>(alloc: Global, known: clap::Command<'a>) -> Result<clap::Command<'a>, AllocError>
+    ensures { IfOk result (λ more. app_of more
+        ≡ with_subcommand (app_of known.entry) decode_app.top) }
+{
+    let workers = number_option(alloc, "workers", value_parser!(u8).range(0..=16), "4");
     let decode = clap::Command::new(alloc, "decode").arg(workers)?;
-    clap::Command::new(alloc, "lepton")
-        .subcommand_required(true)
-        .subcommand(encode)?
-        .subcommand(decode)
+    known.subcommand(decode)
+}
+
+fn with_sample<'a>(alloc: Global, known: clap::Command<'a>) -> Result<clap::Command<'a>, AllocError>
+    ensures { IfOk result (λ more. app_of more
+        ≡ with_subcommand (app_of known.entry) sample_app.top) }
+{
+    let seed = required_option(alloc, "seed", value_parser!(u32).range(0..=4294967295));
+    let columns = required_option(alloc, "columns", value_parser!(u16).range(1..=256));
+    let rows = required_option(alloc, "rows", value_parser!(u16).range(1..=256));
+    let sample = clap::Command::new(alloc, "sample").arg(seed)?;
+    let sample = sample.arg(columns)?;
+    let sample = sample.arg(rows)?;
+    known.subcommand(sample)
 }
 
 // An option with a number, `usual` where it is left out.
@@ -35,4 +63,15 @@ fn number_option<'a>(
         .long(name)
         .value_parser(numbers)
         .default_value(usual)
+}
+
+// An option with a number that has to be given.
+fn required_option<'a>(alloc: Global, name: &'a str, numbers: ValueParser<'a>) -> Arg<'a>
+    ensures rule { rule_of result ≡ required_rule name.entry.now numbers.entry }
+    ensures local { result.global ≡ false }
+{
+    Arg::new(alloc, name)
+        .long(name)
+        .value_parser(numbers)
+        .required(true)
 }

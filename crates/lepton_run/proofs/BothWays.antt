@@ -14,7 +14,7 @@ use Rattle.lepton_run.specs.Answers.{Answers, Made, answer_by, limit_of}
 use Rattle.lepton_run.proofs.BoxesOfBytes.{box_are}
 
 -- a container's bytes are bytes
-container_are : (most : ℕ) (made file : List ℕ) → 0 < most → most ≤ most_segments
+pub container_are : (most : ℕ) (made file : List ℕ) → 0 < most → most ≤ most_segments
     → IsContainerOf most made file → AllByRecursion IsByte made
 container_are most made file some few is =
     subst (AllByRecursion IsByte) (sym is.spelled)

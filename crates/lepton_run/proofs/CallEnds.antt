@@ -1,5 +1,5 @@
 -- From how words ended to what the top call promises.
-use Rattle.std.proofs.Common.{◌≡◌, ℕ, ◌<◌, ◌≤◌, ◌⊎◌, inl, inr, List, length, Option, Some, refl, ap, subst, ◌∙◌, arith}
+use Rattle.std.proofs.Common.{◌≡◌, ℕ, ◌<◌, ◌≤◌, ◌⊎◌, inl, inr, List, length, Option, Some, refl, sym, ap, subst, ◌∙◌, arith}
 use Rattle.std.specs.Io.KnownBytes.{Appends}
 use Rattle.outside_core.specs.Faults.{Rose}
 use Rattle.box_format.specs.Parts.{most_segments}
@@ -7,8 +7,8 @@ use Rattle.segment_meaning.specs.Files.{IsContainerOf}
 use Rattle.command_words.specs.Meaning.{Means}
 use Rattle.command_words.specs.declared.command.Command.{Command}
 use Rattle.command_words.specs.declared.command.Command.TheVariants.{Encode, Decode}
-use Rattle.lepton_run.specs.Answers.{Answer, Answers, AppendsPart, Early, Late, Made, Took, Writes, bytes_of, limit_of, line_of, status_of}
-use Rattle.lepton_run.specs.Endings.{Answered, Given, ending_line, ending_of, status_at}
+use Rattle.lepton_run.specs.Answers.{Answer, Answers, AppendsPart, Early, IsInput, Late, Made, Took, Writes, bytes_of, limit_of, line_of, status_of}
+use Rattle.lepton_run.specs.Endings.{Answered, Given, SampleEnds, ending_line, ending_of, status_at}
 use Rattle.lepton_run.specs.declared.ending.Ending.{Ending}
 use Rattle.lepton_run.specs.declared.ending.Ending.TheVariants.{Done, Refused, WordsRefused, ReadFailed, WriteFailed, NoMemory}
 use Rattle.lepton_run.proofs.BothWays.{file_back}
@@ -29,15 +29,15 @@ same_line (Late bytes refusal) = refl
 -- bytes that a source had have one answer, whichever of them were taken
 same_answer : (words : List (List ℕ)) (command other : Command) (had taken : List ℕ)
     (left rest : Option (List ℕ)) (answer given : Answer)
-    → Means words command → Means words other → left ≡ Some had
-    → Took (limit_of other) left rest taken → Answers other taken given
+    → Means words command → Means words other → IsInput command left had
+    → Took other left rest taken → Answers other taken given
     → Answers command had answer → given ≡ answer
 same_answer words command other had taken left rest answer given means meant is took so wanted =
     let same = same_command words other command meant means in
-    let from = subst (λ (l : Option (List ℕ)). Took (limit_of other) l rest taken) is took in
+    let input = subst (λ (k : Command). IsInput k left had) (sym same) is in
     one_answer command had given answer
     (subst (λ (k : Command). Answers k had given) same
-    (answer_had other had taken rest given from so)) wanted
+    (answer_had other had taken left rest given input took so)) wanted
 
 module _ {Sink Source : Type 0} (held : Sink → Option (List ℕ)) (faults : Sink → ℕ)
     (full : Sink → Type 0) (left : Source → Option (List ℕ)) (failures : Source → ℕ)
@@ -51,14 +51,14 @@ module _ {Sink Source : Type 0} (held : Sink → Option (List ℕ)) (faults : Si
   abbrev Answering : ℕ → Type 0
   Answering status =
       (command : Command) × (bytes : List ℕ) × (answer : Answer) × Means words command
-      × Took (limit_of command) (left source) (left rest) bytes
+      × Took command (left source) (left rest) bytes
       × Answers command bytes answer × (status ≡ status_of answer)
       × Appends (held old) (held new) (bytes_of answer) × (¬ Writes answer → new ≡ old)
       × Said (line_of answer)
 
   answering : (ending : Ending) (status : ℕ) (command : Command) (bytes : List ℕ)
       → status ≡ status_at ending → Said (ending_line ending) → Means words command
-      → Took (limit_of command) (left source) (left rest) bytes
+      → Took command (left source) (left rest) bytes
       → ((answer : Answer) × Given held faults full command bytes answer old new
       × (ending ≡ ending_of answer)) → Answering status
   answering ending status command bytes is said means took g = (
@@ -89,7 +89,7 @@ module _ {Sink Source : Type 0} (held : Sink → Option (List ℕ)) (faults : Si
   abbrev Cutting : Type 0
   Cutting =
       (command : Command) × (bytes : List ℕ) × (answer : Answer) × Means words command
-      × Took (limit_of command) (left source) (left rest) bytes
+      × Took command (left source) (left rest) bytes
       × Answers command bytes answer × Writes answer
       × AppendsPart (held old) (held new) (bytes_of answer)
 
@@ -113,7 +113,7 @@ module _ {Sink Source : Type 0} (held : Sink → Option (List ℕ)) (faults : Si
   cut_of NoMemory status is ends four = absurd (omega arith)
 
   module _ (command : Command) (had : List ℕ) (answer : Answer) (means : Means words command)
-      (is_left : left source ≡ Some had) (wanted : Answers command had answer) where
+      (is_left : IsInput command (left source) had) (wanted : Answers command had answer) where
     -- the answer was given
     abbrev Gave : ℕ → Answer → Type 0
     Gave status answer =
@@ -157,3 +157,13 @@ module _ {Sink Source : Type 0} (held : Sink → Option (List ℕ)) (faults : Si
         | inl given ↦ inl (given.0, given.1)
         | inr five ↦ inr five
       ]
+
+-- the statuses of `sample`
+pub sampled_of : (ending : Ending) (status : ℕ) → status ≡ status_at ending → SampleEnds ending
+    → (status ≡ 0) ⊎ ((status ≡ 4) ⊎ (status ≡ 5))
+sampled_of Done status is ends = inl is
+sampled_of (Refused refusal) status is ends = absurd ends
+sampled_of WordsRefused status is ends = absurd ends
+sampled_of ReadFailed status is ends = absurd ends
+sampled_of WriteFailed status is ends = inr (inl is)
+sampled_of NoMemory status is ends = inr (inr is)

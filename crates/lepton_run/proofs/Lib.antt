@@ -6,3 +6,4 @@ pub mod BothWays
 pub mod CarriedOut
 pub mod CallEnds
 pub mod LinesNoted
+pub mod SamplesCoded

@@ -1,5 +1,6 @@
 -- Bytes have one answer.
 use Rattle.std.proofs.Common.{◌≡◌, ℕ, ◌+◌, inl, inr, Bool, List, ◌++◌, length, drop, None, refl, sym, ap, ◌∙◌, subst, length-append, length-drop, drop-drop, arith}
+use Rattle.std.specs.Prelude.{min}
 use Rattle.std.specs.List.{AllByRecursion}
 use Rattle.std.proofs.lemmas.List.{drop_at}
 use Rattle.bit_list.specs.Bits.{IsByte}
@@ -19,7 +20,9 @@ use Rattle.scan_text.proofs.ScanTaken.{read_again}
 use Rattle.segment_meaning.specs.Meanings.{Meaning}
 use Rattle.segment_meaning.proofs.OneMeanings.{one_container, one_meaning}
 use Rattle.command_words.specs.declared.command.Command.{Command}
-use Rattle.command_words.specs.declared.command.Command.TheVariants.{Encode, Decode}
+use Rattle.command_words.specs.declared.command.Command.TheVariants.{Encode, Decode, Sample}
+use Rattle.sample_jpeg.specs.SampleFile.{sample_file}
+use Rattle.lepton_run.specs.Summaries.{IsSummary, sample_segments, summary_of}
 use Rattle.lepton_run.specs.Answers.{Answer, Answers, Early, Late, Made, Makes, ScanRefuses, answer_by}
 use Rattle.lepton_run.specs.declared.refusal.Refusal.{Refusal}
 use Rattle.lepton_run.specs.declared.refusal.Refusal.TheVariants.{Header, Scan, Box, Fault, PadSpelling, TooLong}
@@ -51,7 +54,7 @@ begins bytes plan mcus pad trailer all is =
     }
 
 -- a file's scan isn't refused
-scan_apart : (bytes : List ℕ) (plan : PlanFields) (mcus : List Mcu) (pad : Bool)
+pub scan_apart : (bytes : List ℕ) (plan : PlanFields) (mcus : List Mcu) (pad : Bool)
     (trailer : List ℕ) (refusal : ScanRefusal) → AllByRecursion IsByte bytes
     → IsFileOf bytes plan mcus pad trailer → ScanRefuses bytes refusal → ⊥
 scan_apart bytes plan mcus pad trailer refusal all is why =
@@ -115,12 +118,33 @@ one_encoded n bytes (Early PadSpelling) b all p q = absurd p
 one_encoded n bytes (Early TooLong) b all p q = absurd p
 one_encoded n bytes (Late w r) b all p q = absurd p
 
+-- what `sample` says is one thing
+one_summary : (seed columns rows : ℕ) (a b : List ℕ) → IsSummary seed columns rows a
+    → IsSummary seed columns rows b → a ≡ b
+one_summary seed columns rows a b p q =
+    let file = sample_file seed columns rows in
+    let same = one_container sample_segments p.0 q.0 file p.1 q.1 in
+    p.2
+    ∙ ap (λ (made : List ℕ). summary_of (length file) (length made) (min rows sample_segments)
+    (length file)) same
+    ∙ sym q.2
+
+one_sampled : (seed columns rows : ℕ) (bytes : List ℕ) (a b : Answer)
+    → Makes (Sample seed columns rows) bytes a → Makes (Sample seed columns rows) bytes b → a ≡ b
+one_sampled s c r bytes (Made a) (Made b) p q = ap Made (one_summary s c r a b p q)
+one_sampled s c r bytes (Made a) (Early refusal) p q = absurd q
+one_sampled s c r bytes (Made a) (Late written refusal) p q = absurd q
+one_sampled s c r bytes (Early refusal) b p q = absurd p
+one_sampled s c r bytes (Late written refusal) b p q = absurd p
+
 one_made : (command : Command) (bytes : List ℕ) (a b : Answer) → AllByRecursion IsByte bytes
     → Makes command bytes a → Makes command bytes b → a ≡ b
 one_made (Encode segments) bytes a b all p q = one_encoded segments bytes a b all p q
 one_made (Decode workers) bytes a b all p q =
     p.2 ∙ ap (λ (m : Meaning). answer_by m.bytes m.verdict)
     (one_meaning bytes p.0 q.0 all p.1 q.1) ∙ sym q.2
+one_made (Sample seed columns rows) bytes a b all p q =
+    one_sampled seed columns rows bytes a b p q
 
 pub one_answer : (command : Command) (bytes : List ℕ) (a b : Answer)
     → Answers command bytes a → Answers command bytes b → a ≡ b

@@ -1,6 +1,6 @@
--- What the top call answers (this project's own): for a command and bytes one answer, with the bytes that it writes,
--- its status and its line.
-use Rattle.std.specs.Prelude.{ℕ, ◌≡◌, ◌⊎◌, ◌+◌, ◌<◌, ◌≤◌, List, [], length, take, Option}
+-- What the top call answers (this project's own): for a command and the bytes that it takes one answer, with the bytes
+-- that it writes, its status and its line.
+use Rattle.std.specs.Prelude.{ℕ, ◌≡◌, ◌⊎◌, ◌+◌, ◌<◌, ◌≤◌, Bool, true, false, List, [], length, take, Option, Some}
 use Rattle.std.specs.List.{AllByRecursion}
 use Rattle.std.specs.Io.KnownBytes.{Appends, Consumes, IsAtEnd}
 use Rattle.bit_list.specs.Bits.{IsByte}
@@ -12,8 +12,9 @@ use Rattle.scan_text.specs.declared.refusal.ScanRefusal.{ScanRefusal}
 use Rattle.segment_meaning.specs.Files.{IsContainerOf}
 use Rattle.segment_meaning.specs.Meanings.{Meaning, Verdict, Restored, PadSpelled, Faulty, NoBox, IsMeaning}
 use Rattle.command_words.specs.declared.command.Command.{Command}
-use Rattle.command_words.specs.declared.command.Command.TheVariants.{Encode, Decode}
+use Rattle.command_words.specs.declared.command.Command.TheVariants.{Encode, Decode, Sample}
 use Rattle.lepton_run.specs.Lines.{refusal_line}
+use Rattle.lepton_run.specs.Summaries.{IsSummary}
 use Rattle.lepton_run.specs.declared.refusal.Refusal.{Refusal}
 use Rattle.lepton_run.specs.declared.refusal.Refusal.TheVariants.{Header, Scan, Box, Fault, PadSpelling, TooLong}
 
@@ -48,10 +49,11 @@ line_of (Made bytes) = []
 line_of (Early refusal) = refusal_line refusal
 line_of (Late bytes refusal) = refusal_line refusal
 
--- the most bytes that a command reads: 64 MiB of a file, 8 GiB of a container
+-- the most bytes that a command takes: 64 MiB of a file, 8 GiB of a container; `sample` takes none
 abbrev pub limit_of : Command → ℕ
 limit_of (Encode segments) = 67108864
 limit_of (Decode workers) = 8589934592
+limit_of (Sample seed columns rows) = 0
 
 -- the answer that a container's meaning is
 abbrev pub answer_by : List ℕ → Verdict → Answer
@@ -67,7 +69,8 @@ ScanRefuses bytes refusal =
     × ItemsRefuse (shape_of plan) bytes plan.header_length refusal
 
 -- what a command makes of bytes: encode the container of a file in at most so many segments, or it refuses the header
--- or else the scan; decode what the bytes stand for as a container, whatever the number of workers
+-- or else the scan; decode what the bytes stand for as a container, whatever the number of workers; sample, of no bytes,
+-- the summary of what it makes
 abbrev pub Makes : Command → List ℕ → Answer → Type 0
 Makes (Encode segments) bytes (Made made) = IsContainerOf segments made bytes
 Makes (Encode segments) bytes (Early (Header refusal)) = HeaderRefuses bytes refusal
@@ -80,6 +83,9 @@ Makes (Encode segments) bytes (Late written refusal) = ⊥
 Makes (Decode workers) bytes answer =
     (meaning : Meaning) × IsMeaning bytes meaning
     × (answer ≡ answer_by meaning.bytes meaning.verdict)
+Makes (Sample seed columns rows) bytes (Made made) = IsSummary seed columns rows made
+Makes (Sample seed columns rows) bytes (Early refusal) = ⊥
+Makes (Sample seed columns rows) bytes (Late written refusal) = ⊥
 
 -- bytes within the limit, and what is made of them
 pub record AnswersWithin (command : Command) (bytes : List ℕ) (answer : Answer) : Type 0 where
@@ -93,9 +99,27 @@ Answers command bytes answer =
     ((limit_of command < length bytes) × (answer ≡ Early TooLong))
     ⊎ AnswersWithin command bytes answer
 
+-- whether a command takes bytes of its source
+abbrev pub reads : Command → Bool
+reads (Encode segments) = true
+reads (Decode workers) = true
+reads (Sample seed columns rows) = false
+
 -- a source gave these bytes: all that it had, or the limit and one more
-abbrev pub Took : ℕ → Option (List ℕ) → Option (List ℕ) → List ℕ → Type 0
-Took limit old new bytes = Consumes old new bytes × (IsAtEnd new ⊎ (length bytes ≡ limit + 1))
+abbrev pub GaveUpTo : ℕ → Option (List ℕ) → Option (List ℕ) → List ℕ → Type 0
+GaveUpTo limit old new bytes = Consumes old new bytes × (IsAtEnd new ⊎ (length bytes ≡ limit + 1))
+
+-- a command took these bytes of a source; `sample` takes none
+abbrev pub Took : Command → Option (List ℕ) → Option (List ℕ) → List ℕ → Type 0
+Took (Encode segments) old new bytes = GaveUpTo (limit_of (Encode segments)) old new bytes
+Took (Decode workers) old new bytes = GaveUpTo (limit_of (Decode workers)) old new bytes
+Took (Sample seed columns rows) old new bytes = (new ≡ old) × (bytes ≡ [])
+
+-- the bytes that a command answers to, of a source that has these left: all of them, and for `sample` none
+abbrev pub IsInput : Command → Option (List ℕ) → List ℕ → Type 0
+IsInput (Encode segments) left bytes = left ≡ Some bytes
+IsInput (Decode workers) left bytes = left ≡ Some bytes
+IsInput (Sample seed columns rows) left bytes = bytes ≡ []
 
 -- a proper prefix of these bytes was appended
 abbrev pub AppendsPart : Option (List ℕ) → Option (List ℕ) → List ℕ → Type 0

@@ -6,7 +6,7 @@ use Rattle.outside_core.specs.Faults.{Rose}
 use Rattle.command_words.specs.Meaning.{Means}
 use Rattle.command_words.specs.declared.command.Command.{Command}
 use Rattle.lepton_run.specs.Lines.{line, refusal_line}
-use Rattle.lepton_run.specs.Answers.{Answer, Made, Early, Late, Answers, AppendsPart, Took, Writes, bytes_of, limit_of}
+use Rattle.lepton_run.specs.Answers.{Answer, Made, Early, Late, Answers, AppendsPart, Took, Writes, bytes_of}
 use Rattle.lepton_run.specs.declared.ending.Ending.{Ending}
 use Rattle.lepton_run.specs.declared.ending.Ending.TheVariants.{Done, Refused, WordsRefused, ReadFailed, WriteFailed, NoMemory}
 
@@ -41,6 +41,15 @@ abbrev pub ending_of : Answer → Ending
 ending_of (Made bytes) = Done
 ending_of (Early refusal) = Refused refusal
 ending_of (Late bytes refusal) = Refused refusal
+
+-- how `sample` may end: it reads nothing and refuses nothing
+abbrev pub SampleEnds : Ending → Type 0
+SampleEnds Done = Unit {0}
+SampleEnds (Refused refusal) = ⊥
+SampleEnds WordsRefused = ⊥
+SampleEnds ReadFailed = ⊥
+SampleEnds WriteFailed = Unit {0}
+SampleEnds NoMemory = Unit {0}
 
 -- a note got a prefix of this line, and all of it where its count of faults didn't rise
 pub record Notes {Note : Type 0} (held : Note → Option (List ℕ)) (faults : Note → ℕ)
@@ -90,13 +99,13 @@ module _ {Sink : Type 0} (held : Sink → Option (List ℕ)) (faults : Sink → 
     Transferred command source rest old new NoMemory =
         (failures rest ≡ failures source) × (new ≡ old)
     Transferred command source rest old new Done =
-        (bytes : List ℕ) × Took (limit_of command) (left source) (left rest) bytes
+        (bytes : List ℕ) × Took command (left source) (left rest) bytes
         × (failures rest ≡ failures source) × CarriedOut command bytes old new Done
     Transferred command source rest old new (Refused refusal) =
-        (bytes : List ℕ) × Took (limit_of command) (left source) (left rest) bytes
+        (bytes : List ℕ) × Took command (left source) (left rest) bytes
         × (failures rest ≡ failures source) × CarriedOut command bytes old new (Refused refusal)
     Transferred command source rest old new WriteFailed =
-        (bytes : List ℕ) × Took (limit_of command) (left source) (left rest) bytes
+        (bytes : List ℕ) × Took command (left source) (left rest) bytes
         × (failures rest ≡ failures source) × CarriedOut command bytes old new WriteFailed
 
     -- how words end

@@ -1,3 +1,5 @@
 pub mod Lines
+pub mod Samples
+pub mod Summaries
 pub mod Answers
 pub mod Endings

@@ -12,9 +12,9 @@ use Rattle.handover.specs.declared.outcome.StreamCause.TheVariants as causes
 use Rattle.lepton_run.specs.declared.refusal.Refusal.{Refusal}
 use Rattle.lepton_run.specs.declared.refusal.Refusal.TheVariants.{Header, Scan, Box, Fault, PadSpelling, TooLong}
 
--- room for every line
+-- room for every line, and for the lines of a summary
 abbrev pub line_room : ℕ
-line_room = 96
+line_room = 160
 
 -- the name of a header's refusal
 abbrev pub name_of : HeaderRefusal → List ℕ

@@ -2,11 +2,12 @@
 ghost use Rattle.std.specs.Prelude.{◌≡◌, ◌≤◌, length};
 ghost use Rattle.command_words.specs.Meaning.{IsInRange};
 ghost use Rattle.command_words.specs.declared.command.Command.TheVariants.{Encode, Decode};
-ghost use Rattle.lepton_run.specs.Answers.{limit_of};
+ghost use Rattle.lepton_run.specs.Answers.{limit_of, reads};
 ghost use Rattle.lepton_run.specs.Endings.{CarriedOut};
 
 use crate::ending::Ending;
 use crate::refusal::Refusal;
+use crate::sampling::show_sample;
 use command_words::Command;
 use lepton_decode::{DecodeError, PrepareError, prepare};
 use lepton_encode::EncodeError;
@@ -22,19 +23,30 @@ const MOST_OF_A_FILE: u64 = 67_108_864;
 const MOST_OF_A_CONTAINER: u64 = 8_589_934_592;
 
 /// The bytes of a segment's ring: 1 MiB.
-const RING: usize = 1 << 20;
+pub(crate) const RING: usize = 1 << 20;
 
-/// The most bytes that a command reads.
+/// The most bytes that a command takes.
 pub(crate) fn limit(command: Command) -> u64
     ensures { result ≡ limit_of command }
 {
     match command {
         Command::Encode { .. } => MOST_OF_A_FILE,
         Command::Decode { .. } => MOST_OF_A_CONTAINER,
+        Command::Sample { .. } => 0,
     }
 }
 
-/// Writes what the command makes of bytes.
+/// Whether a command takes bytes of its source.
+pub(crate) fn reads(command: Command) -> bool
+    ensures { result ≡ reads command }
+{
+    match command {
+        Command::Encode { .. } | Command::Decode { .. } => true,
+        Command::Sample { .. } => false,
+    }
+}
+
+/// Writes what the command makes of the bytes that it took.
 pub(crate) fn carry_out<R: Threads + Wait + Sync, K: Sink + Send, G: Gate + Sync>(
     rt: &R,
     alloc: Global,
@@ -51,6 +63,11 @@ pub(crate) fn carry_out<R: Threads + Wait + Sync, K: Sink + Send, G: Gate + Sync
     match command {
         Command::Encode { segments } => encode(rt, alloc, segments, bytes, sink),
         Command::Decode { workers } => decode(rt, alloc, workers, bytes, sink, gate),
+        Command::Sample {
+            seed,
+            columns,
+            rows,
+        } => show_sample(rt, alloc, seed, columns, rows, sink, gate),
     }
 }
 

@@ -2,10 +2,11 @@
 //!
 //!     words --> command --> encode:  source --> bytes --> container --> sink
 //!                           decode:  source --> bytes --> file, segment by segment --> sink
+//!                           sample:  number --> file --> container --> file again --> five lines --> sink
 //!                                                                        ending --> note, status
 //!
-//! `run` carries the theorem as clauses of its own. The words, the container of a file, and the file of a container are
-//! crates below; here are the order of the answers, the statuses and the lines.
+//! `run` carries the theorem as clauses of its own. The words, the container of a file, the file of a container and the
+//! file of a number are crates below; here are the order of the answers, the statuses and the lines.
 #![tactic(auto)]
 
 mod carrying;
@@ -14,6 +15,7 @@ mod laws;
 mod names;
 mod note;
 mod refusal;
+mod sampling;
 mod top;
 
 pub use command_words::Command;

@@ -1,14 +1,14 @@
-// A line, made in a buffer of its own.
+// Lines, made in a buffer of their own.
 ghost use Rattle.std.specs.Prelude.{◌≡◌, ◌+◌, ◌≤◌, [], ◌++◌, length, decimal};
 ghost use Rattle.lepton_run.specs.Lines.{line_room};
 
 use itoa::Buffer;
 use std::marker::Model;
 
-/// More than any line has.
-const ROOM: usize = 96;
+/// More than any line has, or the lines of a summary.
+const ROOM: usize = 160;
 
-/// The bytes of a line so far, at most `ROOM`.
+/// The bytes of a line so far, or of several, at most `ROOM`.
 #[derive(Drop)]
 pub(crate) struct Line {
     bytes: [u8; ROOM],

@@ -6,11 +6,11 @@ ghost use Rattle.segment_meaning.specs.Files.{IsContainerOf};
 ghost use Rattle.box_format.specs.Parts.{most_segments};
 ghost use Rattle.command_words.specs.Meaning.{IsInRange, Means};
 ghost use Rattle.command_words.specs.declared.command.Command.{Command};
-ghost use Rattle.command_words.specs.declared.command.Command.TheVariants.{Encode, Decode};
-ghost use Rattle.lepton_run.specs.Answers.{Answer, Answers, AppendsPart, Made, TakenWithin, Took, Writes, bytes_of, limit_of, line_of, status_of};
-ghost use Rattle.lepton_run.specs.Endings.{Answered, Notes, Transferred, ending_line, line_at};
+ghost use Rattle.command_words.specs.declared.command.Command.TheVariants.{Encode, Decode, Sample};
+ghost use Rattle.lepton_run.specs.Answers.{Answer, Answers, AppendsPart, IsInput, Made, TakenWithin, Took, Writes, bytes_of, limit_of, line_of, status_of};
+ghost use Rattle.lepton_run.specs.Endings.{Answered, Notes, SampleEnds, Transferred, ending_line, line_at};
 
-use crate::carrying::{carry_out, limit};
+use crate::carrying::{carry_out, limit, reads};
 use crate::ending::Ending;
 use crate::refusal::Refusal;
 use command_words::{Command, WordsError, command_of};
@@ -23,16 +23,17 @@ use std::thread::Threads;
 ///
 /// | status | comes | note |
 /// |---|---|---|
-/// | 0 | the container, or the file, was written | nothing |
+/// | 0 | the container, the file, or the five lines of a sample were written | nothing |
 /// | 1 | the bytes are refused, before a byte is written, or behind the file's bytes up to where a segment's stream has a fault | `lepton: refused `, the refusal's number and name, and the code, the place or the segment that it holds |
 /// | 2 | the words are refused | `lepton: words refused` |
 /// | 3 | the source failed | `lepton: read failed` |
 /// | 4 | the sink failed | `lepton: write failed` |
 /// | 5 | there was no memory | `lepton: no memory` |
 ///
-/// The words are `encode` with `--segments`, or `decode` with `--workers`, as `command_words` has them. The whole
-/// source is read before anything is written, and all memory is taken before. The segments of a file are made, and
-/// those of a container decoded, in threads of their own where these can be had. A fault of the note changes no status.
+/// The words are `encode` with `--segments`, `decode` with `--workers`, or `sample` with `--seed`, `--columns` and
+/// `--rows`, as `command_words` has them. The whole source is read before anything is written, and all memory is taken
+/// before; `sample` reads nothing. The segments of a file are made, and those of a container decoded, in threads of
+/// their own where these can be had. A fault of the note changes no status.
 pub fn run<R: Threads + Wait + Sync, S: Source, K: Sink + Send, N: Sink + Send, G: Gate + Sync>(
     rt: &R,
     alloc: Global,
@@ -48,7 +49,7 @@ pub fn run<R: Threads + Wait + Sync, S: Source, K: Sink + Send, N: Sink + Send, 
     ensures answered { result ≤ 1
         → ((command : Command) × (bytes : List ℕ) × (answer : Answer)
         × Means (map string_bytes words.now) command
-        × Took (limit_of command) (S.left source.old) (S.left source.new) bytes
+        × Took command (S.left source.old) (S.left source.new) bytes
         × Answers command bytes answer × (result ≡ status_of answer)
         × Appends (K.held sink.old) (K.held sink.new) (bytes_of answer)
         × (¬ Writes answer → sink.new ≡ sink.old)
@@ -57,7 +58,7 @@ pub fn run<R: Threads + Wait + Sync, S: Source, K: Sink + Send, N: Sink + Send, 
     // 4: a proper prefix of the answer's bytes is appended.
     ensures cut { result ≡ 4 → ((command : Command) × (bytes : List ℕ) × (answer : Answer)
         × Means (map string_bytes words.now) command
-        × Took (limit_of command) (S.left source.old) (S.left source.new) bytes
+        × Took command (S.left source.old) (S.left source.new) bytes
         × Answers command bytes answer × Writes answer
         × AppendsPart (K.held sink.old) (K.held sink.new) (bytes_of answer)) }
 
@@ -90,7 +91,7 @@ pub fn run<R: Threads + Wait + Sync, S: Source, K: Sink + Send, N: Sink + Send, 
         → Means (map string_bytes words.now) command
         → ¬ Rose S.faults S.full source.old source.new
         → (Writes answer → ¬ Rose K.faults K.full sink.old sink.new)
-        → S.left source.old ≡ Some bytes → Answers command bytes answer
+        → IsInput command (S.left source.old) bytes → Answers command bytes answer
         → ((result ≡ status_of answer) × Appends (K.held sink.old) (K.held sink.new) (bytes_of answer)
         × Notes N.held N.faults N.full note.old note.new (line_of answer)) ⊎ (result ≡ 5) }
 
@@ -98,7 +99,7 @@ pub fn run<R: Threads + Wait + Sync, S: Source, K: Sink + Send, N: Sink + Send, 
     ensures outside { (command : Command) (bytes : List ℕ)
         → Means (map string_bytes words.now) command
         → ¬ Rose S.faults S.full source.old source.new → ¬ Rose K.faults K.full sink.old sink.new
-        → S.left source.old ≡ Some bytes
+        → IsInput command (S.left source.old) bytes
         → ((made : List ℕ) → ¬ Answers command bytes (Made made))
         → (result ≡ 1) ⊎ (result ≡ 5) }
 
@@ -109,6 +110,11 @@ pub fn run<R: Threads + Wait + Sync, S: Source, K: Sink + Send, N: Sink + Send, 
         → S.left source.old ≡ Some bytes → length file ≤ limit_of (Encode most)
         → 0 < most → most ≤ most_segments → IsContainerOf most bytes file
         → ((result ≡ 0) × Appends (K.held sink.old) (K.held sink.new) file) ⊎ (result ≡ 5) }
+
+    // `sample` reads nothing and refuses nothing: 0, or 4 where the sink failed, or want of memory.
+    ensures sampled { (seed columns rows : ℕ)
+        → Means (map string_bytes words.now) (Sample seed columns rows)
+        → (source.new ≡ source.old) × ((result ≡ 0) ⊎ ((result ≡ 4) ⊎ (result ≡ 5))) }
 
     ensures source_lasting { S.faults source.old ≤ S.faults source.new }
     ensures sink_lasting { K.faults sink.old ≤ K.faults sink.new }
@@ -143,6 +149,9 @@ fn answer<R: Threads + Wait + Sync, S: Source, K: Sink + Send, G: Gate + Sync>(
         (map string_bytes words.now) source.old source.new sink.old sink.new result }
     ensures taken { (command : Command) → Means (map string_bytes words.now) command
         → TakenWithin (limit_of command + 1) (S.left source.old) (S.left source.new) }
+    ensures sampled { (seed columns rows : ℕ)
+        → Means (map string_bytes words.now) (Sample seed columns rows)
+        → (source.new ≡ source.old) × SampleEnds result }
     ensures source_lasting { S.faults source.old ≤ S.faults source.new }
     ensures sink_lasting { K.faults sink.old ≤ K.faults sink.new }
 {
@@ -153,7 +162,7 @@ fn answer<R: Threads + Wait + Sync, S: Source, K: Sink + Send, G: Gate + Sync>(
     }
 }
 
-// What the command makes of the source's bytes goes into the sink.
+// What the command makes of the source's bytes, or `sample` of none, goes into the sink.
 fn transfer<R: Threads + Wait + Sync, S: Source, K: Sink + Send, G: Gate + Sync>(
     rt: &R,
     alloc: Global,
@@ -166,9 +175,14 @@ fn transfer<R: Threads + Wait + Sync, S: Source, K: Sink + Send, G: Gate + Sync>
     ensures ending { Transferred K.held K.faults K.full S.left S.faults S.full command
         source.old source.new sink.old sink.new result }
     ensures taken { TakenWithin (limit_of command + 1) (S.left source.old) (S.left source.new) }
+    ensures sampled { (seed columns rows : ℕ) → command ≡ Sample seed columns rows
+        → (source.new ≡ source.old) × SampleEnds result }
     ensures source_lasting { S.faults source.old ≤ S.faults source.new }
     ensures sink_lasting { K.faults sink.old ≤ K.faults sink.new }
 {
+    if !reads(command) {
+        return carry_out(rt, alloc, command, &[], sink, gate);
+    }
     let bytes = match read_all(alloc, source, limit(command)) {
         Ok(bytes) => bytes,
         Err(ReadAll::ReadFault) => return Ending::ReadFailed,

@@ -1,5 +1,5 @@
 use Rattle.std.proofs.Common.{◌∙◌, Some, ap, sym}
-use Rattle.command_words.proofs.Reading.{decode_unread, encode_unread, if_none, met_is}
+use Rattle.command_words.proofs.Reading.{decode_unread, encode_unread, if_none, met_is, sample_unread}
 use Rattle.command_words.proofs.command.asked.Goals as goal
 
 pub returns-in_err-segments-in-encode-default-clause-none :
@@ -15,3 +15,24 @@ returns-in_err-workers-in-decode-default-clause-none c =
     let named = ap (λ name. Some name) (sym c.in-decode-default.is-decode-0) ∙ c.in_ok-options.ensures.name in
     if_none _ _ (decode_unread _ _ (met_is _ _ _ named c.in_ok-options.ensures.rows)
     c.in_err-workers-in-decode-default.ensures.none)
+
+pub returns-in_err-seed-in-sample-default-clause-none :
+    goal.returns-in_err-seed-in-sample-default-clause-none
+returns-in_err-seed-in-sample-default-clause-none c =
+    let named = ap (λ name. Some name) (sym c.in-sample-default.is-sample-0) ∙ c.in_ok-options.ensures.name in
+    if_none _ _ (sample_unread _ _ (met_is _ _ _ named c.in_ok-options.ensures.rows)
+    (λ seed columns rows one two last. c.in_err-seed-in-sample-default.ensures.none seed one))
+
+pub returns-in_err-columns-in-sample-default-clause-none :
+    goal.returns-in_err-columns-in-sample-default-clause-none
+returns-in_err-columns-in-sample-default-clause-none c =
+    let named = ap (λ name. Some name) (sym c.in-sample-default.is-sample-0) ∙ c.in_ok-options.ensures.name in
+    if_none _ _ (sample_unread _ _ (met_is _ _ _ named c.in_ok-options.ensures.rows)
+    (λ seed columns rows one two last. c.in_err-columns-in-sample-default.ensures.none columns two))
+
+pub returns-in_err-rows-in-sample-default-clause-none :
+    goal.returns-in_err-rows-in-sample-default-clause-none
+returns-in_err-rows-in-sample-default-clause-none c =
+    let named = ap (λ name. Some name) (sym c.in-sample-default.is-sample-0) ∙ c.in_ok-options.ensures.name in
+    if_none _ _ (sample_unread _ _ (met_is _ _ _ named c.in_ok-options.ensures.rows)
+    (λ seed columns rows one two last. c.in_err-rows-in-sample-default.ensures.none rows last))

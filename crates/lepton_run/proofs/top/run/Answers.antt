@@ -1,7 +1,7 @@
 use Rattle.std.proofs.Common.{List, ℕ, map}
 use Rattle.std.specs.Prelude.{string_bytes}
 use Rattle.lepton_run.specs.Endings.{Notes}
-use Rattle.lepton_run.proofs.CallEnds.{answered_of, cut_of, complete_of, back_of}
+use Rattle.lepton_run.proofs.CallEnds.{answered_of, back_of, complete_of, cut_of, sampled_of}
 use Rattle.lepton_run.proofs.top.run.Goals as goal
 
 pub returns-clause-answered : goal.returns-clause-answered
@@ -39,3 +39,8 @@ returns-clause-back g c =
     (λ (line : List ℕ). Notes g.N.Sink.held g.N.Sink.faults g.N.Sink.full c.args.note.now
     c.tell.new.note line) c.answer-ending.result c.status.result c.status.ensures
     c.answer-ending.ensures.ending c.tell.ensures.notes
+
+pub returns-clause-sampled : goal.returns-clause-sampled
+returns-clause-sampled g c = λ seed columns rows means.
+    let so = c.answer-ending.ensures.sampled seed columns rows means in
+    (so.0, sampled_of c.answer-ending.result c.status.result c.status.ensures so.1)

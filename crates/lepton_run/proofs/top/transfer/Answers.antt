@@ -1,5 +1,6 @@
-use Rattle.std.proofs.Common.{◌∙◌, ap, ◌+◌, ℕ, Err, inr}
+use Rattle.std.proofs.Common.{◌∙◌, ap, sym, ◌+◌, ℕ, Err, inr}
 use Rattle.outside_core.specs.declared.transfer.ReadAll.{ReadAll}
+use Rattle.lepton_run.proofs.BytesTaken.{took_of}
 use Rattle.lepton_run.proofs.CarriedOut.{too_long}
 use Rattle.lepton_run.proofs.top.transfer.Goals as goal
 
@@ -10,7 +11,8 @@ returns-in-Err-TooLong-clause-ending g c =
     let taken = c.in-Err-TooLong.ensures.too_long (ap (λ (error : ReadAll). Err error) is) in
     let long = taken.1 ∙ ap (λ (n : ℕ). n + 1) c.limit.ensures in (
       taken.0,
-      (taken.2, inr long),
+      took_of c.args.command _ _ taken.0
+          (sym c.reads.ensures ∙ c.if-not-reads.false) (taken.2, inr long),
       c.in-Err-TooLong.ensures.unfailed (λ e. absurd cc),
       too_long g.K.Sink.held g.K.Sink.faults g.K.Sink.full c.args.sink.now c.args.sink.now
           c.args.command taken.0 long,

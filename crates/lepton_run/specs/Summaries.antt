@@ -1,0 +1,32 @@
+-- What `sample` says of the file that it made (this project's own; docs/SAMPLE.md).
+use Rattle.std.specs.Prelude.{ℕ, ◌≡◌, List, [], ◌∷◌, ◌++◌, codes, decimal, length, min}
+use Rattle.segment_meaning.specs.Files.{IsContainerOf}
+use Rattle.sample_jpeg.specs.SampleFile.{sample_file}
+
+-- the most segments that a sample is encoded in, and the workers that decode it
+abbrev pub sample_segments : ℕ
+sample_segments = 8
+
+abbrev pub sample_workers : ℕ
+sample_workers = 4
+
+-- a line: a word with a space after it, and a number
+abbrev pub entry : List ℕ → ℕ → List ℕ
+entry word number = word ++ (decimal number ++ 10 ∷ [])
+
+-- the lines: how many bytes the file has, and its container, in how many segments, with how many workers it was
+-- decoded, and how many bytes came back
+abbrev pub summary_of : ℕ → ℕ → ℕ → ℕ → List ℕ
+summary_of file made segments restored =
+    entry (codes "file ") file
+    ++ (entry (codes "box ") made
+    ++ (entry (codes "segments ") segments
+    ++ (entry (codes "workers ") sample_workers ++ entry (codes "restored ") restored)))
+
+-- the summary of a seed and a size: as many bytes came back as the file has
+abbrev pub IsSummary : ℕ → ℕ → ℕ → List ℕ → Type 0
+IsSummary seed columns rows summary =
+    let file = sample_file seed columns rows in
+    (made : List ℕ) × IsContainerOf sample_segments made file
+    × (summary
+    ≡ summary_of (length file) (length made) (min rows sample_segments) (length file))
