@@ -33,6 +33,8 @@ mod refused_scans;
 #[cfg(test)]
 mod rows;
 #[cfg(test)]
+mod samples;
+#[cfg(test)]
 mod scans;
 #[cfg(test)]
 mod segments;

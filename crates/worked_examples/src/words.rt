@@ -71,7 +71,7 @@ fn spellings_of_decode(rt: HostRuntime) -> Result<(), Fail> {
     Ok(())
 }
 
-const REFUSED: [&[&str]; 35] = [
+const REFUSED: [&[&str]; 40] = [
     &[],
     &[""],
     &["recode"],
@@ -107,6 +107,19 @@ const REFUSED: [&[&str]; 35] = [
     &["decode", "--workers=-1"],
     &["decode", "--workers", "256"],
     &["decode", "--segments", "8"],
+    &["sample"],
+    &["sample", "--seed", "1", "--columns", "1"],
+    &["sample", "--seed", "1", "--columns", "0", "--rows", "1"],
+    &["sample", "--seed", "1", "--columns", "1", "--rows", "257"],
+    &[
+        "sample",
+        "--seed",
+        "4294967296",
+        "--columns",
+        "1",
+        "--rows",
+        "1",
+    ],
 ];
 
 // Nothing is read or written.

@@ -1,0 +1,201 @@
+// Samples: their bytes by length and digest, back again, and what `sample` says of them. The values come from another
+// implementation.
+use crate::trial::{Faults, NONE, run_over, run_past};
+use lepton_decode::{prepare, run};
+use lepton_encode::encode;
+use outside_core::{Compare, Gate, OpenGate};
+use sample_jpeg::sample;
+use sha2::{Digest, Sha256};
+use std::sync::atomic::{AtomicU64, Ordering};
+use std::test::Fail;
+
+// A seed, columns and rows; the file's bytes and its container's in at most eight segments, how many segments these
+// are, and the file's SHA-256.
+#[derive(Clone, Copy)]
+struct Known {
+    seed: u32,
+    columns: u16,
+    rows: u16,
+    file: u64,
+    made: u64,
+    segments: u8,
+    digest: [u8; 32],
+}
+
+const KNOWN: [Known; 5] = [
+    Known {
+        seed: 2,
+        columns: 4,
+        rows: 3,
+        file: 534,
+        made: 656,
+        segments: 3,
+        digest: [
+            0x66, 0xcc, 0x8f, 0xf5, 0x2b, 0x52, 0xa8, 0x3a, 0x84, 0x13, 0x3c, 0x6a, 0x0b, 0x89,
+            0xf5, 0x63, 0x08, 0x6a, 0x12, 0xa3, 0xc2, 0x85, 0xa1, 0xb1, 0xaa, 0x39, 0xcf, 0x52,
+            0x36, 0x7e, 0x30, 0xd5,
+        ],
+    },
+    Known {
+        seed: 7,
+        columns: 4,
+        rows: 3,
+        file: 601,
+        made: 702,
+        segments: 3,
+        digest: [
+            0x12, 0x6b, 0x93, 0xce, 0x82, 0x6a, 0x37, 0x0f, 0xaa, 0x3a, 0x0d, 0xed, 0x96, 0x01,
+            0xda, 0x35, 0xd6, 0x23, 0x52, 0x53, 0x59, 0xf6, 0x42, 0x26, 0xfb, 0x9d, 0xce, 0x88,
+            0x3f, 0xf7, 0xb3, 0xa0,
+        ],
+    },
+    Known {
+        seed: 4_294_967_295,
+        columns: 1,
+        rows: 256,
+        file: 7354,
+        made: 6272,
+        segments: 8,
+        digest: [
+            0x76, 0x01, 0x7b, 0x6f, 0x53, 0xfa, 0xba, 0x6c, 0xe8, 0x3a, 0x34, 0x63, 0x35, 0x9d,
+            0x29, 0x98, 0x55, 0x4f, 0x4d, 0x78, 0x17, 0x4b, 0xd3, 0x5a, 0xea, 0xbf, 0x30, 0xf3,
+            0x5f, 0x54, 0x16, 0x78,
+        ],
+    },
+    Known {
+        seed: 5,
+        columns: 256,
+        rows: 1,
+        file: 6752,
+        made: 5272,
+        segments: 1,
+        digest: [
+            0x8d, 0xdf, 0xf6, 0x52, 0x33, 0xc7, 0x22, 0x01, 0x57, 0xbc, 0x5e, 0xc9, 0x14, 0x76,
+            0x4b, 0x5b, 0x36, 0xd3, 0x47, 0xec, 0x2b, 0x8b, 0x1d, 0xf4, 0xc9, 0xae, 0x74, 0xd8,
+            0x98, 0x7c, 0x9a, 0xa5,
+        ],
+    },
+    Known {
+        seed: 2,
+        columns: 256,
+        rows: 256,
+        file: 1_655_492,
+        made: 1_160_943,
+        segments: 8,
+        digest: [
+            0x27, 0x44, 0x10, 0x4d, 0x64, 0x3e, 0x55, 0xf1, 0xb0, 0x9a, 0xdb, 0x7d, 0x1b, 0x7e,
+            0xbd, 0xb1, 0x5a, 0x97, 0x8e, 0x07, 0xab, 0xc0, 0xd4, 0x2d, 0x12, 0x3c, 0x98, 0xc3,
+            0x27, 0x51, 0x36, 0x38,
+        ],
+    },
+];
+
+// Each is encoded, and decoded into a sink that compares, by no workers and some, with a small ring and a large one.
+#[test]
+fn samples_come_back(rt: HostRuntime) -> Result<(), Fail> {
+    let alloc = rt.alloc();
+    for known in KNOWN {
+        let file = sample(alloc, known.seed, known.columns, known.rows)?;
+        assert_eq!(rt; file.len() as u64, known.file);
+        assert_eq!(rt; Sha256::digest(file.as_slice()), known.digest);
+        let Ok(made) = encode(&rt, alloc, file.as_slice(), 8) else {
+            return Err("a sample is refused".into());
+        };
+        assert_eq!(rt; made.len() as u64, known.made);
+        for (workers, ring) in [(0, 1), (1, 4_096), (4, 1 << 20)] {
+            let mut ready = prepare(alloc, made.as_slice(), workers, ring).map_err(
+                |_| "a sample's container is refused",
+            )?;
+            let mut sink = Compare::new(file.as_slice());
+            let restored = run(&mut ready, &rt, &mut sink, &OpenGate);
+            assert!(rt; restored == Ok(known.file));
+            assert_eq!(rt; sink.agreed(), known.file);
+        }
+    }
+    Ok(())
+}
+
+// Notes each segment that a worker put or the emitter asked for.
+#[derive(Drop)]
+struct Visits {
+    // Bit i for segment i.
+    segments: AtomicU64,
+}
+
+impl Visits {
+    fn note(&self, segment: u8) {
+        if segment < 64 {
+            self.segments.fetch_or(1 << segment, Ordering::SeqCst);
+        }
+    }
+}
+
+impl Gate for Visits {
+    fn before_put(&self, segment: u8) {
+        self.note(segment);
+    }
+
+    fn after_put(&self, _segment: u8) {}
+
+    fn before_own(&self, segment: u8) {
+        self.note(segment);
+    }
+}
+
+// `sample` reads nothing, says five lines, and decodes each segment past the gate that was handed in.
+#[test]
+fn summaries(rt: HostRuntime) -> Result<(), Fail> {
+    let alloc = rt.alloc();
+    for known in KNOWN {
+        let seed = format!(in alloc; "{}", known.seed)?;
+        let columns = format!(in alloc; "{}", known.columns)?;
+        let rows = format!(in alloc; "{}", known.rows)?;
+        let words = [
+            "sample",
+            "--seed",
+            seed.as_str(),
+            "--columns",
+            columns.as_str(),
+            "--rows",
+            rows.as_str(),
+        ];
+        let (file, made, segments) = (known.file, known.made, known.segments);
+        let wanted = format!(in alloc;
+            "file {file}\nbox {made}\nsegments {segments}\nworkers 4\nrestored {file}\n"
+        )?;
+        let visits = Visits {
+            segments: AtomicU64::new(0),
+        };
+        let tried = run_past(&rt, alloc, &words, &[0xff], NONE, &visits)?;
+        assert_eq!(rt; tried.status, 0);
+        assert!(rt; tried.written.as_slice() == wanted.as_bytes());
+        assert!(rt; tried.noted.is_empty());
+        assert!(rt; tried.left.as_slice() == [0xff].as_slice());
+        assert_eq!(rt;
+            visits.segments.load(Ordering::SeqCst),
+            (1 << known.segments) - 1
+        );
+    }
+    Ok(())
+}
+
+const LEAST: [&str; 7] = ["sample", "--seed", "0", "--columns", "1", "--rows", "1"];
+
+const LEAST_SUMMARY: &[u8] = b"file 277\nbox 319\nsegments 1\nworkers 4\nrestored 277\n";
+
+// The sink takes seven bytes a call: each of its calls fails in turn, after the bytes of those before it.
+#[test]
+fn a_write_of_a_summary_that_fails(rt: HostRuntime) -> Result<(), Fail> {
+    for n in 1..=(LEAST_SUMMARY.len() as u64).div_ceil(7) {
+        let faults = Faults {
+            writes: &[n],
+            ..NONE
+        };
+        let tried = run_over(&rt, rt.alloc(), &LEAST, &[0xff], faults)?;
+        assert_eq!(rt; tried.status, 4);
+        assert!(rt; tried.written.as_slice() == &LEAST_SUMMARY[..7 * (n as usize - 1)]);
+        assert!(rt; tried.noted.as_slice() == b"lepton: write failed\n".as_slice());
+        assert!(rt; tried.left.as_slice() == [0xff].as_slice());
+    }
+    Ok(())
+}
