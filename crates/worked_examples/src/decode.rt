@@ -64,11 +64,14 @@ fn another_length(rt: HostRuntime) -> Result<(), Fail> {
     let alloc = rt.alloc();
     for row in &ROWS {
         let container = row.container(alloc)?;
-        try_lengths(&rt, alloc, row.name, container.as_slice())?;
+        try_lengths(&rt, alloc, row.name, &["decode"], container.as_slice())?;
     }
     for split in &SPLITS {
         let container = split.container(alloc)?;
-        try_lengths(&rt, alloc, split.row.name, container.as_slice())?;
+        for workers in WORKERS {
+            let words = ["decode", "--workers", workers];
+            try_lengths(&rt, alloc, split.row.name, &words, container.as_slice())?;
+        }
     }
     Ok(())
 }
@@ -77,17 +80,18 @@ fn try_lengths<R: Threads + Wait + Sync + Abort>(
     rt: &R,
     alloc: Global,
     name: &str,
+    words: &[&str],
     container: &[u8],
 ) -> Result<(), Fail> {
     for length in 0..container.len() {
         let (prefix, _) = container.split_at(length);
-        let tried = run_over(rt, alloc, &["decode"], prefix, NONE)?;
+        let tried = run_over(rt, alloc, words, prefix, NONE)?;
         let line = if length < 4 { BOX_MAGIC } else { BOX_CUT };
         assert!(rt; tried.is_refused(line), "{name} cut to {length}");
     }
     for byte in [0, 1, 0xff] {
         let longer = joined(alloc, &[container, &[byte]])?;
-        let tried = run_over(rt, alloc, &["decode"], longer.as_slice(), NONE)?;
+        let tried = run_over(rt, alloc, words, longer.as_slice(), NONE)?;
         assert!(rt; tried.is_refused(BOX_LONG), "{name} and {byte}");
     }
     Ok(())

@@ -1,30 +1,47 @@
 // Ends that fail in mid-stream, and inputs at the limit.
 use crate::containers::{LEVEL_SEGMENT, container_of};
-use crate::rows::{LEAST, Row};
+use crate::rows::{LEAST, Row, TWO_INTERVALS};
+use crate::segments::INTERVALS_SPLIT;
 use crate::trial::{Faults, NONE, run_over};
 use lepton_run::run;
-use outside_core::{MemSink, NeverSource, OpenGate, ReadAll, read_all};
+use outside_core::{MemSink, MemSource, NeverSource, OpenGate, ReadAll, read_all};
 use std::test::Fail;
 
+// A byte a read: 81 reads give all the bytes of the file with a restart on the seam, and the next tells the end. No
+// other is asked for.
 #[test]
 fn a_read_that_fails(rt: HostRuntime) -> Result<(), Fail> {
     let alloc = rt.alloc();
-    let file = LEAST.file(alloc)?;
-    for n in 1..7 {
-        let tried = run_over(
+    let file = TWO_INTERVALS.file(alloc)?;
+    let container = INTERVALS_SPLIT.container(alloc)?;
+    assert!(rt; file.len() == 81 && container.len() == 142);
+    let words = [
+        String::from_str(alloc, "lepton")?,
+        String::from_str(alloc, "encode")?,
+    ];
+    for n in 1..84u64 {
+        let fails = [n];
+        let mut source = MemSource::new(file.as_slice(), 1, &fails);
+        let mut sink = MemSink::new(alloc, 200, 200, &[])?;
+        let mut noted = MemSink::new(alloc, 100, 100, &[])?;
+        let ended = run(
             &rt,
             alloc,
-            &["encode"],
-            file.as_slice(),
-            Faults {
-                reads: &[n],
-                ..NONE
-            },
-        )?;
-        // Five reads give all the bytes and the sixth tells the end.
-        assert_eq!(rt; tried.status, 3, "read {n}");
-        assert!(rt; tried.written.is_empty());
-        assert!(rt; tried.noted.as_slice() == b"lepton: read failed\n".as_slice());
+            &words,
+            &mut source,
+            &mut sink,
+            &mut noted,
+            &OpenGate,
+        );
+        if n < 83 {
+            assert_eq!(rt; ended, 3, "read {n}");
+            assert!(rt; sink.bytes().is_empty(), "read {n}");
+            assert!(rt; noted.bytes() == b"lepton: read failed\n".as_slice());
+        } else {
+            assert_eq!(rt; ended, 0, "read {n}");
+            assert!(rt; sink.bytes() == container.as_slice());
+            assert!(rt; noted.bytes().is_empty());
+        }
     }
     Ok(())
 }

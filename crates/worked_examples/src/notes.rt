@@ -21,13 +21,22 @@ struct Said<'a> {
 /// No call has this number.
 const NO_CALL: u64 = 0;
 
-const SAID: [Said<'static>; 7] = [
+const SAID: [Said<'static>; 8] = [
     Said {
         status: 0,
         line: "",
         word: "encode",
         stream: None,
         length: 72,
+        read: NO_CALL,
+        write: NO_CALL,
+    },
+    Said {
+        status: 0,
+        line: "",
+        word: "decode",
+        stream: Some(&[0, 0, 0]),
+        length: 111,
         read: NO_CALL,
         write: NO_CALL,
     },
