@@ -1,6 +1,5 @@
 -- Bytes have one answer.
 use Rattle.std.proofs.Common.{◌≡◌, ℕ, ◌+◌, inl, inr, Bool, List, ◌++◌, length, drop, None, refl, sym, ap, ◌∙◌, subst, length-append, length-drop, drop-drop, arith}
-use Rattle.std.specs.Prelude.{min}
 use Rattle.std.specs.List.{AllByRecursion}
 use Rattle.std.proofs.lemmas.List.{drop_at}
 use Rattle.bit_list.specs.Bits.{IsByte}
@@ -17,6 +16,7 @@ use Rattle.scan_text.proofs.ItemsOnce.{one_outcome}
 use Rattle.scan_text.proofs.ItemsRead.{ends_so}
 use Rattle.scan_text.proofs.PlanShapes.{accepted_is_shape}
 use Rattle.scan_text.proofs.ScanTaken.{read_again}
+use Rattle.segment_text.specs.Cuts.{cut_of}
 use Rattle.segment_meaning.specs.Meanings.{Meaning}
 use Rattle.segment_meaning.proofs.OneMeanings.{one_container, one_meaning}
 use Rattle.command_words.specs.declared.command.Command.{Command}
@@ -125,8 +125,8 @@ one_summary seed columns rows a b p q =
     let file = sample_file seed columns rows in
     let same = one_container sample_segments p.0 q.0 file p.1 q.1 in
     p.2
-    ∙ ap (λ (made : List ℕ). summary_of (length file) (length made) (min rows sample_segments)
-    (length file)) same
+    ∙ ap (λ (made : List ℕ). summary_of (length file) (length made)
+    (cut_of columns rows sample_segments).segments (length file)) same
     ∙ sym q.2
 
 one_sampled : (seed columns rows : ℕ) (bytes : List ℕ) (a b : Answer)

@@ -69,8 +69,8 @@ ScanRefuses bytes refusal =
     × ItemsRefuse (shape_of plan) bytes plan.header_length refusal
 
 -- what a command makes of bytes: encode the container of a file in at most so many segments, or it refuses the header
--- or else the scan; decode what the bytes stand for as a container, whatever the number of workers; sample, of no bytes,
--- the summary of what it makes
+-- or else the scan; decode what the bytes stand for as a container, whatever the number of workers; sample, of no
+-- bytes, the summary of what it makes
 abbrev pub Makes : Command → List ℕ → Answer → Type 0
 Makes (Encode segments) bytes (Made made) = IsContainerOf segments made bytes
 Makes (Encode segments) bytes (Early (Header refusal)) = HeaderRefuses bytes refusal

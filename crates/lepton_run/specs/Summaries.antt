@@ -1,5 +1,6 @@
 -- What `sample` says of the file that it made (this project's own; docs/SAMPLE.md).
-use Rattle.std.specs.Prelude.{ℕ, ◌≡◌, List, [], ◌∷◌, ◌++◌, codes, decimal, length, min}
+use Rattle.std.specs.Prelude.{ℕ, ◌≡◌, List, [], ◌∷◌, ◌++◌, codes, decimal, length}
+use Rattle.segment_text.specs.Cuts.{cut_of}
 use Rattle.segment_meaning.specs.Files.{IsContainerOf}
 use Rattle.sample_jpeg.specs.SampleFile.{sample_file}
 
@@ -14,8 +15,8 @@ sample_workers = 4
 abbrev pub entry : List ℕ → ℕ → List ℕ
 entry word number = word ++ (decimal number ++ 10 ∷ [])
 
--- the lines: how many bytes the file has, and its container, in how many segments, with how many workers it was
--- decoded, and how many bytes came back
+-- the lines: how many bytes the file has, how many its container, its segments, the workers that decode it, and how
+-- many bytes they restore
 abbrev pub summary_of : ℕ → ℕ → ℕ → ℕ → List ℕ
 summary_of file made segments restored =
     entry (codes "file ") file
@@ -23,10 +24,11 @@ summary_of file made segments restored =
     ++ (entry (codes "segments ") segments
     ++ (entry (codes "workers ") sample_workers ++ entry (codes "restored ") restored)))
 
--- the summary of a seed and a size: as many bytes came back as the file has
+-- the summary of a seed and a size: of its file and that file's container; as many bytes are restored as the file has
 abbrev pub IsSummary : ℕ → ℕ → ℕ → List ℕ → Type 0
 IsSummary seed columns rows summary =
     let file = sample_file seed columns rows in
     (made : List ℕ) × IsContainerOf sample_segments made file
     × (summary
-    ≡ summary_of (length file) (length made) (min rows sample_segments) (length file))
+    ≡ summary_of (length file) (length made) (cut_of columns rows sample_segments).segments
+    (length file))

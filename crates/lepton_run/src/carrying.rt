@@ -1,4 +1,4 @@
-// The two commands on bytes that were read.
+// The commands, on the bytes that they took.
 ghost use Rattle.std.specs.Prelude.{◌≡◌, ◌≤◌, length};
 ghost use Rattle.command_words.specs.Meaning.{IsInRange};
 ghost use Rattle.command_words.specs.declared.command.Command.TheVariants.{Encode, Decode};

@@ -25,7 +25,7 @@ const SEGMENTS: u8 = 8;
 /// The workers that decode it.
 const WORKERS: u8 = 4;
 
-/// Makes the file of a seed, encodes and decodes it, and writes the lines that say so.
+/// Makes the file of a seed, encodes it, decodes the container, and writes how many bytes each step gave.
 pub(crate) fn show_sample<R: Threads + Wait + Sync, K: Sink + Send, G: Gate + Sync>(
     rt: &R,
     alloc: Global,
@@ -65,7 +65,7 @@ fn recoded<R: Threads + Wait + Sync, G: Gate + Sync>(
     let file = sample(alloc, seed, columns, rows)?;
     let made = encoded(rt, alloc, file.as_slice())?;
     let restored = restored(rt, alloc, made.as_slice(), file.as_slice(), gate)?;
-    let segments = rows.min(u16::from(SEGMENTS));
+    let segments = u16::from(SEGMENTS).min(rows);
     Ok(summary(file.len(), made.len(), segments, restored))
 }
 
@@ -82,7 +82,8 @@ fn encoded<R: Threads + Sync>(rt: &R, alloc: Global, file: &[u8]) -> Result<Vec<
     }
 }
 
-// How many bytes the container of a file gives back, compared with the file while they come: as many as the file has.
+// How many bytes the decoder says that it restored: as many as the file has. The sink keeps none of them; what it counts
+// tells no clause anything, and isn't looked at.
 fn restored<R: Threads + Wait + Sync, G: Gate + Sync>(
     rt: &R,
     alloc: Global,

@@ -31,8 +31,8 @@ use std::thread::Threads;
 /// | 5 | there was no memory | `lepton: no memory` |
 ///
 /// The words are `encode` with `--segments`, `decode` with `--workers`, or `sample` with `--seed`, `--columns` and
-/// `--rows`, as `command_words` has them. The whole source is read before anything is written, and all memory is taken
-/// before; `sample` reads nothing. The segments of a file are made, and those of a container decoded, in threads of
+/// `--rows`, as `command_words` has them. The whole source is read before anything is written, and no allocator is
+/// asked for memory after; `sample` reads nothing. The segments of a file are made, and those of a container decoded, in threads of
 /// their own where these can be had. A fault of the note changes no status.
 pub fn run<R: Threads + Wait + Sync, S: Source, K: Sink + Send, N: Sink + Send, G: Gate + Sync>(
     rt: &R,

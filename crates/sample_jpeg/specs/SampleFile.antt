@@ -33,7 +33,7 @@ sample_file seed columns rows =
     let e = extent_of seed columns rows in
     sample_header e ++ (sample_scan seed e ++ end_of_image)
 
--- it is a file of its header, its MCUs and pad bits of ones, and far below 64 MiB
+-- it is a file of its header, its MCUs and pad bits of ones, and below 64 MiB
 pub record IsSample (seed : ℕ) (e : Extent) (file : List ℕ) : Type 0 where
   pub bytes : AllByRecursion IsByte file
   pub is : IsFileOf file (sample_plan e) (sample_mcus seed e) true end_of_image

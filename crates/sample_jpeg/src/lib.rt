@@ -1,4 +1,4 @@
-//! A JPEG file made from a number: a picture of noise in three components, up to 2,048 by 2,048 samples, for tests of
+//! A JPEG file made from a number: a picture of noise in three components, up to 2,048 by 2,048 pixels, for tests of
 //! large files and for a check that a user can run (this project's own; docs/SAMPLE.md).
 //!
 //!     seed --Draws--> blocks --Writer::mcu--> pieces --> file

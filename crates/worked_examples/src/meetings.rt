@@ -144,6 +144,18 @@ fn workers_decode_at_the_same_time(rt: HostRuntime) -> Result<(), Fail> {
     Ok(())
 }
 
+// A sample of three segments is decoded by workers, two of them at the same time.
+#[test]
+fn workers_decode_a_sample(rt: HostRuntime) -> Result<(), Fail> {
+    let meeting = Meeting::new(MANY_LOOKS);
+    let words = ["sample", "--seed", "2", "--columns", "4", "--rows", "3"];
+    let tried = run_past(&rt, rt.alloc(), &words, &[], NONE, &meeting)?;
+    assert_eq!(rt; tried.status, 0);
+    assert!(rt; meeting.all_came());
+    assert!(rt; !meeting.ran_out());
+    Ok(())
+}
+
 // Without a second worker a hold runs out, and all pass.
 #[test]
 fn one_thread_runs_out(rt: HostRuntime) -> Result<(), Fail> {
