@@ -26,6 +26,3 @@ pub use laws::{
     stuffed_of_parts, taken_in_parts,
 };
 pub use piece::{Piece, ROOM};
-
-#[cfg(test)]
-mod tests;

@@ -35,6 +35,3 @@ pub use laws::{
     lawful_events_fit, leave_frame, no_board_is_stuck, pass_frame, put_frame, stop_frame,
     take_frame, the_board_is_kept, workers_leave_the_emitted,
 };
-
-#[cfg(test)]
-mod tests;

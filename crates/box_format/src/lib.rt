@@ -23,6 +23,3 @@ pub use reading::read_box;
 pub use refusal::BoxRefusal;
 pub use view::BoxView;
 pub use writing::write_box;
-
-#[cfg(test)]
-mod tests;

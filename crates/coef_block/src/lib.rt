@@ -27,6 +27,3 @@ pub use rows::Rows;
 pub use zigzag::{
     ZIGZAG, natural_position, natural_positions, zigzag_is_a_permutation, zigzag_is_the_figures,
 };
-
-#[cfg(test)]
-mod tests;

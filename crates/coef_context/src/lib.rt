@@ -18,6 +18,3 @@ mod numbers;
 
 pub use context::{Context, Kind};
 pub use numbers::{BINS, bin, different_numbers, low_bit};
-
-#[cfg(test)]
-mod tests;

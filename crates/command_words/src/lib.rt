@@ -19,6 +19,3 @@ mod words;
 
 pub use command::{Command, WordsError, command_of};
 pub use laws::{numbers_are_in_range, one_command, rows_of_words};
-
-#[cfg(test)]
-mod tests;

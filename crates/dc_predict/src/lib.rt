@@ -13,6 +13,3 @@
 mod prediction;
 
 pub use prediction::{predict, spread};
-
-#[cfg(test)]
-mod tests;

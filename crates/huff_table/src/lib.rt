@@ -26,8 +26,3 @@ pub use laws::{
     words_of_a_standard_table,
 };
 pub use plan_codes::{ComponentCodes, PlanCodes};
-
-#[cfg(test)]
-mod standard_tables;
-#[cfg(test)]
-mod tests;

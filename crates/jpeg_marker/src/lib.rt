@@ -26,10 +26,3 @@ pub use header::{an_accepted_header_has_a_plan, header_has_one_plan, read_header
 pub use plan::Plan;
 pub use refusal::HeaderRefusal;
 pub use table::RawTable;
-
-#[cfg(test)]
-mod plan_tests;
-#[cfg(test)]
-mod refusal_tests;
-#[cfg(test)]
-mod samples;

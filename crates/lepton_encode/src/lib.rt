@@ -12,6 +12,3 @@ mod error;
 
 pub use container::encode;
 pub use error::EncodeError;
-
-#[cfg(test)]
-mod tests;

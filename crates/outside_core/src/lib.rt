@@ -17,6 +17,3 @@ pub use ends::{Failed, Gate, OpenGate, Sink, Source};
 pub use memory::{MemSink, MemSource};
 pub use transfer::{ReadAll, WriteFault, read_all, write_all};
 pub use watch::{Compare, NeverSource};
-
-#[cfg(test)]
-mod tests;

@@ -20,6 +20,3 @@ mod refusals;
 mod values;
 
 pub use reader::Reader;
-
-#[cfg(test)]
-mod tests;

@@ -33,6 +33,3 @@ pub use refusal::ScanRefusal;
 pub use scan_shape::{MOST_SLOTS, ScanShape};
 pub use slot::Slot;
 pub use stop::WriteStop;
-
-#[cfg(test)]
-mod tests;

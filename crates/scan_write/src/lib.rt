@@ -18,6 +18,3 @@ mod values;
 mod writer;
 
 pub use writer::{Writer, mcu_room};
-
-#[cfg(test)]
-mod tests;

@@ -1,4 +1,3 @@
 pub mod TurnRule
 pub mod Passes
 pub mod Holding
-pub mod Sums

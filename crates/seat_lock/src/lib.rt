@@ -26,6 +26,3 @@ pub use held::Held;
 pub use lock::Lock;
 pub use pass::Pass;
 pub use rule::Rule;
-
-#[cfg(test)]
-mod tests;

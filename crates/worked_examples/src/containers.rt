@@ -1,8 +1,10 @@
 // Containers by their parts.
-use std::alloc::{AllocError, Global};
+use crate::files::{append, bytes_of};
+use std::alloc::Global;
+use std::process::Abort;
 
-/// A segment: what it starts from, and its stream. It starts from the byte that isn't filled, how many of its bits are
-/// there, four predictors, and how many restart markers stand before.
+/// A segment: what it starts from, and its stream. It starts from the byte that isn't full, the number of its bits, four
+/// predictors, and the number of restart markers before it.
 #[derive(Clone, Copy)]
 pub(crate) struct Segment<'a> {
     pub(crate) start: [u8; 14],
@@ -20,30 +22,48 @@ pub(crate) const LEVEL_SEGMENT: Segment<'static> = Segment {
 
 /// The container, with this byte for the pad bit.
 pub(crate) fn container_of(
+    rt: &impl Abort,
     alloc: Global,
     pad: u8,
     segments: &[Segment],
     header: &[u8],
     trailer: &[u8],
-) -> Result<Vec<u8>, AllocError> {
-    let mut made = Vec::from_slice(alloc, b"LPSG")?;
-    made.extend_from_slice(&[1, pad, four_bytes(segments.len())[3]])?;
-    made.extend_from_slice(&four_bytes(header.len()))?;
-    made.extend_from_slice(&four_bytes(trailer.len()))?;
+) -> Vec<u8> {
+    let mut made = prefix_of(rt, alloc, pad, segments, header.len(), trailer.len());
+    append(rt, &mut made, header);
+    append(rt, &mut made, trailer);
     for segment in segments {
-        made.extend_from_slice(&segment.start)?;
-        made.extend_from_slice(&[0; 4])?;
-        made.extend_from_slice(&four_bytes(segment.stream.len()))?;
+        append(rt, &mut made, segment.stream);
     }
-    made.extend_from_slice(header)?;
-    made.extend_from_slice(trailer)?;
-    for segment in segments {
-        made.extend_from_slice(segment.stream)?;
-    }
-    Ok(made)
+    made
 }
 
-// The length of anything here.
+// What comes before the header: the magic, the counts and the segments' entries.
+fn prefix_of(
+    rt: &impl Abort,
+    alloc: Global,
+    pad: u8,
+    segments: &[Segment],
+    header: usize,
+    trailer: usize,
+) -> Vec<u8> {
+    let mut made = bytes_of(rt, alloc, b"LPSG");
+    append(rt, &mut made, &[1, pad, four_bytes(segments.len())[3]]);
+    append(rt, &mut made, &four_bytes(header));
+    append(rt, &mut made, &four_bytes(trailer));
+    for segment in segments {
+        append_entry(rt, &mut made, segment);
+    }
+    made
+}
+
+fn append_entry(rt: &impl Abort, made: &mut Vec<u8>, segment: &Segment) {
+    append(rt, made, &segment.start);
+    append(rt, made, &[0; 4]);
+    append(rt, made, &four_bytes(segment.stream.len()));
+}
+
+// A length: each one here fits.
 fn four_bytes(length: usize) -> [u8; 4] {
     if length < 1 << 32 {
         (length as u32).to_be_bytes()

@@ -1,215 +1,297 @@
-// Ends that fail in mid-stream, and inputs at the limit.
+// Sources and sinks that fail in mid-stream, and inputs at the limit.
 use crate::containers::{LEVEL_SEGMENT, container_of};
 use crate::rows::{LEAST, Row, TWO_INTERVALS};
 use crate::segments::INTERVALS_SPLIT;
-use crate::trial::{Faults, NONE, run_over};
-use lepton_run::run;
-use outside_core::{MemSink, MemSource, NeverSource, OpenGate, ReadAll, read_all};
-use std::test::Fail;
+use crate::trial::{Faults, NONE, Room, SEVEN_A_CALL, Trial, assert_holds, run_from, run_over};
+use outside_core::{MemSource, NeverSource, OpenGate, ReadAll, read_all};
+use std::alloc::Global;
+use std::process::Abort;
+use std::sync::Wait;
+use std::thread::Threads;
 
-// A byte a read: 81 reads give all the bytes of the file with a restart on the seam, and the next tells the end. No
+const READ_FAILED: &[u8] = b"lepton: read failed\n";
+
+const WRITE_FAILED: &[u8] = b"lepton: write failed\n";
+
+// A byte a read: 81 reads give all the bytes of the file with a restart on the seam, and the next reports the end. No
 // other is asked for.
 #[test]
-fn a_read_that_fails(rt: HostRuntime) -> Result<(), Fail> {
+fn a_read_that_fails(rt: HostRuntime) {
     let alloc = rt.alloc();
-    let file = TWO_INTERVALS.file(alloc)?;
-    let container = INTERVALS_SPLIT.container(alloc)?;
-    assert!(rt; file.len() == 81 && container.len() == 142);
-    let words = [
-        String::from_str(alloc, "lepton")?,
-        String::from_str(alloc, "encode")?,
-    ];
-    for n in 1..84u64 {
-        let fails = [n];
-        let mut source = MemSource::new(file.as_slice(), 1, &fails);
-        let mut sink = MemSink::new(alloc, 200, 200, &[])?;
-        let mut noted = MemSink::new(alloc, 100, 100, &[])?;
-        let ended = run(
-            &rt,
-            alloc,
-            &words,
-            &mut source,
-            &mut sink,
-            &mut noted,
-            &OpenGate,
-        );
-        if n < 83 {
-            assert_eq!(rt; ended, 3, "read {n}");
-            assert!(rt; sink.bytes().is_empty(), "read {n}");
-            assert!(rt; noted.bytes() == b"lepton: read failed\n".as_slice());
-        } else {
-            assert_eq!(rt; ended, 0, "read {n}");
-            assert!(rt; sink.bytes() == container.as_slice());
-            assert!(rt; noted.bytes().is_empty());
-        }
+    let file = TWO_INTERVALS.file(&rt, alloc);
+    assert!(rt; file.len() == 81);
+    for n in 1..83u64 {
+        assert_fails_by_bytes(&rt, alloc, file.as_slice(), n);
     }
-    Ok(())
+    assert!(rt; is_encoded_by_bytes(&rt, alloc, file.as_slice(), 83));
 }
 
+fn assert_fails_by_bytes<R: Threads + Wait + Sync + Abort>(
+    rt: &R,
+    alloc: Global,
+    file: &[u8],
+    n: u64,
+) {
+    let tried = encoded_by_bytes(rt, alloc, file, n);
+    assert_holds(rt, is_a_read_fault(&tried), "read", n);
+}
+
+fn is_encoded_by_bytes<R: Threads + Wait + Sync + Abort>(
+    rt: &R,
+    alloc: Global,
+    file: &[u8],
+    n: u64,
+) -> bool {
+    let container = INTERVALS_SPLIT.container(rt, alloc);
+    assert!(rt; container.len() == 142);
+    encoded_by_bytes(rt, alloc, file, n).is_done(container.as_slice())
+}
+
+// A file is encoded from a source of a byte a call, whose call of this number fails.
+fn encoded_by_bytes<R: Threads + Wait + Sync + Abort>(
+    rt: &R,
+    alloc: Global,
+    file: &[u8],
+    n: u64,
+) -> Trial {
+    let fails = [n];
+    let mut source = MemSource::new(file, 1, &fails);
+    run_from(
+        rt,
+        alloc,
+        &["encode"],
+        &mut source,
+        SEVEN_A_CALL,
+        NONE,
+        &OpenGate,
+    )
+}
+
+fn is_a_read_fault(tried: &Trial) -> bool {
+    tried.status == 3 && tried.written.is_empty() && tried.noted.as_slice() == READ_FAILED
+}
+
+// Seven reads give all the bytes and the eighth reports the end.
 #[test]
-fn a_write_that_fails(rt: HostRuntime) -> Result<(), Fail> {
-    let alloc = rt.alloc();
-    let file = LEAST.file(alloc)?;
-    let whole = LEAST.container(alloc)?;
-    assert_eq!(rt; whole.len(), 111);
-    // Fifteen pieces of 7 bytes and one of 6.
+fn a_read_that_fails_on_the_way_back(rt: HostRuntime) {
+    let container = LEAST.container(&rt, rt.alloc());
+    for n in 1..9u64 {
+        let is_fault = fails_at_a_read(&rt, rt.alloc(), container.as_slice(), n);
+        assert_holds(&rt, is_fault, "read", n);
+    }
+}
+
+fn fails_at_a_read<R: Threads + Wait + Sync + Abort>(
+    rt: &R,
+    alloc: Global,
+    container: &[u8],
+    n: u64,
+) -> bool {
+    let fails = [n];
+    let faults = Faults {
+        reads: &fails,
+        ..NONE
+    };
+    is_a_read_fault(&run_over(rt, alloc, &["decode"], container, faults))
+}
+
+// Fifteen pieces of 7 bytes and one of 6.
+#[test]
+fn a_write_that_fails(rt: HostRuntime) {
+    let file = LEAST.file(&rt, rt.alloc());
+    let whole = LEAST.container(&rt, rt.alloc());
+    assert!(rt; whole.len() == 111);
     for n in 1..17u64 {
-        let tried = run_over(
+        let length = 7 * (n - 1);
+        assert_cut_container(
             &rt,
-            alloc,
-            &["encode"],
+            rt.alloc(),
             file.as_slice(),
-            Faults {
-                writes: &[n],
-                ..NONE
-            },
-        )?;
-        assert_eq!(rt; tried.status, 4, "write {n}");
-        assert_eq!(rt; tried.written.len() as u64, 7 * (n - 1));
-        assert!(rt; whole.starts_with(tried.written.as_slice()));
-        assert!(rt; tried.noted.as_slice() == b"lepton: write failed\n".as_slice());
+            whole.as_slice(),
+            n,
+            length,
+        );
     }
-    Ok(())
 }
 
-#[test]
-fn a_read_that_fails_on_the_way_back(rt: HostRuntime) -> Result<(), Fail> {
-    let alloc = rt.alloc();
-    let container = LEAST.container(alloc)?;
-    for n in 1..9 {
-        let tried = run_over(
-            &rt,
-            alloc,
-            &["decode"],
-            container.as_slice(),
-            Faults {
-                reads: &[n],
-                ..NONE
-            },
-        )?;
-        // Seven reads give all the bytes and the eighth tells the end.
-        assert_eq!(rt; tried.status, 3, "read {n}");
-        assert!(rt; tried.written.is_empty());
-        assert!(rt; tried.noted.as_slice() == b"lepton: read failed\n".as_slice());
-    }
-    Ok(())
+fn assert_cut_container<R: Threads + Wait + Sync + Abort>(
+    rt: &R,
+    alloc: Global,
+    file: &[u8],
+    whole: &[u8],
+    n: u64,
+    length: u64,
+) {
+    let tried = run_cut(rt, alloc, "encode", file, n);
+    assert_holds(rt, is_cut(&tried, whole, 4, length), "write", n);
 }
 
-// A decode writes while it goes on: nine pieces of 7 bytes and one of 6 for the header, then a byte of the scan, and
-// then the trailer; where the stream has a fault, the header alone. Before a call that fails there are the bytes of the
-// calls before it, and one that isn't reached changes nothing.
+// The sink's call of this number fails.
+fn run_cut<R: Threads + Wait + Sync + Abort>(
+    rt: &R,
+    alloc: Global,
+    word: &str,
+    input: &[u8],
+    n: u64,
+) -> Trial {
+    let fails = [n];
+    let faults = Faults {
+        writes: &fails,
+        ..NONE
+    };
+    run_over(rt, alloc, &[word], input, faults)
+}
+
+// Whether the first bytes of the whole were written, `length` of them, and a fault of the sink has its note.
+fn is_cut(tried: &Trial, whole: &[u8], status: u8, length: u64) -> bool {
+    tried.status == status
+        && tried.written.len() as u64 == length
+        && whole.starts_with(tried.written.as_slice())
+        && (status != 4 || tried.noted.as_slice() == WRITE_FAILED)
+}
+
+// The number of the call that fails, the status, and the number of bytes that are written. A decode writes while it goes
+// on: nine pieces of 7 bytes and one of 6 for the header, then a byte of the scan, and then the trailer. Before a call
+// that fails there are the bytes of the calls before it, and one that isn't reached changes nothing.
+const CUT: &[[u8; 3]] = &[
+    [1, 4, 0],
+    [2, 4, 7],
+    [3, 4, 14],
+    [4, 4, 21],
+    [5, 4, 28],
+    [6, 4, 35],
+    [7, 4, 42],
+    [8, 4, 49],
+    [9, 4, 56],
+    [10, 4, 63],
+    [11, 4, 69],
+    [12, 4, 70],
+    [13, 0, 72],
+];
+
 #[test]
-fn a_write_that_fails_on_the_way_back(rt: HostRuntime) -> Result<(), Fail> {
-    let alloc = rt.alloc();
-    let file = LEAST.file(alloc)?;
-    let container = LEAST.container(alloc)?;
+fn a_write_that_fails_on_the_way_back(rt: HostRuntime) {
+    let container = LEAST.container(&rt, rt.alloc());
+    for row in CUT {
+        assert_cut(&rt, rt.alloc(), container.as_slice(), row);
+    }
+}
+
+fn assert_cut<R: Threads + Wait + Sync + Abort>(
+    rt: &R,
+    alloc: Global,
+    container: &[u8],
+    row: &[u8; 3],
+) {
+    let [n, status, length] = *row;
+    let file = LEAST.file(rt, alloc);
+    let tried = run_cut(rt, alloc, "decode", container, n as u64);
+    let is_cut = is_cut(&tried, file.as_slice(), status, length as u64);
+    assert_holds(rt, is_cut, "write", n as u64);
+}
+
+// The same if the stream has a fault: the header alone is written.
+const CUT_BEFORE_A_FAULT: &[[u8; 3]] = &[
+    [1, 4, 0],
+    [2, 4, 7],
+    [3, 4, 14],
+    [4, 4, 21],
+    [5, 4, 28],
+    [6, 4, 35],
+    [7, 4, 42],
+    [8, 4, 49],
+    [9, 4, 56],
+    [10, 4, 63],
+    [11, 1, 69],
+    [12, 1, 69],
+    [13, 1, 69],
+];
+
+#[test]
+fn a_write_that_fails_before_a_fault_of_the_stream(rt: HostRuntime) {
     let faulty = Row {
         stream: &[0, 8, 0],
         ..LEAST
     };
-    let faulty = faulty.container(alloc)?;
-    let cases = [
-        (container.as_slice(), 12, 0, file.len()),
-        (faulty.as_slice(), 10, 1, 69),
-    ];
-    for (container, calls, status, length) in cases {
-        for n in 1..14u64 {
-            let faults = Faults {
-                writes: &[n],
-                ..NONE
-            };
-            let tried = run_over(&rt, alloc, &["decode"], container, faults)?;
-            if n > calls {
-                assert_eq!(rt; tried.status, status, "write {n}");
-                assert_eq!(rt; tried.written.len(), length, "write {n}");
-            } else {
-                assert_eq!(rt; tried.status, 4, "write {n}");
-                assert_eq!(rt; tried.written.len() as u64, before_call(n), "write {n}");
-                assert!(rt; tried.noted.as_slice() == b"lepton: write failed\n".as_slice());
-            }
-            assert!(rt; file.starts_with(tried.written.as_slice()));
-        }
-    }
-    Ok(())
-}
-
-// How many bytes are written before a call.
-fn before_call(n: u64) -> u64 {
-    match n {
-        12 => 70,
-        11 => 69,
-        _ => 7 * n.saturating_sub(1).min(9),
+    let container = faulty.container(&rt, rt.alloc());
+    for row in CUT_BEFORE_A_FAULT {
+        assert_cut(&rt, rt.alloc(), container.as_slice(), row);
     }
 }
 
 #[test]
-fn limits(rt: HostRuntime) -> Result<(), Fail> {
-    let alloc = rt.alloc();
-    let four = read_all(alloc, &mut NeverSource::new(&[1, 2, 3, 4]), 4).map_err(|_| "refused")?;
-    assert!(rt; four.as_slice() == [1, 2, 3, 4].as_slice());
-    let five = read_all(alloc, &mut NeverSource::new(&[1, 2, 3, 4, 5]), 4);
+fn a_source_is_read_up_to_the_limit(rt: HostRuntime) {
+    assert!(rt; is_read_whole(&rt, rt.alloc(), &[1, 2, 3, 4], 4));
+    let five = read_all(rt.alloc(), &mut NeverSource::new(&[1, 2, 3, 4, 5]), 4);
     assert!(rt; matches!(five, Err(ReadAll::TooLong)));
-    // The least file with a trailer up to the limit, and one byte more.
-    let mut file = LEAST.file(alloc)?;
-    for (length, status, note) in [
-        (67_108_864, 0, &b""[..]),
-        (67_108_865, 1, &b"lepton: refused 50 TooLong\n"[..]),
-    ] {
-        file.resize(length, 0)?;
-        let words = [
-            String::from_str(alloc, "lepton")?,
-            String::from_str(alloc, "encode")?,
-        ];
-        let mut sink = MemSink::new(alloc, 1 << 27, 1 << 20, &[])?;
-        let mut noted = MemSink::new(alloc, 100, 100, &[])?;
-        let mut source = NeverSource::new(file.as_slice());
-        let ended = run(
-            &rt,
-            alloc,
-            &words,
-            &mut source,
-            &mut sink,
-            &mut noted,
-            &OpenGate,
-        );
-        assert_eq!(rt; ended, status);
-        assert!(rt; noted.bytes() == note);
-        assert_eq!(rt;
-            sink.bytes().len(),
-            if status == 0 { length + 39 } else { 0 }
-        );
-    }
-    Ok(())
+}
+
+fn is_read_whole(rt: &impl Abort, alloc: Global, bytes: &[u8], limit: u64) -> bool {
+    let whole = read_all(alloc, &mut NeverSource::new(bytes), limit)
+        .ok()
+        .expect(rt, "refused");
+    whole.as_slice() == bytes
+}
+
+// The limit of a file, in bytes.
+const LIMIT: usize = 67_108_864;
+
+// The least file with a longer trailer: this number of bytes in all.
+fn longer(rt: &impl Abort, alloc: Global, length: usize) -> Vec<u8> {
+    let mut file = LEAST.file(rt, alloc);
+    file.resize(length, 0).expect(rt, "memory");
+    file
+}
+
+#[test]
+fn the_longest_file_is_encoded(rt: HostRuntime) {
+    let file = longer(&rt, rt.alloc(), LIMIT);
+    let tried = run_long(&rt, rt.alloc(), "encode", file.as_slice());
+    assert!(rt; tried.status == 0 && tried.noted.is_empty());
+    assert!(rt; tried.written.len() == LIMIT + 39);
+}
+
+#[test]
+fn a_byte_past_the_limit_is_refused(rt: HostRuntime) {
+    let file = longer(&rt, rt.alloc(), LIMIT + 1);
+    assert!(rt; is_too_long(&run_long(&rt, rt.alloc(), "encode", file.as_slice())));
+}
+
+const TOO_LONG: &[u8] = b"lepton: refused 50 TooLong\n";
+
+fn is_too_long(tried: &Trial) -> bool {
+    tried.status == 1 && tried.written.is_empty() && tried.noted.as_slice() == TOO_LONG
 }
 
 // The container of the longest file is longer than a file may be, and gives it back.
 #[test]
-fn the_longest_file_comes_back(rt: HostRuntime) -> Result<(), Fail> {
-    let alloc = rt.alloc();
-    let mut file = LEAST.file(alloc)?;
-    file.resize(67_108_864, 0)?;
-    assert!(rt; file.len() == 67_108_864);
-    let (header, rest) = file.as_slice().split_at(69);
+fn the_longest_file_comes_back(rt: HostRuntime) {
+    let file = longer(&rt, rt.alloc(), LIMIT);
+    let container = longest_container(&rt, rt.alloc(), file.as_slice());
+    let tried = run_long(&rt, rt.alloc(), "decode", container.as_slice());
+    assert!(rt; tried.is_done(file.as_slice()));
+}
+
+fn longest_container(rt: &impl Abort, alloc: Global, file: &[u8]) -> Vec<u8> {
+    assert!(rt; file.len() == LIMIT);
+    let (header, rest) = file.split_at(69);
     let (_, trailer) = rest.split_at(1);
-    let container = container_of(alloc, 1, &[LEVEL_SEGMENT], header, trailer)?;
-    let words = [
-        String::from_str(alloc, "lepton")?,
-        String::from_str(alloc, "decode")?,
-    ];
-    let mut source = NeverSource::new(container.as_slice());
-    let mut sink = MemSink::new(alloc, 1 << 27, 1 << 20, &[])?;
-    let mut noted = MemSink::new(alloc, 100, 100, &[])?;
-    let ended = run(
-        &rt,
-        alloc,
-        &words,
-        &mut source,
-        &mut sink,
-        &mut noted,
-        &OpenGate,
-    );
-    assert_eq!(rt; ended, 0);
-    assert!(rt; noted.bytes().is_empty());
-    assert!(rt; sink.bytes() == file.as_slice());
-    Ok(())
+    container_of(rt, alloc, 1, &[LEVEL_SEGMENT], header, trailer)
+}
+
+// Room for all.
+const LONG: Room = Room {
+    bytes: 1 << 27,
+    piece: 1 << 20,
+};
+
+// A source that never fails.
+fn run_long<R: Threads + Wait + Sync + Abort>(
+    rt: &R,
+    alloc: Global,
+    word: &str,
+    input: &[u8],
+) -> Trial {
+    let mut source = NeverSource::new(input);
+    run_from(rt, alloc, &[word], &mut source, LONG, NONE, &OpenGate)
 }

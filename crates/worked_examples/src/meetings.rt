@@ -1,16 +1,15 @@
-// A decode in which two workers have to decode at the same time.
-ghost use Rattle.std.specs.Prelude.{◌≤◌};
-
+// A decode in which two workers must decode at the same time.
 use crate::containers::{LEVEL_SEGMENT, Segment, container_of};
 use crate::files::{END, RESTARTS, START, joined};
 use crate::segments::AFTER_A_MARKER;
-use crate::trial::{NONE, run_past};
-use lepton_decode::{prepare, run};
-use outside_core::{Gate, MemSink};
-use std::alloc::{AllocError, Global};
+use crate::trial::{NONE, comes_back, run_past};
+use outside_core::Gate;
+use std::alloc::Global;
 use std::hint;
+use std::process::Abort;
+use std::sync::Wait;
 use std::sync::atomic::{AtomicBool, Ordering};
-use std::test::Fail;
+use std::thread::Threads;
 
 // Three blocks of zeros, one below another, each with a restart interval of its own: 84 bytes.
 const SIZE: [u8; 4] = [0, 24, 0, 8];
@@ -112,62 +111,90 @@ impl Gate for Meeting {
     }
 }
 
-fn file(alloc: Global) -> Result<Vec<u8>, AllocError> {
-    joined(alloc, &[&START, &SIZE, &RESTARTS, &SCAN, &END])
+fn file(rt: &impl Abort, alloc: Global) -> Vec<u8> {
+    joined(rt, alloc, &[&START, &SIZE, &RESTARTS, &SCAN, &END])
 }
 
-fn container(alloc: Global) -> Result<Vec<u8>, AllocError> {
-    let header = joined(alloc, &[&START, &SIZE, &RESTARTS])?;
-    container_of(alloc, 1, &SEGMENTS, header.as_slice(), &END)
+fn container(rt: &impl Abort, alloc: Global) -> Vec<u8> {
+    let header = joined(rt, alloc, &[&START, &SIZE, &RESTARTS]);
+    container_of(rt, alloc, 1, &SEGMENTS, header.as_slice(), &END)
 }
 
+// Three workers with rings of two bytes give the file.
 #[test]
-fn workers_decode_at_the_same_time(rt: HostRuntime) -> Result<(), Fail> {
-    let alloc = rt.alloc();
-    let file = file(alloc)?;
-    let container = container(alloc)?;
+fn workers_decode_at_the_same_time(rt: HostRuntime) {
     let meeting = Meeting::new(MANY_LOOKS);
-    let mut ready = prepare(alloc, container.as_slice(), 3, 2).map_err(|_| "not a container")?;
-    let mut sink = MemSink::new(alloc, 84, 100, &[])?;
-    let ended = run(&mut ready, &rt, &mut sink, &meeting);
-    assert_eq!(rt; ended, Ok(84));
-    assert!(rt; sink.bytes() == file.as_slice());
+    assert!(rt; workers_give(&rt, rt.alloc(), &meeting));
     assert!(rt; meeting.all_came());
     assert!(rt; !meeting.ran_out());
-    // And through the top call.
+}
+
+fn workers_give<R: Threads + Wait + Sync + Abort>(
+    rt: &R,
+    alloc: Global,
+    meeting: &Meeting,
+) -> bool {
+    let file = file(rt, alloc);
+    let container = container(rt, alloc);
+    assert!(rt; file.len() == 84);
+    comes_back(
+        rt,
+        alloc,
+        container.as_slice(),
+        file.as_slice(),
+        3,
+        2,
+        meeting,
+    )
+}
+
+// And through the top call.
+#[test]
+fn workers_of_a_command_decode_at_the_same_time(rt: HostRuntime) {
     let meeting = Meeting::new(MANY_LOOKS);
-    let words = ["decode", "--workers", "3"];
-    let tried = run_past(&rt, alloc, &words, container.as_slice(), NONE, &meeting)?;
-    assert!(rt; tried.is_done(file.as_slice()));
+    assert!(rt; command_gives(&rt, rt.alloc(), "3", &meeting));
     assert!(rt; meeting.all_came());
     assert!(rt; !meeting.ran_out());
-    Ok(())
+}
+
+fn command_gives<R: Threads + Wait + Sync + Abort>(
+    rt: &R,
+    alloc: Global,
+    workers: &str,
+    meeting: &Meeting,
+) -> bool {
+    let file = file(rt, alloc);
+    let container = container(rt, alloc);
+    let words = ["decode", "--workers", workers];
+    run_past(rt, alloc, &words, container.as_slice(), NONE, meeting).is_done(file.as_slice())
 }
 
 // A sample of three segments is decoded by workers, two of them at the same time.
 #[test]
-fn workers_decode_a_sample(rt: HostRuntime) -> Result<(), Fail> {
+fn workers_decode_a_sample(rt: HostRuntime) {
     let meeting = Meeting::new(MANY_LOOKS);
-    let words = ["sample", "--seed", "2", "--columns", "4", "--rows", "3"];
-    let tried = run_past(&rt, rt.alloc(), &words, &[], NONE, &meeting)?;
-    assert_eq!(rt; tried.status, 0);
+    assert!(rt; shows_a_sample(&rt, rt.alloc(), &meeting));
     assert!(rt; meeting.all_came());
     assert!(rt; !meeting.ran_out());
-    Ok(())
+}
+
+fn shows_a_sample<R: Threads + Wait + Sync + Abort>(
+    rt: &R,
+    alloc: Global,
+    meeting: &Meeting,
+) -> bool {
+    let words = ["sample", "--seed", "2", "--columns", "4", "--rows", "3"];
+    run_past(rt, alloc, &words, &[], NONE, meeting).status == 0
 }
 
 // Without a second worker a hold runs out, and all pass.
 #[test]
-fn one_thread_runs_out(rt: HostRuntime) -> Result<(), Fail> {
-    let alloc = rt.alloc();
-    let file = file(alloc)?;
-    let container = container(alloc)?;
-    for workers in ["0", "1"] {
-        let meeting = Meeting::new(FEW_LOOKS);
-        let words = ["decode", "--workers", workers];
-        let tried = run_past(&rt, alloc, &words, container.as_slice(), NONE, &meeting)?;
-        assert!(rt; tried.is_done(file.as_slice()), "{workers} workers");
-        assert!(rt; meeting.ran_out(), "{workers} workers");
-    }
-    Ok(())
+fn one_thread_runs_out(rt: HostRuntime) {
+    assert!(rt; runs_out(&rt, rt.alloc(), "0"));
+    assert!(rt; runs_out(&rt, rt.alloc(), "1"));
+}
+
+fn runs_out<R: Threads + Wait + Sync + Abort>(rt: &R, alloc: Global, workers: &str) -> bool {
+    let meeting = Meeting::new(FEW_LOOKS);
+    command_gives(rt, alloc, workers, &meeting) && meeting.ran_out()
 }

@@ -1,32 +1,39 @@
 // A note that fails.
 use crate::rows::{LEAST, Row};
-use crate::trial::{Faults, Trial, run_over};
-use std::alloc::{AllocError, Global};
+use crate::trial::{Faults, Trial, assert_holds, run_over};
+use std::alloc::Global;
+use std::process::Abort;
 use std::sync::Wait;
-use std::test::Fail;
 use std::thread::Threads;
 
-/// One end of the program: its status and line, the word, how many bytes of the input are given, and the numbers of the
-/// read and the write that fail. The input is the least file, or its container where a stream is given.
+/// One end of the program: its status and line, the word, which input is given, how many bytes of it, and the numbers of
+/// the read and the write that fail.
 struct Said<'a> {
     status: u8,
     line: &'a str,
     word: &'a str,
-    stream: Option<&'a [u8]>,
+    input: u8,
     length: usize,
     read: u64,
     write: u64,
 }
 
+/// The least file, its container, and the same with a fault in the stream.
+const FILE: u8 = 0;
+
+const CONTAINER: u8 = 1;
+
+const FAULTY_CONTAINER: u8 = 2;
+
 /// No call has this number.
 const NO_CALL: u64 = 0;
 
-const SAID: [Said<'static>; 8] = [
+const SAID: &[Said<'static>] = &[
     Said {
         status: 0,
         line: "",
         word: "encode",
-        stream: None,
+        input: FILE,
         length: 72,
         read: NO_CALL,
         write: NO_CALL,
@@ -35,7 +42,7 @@ const SAID: [Said<'static>; 8] = [
         status: 0,
         line: "",
         word: "decode",
-        stream: Some(&[0, 0, 0]),
+        input: CONTAINER,
         length: 111,
         read: NO_CALL,
         write: NO_CALL,
@@ -44,7 +51,7 @@ const SAID: [Said<'static>; 8] = [
         status: 1,
         line: "lepton: refused 2 HeaderCut\n",
         word: "encode",
-        stream: None,
+        input: FILE,
         length: 3,
         read: NO_CALL,
         write: NO_CALL,
@@ -53,7 +60,7 @@ const SAID: [Said<'static>; 8] = [
         status: 1,
         line: "lepton: refused 30 BoxMagic\n",
         word: "decode",
-        stream: None,
+        input: FILE,
         length: 72,
         read: NO_CALL,
         write: NO_CALL,
@@ -62,7 +69,7 @@ const SAID: [Said<'static>; 8] = [
         status: 1,
         line: "lepton: refused 45 StreamBad segment 0\n",
         word: "decode",
-        stream: Some(&[0, 0, 1]),
+        input: FAULTY_CONTAINER,
         length: 111,
         read: NO_CALL,
         write: NO_CALL,
@@ -71,7 +78,7 @@ const SAID: [Said<'static>; 8] = [
         status: 2,
         line: "lepton: words refused\n",
         word: "recode",
-        stream: None,
+        input: FILE,
         length: 72,
         read: NO_CALL,
         write: NO_CALL,
@@ -80,7 +87,7 @@ const SAID: [Said<'static>; 8] = [
         status: 3,
         line: "lepton: read failed\n",
         word: "encode",
-        stream: None,
+        input: FILE,
         length: 72,
         read: 2,
         write: NO_CALL,
@@ -89,7 +96,7 @@ const SAID: [Said<'static>; 8] = [
         status: 4,
         line: "lepton: write failed\n",
         word: "encode",
-        stream: None,
+        input: FILE,
         length: 72,
         read: NO_CALL,
         write: 3,
@@ -97,23 +104,27 @@ const SAID: [Said<'static>; 8] = [
 ];
 
 // What is read.
-fn input_of(alloc: Global, said: &Said) -> Result<Vec<u8>, AllocError> {
-    let mut input = match said.stream {
-        Some(stream) => Row { stream, ..LEAST }.container(alloc)?,
-        None => LEAST.file(alloc)?,
-    };
+fn input_of(rt: &impl Abort, alloc: Global, said: &Said) -> Vec<u8> {
+    let mut input = whole_input(rt, alloc, said.input);
     input.truncate(said.length);
-    Ok(input)
+    input
+}
+
+fn whole_input(rt: &impl Abort, alloc: Global, input: u8) -> Vec<u8> {
+    match input {
+        FILE => LEAST.file(rt, alloc),
+        CONTAINER => LEAST.container(rt, alloc),
+        _ => Row {
+            stream: &[0, 0, 1],
+            ..LEAST
+        }
+        .container(rt, alloc),
+    }
 }
 
 // The end, with the note's call of this number failing.
-fn ended<R: Threads + Wait + Sync>(
-    rt: &R,
-    alloc: Global,
-    said: &Said,
-    note: u64,
-) -> Result<Trial, Fail> {
-    let input = input_of(alloc, said)?;
+fn ended<R: Threads + Wait + Sync + Abort>(rt: &R, alloc: Global, said: &Said, note: u64) -> Trial {
+    let input = input_of(rt, alloc, said);
     let reads = [said.read];
     let writes = [said.write];
     let notes = [note];
@@ -134,24 +145,28 @@ fn is_as_before(tried: &Trial, whole: &Trial) -> bool {
 // A note that fails at any of its calls changes no status, nothing that is written and nothing that is read. It holds
 // the pieces of 7 bytes of its line that came before that call. No line has more than six.
 #[test]
-fn a_note_that_fails(rt: HostRuntime) -> Result<(), Fail> {
-    let alloc = rt.alloc();
-    for said in &SAID {
-        let whole = ended(&rt, alloc, said, NO_CALL)?;
-        assert_eq!(rt; whole.status, said.status);
-        assert!(rt; whole.noted.as_slice() == said.line.as_bytes());
-        for n in 1..7u64 {
-            let tried = ended(&rt, alloc, said, n)?;
-            assert!(rt; is_as_before(&tried, &whole), "note {n} of {}", said.line);
-            assert!(rt; said.line.as_bytes().starts_with(tried.noted.as_slice()));
-            let before = (7 * (n - 1)).min(said.line.len() as u64);
-            assert_eq!(rt;
-                tried.noted.len() as u64,
-                before,
-                "note {n} of {}",
-                said.line
-            );
-        }
+fn a_note_that_fails(rt: HostRuntime) {
+    for said in SAID {
+        assert_said(&rt, rt.alloc(), said);
     }
-    Ok(())
+}
+
+fn assert_said<R: Threads + Wait + Sync + Abort>(rt: &R, alloc: Global, said: &Said) {
+    let whole = ended(rt, alloc, said, NO_CALL);
+    assert_holds(rt, is_said_whole(&whole, said), said.line, NO_CALL);
+    for n in 1..7u64 {
+        let tried = ended(rt, alloc, said, n);
+        assert_holds(rt, is_as_before(&tried, &whole), said.line, n);
+        let is_first = is_first(tried.noted.as_slice(), said.line, 7 * (n - 1));
+        assert_holds(rt, is_first, said.line, n);
+    }
+}
+
+fn is_said_whole(whole: &Trial, said: &Said) -> bool {
+    whole.status == said.status && whole.noted.as_slice() == said.line.as_bytes()
+}
+
+// Whether these are the first bytes of the line: the given number of them, or all.
+fn is_first(noted: &[u8], line: &str, length: u64) -> bool {
+    line.as_bytes().starts_with(noted) && noted.len() as u64 == length.min(line.len() as u64)
 }

@@ -1,42 +1,47 @@
 // Samples: their bytes by length and digest, back again, and what `sample` says of them. The values come from another
 // implementation.
-use crate::trial::{Faults, NONE, run_over, run_past};
-use lepton_decode::{prepare, run};
+use crate::trial::{Faults, NONE, Trial, assert_holds, comes_back, run_over, run_past};
 use lepton_encode::encode;
-use outside_core::{Compare, Gate, OpenGate};
+use outside_core::{Gate, OpenGate};
 use sample_jpeg::sample;
 use sha2::{Digest, Sha256};
+use std::alloc::Global;
+use std::process::Abort;
+use std::sync::Wait;
 use std::sync::atomic::{AtomicU64, Ordering};
-use std::test::Fail;
+use std::thread::Threads;
 
-// A seed, columns and rows; how many bytes the file has and how many its container in at most eight segments, how many
-// segments these are, and the SHA-256 of both.
-#[derive(Clone, Copy)]
-struct Known {
+// A seed, columns and rows; how many bytes the file has and how many its container in at most eight segments; the
+// arguments that ask for the sample, what is said of it, and a bit for each segment; the SHA-256 of file and container.
+struct Known<'a> {
     seed: u32,
     columns: u16,
     rows: u16,
     file: u64,
     made: u64,
-    segments: u8,
-    digest: [u8; 32],
-    made_digest: [u8; 32],
+    words: &'a [&'a str],
+    summary: &'a [u8],
+    visits: u64,
+    digest: &'a [u8],
+    made_digest: &'a [u8],
 }
 
-const KNOWN: [Known; 5] = [
+const KNOWN: &[Known<'static>] = &[
     Known {
         seed: 2,
         columns: 4,
         rows: 3,
         file: 534,
         made: 656,
-        segments: 3,
-        digest: [
+        words: &["sample", "--seed", "2", "--columns", "4", "--rows", "3"],
+        summary: b"file 534\nbox 656\nsegments 3\nworkers 4\nrestored 534\n",
+        visits: 0b111,
+        digest: &[
             0x66, 0xcc, 0x8f, 0xf5, 0x2b, 0x52, 0xa8, 0x3a, 0x84, 0x13, 0x3c, 0x6a, 0x0b, 0x89,
             0xf5, 0x63, 0x08, 0x6a, 0x12, 0xa3, 0xc2, 0x85, 0xa1, 0xb1, 0xaa, 0x39, 0xcf, 0x52,
             0x36, 0x7e, 0x30, 0xd5,
         ],
-        made_digest: [
+        made_digest: &[
             0xee, 0xd9, 0xd5, 0xa3, 0x4d, 0x79, 0x32, 0xd5, 0x37, 0xa4, 0xb2, 0x2b, 0x39, 0x1d,
             0xd1, 0xed, 0xb9, 0x1d, 0x5f, 0x0d, 0x1c, 0x9f, 0x79, 0x6f, 0x77, 0xd9, 0x8f, 0x96,
             0xbe, 0xe4, 0x8d, 0x36,
@@ -48,13 +53,15 @@ const KNOWN: [Known; 5] = [
         rows: 3,
         file: 601,
         made: 702,
-        segments: 3,
-        digest: [
+        words: &["sample", "--seed", "7", "--columns", "4", "--rows", "3"],
+        summary: b"file 601\nbox 702\nsegments 3\nworkers 4\nrestored 601\n",
+        visits: 0b111,
+        digest: &[
             0x12, 0x6b, 0x93, 0xce, 0x82, 0x6a, 0x37, 0x0f, 0xaa, 0x3a, 0x0d, 0xed, 0x96, 0x01,
             0xda, 0x35, 0xd6, 0x23, 0x52, 0x53, 0x59, 0xf6, 0x42, 0x26, 0xfb, 0x9d, 0xce, 0x88,
             0x3f, 0xf7, 0xb3, 0xa0,
         ],
-        made_digest: [
+        made_digest: &[
             0x49, 0xeb, 0x1d, 0xe8, 0xbc, 0xc0, 0x51, 0x36, 0xc5, 0xa9, 0xfb, 0x10, 0x8e, 0x62,
             0xbe, 0x60, 0x2f, 0x49, 0x04, 0x70, 0x9e, 0xaa, 0xab, 0x85, 0x5f, 0x40, 0xc4, 0xe7,
             0xe9, 0xd2, 0xde, 0x08,
@@ -66,13 +73,23 @@ const KNOWN: [Known; 5] = [
         rows: 256,
         file: 7354,
         made: 6272,
-        segments: 8,
-        digest: [
+        words: &[
+            "sample",
+            "--seed",
+            "4294967295",
+            "--columns",
+            "1",
+            "--rows",
+            "256",
+        ],
+        summary: b"file 7354\nbox 6272\nsegments 8\nworkers 4\nrestored 7354\n",
+        visits: 0b1111_1111,
+        digest: &[
             0x76, 0x01, 0x7b, 0x6f, 0x53, 0xfa, 0xba, 0x6c, 0xe8, 0x3a, 0x34, 0x63, 0x35, 0x9d,
             0x29, 0x98, 0x55, 0x4f, 0x4d, 0x78, 0x17, 0x4b, 0xd3, 0x5a, 0xea, 0xbf, 0x30, 0xf3,
             0x5f, 0x54, 0x16, 0x78,
         ],
-        made_digest: [
+        made_digest: &[
             0x8d, 0xbb, 0xff, 0xfc, 0xbb, 0x62, 0x20, 0x81, 0x17, 0x0e, 0x74, 0x33, 0x14, 0x7a,
             0xe5, 0xd7, 0x64, 0x53, 0x04, 0x8f, 0x0b, 0x6f, 0x8b, 0x82, 0x04, 0x7b, 0x37, 0x23,
             0x54, 0x3f, 0x70, 0x29,
@@ -84,13 +101,15 @@ const KNOWN: [Known; 5] = [
         rows: 1,
         file: 6752,
         made: 5272,
-        segments: 1,
-        digest: [
+        words: &["sample", "--seed", "5", "--columns", "256", "--rows", "1"],
+        summary: b"file 6752\nbox 5272\nsegments 1\nworkers 4\nrestored 6752\n",
+        visits: 0b1,
+        digest: &[
             0x8d, 0xdf, 0xf6, 0x52, 0x33, 0xc7, 0x22, 0x01, 0x57, 0xbc, 0x5e, 0xc9, 0x14, 0x76,
             0x4b, 0x5b, 0x36, 0xd3, 0x47, 0xec, 0x2b, 0x8b, 0x1d, 0xf4, 0xc9, 0xae, 0x74, 0xd8,
             0x98, 0x7c, 0x9a, 0xa5,
         ],
-        made_digest: [
+        made_digest: &[
             0x79, 0x23, 0x90, 0x5d, 0x39, 0x27, 0x91, 0x6f, 0xdd, 0x11, 0x7b, 0x41, 0x4c, 0xf1,
             0x83, 0xb7, 0x35, 0x8a, 0xac, 0x09, 0x54, 0xf4, 0xc0, 0x69, 0x18, 0x38, 0xab, 0xe4,
             0x68, 0xb0, 0x87, 0x41,
@@ -102,13 +121,15 @@ const KNOWN: [Known; 5] = [
         rows: 256,
         file: 1_655_492,
         made: 1_160_943,
-        segments: 8,
-        digest: [
+        words: &["sample", "--seed", "2", "--columns", "256", "--rows", "256"],
+        summary: b"file 1655492\nbox 1160943\nsegments 8\nworkers 4\nrestored 1655492\n",
+        visits: 0b1111_1111,
+        digest: &[
             0x27, 0x44, 0x10, 0x4d, 0x64, 0x3e, 0x55, 0xf1, 0xb0, 0x9a, 0xdb, 0x7d, 0x1b, 0x7e,
             0xbd, 0xb1, 0x5a, 0x97, 0x8e, 0x07, 0xab, 0xc0, 0xd4, 0x2d, 0x12, 0x3c, 0x98, 0xc3,
             0x27, 0x51, 0x36, 0x38,
         ],
-        made_digest: [
+        made_digest: &[
             0xab, 0x58, 0x90, 0x28, 0x4f, 0xc2, 0x56, 0x26, 0xe4, 0x04, 0xe9, 0x35, 0xf5, 0x72,
             0xb8, 0x28, 0x01, 0xa1, 0x40, 0xaa, 0xba, 0xc8, 0x8f, 0x16, 0x15, 0x2f, 0xf2, 0xb0,
             0xca, 0x83, 0xe7, 0x31,
@@ -118,28 +139,46 @@ const KNOWN: [Known; 5] = [
 
 // Each is encoded, and decoded into a sink that compares, by no workers and some, with a small ring and a large one.
 #[test]
-fn samples_come_back(rt: HostRuntime) -> Result<(), Fail> {
-    let alloc = rt.alloc();
+fn samples_come_back(rt: HostRuntime) {
     for known in KNOWN {
-        let file = sample(alloc, known.seed, known.columns, known.rows)?;
-        assert_eq!(rt; file.len() as u64, known.file);
-        assert_eq!(rt; Sha256::digest(file.as_slice()), known.digest);
-        let Ok(made) = encode(&rt, alloc, file.as_slice(), 8) else {
-            return Err("a sample is refused".into());
-        };
-        assert_eq!(rt; made.len() as u64, known.made);
-        assert_eq!(rt; Sha256::digest(made.as_slice()), known.made_digest);
-        for (workers, ring) in [(0, 1), (1, 4_096), (4, 1 << 20)] {
-            let mut ready = prepare(alloc, made.as_slice(), workers, ring).map_err(
-                |_| "a sample's container is refused",
-            )?;
-            let mut sink = Compare::new(file.as_slice());
-            let restored = run(&mut ready, &rt, &mut sink, &OpenGate);
-            assert!(rt; restored == Ok(known.file));
-            assert_eq!(rt; sink.agreed(), known.file);
-        }
+        assert_known(&rt, rt.alloc(), known);
     }
-    Ok(())
+}
+
+fn assert_known<R: Threads + Wait + Sync + Abort>(rt: &R, alloc: Global, known: &Known) {
+    let file = sample_of(rt, alloc, known.seed, known.columns, known.rows);
+    let made = container_of(rt, alloc, file.as_slice());
+    assert!(rt; is_known(file.as_slice(), known.file, known.digest));
+    assert!(rt; is_known(made.as_slice(), known.made, known.made_digest));
+    assert!(rt; comes_back_by_all(rt, alloc, made.as_slice(), file.as_slice()));
+}
+
+fn sample_of(rt: &impl Abort, alloc: Global, seed: u32, columns: u16, rows: u16) -> Vec<u8> {
+    assert!(rt; 1 <= columns && columns <= 256);
+    assert!(rt; 1 <= rows && rows <= 256);
+    sample(alloc, seed, columns, rows).expect(rt, "memory")
+}
+
+fn container_of<R: Threads + Sync + Abort>(rt: &R, alloc: Global, file: &[u8]) -> Vec<u8> {
+    assert!(rt; file.len() < 1 << 32);
+    encode(rt, alloc, file, 8)
+        .ok()
+        .expect(rt, "a sample is refused")
+}
+
+fn is_known(bytes: &[u8], length: u64, digest: &[u8]) -> bool {
+    bytes.len() as u64 == length && Sha256::digest(bytes).as_slice() == digest
+}
+
+fn comes_back_by_all<R: Threads + Wait + Sync + Abort>(
+    rt: &R,
+    alloc: Global,
+    container: &[u8],
+    file: &[u8],
+) -> bool {
+    comes_back(rt, alloc, container, file, 0, 1, &OpenGate)
+        && comes_back(rt, alloc, container, file, 1, 4_096, &OpenGate)
+        && comes_back(rt, alloc, container, file, 4, 1 << 20, &OpenGate)
 }
 
 // Notes each segment that a worker put or the emitter asked for.
@@ -169,60 +208,52 @@ impl Gate for Visits {
     }
 }
 
-// `sample` reads nothing, says five lines, and decodes each segment past the gate that was handed in.
+// `sample` reads nothing, writes five lines, and decodes each segment past the given gate.
 #[test]
-fn summaries(rt: HostRuntime) -> Result<(), Fail> {
-    let alloc = rt.alloc();
+fn summaries(rt: HostRuntime) {
     for known in KNOWN {
-        let seed = format!(in alloc; "{}", known.seed)?;
-        let columns = format!(in alloc; "{}", known.columns)?;
-        let rows = format!(in alloc; "{}", known.rows)?;
-        let words = [
-            "sample",
-            "--seed",
-            seed.as_str(),
-            "--columns",
-            columns.as_str(),
-            "--rows",
-            rows.as_str(),
-        ];
-        let (file, made, segments) = (known.file, known.made, known.segments);
-        let wanted = format!(in alloc;
-            "file {file}\nbox {made}\nsegments {segments}\nworkers 4\nrestored {file}\n"
-        )?;
-        let visits = Visits {
-            segments: AtomicU64::new(0),
-        };
-        let tried = run_past(&rt, alloc, &words, &[0xff], NONE, &visits)?;
-        assert_eq!(rt; tried.status, 0);
-        assert!(rt; tried.written.as_slice() == wanted.as_bytes());
-        assert!(rt; tried.noted.is_empty());
-        assert!(rt; tried.left.as_slice() == [0xff].as_slice());
-        assert_eq!(rt;
-            visits.segments.load(Ordering::SeqCst),
-            (1 << known.segments) - 1
-        );
+        assert!(rt; is_summed_up(&rt, rt.alloc(), known));
     }
-    Ok(())
 }
 
-const LEAST: [&str; 7] = ["sample", "--seed", "0", "--columns", "1", "--rows", "1"];
+fn is_summed_up<R: Threads + Wait + Sync + Abort>(rt: &R, alloc: Global, known: &Known) -> bool {
+    let visits = Visits {
+        segments: AtomicU64::new(0),
+    };
+    let tried = run_past(rt, alloc, known.words, &[0xff], NONE, &visits);
+    is_said(&tried, 0, known.summary, b"") && visits.segments.load(Ordering::SeqCst) == known.visits
+}
+
+// Whether nothing was read, and this was written and noted.
+fn is_said(tried: &Trial, status: u8, written: &[u8], noted: &[u8]) -> bool {
+    tried.status == status
+        && tried.written.as_slice() == written
+        && tried.noted.as_slice() == noted
+        && tried.left.as_slice() == [0xff].as_slice()
+}
+
+const LEAST: &[&str] = &["sample", "--seed", "0", "--columns", "1", "--rows", "1"];
 
 const LEAST_SUMMARY: &[u8] = b"file 277\nbox 319\nsegments 1\nworkers 4\nrestored 277\n";
 
-// The sink takes seven bytes a call: each of its calls fails in turn, after the bytes of those before it.
+// The sink accepts seven bytes a call, so there are eight calls: each fails in turn, after the bytes of those before it.
 #[test]
-fn a_write_of_a_summary_that_fails(rt: HostRuntime) -> Result<(), Fail> {
-    for n in 1..=(LEAST_SUMMARY.len() as u64).div_ceil(7) {
-        let faults = Faults {
-            writes: &[n],
-            ..NONE
-        };
-        let tried = run_over(&rt, rt.alloc(), &LEAST, &[0xff], faults)?;
-        assert_eq!(rt; tried.status, 4);
-        assert!(rt; tried.written.as_slice() == &LEAST_SUMMARY[..7 * (n as usize - 1)]);
-        assert!(rt; tried.noted.as_slice() == b"lepton: write failed\n".as_slice());
-        assert!(rt; tried.left.as_slice() == [0xff].as_slice());
+fn a_write_of_a_summary_that_fails(rt: HostRuntime) {
+    assert!(rt; LEAST_SUMMARY.len() == 51);
+    for n in 1..9u64 {
+        let is_cut = is_cut(&rt, rt.alloc(), n);
+        assert_holds(&rt, is_cut, "write", n);
     }
-    Ok(())
+}
+
+fn is_cut<R: Threads + Wait + Sync + Abort>(rt: &R, alloc: Global, n: u64) -> bool {
+    assert!(rt; 1 <= n && n <= 8);
+    let fails = [n];
+    let faults = Faults {
+        writes: &fails,
+        ..NONE
+    };
+    let tried = run_over(rt, alloc, LEAST, &[0xff], faults);
+    let (written, _) = LEAST_SUMMARY.split_at(7 * (n as usize - 1));
+    is_said(&tried, 4, written, b"lepton: write failed\n")
 }

@@ -1,8 +1,0 @@
-use Rattle.std.proofs.Common.{◌≡◌, length, take}
-use Rattle.box_format.proofs.tests.handovers_of.Given as goal
-
-abbrev pub invariant-loop-i : goal.invariant-loop-i
-invariant-loop-i l = record {
-  count : l.segments ≡ length l.view.parts.handovers;
-  first : l.all.items ≡ take l.i l.view.parts.handovers;
-}

@@ -1,0 +1,179 @@
+// Arguments with ample memory, as clap accepts or rejects them.
+use command_words::{Command, WordsError, command_of};
+use std::alloc::{AllocError, Global};
+use std::test::Fail;
+
+// The arguments after the program's name, and the command that they mean.
+const COMMANDS: &[(&[&str], Command)] = &[
+    (&["encode"], Command::Encode { segments: 8 }),
+    (&["decode"], Command::Decode { workers: 4 }),
+    (
+        &["encode", "--segments", "1"],
+        Command::Encode { segments: 1 },
+    ),
+    (
+        &["encode", "--segments", "3"],
+        Command::Encode { segments: 3 },
+    ),
+    (
+        &["encode", "--segments=16"],
+        Command::Encode { segments: 16 },
+    ),
+    (
+        &["encode", "--segments", "08"],
+        Command::Encode { segments: 8 },
+    ),
+    (
+        &["encode", "--segments=+3"],
+        Command::Encode { segments: 3 },
+    ),
+    (&["encode", "--"], Command::Encode { segments: 8 }),
+    (
+        &["decode", "--workers", "0"],
+        Command::Decode { workers: 0 },
+    ),
+    (&["decode", "--workers=-0"], Command::Decode { workers: 0 }),
+    (&["decode", "--workers=16"], Command::Decode { workers: 16 }),
+];
+
+// The same for a sample: the seed, the columns and the rows that they mean.
+const SAMPLES: &[(&[&str], u32, [u16; 2])] = &[
+    (
+        &["sample", "--seed=2", "--columns=256", "--rows=256"],
+        2,
+        [256, 256],
+    ),
+    (
+        &["sample", "--rows=3", "--seed=0", "--columns", "4"],
+        0,
+        [4, 3],
+    ),
+    (
+        &["sample", "--seed=4294967295", "--columns=1", "--rows=1"],
+        4294967295,
+        [1, 1],
+    ),
+    (
+        &["sample", "--columns", "08", "--rows=+9", "--seed=-0"],
+        0,
+        [8, 9],
+    ),
+];
+
+const REFUSED: &[&[&str]] = &[
+    &[],
+    &[""],
+    &["recode"],
+    &["Encode"],
+    &["help"],
+    &["--help"],
+    &["--version"],
+    &["encode", "-h"],
+    &["encode", "x"],
+    &["encode", "decode"],
+    &["encode", "--workers", "1"],
+    &["encode", "--segment", "3"],
+    &["encode", "--segments"],
+    &["encode", "--segments", ""],
+    &["encode", "--segments", "0"],
+    &["encode", "--segments", "17"],
+    &["encode", "--segments", "264"],
+    &["encode", "--segments", "-1"],
+    &["encode", "--segments", "8", "--segments", "9"],
+    &["--segments", "3", "encode"],
+    &["decode", "--workers", "17"],
+    &["decode", "--segments", "8"],
+    &["encode", "--seed", "1"],
+];
+
+const REFUSED_SAMPLES: &[&[&str]] = &[
+    &["sample"],
+    &["sample", "--seed=1", "--columns=1"],
+    &["sample", "--seed=1", "--rows=1"],
+    &["sample", "--columns=1", "--rows=1"],
+    &["sample", "--seed=1", "--columns=1", "--rows"],
+    &["sample", "--seed=1", "--columns=0", "--rows=1"],
+    &["sample", "--seed=1", "--columns=257", "--rows=1"],
+    &["sample", "--seed=1", "--columns=1", "--rows=0"],
+    &["sample", "--seed=1", "--columns=1", "--rows=257"],
+    &["sample", "--seed=1", "--columns=1", "--rows=65537"],
+    &["sample", "--seed=4294967296", "--columns=1", "--rows=1"],
+    &["sample", "--seed=-1", "--columns=1", "--rows=1"],
+    &["sample", "--seed=1", "--seed=1", "--columns=1", "--rows=1"],
+    &["sample", "--seed=1", "--columns=1", "--rows=1", "-h"],
+    &["sample", "--seed=1", "--columns=1", "--rows=1", "x"],
+];
+
+#[test]
+fn segments_and_workers_are_read(rt: HostRuntime) -> Result<(), Fail> {
+    for (given, command) in COMMANDS {
+        assert!(rt; means(rt.alloc(), given, Ok(*command))?, "{given:?}");
+    }
+    Ok(())
+}
+
+#[test]
+fn numbers_of_a_sample_are_read(rt: HostRuntime) -> Result<(), Fail> {
+    for (given, seed, size) in SAMPLES {
+        assert!(rt;
+            means(rt.alloc(), given, Ok(sample(*seed, *size)))?,
+            "{given:?}"
+        );
+    }
+    Ok(())
+}
+
+fn sample(seed: u32, size: [u16; 2]) -> Command {
+    Command::Sample {
+        seed,
+        columns: size[0],
+        rows: size[1],
+    }
+}
+
+#[test]
+fn other_arguments_are_rejected(rt: HostRuntime) -> Result<(), Fail> {
+    for given in REFUSED {
+        assert!(rt;
+            means(rt.alloc(), given, Err(WordsError::Refused))?,
+            "{given:?}"
+        );
+    }
+    Ok(())
+}
+
+#[test]
+fn other_arguments_of_a_sample_are_rejected(rt: HostRuntime) -> Result<(), Fail> {
+    for given in REFUSED_SAMPLES {
+        assert!(rt;
+            means(rt.alloc(), given, Err(WordsError::Refused))?,
+            "{given:?}"
+        );
+    }
+    Ok(())
+}
+
+// Whether this is the answer to the arguments after the program's name.
+fn means(
+    alloc: Global,
+    given: &[&str],
+    meant: Result<Command, WordsError>,
+) -> Result<bool, AllocError> {
+    let line = line(alloc, given)?;
+    Ok(command_of(alloc, line.as_slice()) == meant)
+}
+
+fn line(alloc: Global, given: &[&str]) -> Result<Vec<String>, AllocError> {
+    let mut line = Vec::new(alloc);
+    line.push(String::from_str(alloc, "lepton")?)?;
+    for argument in given {
+        line.push(String::from_str(alloc, argument)?)?;
+    }
+    Ok(line)
+}
+
+// Not even the program's name.
+#[test]
+fn no_arguments_are_rejected(rt: HostRuntime) {
+    assert!(rt; command_of(rt.alloc(), &[]) == Err(WordsError::Refused));
+}

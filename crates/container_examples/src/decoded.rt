@@ -1,0 +1,364 @@
+// Containers of a few bytes, decoded into memory (docs/FORMAT.md), by no worker, by one, and by more than there are
+// segments.
+ghost use Rattle.std.specs.Prelude.{◌≤◌};
+
+use handover::StreamCause;
+use lepton_decode::{DecodeError, prepare, run};
+use outside_core::{MemSink, OpenGate};
+use std::alloc::{AllocError, Global};
+use std::process::Abort;
+use std::sync::Wait;
+use std::test::Fail;
+use std::thread::Threads;
+
+// The numbers of workers, and of the bytes of a ring, that each container is decoded with.
+const WORKERS: &[u8] = &[0, 1, 3, 16];
+
+const RINGS: &[usize] = &[1, 2, 65_536];
+
+// The fields of a container with one record, two or three: a pad bit, a header of 69 bytes or of 75, and a trailer of
+// 2.
+const FRONT: &[u8] = b"LPSG\x01\x01\x01\0\0\0\x45\0\0\0\x02";
+
+const FRONT_PADDED_WITH_ZEROS: &[u8] = b"LPSG\x01\0\x01\0\0\0\x45\0\0\0\x02";
+
+const FRONT_OF_TWO: &[u8] = b"LPSG\x01\x01\x02\0\0\0\x45\0\0\0\x02";
+
+const FRONT_OF_THREE: &[u8] = b"LPSG\x01\x01\x03\0\0\0\x4b\0\0\0\x02";
+
+// A record: nothing begun, two or three bits, one restart marker or two before; and a stream of three bytes, or of the
+// five that four blocks take.
+const START: &[u8] = b"\0\0\0\0\0\0\0\0\0\0\0\0\0\0\0\0\0\0\0\0\0\x03";
+
+const START_OF_FIVE: &[u8] = b"\0\0\0\0\0\0\0\0\0\0\0\0\0\0\0\0\0\0\0\0\0\x05";
+
+const TWO_BITS: &[u8] = b"\0\x02\0\0\0\0\0\0\0\0\0\0\0\0\0\0\0\0\0\0\0\x03";
+
+const THREE_BITS: &[u8] = b"\0\x03\0\0\0\0\0\0\0\0\0\0\0\0\0\0\0\0\0\0\0\x03";
+
+const ONE_MARKER: &[u8] = b"\0\0\0\0\0\0\0\0\0\0\0\0\0\x01\0\0\0\0\0\0\0\x03";
+
+const TWO_MARKERS: &[u8] = b"\0\0\0\0\0\0\0\0\0\0\0\0\0\x02\0\0\0\0\0\0\0\x03";
+
+// Headers of one component, 8 by 8, 8 by 16 and 8 by 32 samples, with one code word in each table; and of one of 8 by
+// 24, with a restart after each MCU.
+const HEADER: &[u8] = b"\xff\xd8\xff\xc0\0\x0b\x08\0\x08\0\x08\x01\x01\x11\0\
+    \xff\xc4\0\x14\0\x01\0\0\0\0\0\0\0\0\0\0\0\0\0\0\0\0\
+    \xff\xc4\0\x14\x10\x01\0\0\0\0\0\0\0\0\0\0\0\0\0\0\0\0\
+    \xff\xda\0\x08\x01\x01\0\0\x3f\0";
+
+const HIGHER: &[u8] = b"\xff\xd8\xff\xc0\0\x0b\x08\0\x10\0\x08\x01\x01\x11\0\
+    \xff\xc4\0\x14\0\x01\0\0\0\0\0\0\0\0\0\0\0\0\0\0\0\0\
+    \xff\xc4\0\x14\x10\x01\0\0\0\0\0\0\0\0\0\0\0\0\0\0\0\0\
+    \xff\xda\0\x08\x01\x01\0\0\x3f\0";
+
+const HIGHEST: &[u8] = b"\xff\xd8\xff\xc0\0\x0b\x08\0\x20\0\x08\x01\x01\x11\0\
+    \xff\xc4\0\x14\0\x01\0\0\0\0\0\0\0\0\0\0\0\0\0\0\0\0\
+    \xff\xc4\0\x14\x10\x01\0\0\0\0\0\0\0\0\0\0\0\0\0\0\0\0\
+    \xff\xda\0\x08\x01\x01\0\0\x3f\0";
+
+const WITH_RESTARTS: &[u8] = b"\xff\xd8\xff\xc0\0\x0b\x08\0\x18\0\x08\x01\x01\x11\0\
+    \xff\xc4\0\x14\0\x01\0\0\0\0\0\0\0\0\0\0\0\0\0\0\0\0\
+    \xff\xc4\0\x14\x10\x01\0\0\0\0\0\0\0\0\0\0\0\0\0\0\0\0\
+    \xff\xdd\0\x04\0\x01\xff\xda\0\x08\x01\x01\0\0\x3f\0";
+
+const TRAILER: &[u8] = b"\xff\xd9";
+
+const ZEROS: &[u8] = b"\0\0\0";
+
+const FIVE_ZEROS: &[u8] = b"\0\0\0\0\0";
+
+// A stream that is not the one of the bits that are read from it.
+const OTHER_END: &[u8] = b"\0\0\x01";
+
+// A container of three segments, and its file, of 84 bytes.
+const THREE: &[&[u8]] = &[
+    FRONT_OF_THREE,
+    START,
+    ONE_MARKER,
+    TWO_MARKERS,
+    WITH_RESTARTS,
+    TRAILER,
+    ZEROS,
+    ZEROS,
+    ZEROS,
+];
+
+const FILE_OF_THREE: &[&[u8]] = &[WITH_RESTARTS, b"\x3f\xff\xd0\x3f\xff\xd1\x3f", TRAILER];
+
+// How a decode ends: with so many bytes, with a fault of the sink after so many, with a fault of a segment's stream,
+// with a pad bit that has to be 1, or before it begins.
+#[derive(Clone, Copy, PartialEq)]
+enum End {
+    Whole(u64),
+    WriteFault(u64),
+    Seam { segment: u8 },
+    StreamBad { segment: u8 },
+    OtherFault,
+    NotBegun,
+    PadSpelling,
+}
+
+// The parts of a container, the room of a sink and the calls of it that fail, how the decode ends, and the parts that
+// the sink holds then.
+type Row<'a> = (&'a [&'a [u8]], usize, &'a [u64], End, &'a [&'a [u8]]);
+
+const FILES: &[Row] = &[
+    (
+        &[FRONT, START, HEADER, TRAILER, ZEROS],
+        100,
+        &[],
+        End::Whole(72),
+        &[HEADER, b"\x3f", TRAILER],
+    ),
+    // A segment without a byte of its own.
+    (
+        &[FRONT_OF_TWO, START, TWO_BITS, HIGHER, TRAILER, ZEROS, ZEROS],
+        100,
+        &[],
+        End::Whole(72),
+        &[HIGHER, b"\x0f", TRAILER],
+    ),
+    (THREE, 84, &[], End::Whole(84), FILE_OF_THREE),
+];
+
+const FAULTS: &[Row] = &[
+    (
+        &[FRONT, START, HEADER, TRAILER, OTHER_END],
+        100,
+        &[],
+        End::StreamBad { segment: 0 },
+        &[HEADER, b"\x3f"],
+    ),
+    // A handover that isn't the one that is reached.
+    (
+        &[
+            FRONT_OF_TWO,
+            START,
+            THREE_BITS,
+            HIGHER,
+            TRAILER,
+            ZEROS,
+            ZEROS,
+        ],
+        100,
+        &[],
+        End::Seam { segment: 0 },
+        &[HIGHER],
+    ),
+    // The first fault of two, and nothing of the segment after it.
+    (
+        &[
+            FRONT_OF_THREE,
+            START,
+            ONE_MARKER,
+            TWO_MARKERS,
+            WITH_RESTARTS,
+            TRAILER,
+            ZEROS,
+            OTHER_END,
+            OTHER_END,
+        ],
+        100,
+        &[],
+        End::StreamBad { segment: 1 },
+        &[WITH_RESTARTS, b"\x3f\xff\xd0\x3f\xff\xd1"],
+    ),
+];
+
+const PADS: &[Row] = &[(
+    &[
+        FRONT_PADDED_WITH_ZEROS,
+        START_OF_FIVE,
+        HIGHEST,
+        TRAILER,
+        FIVE_ZEROS,
+    ],
+    100,
+    &[],
+    End::PadSpelling,
+    &[HIGHEST, b"\0", TRAILER],
+)];
+
+// The header is the first call of the sink, the segment's byte the second, and the trailer the third.
+const FAILED_WRITES: &[Row] = &[
+    (
+        &[FRONT, START, HEADER, TRAILER, ZEROS],
+        100,
+        &[1],
+        End::WriteFault(0),
+        &[],
+    ),
+    (
+        &[FRONT, START, HEADER, TRAILER, ZEROS],
+        100,
+        &[2],
+        End::WriteFault(69),
+        &[HEADER],
+    ),
+    (
+        &[FRONT, START, HEADER, TRAILER, ZEROS],
+        100,
+        &[3],
+        End::WriteFault(70),
+        &[HEADER, b"\x3f"],
+    ),
+    // Room for all but four bytes.
+    (
+        THREE,
+        80,
+        &[],
+        End::WriteFault(80),
+        &[WITH_RESTARTS, b"\x3f\xff\xd0\x3f\xff"],
+    ),
+];
+
+// The bytes of these parts, one after another.
+fn joined(alloc: Global, parts: &[&[u8]]) -> Result<Vec<u8>, AllocError> {
+    let mut all = Vec::new(alloc);
+    for part in parts {
+        all.extend_from_slice(part)?;
+    }
+    Ok(all)
+}
+
+// Each container ends as its row says, whoever decodes it.
+fn come_out<R: Threads + Wait + Abort + Sync>(
+    rt: &R,
+    alloc: Global,
+    rows: &[Row],
+) -> Result<(), AllocError> {
+    for (container, room, fails, end, parts) in rows {
+        let container = joined(alloc, container)?;
+        let held = joined(alloc, parts)?;
+        comes_out(rt, alloc, &container, (*room, fails), (*end, &held))?;
+    }
+    Ok(())
+}
+
+fn comes_out<R: Threads + Wait + Abort + Sync>(
+    rt: &R,
+    alloc: Global,
+    container: &[u8],
+    sink: (usize, &[u64]),
+    wanted: (End, &[u8]),
+) -> Result<(), AllocError> {
+    for workers in WORKERS {
+        for ring in RINGS {
+            assert!(rt;
+                is_decoded(rt, alloc, container, (*workers, *ring), sink, wanted)?,
+                "{workers} workers, rings of {ring}"
+            );
+        }
+    }
+    Ok(())
+}
+
+fn is_decoded<R: Threads + Wait + Abort + Sync>(
+    rt: &R,
+    alloc: Global,
+    container: &[u8],
+    by: (u8, usize),
+    sink: (usize, &[u64]),
+    wanted: (End, &[u8]),
+) -> Result<bool, AllocError> {
+    assert!(rt; by.1 > 0);
+    let mut held = MemSink::new(alloc, sink.0, 100, sink.1)?;
+    let end = decoded(rt, alloc, container, by.0, by.1, &mut held);
+    Ok(end == wanted.0 && held.bytes() == wanted.1)
+}
+
+// How the decode of a container ends.
+fn decoded<R: Threads + Wait + Sync>(
+    rt: &R,
+    alloc: Global,
+    container: &[u8],
+    workers: u8,
+    ring: usize,
+    sink: &mut MemSink,
+) -> End
+    requires { 1 ≤ ring }
+{
+    match prepare(alloc, container, workers, ring) {
+        Ok(mut ready) => end_of(run(&mut ready, rt, sink, &OpenGate)),
+        Err(_) => End::NotBegun,
+    }
+}
+
+fn end_of(ended: Result<u64, DecodeError>) -> End {
+    match ended {
+        Ok(count) => End::Whole(count),
+        Err(error) => end_with(error),
+    }
+}
+
+fn end_with(error: DecodeError) -> End {
+    match error {
+        DecodeError::WriteFault { written } => End::WriteFault(written),
+        DecodeError::PadSpelling => End::PadSpelling,
+        DecodeError::Fault(fault) => end_at(fault.segment, fault.cause),
+    }
+}
+
+// The end at a fault.
+fn end_at(segment: u8, cause: StreamCause) -> End {
+    match cause {
+        StreamCause::Seam { .. } => End::Seam { segment },
+        StreamCause::StreamBad => End::StreamBad { segment },
+        _ => End::OtherFault,
+    }
+}
+
+#[test]
+fn files_come_back(rt: HostRuntime) -> Result<(), Fail> {
+    come_out(&rt, rt.alloc(), FILES)?;
+    Ok(())
+}
+
+#[test]
+fn bytes_before_a_fault_are_written(rt: HostRuntime) -> Result<(), Fail> {
+    come_out(&rt, rt.alloc(), FAULTS)?;
+    Ok(())
+}
+
+#[test]
+fn a_pad_bit_that_is_not_needed_is_1(rt: HostRuntime) -> Result<(), Fail> {
+    come_out(&rt, rt.alloc(), PADS)?;
+    Ok(())
+}
+
+#[test]
+fn a_failed_write_leaves_what_was_written(rt: HostRuntime) -> Result<(), Fail> {
+    come_out(&rt, rt.alloc(), FAILED_WRITES)?;
+    Ok(())
+}
+
+// One byte a call, and each of the 84 calls fails in turn.
+#[test]
+fn a_sink_may_fail_at_any_byte(rt: HostRuntime) -> Result<(), Fail> {
+    let container = joined(rt.alloc(), THREE)?;
+    let file = joined(rt.alloc(), FILE_OF_THREE)?;
+    for written in 0..84 {
+        assert!(rt;
+            fails_after(&rt, rt.alloc(), &container, &file, written)?,
+            "after {written} bytes"
+        );
+    }
+    Ok(())
+}
+
+fn fails_after<R: Threads + Wait + Sync>(
+    rt: &R,
+    alloc: Global,
+    container: &[u8],
+    file: &[u8],
+    written: u8,
+) -> Result<bool, AllocError> {
+    let fails = [u64::from(written) + 1];
+    let mut sink = MemSink::new(alloc, 84, 1, &fails)?;
+    let end = decoded(rt, alloc, container, 3, 1, &mut sink);
+    Ok(
+        end == End::WriteFault(u64::from(written))
+            && Some(sink.bytes()) == file.get(..usize::from(written)),
+    )
+}

@@ -1,0 +1,11 @@
+//! Containers, the starts of segments, and decodes, worked by hand: what the built program doesn't show (`tests/rows`).
+#![tactic(auto)]
+
+#[cfg(test)]
+mod boxes;
+#[cfg(test)]
+mod decoded;
+#[cfg(test)]
+mod starts;
+#[cfg(test)]
+mod steps;

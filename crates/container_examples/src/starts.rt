@@ -1,0 +1,185 @@
+// Where the segments of small files start, and their streams.
+ghost use Rattle.std.specs.Prelude.{◌<◌, length};
+
+use handover::Handover;
+use jpeg_marker::read_header;
+use scan_text::ScanRefusal;
+use segment_code::{FindError, Starts, encode_segment, find_starts};
+use std::alloc::{AllocError, Global};
+use std::test::Fail;
+
+// A segment's row of MCUs, its place, and of its handover the byte begun, the bits of it, and the restart markers; each
+// DC is 0.
+type Start = (u32, usize, u8, u8, u32);
+
+// The parts of a header, the bytes after it, how many segments are asked for; their starts and the trailer's place.
+type Row<'a> = (&'a [&'a [u8]], &'a [u8], u8, &'a [Start], usize);
+
+// What each header here begins and ends with.
+const START: &[u8] = b"\xff\xd8";
+
+const GREY_SCAN: &[u8] = b"\xff\xda\0\x08\x01\x01\0\0\x3f\0";
+
+// Grey, 8 samples wide, and 16, 32 or 40 high.
+const TWO_HIGH: &[u8] = b"\xff\xc0\0\x0b\x08\0\x10\0\x08\x01\x01\x11\0";
+
+const FOUR_HIGH: &[u8] = b"\xff\xc0\0\x0b\x08\0\x20\0\x08\x01\x01\x11\0";
+
+const FIVE_HIGH: &[u8] = b"\xff\xc0\0\x0b\x08\0\x28\0\x08\x01\x01\x11\0";
+
+// A restart after each MCU.
+const RESTARTS: &[u8] = b"\xff\xdd\0\x04\0\x01";
+
+// `0` for DC category 0, and `0` for the end of a block: a block of zeros is `00`.
+const LEVEL: &[u8] = b"\xff\xc4\0\x14\0\x01\0\0\0\0\0\0\0\0\0\0\0\0\0\0\0\0";
+
+const END: &[u8] = b"\xff\xc4\0\x14\x10\x01\0\0\0\0\0\0\0\0\0\0\0\0\0\0\0\0";
+
+// `1` for DC category 0, and `1` for the end of a block: a block of zeros is `11`.
+const ONES: &[u8] = b"\xff\xc4\0\x15\0\x02\0\0\0\0\0\0\0\0\0\0\0\0\0\0\0\x01\0";
+
+const ONES_AND_END: &[u8] = b"\xff\xc4\0\x15\x10\x02\0\0\0\0\0\0\0\0\0\0\0\0\0\0\0\x01\0";
+
+// The stream of a segment that is one block of zeros.
+const BLANK: &[u8] = &[0, 0, 0];
+
+const FILES: &[Row<'static>] = &[
+    // A segment without a byte of its own.
+    (
+        &[START, TWO_HIGH, LEVEL, END, GREY_SCAN],
+        b"\x0f\xff\xd9",
+        2,
+        &[(0, 69, 0, 0, 0), (1, 69, 0, 2, 0)],
+        70,
+    ),
+    // One byte across four segments, and the zero that is stuffed after it.
+    (
+        &[START, FOUR_HIGH, ONES, ONES_AND_END, GREY_SCAN],
+        b"\xff\0\xff\xd9",
+        4,
+        &[
+            (0, 71, 0, 0, 0),
+            (1, 71, 0xc0, 2, 0),
+            (2, 71, 0xf0, 4, 0),
+            (3, 71, 0xfc, 6, 0),
+        ],
+        73,
+    ),
+    // A restart marker on the seam.
+    (
+        &[START, TWO_HIGH, LEVEL, END, RESTARTS, GREY_SCAN],
+        b"\x3f\xff\xd0\x3f\xff\xd9",
+        2,
+        &[(0, 75, 0, 0, 0), (1, 78, 0, 0, 1)],
+        79,
+    ),
+    // No more segments than rows.
+    (
+        &[START, TWO_HIGH, LEVEL, END, GREY_SCAN],
+        b"\x0f\xff\xd9",
+        16,
+        &[(0, 69, 0, 0, 0), (1, 69, 0, 2, 0)],
+        70,
+    ),
+];
+
+#[test]
+fn segments_start(rt: HostRuntime) -> Result<(), Fail> {
+    for (header, scan, segments, starts, trailer) in FILES {
+        let bytes = joined(rt.alloc(), header, scan)?;
+        assert!(rt;
+            are_found(rt.alloc(), &bytes, *segments, starts, *trailer)?,
+            "{bytes:?}"
+        );
+    }
+    Ok(())
+}
+
+fn joined(alloc: Global, header: &[&[u8]], scan: &[u8]) -> Result<Vec<u8>, AllocError> {
+    let mut bytes = Vec::new(alloc);
+    for part in header {
+        bytes.extend_from_slice(part)?;
+    }
+    bytes.extend_from_slice(scan)?;
+    Ok(bytes)
+}
+
+// Whether the segments of a file start there, and their streams are those of blocks of zeros.
+fn are_found(
+    alloc: Global,
+    bytes: &[u8],
+    segments: u8,
+    wanted: &[Start],
+    trailer: usize,
+) -> Result<bool, AllocError> {
+    let Ok(plan) = read_header(bytes) else {
+        return Ok(false);
+    };
+    if segments == 0 {
+        return Ok(false);
+    }
+    let Ok(starts) = find_starts(alloc, &plan, bytes, segments) else {
+        return Ok(false);
+    };
+    if !(are_starts(&starts, wanted) && starts.pad() && starts.trailer() == trailer) {
+        return Ok(false);
+    }
+    for segment in 0..starts.segments() {
+        let stream = encode_segment(alloc, &plan, bytes, &starts, segment)?;
+        if stream.as_slice() != BLANK {
+            return Ok(false);
+        }
+    }
+    Ok(true)
+}
+
+fn are_starts(starts: &Starts, wanted: &[Start]) -> bool {
+    let segments = starts.segments();
+    if usize::from(segments) != wanted.len() || starts.handovers().len() != wanted.len() {
+        return false;
+    }
+    for segment in 0..segments {
+        if !is_start(starts, segment, wanted[usize::from(segment)]) {
+            return false;
+        }
+    }
+    true
+}
+
+fn is_start(starts: &Starts, segment: u8, wanted: Start) -> bool
+    requires { segment < length starts.now.rows }
+{
+    let (row, place, partial, bits, restarts) = wanted;
+    starts.row(segment) == row
+        && starts.place(segment) == place
+        && has_fields(&starts.handover(segment), partial, bits, restarts)
+}
+
+fn has_fields(handover: &Handover, partial: u8, bits: u8, restarts: u32) -> bool {
+    handover.partial() == partial
+        && handover.bits() == bits
+        && handover.preds() == [0; 4]
+        && handover.restarts() == restarts
+}
+
+// A scan without its last MCU.
+#[test]
+fn a_scan_is_cut(rt: HostRuntime) -> Result<(), Fail> {
+    let header = [START, FIVE_HIGH, LEVEL, END, GREY_SCAN];
+    let bytes = joined(rt.alloc(), &header, b"\0")?;
+    assert!(rt; refusal(rt.alloc(), &bytes, 2) == Some(ScanRefusal::ScanCut { place: 70 }));
+    Ok(())
+}
+
+fn refusal(alloc: Global, bytes: &[u8], segments: u8) -> Option<ScanRefusal> {
+    let Ok(plan) = read_header(bytes) else {
+        return None;
+    };
+    if segments == 0 {
+        return None;
+    }
+    match find_starts(alloc, &plan, bytes, segments) {
+        Err(FindError::Scan(refusal)) => Some(refusal),
+        Err(FindError::NoMemory) | Ok(_) => None,
+    }
+}

@@ -1,0 +1,304 @@
+// Worked scans that are read, and scans that are refused, with places.
+use crate::headers::{
+    COLOUR, ELEVEN, END, FIFTEEN_ZEROS, FIVE_HIGH, FOUR_HIGH, GREY, Header, LEVEL, MOST_BLOCKS,
+    ONES, ONES_AND_END, RUN_OF_NOTHING, SEVENTEEN_HIGH, STEPS, TEN_HIGH, THREE_ZEROS, TOO_LARGE,
+    TWELVE, TWO_HIGH, ZEROS_AND_END, append, header_of, planned,
+};
+use crate::values::{Value, mcu_of};
+use coef_block::Block;
+use huff_table::PlanCodes;
+use jpeg_marker::Plan;
+use scan_decode::Reader;
+use scan_text::{MOST_SLOTS, ScanRefusal};
+use std::process::Abort;
+
+// The coefficients that aren't 0, how many blocks there are, the pad bit, and how many bytes the scan has.
+type Read<'a> = (&'a [Value], usize, Option<bool>, usize);
+
+// The segments of a header, the bytes after it, and what is read.
+const READ: &[(Header, &[u8], Read<'static>)] = &[
+    // The least scan, and what follows it.
+    (
+        [GREY, LEVEL, END, 0],
+        b"\x3f\xff\xd9",
+        (&[], 1, Some(true), 1),
+    ),
+    ([GREY, LEVEL, END, 0], b"\x3f", (&[], 1, Some(true), 1)),
+    (
+        [GREY, LEVEL, END, 0],
+        b"\0\xff\xd9",
+        (&[], 1, Some(false), 1),
+    ),
+    // Restart markers, their numbers round again after the eighth.
+    (
+        [TWO_HIGH, LEVEL, END, 1],
+        b"\x3f\xff\xd0\x3f\xff\xd9",
+        (&[], 2, Some(true), 4),
+    ),
+    (
+        [TEN_HIGH, LEVEL, END, 1],
+        b"\x3f\xff\xd0\x3f\xff\xd1\x3f\xff\xd2\x3f\xff\xd3\x3f\xff\xd4\x3f\xff\xd5\x3f\xff\xd6\x3f\xff\xd7\x3f\xff\xd0\x3f",
+        (&[], 10, Some(true), 28),
+    ),
+    // The predictor begins at 0 again after a restart.
+    (
+        [TWO_HIGH, STEPS, END, 1],
+        b"\xdf\xff\xd0\xdf",
+        (&[(0, 0, 1), (1, 0, 1)], 2, Some(true), 4),
+    ),
+    // No bit is padded; padding makes 0xff.
+    (
+        [FOUR_HIGH, ONES, ONES_AND_END, 0],
+        b"\xff\0\xff\xd9",
+        (&[], 4, None, 2),
+    ),
+    (
+        [GREY, ONES, ONES_AND_END, 0],
+        b"\xff\0\xff\xd9",
+        (&[], 1, Some(true), 2),
+    ),
+    // Differences of the DC, and a coefficient of the inside.
+    (
+        [GREY, STEPS, END, 0],
+        b"\xdf",
+        (&[(0, 0, 1)], 1, Some(true), 1),
+    ),
+    (
+        [TWO_HIGH, STEPS, END, 0],
+        b"\xc7",
+        (&[(0, 0, 1), (1, 0, 1)], 2, Some(true), 1),
+    ),
+    (
+        [GREY, LEVEL, THREE_ZEROS, 0],
+        b"\x1f",
+        (&[(0, 4, -1)], 1, Some(true), 1),
+    ),
+    // Six blocks in an MCU.
+    ([COLOUR, LEVEL, END, 0], b"\0\x0f", (&[], 6, Some(true), 2)),
+];
+
+#[test]
+fn scans_are_read(rt: HostRuntime) {
+    for (header, scan, wanted) in READ {
+        let mut bytes = header_of(&rt, rt.alloc(), *header);
+        let place = bytes.len();
+        append(&rt, &mut bytes, scan);
+        let plan = planned(&rt, &bytes);
+        assert!(rt; is_read(&rt, &plan, &bytes, place, *wanted), "{scan:?}");
+    }
+}
+
+fn is_read(rt: &impl Abort, plan: &Plan, bytes: &[u8], place: usize, wanted: Read) -> bool {
+    let mut reader = Reader::start(plan, &PlanCodes::build(plan), bytes, place);
+    let (values, count, pad, length) = wanted;
+    if reader.place() != place {
+        return false;
+    }
+    let mut seen = 0;
+    for _ in 0..plan.mcus() {
+        seen = after_mcu(rt, &mut reader, seen, values);
+    }
+    let (bit, end) = reader.end();
+    reader.at_end() && seen == count && bit == pad && end.checked_sub(place) == Some(length)
+}
+
+// Reads an MCU of these coefficients, `seen` blocks being read before; answers how many are read then.
+fn after_mcu(rt: &impl Abort, reader: &mut Reader, seen: usize, values: &[Value]) -> usize {
+    let count = reader.mcu_blocks();
+    let wanted = mcu_of(rt, seen, count, values);
+    let mut blocks = [Block::zero(); MOST_SLOTS];
+    assert!(rt; !reader.at_end());
+    assert!(rt;
+        reader.next_mcu(&mut blocks[..count]) == Ok(()),
+        "at {seen}"
+    );
+    assert!(rt; blocks[..count] == wanted[..count], "at {seen}");
+    assert!(rt; seen < 1000);
+    seen + count
+}
+
+// Each DC is 2,047 more than the one before: the seventeenth is beyond 32,767.
+const CLIMB: &[u8] =
+    b"\x7f\xf3\xff\x00\x9f\xfc\xff\x00\xe7\xff\x00\x3f\xf9\xff\x00\xcf\xfe\x7f\xf3\xff\x00\x9f\xfc\xff\x00\xe7\xff\x00\x3f\xf9\xff\x00\xcf\xfe\x7f\xf7";
+
+// The segments of a header, the bytes after it, and the refusal. Its place counts from the header's end.
+const REFUSED: &[(Header, &[u8], ScanRefusal)] = &[
+    // Pad bits that differ, in one byte and in two intervals.
+    (
+        [GREY, LEVEL, END, 0],
+        b"\x2f",
+        ScanRefusal::MixedPad { place: 0 },
+    ),
+    (
+        [TWO_HIGH, LEVEL, END, 1],
+        b"\x3f\xff\xd0\0\xff\xd9",
+        ScanRefusal::MixedPad { place: 3 },
+    ),
+    // Markers that are due: another one, another byte, half of one, none.
+    (
+        [TWO_HIGH, LEVEL, END, 1],
+        b"\x3f\xff\xd1\x3f",
+        ScanRefusal::RestartBad { place: 1 },
+    ),
+    (
+        [TWO_HIGH, LEVEL, END, 1],
+        b"\x3f\xff\xff\xd0\x3f",
+        ScanRefusal::RestartBad { place: 1 },
+    ),
+    (
+        [TWO_HIGH, LEVEL, END, 1],
+        b"\x3f\0",
+        ScanRefusal::RestartBad { place: 1 },
+    ),
+    (
+        [TWO_HIGH, LEVEL, END, 1],
+        b"\x3f\xff",
+        ScanRefusal::ScanCut { place: 2 },
+    ),
+    (
+        [TWO_HIGH, LEVEL, END, 1],
+        b"\x3f",
+        ScanRefusal::ScanCut { place: 1 },
+    ),
+    // Padding makes 0xff, and the zero stuffed after it is missing.
+    (
+        [GREY, ONES, ONES_AND_END, 0],
+        b"\xff\xff\xd9",
+        ScanRefusal::MarkerInScan { place: 0 },
+    ),
+    // Sixteen zeros before the end of a block, and past its last coefficient.
+    (
+        [GREY, LEVEL, ZEROS_AND_END, 0],
+        b"\x3f",
+        ScanRefusal::LooseZeros { place: 0 },
+    ),
+    (
+        [GREY, LEVEL, ZEROS_AND_END, 0],
+        b"\0",
+        ScanRefusal::RunPast { place: 0 },
+    ),
+    // Fifteen zeros and a value, the fourth time past the last coefficient.
+    (
+        [GREY, LEVEL, FIFTEEN_ZEROS, 0],
+        b"\0\0",
+        ScanRefusal::RunPast { place: 0 },
+    ),
+    // A cut, a marker, and nothing after the header of most blocks.
+    (
+        [FIVE_HIGH, LEVEL, END, 0],
+        b"\0",
+        ScanRefusal::ScanCut { place: 1 },
+    ),
+    (
+        [FIVE_HIGH, LEVEL, END, 0],
+        b"\0\xff",
+        ScanRefusal::ScanCut { place: 2 },
+    ),
+    (
+        [GREY, LEVEL, END, 0],
+        b"\xff\xd9",
+        ScanRefusal::MarkerInScan { place: 0 },
+    ),
+    (
+        [MOST_BLOCKS, LEVEL, END, 0],
+        b"",
+        ScanRefusal::ScanCut { place: 0 },
+    ),
+    // Sixteen bits that are no word.
+    (
+        [GREY, LEVEL, END, 0],
+        b"\x80\0\0",
+        ScanRefusal::CodeBad { place: 1 },
+    ),
+    // Symbols that no block has: a DC of category 12, coefficients of category 11 and 0.
+    (
+        [GREY, TWELVE, END, 0],
+        b"\0\0",
+        ScanRefusal::SymbolBad { place: 0 },
+    ),
+    (
+        [GREY, LEVEL, TOO_LARGE, 0],
+        b"\0\0",
+        ScanRefusal::SymbolBad { place: 0 },
+    ),
+    (
+        [GREY, LEVEL, RUN_OF_NOTHING, 0],
+        b"\0\0",
+        ScanRefusal::SymbolBad { place: 0 },
+    ),
+    // A DC beyond 32,767.
+    (
+        [SEVENTEEN_HIGH, ELEVEN, END, 0],
+        CLIMB,
+        ScanRefusal::DcRange { place: 35 },
+    ),
+];
+
+#[test]
+fn scans_are_refused(rt: HostRuntime) {
+    for (header, scan, refusal) in REFUSED {
+        let mut bytes = header_of(&rt, rt.alloc(), *header);
+        let place = bytes.len();
+        append(&rt, &mut bytes, scan);
+        let plan = planned(&rt, &bytes);
+        assert!(rt; is_refused(&rt, &plan, &bytes, place, *refusal), "{scan:?}");
+    }
+}
+
+// Whether the refusal comes, and comes again.
+fn is_refused(
+    rt: &impl Abort,
+    plan: &Plan,
+    bytes: &[u8],
+    place: usize,
+    wanted: ScanRefusal,
+) -> bool {
+    let mut reader = Reader::start(plan, &PlanCodes::build(plan), bytes, place);
+    for _ in 0..plan.mcus() {
+        if let Err(refusal) = next_mcu(rt, &mut reader) {
+            return from_header(refusal, place) == wanted
+                && next_mcu(rt, &mut reader) == Err(refusal);
+        }
+    }
+    false
+}
+
+fn next_mcu(rt: &impl Abort, reader: &mut Reader) -> Result<(), ScanRefusal> {
+    let mut blocks = [Block::zero(); MOST_SLOTS];
+    assert!(rt; !reader.at_end());
+    let out = &mut blocks[..reader.mcu_blocks()];
+    reader.next_mcu(out)
+}
+
+// A refusal by its place from the header's end on.
+fn from_header(refusal: ScanRefusal, end: usize) -> ScanRefusal {
+    match refusal {
+        ScanRefusal::ScanCut { place } => ScanRefusal::ScanCut {
+            place: place.wrapping_sub(end),
+        },
+        ScanRefusal::CodeBad { place } => ScanRefusal::CodeBad {
+            place: place.wrapping_sub(end),
+        },
+        ScanRefusal::SymbolBad { place } => ScanRefusal::SymbolBad {
+            place: place.wrapping_sub(end),
+        },
+        ScanRefusal::RunPast { place } => ScanRefusal::RunPast {
+            place: place.wrapping_sub(end),
+        },
+        ScanRefusal::LooseZeros { place } => ScanRefusal::LooseZeros {
+            place: place.wrapping_sub(end),
+        },
+        ScanRefusal::DcRange { place } => ScanRefusal::DcRange {
+            place: place.wrapping_sub(end),
+        },
+        ScanRefusal::MarkerInScan { place } => ScanRefusal::MarkerInScan {
+            place: place.wrapping_sub(end),
+        },
+        ScanRefusal::RestartBad { place } => ScanRefusal::RestartBad {
+            place: place.wrapping_sub(end),
+        },
+        ScanRefusal::MixedPad { place } => ScanRefusal::MixedPad {
+            place: place.wrapping_sub(end),
+        },
+    }
+}

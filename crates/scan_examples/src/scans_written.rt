@@ -1,0 +1,330 @@
+// Worked scans that are written, and blocks that have no bits.
+use crate::headers::{
+    COLOUR, ELEVEN, END, FOUR_HIGH, GREY, Header, LEVEL, LONG_ELEVEN, LONG_TEN, ONES, ONES_AND_END,
+    RUNS, SHORT_K5, STEPS, TABLE_K3, TEN_BLOCKS, TEN_HIGH, THREE_HIGH, THREE_ZEROS, TWO_HIGH,
+    TWO_WIDE, plan_of,
+};
+use crate::values::{Value, mcu_of, put};
+use bit_list::{BitOut, Piece};
+use coef_block::Block;
+use huff_table::PlanCodes;
+use jpeg_marker::Plan;
+use scan_text::{MOST_SLOTS, WriteStop};
+use scan_write::{Writer, mcu_room};
+use std::alloc::Global;
+use std::process::Abort;
+
+// A header, the pad bit, the bytes of zero blocks, and whether a bit is padded.
+const ZEROS: &[(Header, bool, &[u8], bool)] = &[
+    // Zero block and ones.
+    ([GREY, LEVEL, END, 0], true, b"\x3f", true),
+    // Zero block and zeros.
+    ([GREY, LEVEL, END, 0], false, b"\0", true),
+    // Two blocks in a byte.
+    ([TWO_WIDE, LEVEL, END, 0], true, b"\x0f", true),
+    // Full byte is not padded.
+    ([FOUR_HIGH, ONES, ONES_AND_END, 0], true, b"\xff\0", false),
+    // Padding makes ff.
+    ([GREY, ONES, ONES_AND_END, 0], true, b"\xff\0", true),
+    // One restart.
+    ([TWO_HIGH, LEVEL, END, 1], true, b"\x3f\xff\xd0\x3f", true),
+    // Two restarts and zeros.
+    (
+        [THREE_HIGH, LEVEL, END, 1],
+        false,
+        b"\0\xff\xd0\0\xff\xd1\0",
+        true,
+    ),
+    // Two restarts.
+    (
+        [THREE_HIGH, LEVEL, END, 1],
+        true,
+        b"\x3f\xff\xd0\x3f\xff\xd1\x3f",
+        true,
+    ),
+    // Marker numbers go round.
+    (
+        [TEN_HIGH, LEVEL, END, 1],
+        true,
+        &[
+            0x3f, 0xff, 0xd0, 0x3f, 0xff, 0xd1, 0x3f, 0xff, 0xd2, 0x3f, 0xff, 0xd3, 0x3f, 0xff,
+            0xd4, 0x3f, 0xff, 0xd5, 0x3f, 0xff, 0xd6, 0x3f, 0xff, 0xd7, 0x3f, 0xff, 0xd0, 0x3f,
+        ],
+        true,
+    ),
+    // Last interval is shorter.
+    ([THREE_HIGH, LEVEL, END, 2], true, b"\x0f\xff\xd0\x3f", true),
+    // No marker after a whole last interval.
+    ([TWO_HIGH, LEVEL, END, 2], true, b"\x0f", true),
+    // Six blocks.
+    ([COLOUR, LEVEL, END, 0], true, b"\0\x0f", true),
+];
+
+#[test]
+fn zero_blocks_are_written(rt: HostRuntime) {
+    for (header, pad, bytes, padded) in ZEROS {
+        let written = is_written(&rt, rt.alloc(), *header, *pad, &[], bytes, *padded);
+        assert!(rt; written, "{bytes:?}");
+    }
+}
+
+// A header, the coefficients that aren't 0, the bytes, and whether a bit is padded.
+const VALUES: &[(Header, &[Value], &[u8], bool)] = &[
+    // One step.
+    ([GREY, STEPS, END, 0], &[(0, 0, 1)], b"\xdf", true),
+    // Second difference is zero.
+    (
+        [TWO_HIGH, STEPS, END, 0],
+        &[(0, 0, 1), (1, 0, 1)],
+        b"\xc7",
+        true,
+    ),
+    // Difference begins anew after a restart.
+    (
+        [TWO_HIGH, STEPS, END, 1],
+        &[(0, 0, 1), (1, 0, 1)],
+        b"\xdf\xff\xd0\xdf",
+        true,
+    ),
+    // Largest difference.
+    ([GREY, ELEVEN, END, 0], &[(0, 0, 2047)], b"\x7f\xf7", true),
+    // Least difference.
+    ([GREY, ELEVEN, END, 0], &[(0, 0, -2047)], b"\0\x07", true),
+    // Each component has its own difference.
+    (
+        [COLOUR, STEPS, END, 0],
+        &[(0, 0, 1), (1, 0, 1), (2, 0, 1), (3, 0, 1), (5, 0, -1)],
+        b"\xc0\x13",
+        true,
+    ),
+    // Three zeros and a value.
+    ([GREY, LEVEL, THREE_ZEROS, 0], &[(0, 4, -1)], b"\x1f", true),
+    // Twice sixteen zeros.
+    ([GREY, LEVEL, RUNS, 0], &[(0, 33, 1)], b"\x17\xff\0", true),
+    // No end after the last coefficient.
+    ([GREY, LEVEL, RUNS, 0], &[(0, 63, -1)], b"\x0c", false),
+    // Differences 12 and 3, and the coefficients -2, -1, -1, -1 and, after two zeros, -1.
+    (
+        [TWO_WIDE, TABLE_K3, SHORT_K5, 0],
+        &[
+            (0, 0, 12),
+            (1, 0, 15),
+            (1, 2, -2),
+            (1, 3, -1),
+            (1, 4, -1),
+            (1, 5, -1),
+            (1, 8, -1),
+        ],
+        b"\xb9\x4f\xda\0\xe2\xbf",
+        true,
+    ),
+];
+
+#[test]
+fn values_are_written(rt: HostRuntime) {
+    for (header, values, bytes, padded) in VALUES {
+        let written = is_written(&rt, rt.alloc(), *header, true, values, bytes, *padded);
+        assert!(rt; written, "{bytes:?}");
+    }
+}
+
+// Whether these are the scan's bytes, and a bit is padded or not.
+fn is_written(
+    rt: &impl Abort,
+    alloc: Global,
+    header: Header,
+    pad: bool,
+    values: &[Value],
+    bytes: &[u8],
+    padded: bool,
+) -> bool {
+    let plan = plan_of(rt, alloc, header);
+    let mut out = Piece::new(alloc).expect(rt, "memory");
+    let mut writer = Writer::start(&plan, &PlanCodes::build(&plan), pad);
+    put_mcus(rt, &mut writer, plan.mcus(), values, &mut out);
+    writer.at_end() && writer.padded() == padded && out.bytes() == bytes
+}
+
+fn put_mcus(rt: &impl Abort, writer: &mut Writer, count: u32, values: &[Value], out: &mut Piece) {
+    for number in 0..count {
+        assert!(rt;
+            put_mcu(rt, writer, number, values, out) == Ok(()),
+            "MCU {number}"
+        );
+    }
+}
+
+// Writes MCU `number` of a scan with these coefficients.
+fn put_mcu(
+    rt: &impl Abort,
+    writer: &mut Writer,
+    number: u32,
+    values: &[Value],
+    out: &mut Piece,
+) -> Result<(), WriteStop> {
+    let count = writer.mcu_blocks();
+    assert!(rt; number < 1000);
+    let blocks = mcu_of(rt, number as usize * count, count, values);
+    assert!(rt; !writer.at_end());
+    assert!(rt; out.free() >= mcu_room());
+    writer.mcu(&blocks[..count], out)
+}
+
+// A header, the coefficients that aren't 0, how many MCUs are written, their bytes, and the stop of the next one.
+const STOPPED: &[(Header, &[Value], u32, &[u8], WriteStop)] = &[
+    // No word for a category.
+    (
+        [GREY, LEVEL, END, 0],
+        &[(0, 0, 1)],
+        0,
+        b"",
+        WriteStop::NoCode,
+    ),
+    // No word for a coefficient.
+    (
+        [GREY, LEVEL, END, 0],
+        &[(0, 63, 1)],
+        0,
+        b"",
+        WriteStop::NoCode,
+    ),
+    // Difference of 2048.
+    (
+        [GREY, LEVEL, END, 0],
+        &[(0, 0, 2048)],
+        0,
+        b"",
+        WriteStop::DiffRange,
+    ),
+    // Difference of minus 2048.
+    (
+        [GREY, ELEVEN, END, 0],
+        &[(0, 0, -2048)],
+        0,
+        b"",
+        WriteStop::DiffRange,
+    ),
+    // Difference of the largest DCs.
+    (
+        [COLOUR, LONG_ELEVEN, END, 0],
+        &[(0, 0, 2), (1, 0, 32767), (2, 0, -32767)],
+        0,
+        b"",
+        WriteStop::DiffRange,
+    ),
+    // Sixth block of an MCU: the first five have bits.
+    (
+        [COLOUR, LEVEL, END, 0],
+        &[(5, 1, 1)],
+        0,
+        b"",
+        WriteStop::NoCode,
+    ),
+    // Second interval.
+    (
+        [TWO_HIGH, STEPS, END, 1],
+        &[(0, 0, 1), (1, 0, 2)],
+        1,
+        b"\xdf\xff\xd0",
+        WriteStop::NoCode,
+    ),
+];
+
+#[test]
+fn scans_are_stopped(rt: HostRuntime) {
+    for (header, values, count, bytes, stop) in STOPPED {
+        let plan = plan_of(&rt, rt.alloc(), *header);
+        let mut out = Piece::new(rt.alloc()).expect(&rt, "memory");
+        assert!(rt;
+            stops(&rt, &plan, values, *count, bytes, *stop, &mut out),
+            "{values:?}"
+        );
+    }
+}
+
+// Whether the MCU after these is stopped, twice, and then one that has bits.
+fn stops(
+    rt: &impl Abort,
+    plan: &Plan,
+    values: &[Value],
+    count: u32,
+    bytes: &[u8],
+    stop: WriteStop,
+    out: &mut Piece,
+) -> bool {
+    let mut writer = Writer::start(plan, &PlanCodes::build(plan), true);
+    put_mcus(rt, &mut writer, count, values, out);
+    is_stopped(rt, &mut writer, count, values, stop, out, bytes)
+        && is_stopped(rt, &mut writer, count, values, stop, out, bytes)
+        && is_stopped(rt, &mut writer, count, &[], stop, out, bytes)
+}
+
+// Whether an MCU is stopped, the bytes are these after it, and nothing is padded.
+fn is_stopped(
+    rt: &impl Abort,
+    writer: &mut Writer,
+    number: u32,
+    values: &[Value],
+    stop: WriteStop,
+    out: &mut Piece,
+    bytes: &[u8],
+) -> bool {
+    let padded = writer.padded();
+    put_mcu(rt, writer, number, values, out) == Err(stop)
+        && out.bytes() == bytes
+        && !writer.at_end()
+        && writer.padded() == padded
+}
+
+// DCs that differ by 2,047 from the one before of their component.
+const DCS: [i16; MOST_SLOTS] = [
+    2047, 4094, 6141, 8188, 10235, 12282, 14329, 16376, 2047, 2047,
+];
+
+// Ten blocks of the most bits, in the least room: 2,082 bytes, of which 1,442 are 0xff, after 2,012 markers.
+#[test]
+fn largest_mcu(rt: HostRuntime) {
+    let plan = plan_of(&rt, rt.alloc(), [TEN_BLOCKS, LONG_ELEVEN, LONG_TEN, 0]);
+    let mut out = markers(&rt, rt.alloc());
+    assert!(rt; out.free() == mcu_room());
+    assert!(rt; are_put(&rt, &plan, &mut out));
+    assert!(rt; out.len() == 4024 + 3524 && count_of_ff(out.bytes()) == 2012 + 1442);
+}
+
+// A piece of 2,012 markers.
+fn markers(rt: &impl Abort, alloc: Global) -> Piece {
+    let mut out = Piece::new(alloc).expect(rt, "memory");
+    for _ in 0..2012 {
+        let mut filler = BitOut::at(0, 0);
+        assert!(rt; out.len() < 8000);
+        filler.mark(0xd0, &mut out);
+    }
+    out
+}
+
+// Whether the ten blocks are a whole scan, whose last byte is padded.
+fn are_put(rt: &impl Abort, plan: &Plan, out: &mut Piece) -> bool {
+    let mut blocks = [Block::zero(); MOST_SLOTS];
+    for i in 0..MOST_SLOTS {
+        blocks[i] = full(rt, DCS[i]);
+    }
+    let mut writer = Writer::start(plan, &PlanCodes::build(plan), true);
+    assert!(rt; !writer.at_end());
+    assert!(rt; writer.mcu_blocks() == MOST_SLOTS);
+    assert!(rt; out.free() >= mcu_room());
+    writer.mcu(&blocks, out) == Ok(()) && writer.at_end() && writer.padded()
+}
+
+// A block of this DC and the largest AC coefficients.
+fn full(rt: &impl Abort, dc: i16) -> Block {
+    let mut block = Block::zero();
+    put(rt, &mut block, 0, dc);
+    for index in 1..64 {
+        put(rt, &mut block, index, 1023);
+    }
+    block
+}
+
+fn count_of_ff(bytes: &[u8]) -> usize {
+    bytes.iter().filter(|byte| **byte == 0xff).count()
+}

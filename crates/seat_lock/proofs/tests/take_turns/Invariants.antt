@@ -1,5 +1,0 @@
-use Rattle.seat_lock.specs.Passes.{IsReady, IsFor}
-use Rattle.seat_lock.proofs.tests.take_turns.Given as goal
-
-abbrev pub invariant-loop : goal.invariant-loop
-invariant-loop g l = IsFor l.lock l.pass × IsReady l.pass
