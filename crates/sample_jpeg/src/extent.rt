@@ -4,7 +4,7 @@ ghost use Rattle.sample_jpeg.specs.SampleHeader.{extent_of};
 
 /// Whether a picture has restart intervals, of one row of MCUs each, and how many blocks each of its components has
 /// across and down, which are its MCUs.
-#[derive(Clone, Copy, Debug, PartialEq, Eq)]
+#[derive(Clone, Copy)]
 pub(crate) struct Extent {
     pub(crate) restarts: bool,
     pub(crate) columns: u16,

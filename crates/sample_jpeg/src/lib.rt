@@ -15,6 +15,3 @@ mod laws;
 
 pub use file::sample;
 pub use laws::samples_are_files;
-
-#[cfg(test)]
-mod tests;

@@ -23,7 +23,7 @@ use scan_text::{MOST_SLOTS, ScanRefusal};
 use std::alloc::{AllocError, Global};
 
 /// Why there is no stream.
-#[derive(Clone, Copy, Debug, PartialEq, Eq)]
+#[derive(Clone, Copy)]
 pub(crate) enum EncodeError {
     /// 16 to 24: the bytes after the header begin with no scan that is taken.
     Scan(ScanRefusal),

@@ -25,8 +25,3 @@ pub use find::{FindError, find_starts};
 pub use starts::Starts;
 pub use step::Step;
 pub use stream::encode_segment;
-
-#[cfg(test)]
-mod decoder_tests;
-#[cfg(test)]
-mod tests;
