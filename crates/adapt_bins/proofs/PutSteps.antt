@@ -1,12 +1,13 @@
 -- `Put` after one event more.
-use Rattle.std.specs.Prelude.{◌≡◌, ◌<◌, get_or, set, ℕ, Bool, List, [], ◌∷◌, ◌++◌, length, Some, refl, fold}
+use Rattle.std.specs.Prelude.{◌≡◌, ◌<◌, get_or, set, ℕ, Bool, List, [], ◌∷◌, ◌++◌, length, Option, Some, refl, fold}
 use Rattle.std.specs.Option.{option_map}
 use Rattle.std.proofs.Common.{◌∙◌, sym, ap}
 use Rattle.bool_coder.specs.BoolStream.{Interval, coded, opening, after}
 use Rattle.adapt_bins.specs.Counts.{unseen, counted, prob_of}
 use Rattle.adapt_bins.specs.Events.{bools_of, probability}
-use Rattle.adapt_bins.specs.PutEvents.{HasPut}
+use Rattle.adapt_bins.specs.PutEvents.{HasPut, LocalHasPut}
 use Rattle.adapt_bins.specs.declared.put.Put.{Put}
+use Rattle.adapt_bins.specs.declared.put_local.PutLocal.{PutLocal}
 use Rattle.adapt_bins.proofs.CountedTables.{counted_more, bools_push, probability_is}
 
 -- the interval after one bool more
@@ -21,6 +22,13 @@ interval_more : (events : List (ℕ × Bool)) (bin prob : ℕ) (bit : Bool) → 
 interval_more events bin prob bit is =
     rw (bools_push events (bin, bit), is) (sym (coded_push opening (bools_of events) (probability events bin, bit)))
 
+-- what an encoder has coded after one event more
+encoder_more : (old new : Option Interval) (events : List (ℕ × Bool)) (bin prob : ℕ) (bit : Bool) → prob ≡ probability events bin
+    → new ≡ option_map (λ i. after i (prob, bit)) old → old ≡ Some (coded (bools_of events))
+    → new ≡ Some (coded (bools_of (events ++ (bin, bit) ∷ [])))
+encoder_more old new events bin prob bit is goes was =
+    goes ∙ ap (option_map (λ i. after i (prob, bit))) was ∙ ap Some (interval_more events bin prob bit is)
+
 -- a bool of the bin's probability, and its bit counted
 pub has_put_one_more : (s t : Put) (events : List (ℕ × Bool)) (bin prob : ℕ) (bit : Bool) → bin < length s.bins.now
     → prob ≡ prob_of (get_or s.bins.now bin unseen)
@@ -31,7 +39,18 @@ has_put_one_more s t events bin prob bit within is bins encoder has =
     let p = probability_is s.bins.now events bin prob within has.bins is in
     record {
       bins = rw bins (counted_more s.bins.now events bin bit within has.bins);
-      encoder =
-          encoder ∙ ap (option_map (λ i. after i (prob, bit))) has.encoder
-          ∙ ap Some (interval_more events bin prob bit p);
+      encoder = encoder_more s.encoder.now t.encoder.now events bin prob bit p encoder has.encoder;
+    }
+
+-- the same of bins and an encoder that are owned
+pub local_one_more : (s t : PutLocal) (events : List (ℕ × Bool)) (bin prob : ℕ) (bit : Bool) → bin < length s.bins
+    → prob ≡ prob_of (get_or s.bins bin unseen)
+    → t.bins ≡ set s.bins bin (counted (get_or s.bins bin unseen) bit)
+    → t.encoder ≡ option_map (λ i. after i (prob, bit)) s.encoder
+    → LocalHasPut s events → LocalHasPut t (events ++ (bin, bit) ∷ [])
+local_one_more s t events bin prob bit within is bins encoder has =
+    let p = probability_is s.bins events bin prob within has.bins is in
+    record {
+      bins = rw bins (counted_more s.bins events bin bit within has.bins);
+      encoder = encoder_more s.encoder t.encoder events bin prob bit p encoder has.encoder;
     }

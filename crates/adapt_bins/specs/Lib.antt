@@ -1,4 +1,5 @@
 pub mod Counts
+pub mod BinInside
 pub mod Reciprocals
 pub mod Events
 pub mod PutEvents

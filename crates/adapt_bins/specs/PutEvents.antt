@@ -1,9 +1,10 @@
--- What `Put` does with events (own).
+-- What `Put` and `PutLocal` do with events (own).
 use Rattle.std.specs.Prelude.{◌≡◌, ℕ, Bool, List, [], ◌++◌, length, Some, refl}
-use Rattle.std.proofs.Common.{◌∙◌, append_assoc, sym, subst, append-nil}
+use Rattle.std.proofs.Common.{◌∙◌, append_assoc, sym, ap, subst, append-nil}
 use Rattle.bool_coder.specs.BoolStream.{coded}
 use Rattle.adapt_bins.specs.Events.{HasCounted, bools_of}
 use Rattle.adapt_bins.specs.declared.put.Put.{Put}
+use Rattle.adapt_bins.specs.declared.put_local.PutLocal.{PutLocal}
 
 -- the bins have counted these events, and the encoder has coded them
 pub record HasPut (s : Put) (events : List (ℕ × Bool)) : Type 0 where
@@ -35,4 +36,55 @@ puts_joined s t u es fs p q = record {
   room = q.room ∙ p.room;
   on = λ earlier has.
       subst (HasPut u) (append_assoc earlier es fs) (q.on (earlier ++ es) (p.on earlier has));
+}
+
+-- owned bins have counted these events, and the owned encoder has coded them
+pub record LocalHasPut (s : PutLocal) (events : List (ℕ × Bool)) : Type 0 where
+  pub bins : HasCounted s.bins events
+  pub encoder : s.encoder ≡ Some (coded (bools_of events))
+
+-- as many owned bins and the owned encoder have gone on by these events
+pub record LocalPuts (s : PutLocal) (events : List (ℕ × Bool)) (t : PutLocal) : Type 0 where
+  pub room : length t.bins ≡ length s.bins
+  pub on : (earlier : List (ℕ × Bool))
+      → LocalHasPut s earlier → LocalHasPut t (earlier ++ events)
+
+-- no events leave everything as it was
+pub local_none : (s : PutLocal) → LocalPuts s [] s
+local_none s = record {
+  room = refl;
+  on = λ earlier has. subst (LocalHasPut s) (sym (append-nil earlier)) has;
+}
+
+-- events after events
+pub local_joined : (s t u : PutLocal) (es fs : List (ℕ × Bool))
+    → LocalPuts s es t → LocalPuts t fs u → LocalPuts s (es ++ fs) u
+local_joined s t u es fs p q = record {
+  room = q.room ∙ p.room;
+  on = λ earlier has.
+      subst (LocalHasPut u) (append_assoc earlier es fs) (q.on (earlier ++ es) (p.on earlier has));
+}
+
+-- bins and encoder are moved out of s, which leaves m; they put events; moved back into m they make t
+pub puts_moved : (s m t : Put) (from to : PutLocal) (es : List (ℕ × Bool))
+    → from.bins ≡ s.bins.now → from.encoder ≡ s.encoder.now
+    → m.bins.ghost_name ≡ s.bins.ghost_name → m.encoder.ghost_name ≡ s.encoder.ghost_name
+    → LocalPuts from es to
+    → t.bins.now ≡ to.bins → t.encoder.now ≡ to.encoder
+    → t.bins.ghost_name ≡ m.bins.ghost_name → t.encoder.ghost_name ≡ m.encoder.ghost_name
+    → PutsEvents s es t
+puts_moved s m t from to es bins encoder names names' puts back back' loans loans' = record {
+  same_bins = loans ∙ names;
+  same_encoder = loans' ∙ names';
+  room = ap length back ∙ puts.room ∙ ap length bins;
+  on = λ earlier has.
+      let first : LocalHasPut from earlier = record {
+        bins = subst (λ table. HasCounted table earlier) (sym bins) has.bins;
+        encoder = encoder ∙ has.encoder;
+      } in
+      let last = puts.on earlier first in
+      record {
+        bins = subst (λ table. HasCounted table (earlier ++ es)) (sym back) last.bins;
+        encoder = back' ∙ last.encoder;
+      };
 }

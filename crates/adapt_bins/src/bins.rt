@@ -1,10 +1,11 @@
 // A bin's two counts, and tables of bins.
-ghost use Rattle.std.specs.Prelude.{◌≡◌, ◌+◌, ◌/◌, ◌<◌, ◌≤◌, ℕ, IfOk, length, slice_set, replicate, get_or};
-ghost use Rattle.adapt_bins.specs.Counts.{unseen, counts, seen, most_count, with_room, raised, counted, prob_of};
+ghost use Rattle.std.specs.Prelude.{◌≡◌, [], ◌+◌, ◌/◌, ◌<◌, ◌≤◌, ℕ, IfOk, length, slice_set, replicate, get_or};
+ghost use Rattle.adapt_bins.specs.Counts.{unseen, counts, seen, most_count, halved, with_room, raised, counted, prob_of};
 
 use crate::reciprocals::share;
 use std::alloc::{AllocError, Global};
 use std::marker::Model;
+use std::mem::replace;
 
 /// The largest count. Where that of a bit stands there, both are halved before it rises.
 const MOST_COUNT: u8 = 255;
@@ -15,19 +16,24 @@ const MOST_COUNT: u8 = 255;
 pub struct Bin {
     zeros: u8,
     ones: u8,
+    // The probability of a zero, kept so that it is at hand when the next bit comes.
+    prob: u8,
 }
 
 impl Model for Bin {
-    ghost use Rattle.std.specs.Prelude.{◌≤◌};
+    ghost use Rattle.std.specs.Prelude.{refl};
     ghost use Rattle.adapt_bins.specs.Counts.{Counts};
+    ghost use Rattle.adapt_bins.specs.BinInside.{IsBin, counts_of, inside_of};
 
     ghost Value = { Counts };
 
-    ghost view = { λ b. record { zeros = b.zeros; ones = b.ones } };
+    ghost view = { counts_of };
 
-    ghost invariant = { λ b. (1 ≤ b.zeros) × (1 ≤ b.ones) };
+    ghost invariant = { IsBin };
 
-    ghost inverse = { λ c. record { zeros = c.zeros; ones = c.ones } };
+    ghost inverse = { inside_of };
+
+    ghost inverse_ok = { λ b h. let e = h.prob in Prim.rw e refl };
 }
 
 impl Bin {
@@ -35,7 +41,11 @@ impl Bin {
     pub fn new() -> Bin
         ensures { result ≡ unseen }
     {
-        Bin { zeros: 1, ones: 1 }
+        Bin {
+            zeros: 1,
+            ones: 1,
+            prob: 128,
+        }
     }
 
     /// The probability of a zero, from 1 to 255 parts of 256: the share of the zeros in both counts, rounded down.
@@ -44,7 +54,7 @@ impl Bin {
         ensures value { result ≡ prob_of self.now }
         ensures some { 1 ≤ result }
     {
-        share(self.zeros, self.ones)
+        self.prob
     }
 
     /// Counts a bit.
@@ -54,8 +64,10 @@ impl Bin {
     {
         let (zeros, ones) = room_for(self.zeros, self.ones, bit);
         let (zeros, ones) = raised(zeros, ones, bit);
+        let prob = share(zeros, ones);
         self.zeros = zeros;
         self.ones = ones;
+        self.prob = prob;
     }
 }
 
@@ -72,18 +84,38 @@ fn room_for(zeros: u8, ones: u8, bit: bool) -> (u8, u8)
 {
     let seen = if bit { ones } else { zeros };
     if seen == MOST_COUNT {
-        (half(zeros), half(ones))
+        halved(zeros, ones)
     } else {
         (zeros, ones)
     }
 }
 
+// Both counts halved, which is seldom.
+#[cold]
+#[inline(never)]
+fn halved(zeros: u8, ones: u8) -> (u8, u8)
+    requires zeros { 1 ≤ zeros }
+    requires ones { 1 ≤ ones }
+    ensures zeros { result.0 ≡ (halved (counts zeros ones)).zeros }
+    ensures ones { result.1 ≡ (halved (counts zeros ones)).ones }
+    ensures some_zeros { 1 ≤ result.0 }
+    ensures some_ones { 1 ≤ result.1 }
+    ensures less_zeros { result.0 < most_count }
+    ensures less_ones { result.1 < most_count }
+{
+    (half(zeros), half(ones))
+}
+
 // One more of a bit.
 #[inline(always)]
 fn raised(zeros: u8, ones: u8, bit: bool) -> (u8, u8)
-    requires { seen (counts zeros ones) bit < most_count }
+    requires zeros { 1 ≤ zeros }
+    requires ones { 1 ≤ ones }
+    requires room { seen (counts zeros ones) bit < most_count }
     ensures zeros { result.0 ≡ (raised (counts zeros ones) bit).zeros }
     ensures ones { result.1 ≡ (raised (counts zeros ones) bit).ones }
+    ensures some_zeros { 1 ≤ result.0 }
+    ensures some_ones { 1 ≤ result.1 }
 {
     if bit {
         (zeros, ones + 1)
@@ -125,6 +157,18 @@ impl Bins {
     {
         let table = Vec::from_elem(alloc, Bin::new(), n)?;
         Ok(Bins { table })
+    }
+
+    /// Moves the table out, and leaves one with no bins.
+    #[inline(always)]
+    pub(crate) fn moved(&mut self) -> Bins
+        ensures value { result ≡ self.old }
+        ensures left { self.new ≡ [] }
+    {
+        let alloc = *self.table.allocator();
+        Bins {
+            table: replace(&mut self.table, Vec::new(alloc)),
+        }
     }
 
     /// Begins again: as many bins, before the first bit of each.

@@ -32,6 +32,20 @@ impl<'b> Get<'b> {
         Get { bins, decoder }
     }
 
+    /// Moves the coder out, and leaves one with no bins. Its state stays in registers while a local value has it; behind a
+    /// reference all of it is loaded again after each store to a bin.
+    #[inline(always)]
+    pub fn moved(&mut self) -> Get<'b>
+        ensures value { result ≡ self.old }
+        ensures left { self.new.bins ≡ [] }
+        ensures decoder { self.new.decoder ≡ self.old.decoder }
+    {
+        Get {
+            bins: self.bins.moved(),
+            decoder: self.decoder.again(),
+        }
+    }
+
     /// Begins again at another stream, with as many fresh bins. It takes no memory.
     pub fn restart(&mut self, decoder: Decoder<'b>)
         ensures bins { self.new.bins ≡ replicate (length self.old.bins) unseen }

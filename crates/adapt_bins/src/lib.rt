@@ -15,12 +15,11 @@ mod bins;
 mod coder;
 mod get;
 mod put;
+mod put_local;
 mod reciprocals;
 
 pub use bins::{Bin, Bins};
 pub use coder::Coder;
 pub use get::{Get, Never};
 pub use put::Put;
-
-#[cfg(test)]
-mod tests;
+pub use put_local::PutLocal;

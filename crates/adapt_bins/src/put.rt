@@ -4,7 +4,7 @@ ghost use Rattle.bool_coder.specs.BoolStream.{opening};
 ghost use Rattle.adapt_bins.specs.Counts.{unseen};
 ghost use Rattle.adapt_bins.specs.PutEvents.{HasPut};
 
-use crate::{Bins, Coder};
+use crate::{Bins, Coder, PutLocal};
 use bool_coder::Encoder;
 use std::alloc::AllocError;
 
@@ -26,6 +26,35 @@ impl<'a> Put<'a> {
             → encoder.old ≡ Some opening → HasPut result [] }
     {
         Put { bins, encoder }
+    }
+
+    /// Moves bins and encoder out, and leaves a table with no bins and a new encoder. `back` moves them in again.
+    #[inline(always)]
+    pub fn moved(&mut self) -> PutLocal
+        ensures bins { result.bins ≡ self.old.bins.now }
+        ensures encoder { result.encoder ≡ self.old.encoder.now }
+        ensures left_bins { self.new.bins.now ≡ [] }
+        ensures left_encoder { self.new.encoder.now ≡ Some opening }
+        ensures same_bins { self.new.bins.ghost_name ≡ self.old.bins.ghost_name }
+        ensures same_encoder { self.new.encoder.ghost_name ≡ self.old.encoder.ghost_name }
+    {
+        PutLocal {
+            bins: self.bins.moved(),
+            encoder: self.encoder.moved(),
+        }
+    }
+
+    /// Moves bins and an encoder in. After `moved`, what they put in between counts as put here (`puts_moved`).
+    #[inline(always)]
+    pub fn back(&mut self, local: PutLocal)
+        ensures bins { self.new.bins.now ≡ local.bins }
+        ensures encoder { self.new.encoder.now ≡ local.encoder }
+        ensures same_bins { self.new.bins.ghost_name ≡ self.old.bins.ghost_name }
+        ensures same_encoder { self.new.encoder.ghost_name ≡ self.old.encoder.ghost_name }
+    {
+        let PutLocal { bins, encoder } = local;
+        *self.bins = bins;
+        *self.encoder = encoder;
     }
 }
 

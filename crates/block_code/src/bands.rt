@@ -30,7 +30,7 @@ struct InnerBand<'a> {
 }
 
 // The natural position of an inner coefficient.
-#[inline]
+#[inline(always)]
 fn inner_position(place: usize) -> usize
     requires { place < inner_values }
     ensures value { result ≡ slice_index inner_positions place }
@@ -53,12 +53,12 @@ impl Band for InnerBand<'_> {
 
     ghost holds = { λ band. band.class < 2 };
 
-    #[inline]
+    #[inline(always)]
     fn count(&self) -> usize {
         INNER_VALUES
     }
 
-    #[inline]
+    #[inline(always)]
     fn bases(&self, place: usize, remain: u8) -> BinBases {
         let weight = inner_weight(self.neighbours, inner_position(place));
         inner_bases(self.class, place, weight, bits_of(u32::from(remain)))
@@ -66,6 +66,7 @@ impl Band for InnerBand<'_> {
 }
 
 /// Codes the inner coefficients, of which `count` are not 0.
+#[inline(always)]
 pub(crate) fn code_inner<C: Coder>(
     coder: &mut C,
     class: u8,
@@ -102,7 +103,7 @@ struct EdgeBand<'a> {
 }
 
 // The natural position of an edge's coefficient.
-#[inline]
+#[inline(always)]
 fn edge_position(column: bool, place: usize) -> usize
     requires { place < edge_values }
     ensures value { result ≡ slice_index (edge_positions column) place }
@@ -125,12 +126,12 @@ impl Band for EdgeBand<'_> {
 
     ghost holds = { λ band. band.class < 2 };
 
-    #[inline]
+    #[inline(always)]
     fn count(&self) -> usize {
         EDGE_VALUES
     }
 
-    #[inline]
+    #[inline(always)]
     fn bases(&self, place: usize, remain: u8) -> BinBases {
         let weight = edge_weight(self.neighbours, edge_position(self.column, place));
         edge_bases(
@@ -144,6 +145,7 @@ impl Band for EdgeBand<'_> {
 }
 
 // How many values are not 0, of an edge's that may be given.
+#[inline(always)]
 fn nonzeros_in(values: Option<&[i32]>) -> Option<u8>
     requires { IfSome values (λ w. length w.now ≤ inner_values) }
     ensures { result ≡ option_map (λ w. nonzeros w.now) values.entry }
@@ -156,6 +158,7 @@ fn nonzeros_in(values: Option<&[i32]>) -> Option<u8>
 
 /// Codes an edge, the row's or the column's: how many of its coefficients are not 0, in three bits, and then these.
 /// `inner` is the block's inner count.
+#[inline(always)]
 pub(crate) fn code_edge<C: Coder>(
     coder: &mut C,
     class: u8,

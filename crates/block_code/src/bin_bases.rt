@@ -119,7 +119,7 @@ fn low_bits_before(size: u8) -> usize
 
 /// Of an inner coefficient: by its place from 0 to 48, its weight, and how many bits the number of those that remain
 /// has. The class is 0 for the frame's first component and 1 for the others.
-#[inline]
+#[inline(always)]
 pub(crate) fn inner_bases(class: u8, place: usize, weight: u8, remain_bits: u8) -> BinBases
     requires class { class < 2 }
     requires place { place < inner_values }
@@ -142,7 +142,7 @@ pub(crate) fn inner_bases(class: u8, place: usize, weight: u8, remain_bits: u8) 
 
 /// Of a coefficient of the row edge, or of the column edge: by its place from 0 to 6, its weight, and how many bits the
 /// number of those that remain has.
-#[inline]
+#[inline(always)]
 pub(crate) fn edge_bases(
     class: u8,
     column: bool,
@@ -170,7 +170,7 @@ pub(crate) fn edge_bases(
 }
 
 /// Of a residue, by the spread of the DCs above and to the left, from 0 to 16 bits.
-#[inline]
+#[inline(always)]
 pub(crate) fn dc_bases(class: u8, spread: u8) -> BinBases
     requires class { class < 2 }
     requires spread { spread < spreads }
@@ -186,7 +186,7 @@ pub(crate) fn dc_bases(class: u8, spread: u8) -> BinBases
 }
 
 /// Where the 63 bins of an inner count begin, by how many bits the guess at it has.
-#[inline]
+#[inline(always)]
 pub(crate) fn inner_count_base(class: u8, guess_bits: u8) -> usize
     requires class { class < 2 }
     requires bits { guess_bits < count_sizes }
@@ -198,7 +198,7 @@ pub(crate) fn inner_count_base(class: u8, guess_bits: u8) -> usize
 }
 
 /// Where the 7 bins of an edge's count begin, by how many bits the block's inner count has.
-#[inline]
+#[inline(always)]
 pub(crate) fn edge_count_base(class: u8, column: bool, inner_bits: u8) -> usize
     requires class { class < 2 }
     requires bits { inner_bits < count_sizes }

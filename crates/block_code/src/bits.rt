@@ -48,7 +48,7 @@ fn is_above(size: Option<u8>, step: u8) -> Option<bool>
 }
 
 /// Codes the `bits` low bits of a number, highest first; the bit above them is its highest, and is not coded.
-#[inline]
+#[inline(always)]
 pub(crate) fn code_bits<C: Coder, B: BitBins>(
     coder: &mut C,
     bins: &B,
@@ -75,7 +75,7 @@ pub(crate) fn code_bits<C: Coder, B: BitBins>(
 }
 
 /// Codes how many bits a value has, from `first` to `steps`: a one for each step below it, and a zero at its own.
-#[inline]
+#[inline(always)]
 pub(crate) fn code_size<C: Coder>(
     coder: &mut C,
     bases: BinBases,

@@ -60,7 +60,10 @@ pub fn put_block(
     let neighbours = neighbours_in(rows, component, row, column);
     let parts = Parts::of(block, prediction(neighbours));
     let mut same = Parts::zero();
-    let _ = code_parts(coder, class, neighbours, Some(&parts), &mut same)?;
+    let mut local = coder.moved();
+    let coded = code_parts(&mut local, class, neighbours, Some(&parts), &mut same);
+    coder.back(local);
+    let _ = coded?;
     Ok(())
 }
 
@@ -87,7 +90,10 @@ pub fn get_block(
 {
     let neighbours = neighbours_in(rows, component, row, column);
     let mut parts = Parts::zero();
-    match code_parts(coder, class, neighbours, None, &mut parts) {
+    let mut local = coder.moved();
+    let coded = code_parts(&mut local, class, neighbours, None, &mut parts);
+    *coder = local;
+    match coded {
         Ok(true) => parts.block(prediction(neighbours)),
         Ok(false) => Err(BlockFault::BlockCount),
         Err(never) => match never {},

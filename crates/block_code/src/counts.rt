@@ -28,6 +28,7 @@ impl BitBins for CountBins {
 }
 
 // A count that may be given, with a one above its bits.
+#[inline(always)]
 fn with_top(count: Option<u8>, top: u32) -> Option<u32>
     requires { top ≤ 64 }
     ensures { result ≡ option_map (λ n. top + n) count }
@@ -39,6 +40,7 @@ fn with_top(count: Option<u8>, top: u32) -> Option<u32>
 }
 
 /// Codes a count in `bits` bits, up to 6, with the bins from `base` on. `top` is 2 to the `bits`.
+#[inline(always)]
 pub(crate) fn code_count<C: Coder>(
     coder: &mut C,
     base: usize,

@@ -35,6 +35,3 @@ pub use block::{get_block, put_block};
 pub use mcu::{SegmentRows, get_mcu, put_mcu};
 pub use mcu_grid::McuGrid;
 pub use neighbours::Neighbours;
-
-#[cfg(test)]
-mod tests;

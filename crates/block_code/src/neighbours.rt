@@ -32,7 +32,7 @@ pub(crate) fn bits_of(n: u32) -> u8
 }
 
 // The magnitude of an AC coefficient, by its natural position; 0 where the block isn't there.
-#[inline]
+#[inline(always)]
 fn magnitude(block: Option<&Block>, position: usize) -> u32
     requires some { 0 < position }
     requires within { position < 64 }
@@ -47,7 +47,7 @@ fn magnitude(block: Option<&Block>, position: usize) -> u32
 
 /// The weight of an inner coefficient, by its natural position, from 0 to 10: how many bits the mean of the magnitudes
 /// around has, where those above and left count 13 parts of 32 each, and the diagonal one 6.
-#[inline]
+#[inline(always)]
 #[tactic(auto, using(crate::proofs::Weights::few_bits))]
 pub(crate) fn inner_weight(neighbours: Neighbours, position: usize) -> u8
     requires some { 0 < position }
@@ -63,7 +63,7 @@ pub(crate) fn inner_weight(neighbours: Neighbours, position: usize) -> u8
 
 /// The weight of an edge's coefficient, by its natural position, from 0 to 10: how many bits the mean of the magnitudes
 /// above and left has.
-#[inline]
+#[inline(always)]
 #[tactic(auto, using(crate::proofs::Weights::few_bits))]
 pub(crate) fn edge_weight(neighbours: Neighbours, position: usize) -> u8
     requires some { 0 < position }

@@ -33,6 +33,7 @@ const DC_STEPS: u8 = 16;
 
 /// Codes the parts of a block, from the inner count on. Answers false where the six bits of the count are above 49;
 /// nothing is taken after them then.
+#[inline(always)]
 pub(crate) fn code_parts<C: Coder>(
     coder: &mut C,
     class: u8,
@@ -61,6 +62,7 @@ pub(crate) fn code_parts<C: Coder>(
 }
 
 // The inner count in six bits, by the guess at it.
+#[inline(always)]
 fn code_inner_count<C: Coder>(
     coder: &mut C,
     class: u8,
@@ -83,6 +85,7 @@ fn code_inner_count<C: Coder>(
 }
 
 // All but the inner count, which is given.
+#[inline(always)]
 fn code_after_count<C: Coder>(
     coder: &mut C,
     class: u8,
@@ -135,6 +138,7 @@ fn code_after_count<C: Coder>(
 }
 
 // The residue, by the spread of the DCs around.
+#[inline(always)]
 fn code_dc<C: Coder>(
     coder: &mut C,
     class: u8,
@@ -156,6 +160,7 @@ fn code_dc<C: Coder>(
 }
 
 // The inner count of parts that may be given.
+#[inline(always)]
 fn count_of(parts: Option<&Parts>) -> Option<u8>
     ensures value { result ≡ option_map (λ parts. nonzeros parts.now.inner) parts.entry }
     ensures few { IfSome result (λ count. count ≤ inner_values) }
@@ -167,6 +172,7 @@ fn count_of(parts: Option<&Parts>) -> Option<u8>
 }
 
 // The residue of parts that may be given.
+#[inline(always)]
 fn residue_of(parts: Option<&Parts>) -> Option<i32>
     ensures { result ≡ option_map (λ parts. parts.now.residue) parts.entry }
 {
@@ -177,6 +183,7 @@ fn residue_of(parts: Option<&Parts>) -> Option<i32>
 }
 
 // The inner coefficients of parts that may be given.
+#[inline(always)]
 fn inner_of(parts: Option<&Parts>) -> Option<&[i32]>
     ensures value { option_map (λ values. values.now) result
         ≡ option_map (λ parts. parts.now.inner) parts.entry }
@@ -189,6 +196,7 @@ fn inner_of(parts: Option<&Parts>) -> Option<&[i32]>
 }
 
 // The row edge of parts that may be given.
+#[inline(always)]
 fn row_of(parts: Option<&Parts>) -> Option<&[i32]>
     ensures value { option_map (λ values. values.now) result
         ≡ option_map (λ parts. parts.now.row) parts.entry }
@@ -201,6 +209,7 @@ fn row_of(parts: Option<&Parts>) -> Option<&[i32]>
 }
 
 // The column edge of parts that may be given.
+#[inline(always)]
 fn column_of(parts: Option<&Parts>) -> Option<&[i32]>
     ensures value { option_map (λ values. values.now) result
         ≡ option_map (λ parts. parts.now.column) parts.entry }

@@ -77,7 +77,7 @@ fn signed(negative: bool, magnitude: u32) -> i32
 }
 
 // What the size, from 1 to 16 bits, leaves open of a value: the sign, and the bits below the highest.
-#[inline]
+#[inline(always)]
 fn code_rest<C: Coder>(
     coder: &mut C,
     bases: BinBases,
@@ -105,7 +105,7 @@ fn code_rest<C: Coder>(
 }
 
 /// Codes a value of `first` to `steps` bits.
-#[inline]
+#[inline(always)]
 pub(crate) fn code_value<C: Coder>(
     coder: &mut C,
     bases: BinBases,

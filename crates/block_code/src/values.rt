@@ -42,7 +42,7 @@ pub(crate) trait Band {
 
 // The value at a place: nothing is coded where none remains, and the step 0 is left out where all that are left are
 // not 0.
-#[inline]
+#[inline(always)]
 fn code_one<C: Coder, B: Band>(
     coder: &mut C,
     band: &B,
@@ -75,7 +75,7 @@ fn code_one<C: Coder, B: Band>(
 }
 
 // The value at a place, of values that may be given.
-#[inline]
+#[inline(always)]
 fn value_at(values: Option<&[i32]>, place: usize) -> Option<i32>
     requires { IfSome values (λ w. place < length w.now) }
     ensures { result ≡ option_map (λ w. get_or w.now place (pos 0)) values.entry }
@@ -87,7 +87,7 @@ fn value_at(values: Option<&[i32]>, place: usize) -> Option<i32>
 }
 
 // How many remain after a value.
-#[inline]
+#[inline(always)]
 fn remain_after(remain: u8, x: i32) -> u8
     requires { remain ≡ 0 → x ≡ pos 0 }
     ensures { result ≡ (if is_zero x then remain else remain - 1) }
@@ -100,6 +100,7 @@ fn remain_after(remain: u8, x: i32) -> u8
 }
 
 /// Codes the values of a band, of which `count` are not 0.
+#[inline(always)]
 pub(crate) fn code_values<C: Coder, B: Band>(
     coder: &mut C,
     band: &B,

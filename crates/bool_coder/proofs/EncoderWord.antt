@@ -1,11 +1,10 @@
 -- The word and the whole bytes, as one interval.
-use Rattle.std.proofs.Common.{◌≡◌, ℕ, ◌+◌, ◌-◌, ◌*◌, ◌/◌, ◌%◌, ◌^◌, ◌<◌, ◌≤◌, Bool, true, false, List, length, refl, sym, ap, ◌∙◌, arith, lit≤, subst, None, Some, Result, Ok, Err, is_err, OnOk, if◌then◌else◌}
+use Rattle.std.proofs.Common.{◌≡◌, ℕ, ◌+◌, ◌-◌, ◌*◌, ◌/◌, ◌%◌, ◌^◌, ◌<◌, ◌≤◌, Bool, true, false, List, length, refl, sym, ap, ◌∙◌, arith, lit≤, subst, None, Some, if◌then◌else◌}
 use Rattle.std.specs.Prelude.{bit_and}
 use Rattle.std.specs.Int.{div_ceil}
 use Rattle.std.specs.Int.Digits.{number_from_digits, AllBelowBase}
 use Rattle.std.proofs.Math.Nat.{mul-le-mul_right, pow-le-pow_right}
 use Rattle.std.proofs.lemmas.Nat.{pow_pos, pow-add, shr_split, shr_below, shl_whole, shl_below, one_shl, and_mask, mod_below}
-use Rattle.std.proofs.lemmas.Bool.{true≢false}
 use Rattle.bool_coder.specs.BoolStream.{Interval, chosen, after, stream, stream_length, IsOnLine}
 use Rattle.bool_coder.specs.PlainLine.{IsKept}
 use Rattle.bool_coder.specs.EncoderInside.{kept, IsWord}
@@ -167,11 +166,6 @@ pub step-kept : (written : List ℕ) (low bits range prob : ℕ) (bit : Bool) (l
     → kept written low' bits' range' ≡ after (kept written low bits range) (prob, bit) → IsKept (kept written low' bits' range')
 step-kept written low bits range prob bit low' bits' range' word p e =
     rw e (after-kept (kept written low bits range) prob bit p (record { wide = word.wide; byte = word.byte; on_line = word.on_line }))
-
--- what a call promised, where it didn't fail
-pub in_ok : {T E P : Type 0} (r : Result T E) (failed : Bool) → failed ≡ is_err r → failed ≡ false → OnOk r P → P
-in_ok (Ok x) failed e f fact = fact
-in_ok (Err x) failed e f fact = absurd (true≢false (sym e ∙ f))
 
 -- what contracts see of an encoder that isn't spent
 pub shown : (spent : Bool) (i : Interval) → spent ≡ false → (if spent then None else Some i) ≡ Some i

@@ -68,9 +68,24 @@ impl<'a> Decoder<'a> {
         }
     }
 
+    /// The same decoder once more: the same bytes, at the same bit.
+    #[inline(always)]
+    pub fn again(&self) -> Decoder<'a>
+        ensures { result ≡ self.now }
+    {
+        Decoder {
+            bytes: self.bytes,
+            fetched: self.fetched,
+            value: self.value,
+            bits: self.bits,
+            range: self.range,
+        }
+    }
+
     /// The next bool, whose probability of a zero is `prob` in 256, from 1 to 255 (RFC 6386, 7.3). Past the end of
     /// the bytes it reads zero bits. `next` and `taken` are for a decoder that has taken a list of bools, `bit` and
     /// `step` for any.
+    #[inline(always)]
     pub fn take(&mut self, prob: u8) -> bool
         requires { 0 < prob }
         ensures bytes { self.new.bytes ≡ self.old.bytes }
@@ -139,6 +154,7 @@ fn next_four(bytes: &[u8], fetched: usize) -> u32
 }
 
 // The next four bytes one by one, near the end and past it.
+#[inline(never)]
 fn last_four(bytes: &[u8], fetched: usize) -> u32
     requires within { fetched ≤ length bytes.now + 11 }
     ensures { result ≡ first_bits bytes.now (8 * fetched + 32) % 2 ^ 32 }

@@ -6,6 +6,7 @@ ghost use Rattle.bool_coder.specs.EncoderInside.{kept};
 
 use std::alloc::{AllocError, Global};
 use std::marker::Model;
+use std::mem::replace;
 
 /// Where the first four bytes of the word are written. A bool adds seven bits at most, so the word has 46 bits and a
 /// carry at most.
@@ -53,8 +54,20 @@ impl Encoder {
         }
     }
 
+    /// Moves the encoder out, and leaves a new one. A local encoder's state stays in registers; behind a reference it is
+    /// loaded and stored for each bool.
+    #[inline(always)]
+    pub fn moved(&mut self) -> Encoder
+        ensures value { result ≡ self.old }
+        ensures left { self.new ≡ Some opening }
+    {
+        let alloc = *self.written.allocator();
+        replace(self, Encoder::new(alloc))
+    }
+
     /// Codes a bool whose probability of a zero is `prob` in 256, from 1 to 255 (RFC 6386, 7.3). The one error is
     /// want of memory. The encoder is then spent, and answers that error from then on.
+    #[inline(always)]
     pub fn put(&mut self, prob: u8, bit: bool) -> Result<(), AllocError>
         requires { 0 < prob }
         ensures coded { OnOk result (self.new ≡ option_map (λ i. after i (prob, bit)) self.old) }
@@ -70,9 +83,18 @@ impl Encoder {
             self.bits = bits;
         } else {
             let left = bits - 32;
-            if append(&mut self.written, low >> left, 4).is_err() {
-                self.spent = true;
-                return Err(AllocError);
+            let alloc = *self.written.allocator();
+            let whole = replace(&mut self.written, Vec::new(alloc));
+            match append(whole, low >> left, 4) {
+                Ok(written) => self.written = written,
+                // The bytes are gone: what is left is a new encoder's word.
+                Err(AllocError) => {
+                    self.low = 0;
+                    self.bits = 8;
+                    self.range = 255;
+                    self.spent = true;
+                    return Err(AllocError);
+                }
             }
             self.low = low & ((1 << left) - 1);
             self.bits = left;
@@ -89,7 +111,7 @@ impl Encoder {
         ensures spent { OnOk result (IsSome self) }
     {
         let Encoder {
-            mut written,
+            written,
             low,
             bits,
             range: _,
@@ -99,7 +121,7 @@ impl Encoder {
             return Err(AllocError);
         }
         let count = bits.div_ceil(8);
-        append(&mut written, low << (8 * count - bits), count as usize)?;
+        let written = append(written, low << (8 * count - bits), count as usize)?;
         Ok(written)
     }
 }
@@ -170,9 +192,26 @@ pub(crate) fn doublings(range: u32) -> u32
     range.leading_zeros() - 24
 }
 
+// `append_to` for a vector by value, so that no address of a local encoder is passed on.
+#[inline(never)]
+fn append(written: Vec<u8>, number: u64, count: usize) -> Result<Vec<u8>, AllocError>
+    requires count { count ≤ 7 }
+    requires carry { number < 2 * 256 ^ count }
+    requires room { number_from_digits 256 written.items * 256 ^ count + number
+        < 256 ^ (length written.items + count) }
+    ensures number { IfOk result (λ longer. number_from_digits 256 longer.items
+        ≡ number_from_digits 256 written.items * 256 ^ count + number) }
+    ensures longer { IfOk result (λ longer. length longer.items ≡ length written.items + count) }
+    ensures bytes { IfOk result (λ longer. AllBelowBase 256 longer.items) }
+{
+    let mut written = written;
+    append_to(&mut written, number, count)?;
+    Ok(written)
+}
+
 // Appends the last `count` bytes of a number, and adds the carry above them to what was written.
 #[inline(always)]
-fn append(written: &mut Vec<u8>, number: u64, count: usize) -> Result<(), AllocError>
+fn append_to(written: &mut Vec<u8>, number: u64, count: usize) -> Result<(), AllocError>
     requires count { count ≤ 7 }
     requires carry { number < 2 * 256 ^ count }
     requires room { number_from_digits 256 written.old.items * 256 ^ count + number
@@ -181,7 +220,6 @@ fn append(written: &mut Vec<u8>, number: u64, count: usize) -> Result<(), AllocE
         ≡ number_from_digits 256 written.old.items * 256 ^ count + number) }
     ensures longer { OnOk result (length written.new.items ≡ length written.old.items + count) }
     ensures bytes { OnOk result (AllBelowBase 256 written.new.items) }
-    ensures err { OnErr result (written.new.items ≡ written.old.items) }
 {
     let whole = written.len();
     written.extend_from_slice(&number.to_be_bytes()[8 - count..])?;

@@ -21,6 +21,3 @@ pub use laws::{
     is_read_again, is_read_in_turn, one_list_a_stream, rows_of_the_definition, stays_on_the_line,
 };
 pub use plain::plain_stream;
-
-#[cfg(test)]
-mod tests;

@@ -3,10 +3,12 @@ use Rattle.std.proofs.lemmas.Int.{to_z-of_z}
 use Rattle.std.specs.Prelude.{ℤ, Result, Ok, Err, IfOk, IfErr, ◌+ℤ◌}
 use Rattle.coef_block.specs.Block.{IsBlock, IsDc}
 use Rattle.adapt_bins.specs.GotEvents.{GetsEvents}
+use Rattle.adapt_bins.specs.declared.get.Get.{Get}
 use Rattle.block_events.specs.Around.{Around, prediction}
 use Rattle.block_events.specs.ReadBlocks.{IsRead}
 use Rattle.block_events.specs.declared.fault.BlockFault.{BlockFault}
 use Rattle.block_events.specs.declared.fault.BlockFault.TheVariants.{BlockCount, DcRange}
+use Rattle.block_code.specs.NeighbourBlocks.{around_of}
 use Rattle.block_code.specs.BlockParts.{parts_in, parts_events, AreParts}
 use Rattle.block_code.specs.declared.parts.Parts.{Parts}
 use Rattle.block_code.proofs.BlocksByParts.{block_coded, range_coded}
@@ -32,5 +34,5 @@ returns-in-Ok-true-clause-read c =
     let is = rw (to_z-of_z w32 c.prediction.result fits) at c.block.ensures.parts in
     let fault = rw (to_z-of_z w32 c.prediction.result fits) at c.block.ensures.fault in
     rw (← c.neighbours_in-neighbours.ensures.around)
-    (answered (λ (es : List (ℕ × Bool)). GetsEvents c.args.coder.now es c.code_parts.new.coder) c.args.class _ c.prediction.result c.code_parts.new.out c.block.result c.prediction.ensures.value
-    coded.0 coded.1 is c.block.ensures.block fault)
+    (answered (λ (es : List (ℕ × Bool)). GetsEvents c.args.coder.now es c.code_parts-coded.new.coder) c.args.class _ c.prediction.result c.code_parts-coded.new.out c.block.result c.prediction.ensures.value
+    coded.0 (subst (λ (from : Get). GetsEvents from (parts_events c.args.class (around_of c.neighbours_in-neighbours.result) c.code_parts-coded.new.out) c.code_parts-coded.new.coder) c.moved-local.ensures.value coded.1) is c.block.ensures.block fault)
