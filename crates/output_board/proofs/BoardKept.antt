@@ -142,6 +142,7 @@ module _ {C : Type 0} (bytes : C → List (List ℕ)) (outcomes : C → List Out
                       (λ (e : ◌≡◌ {A = Actor} Emitter (Worker w.number)). cc) own);
                   stopped = k.2.stopped ∙ sym emitted.stopped;
                   workers = k.2.workers ∙ sym others.workers;
+                  capacity = k.2.capacity ∙ sym others.capacity;
                 },
               ))
               (λ f is'. absurd (not_both now f (sym is ∙ is'))) j u q f is';

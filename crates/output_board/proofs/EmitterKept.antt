@@ -105,6 +105,7 @@ module _ {C : Type 0} (bytes : C → List (List ℕ)) (outcomes : C → List Out
         free = λ o i own. is.free free i (sym (owner_at x x.cur s i step.0.more refl) ∙ own);
         stopped = is.stopped;
         workers = is.workers;
+        capacity = is.capacity;
       })
 
   pub may_advance : e.stopped ≡ false → x.cur ≢ length x.segments
@@ -124,6 +125,7 @@ module _ {C : Type 0} (bytes : C → List (List ℕ)) (outcomes : C → List Out
         free = λ o. is.free free;
         stopped = is.stopped;
         workers = is.workers;
+        capacity = is.capacity;
       })
 
   waits_is : length (segment_at x x.cur).ring ≡ (segment_at x x.cur).put - (segment_at x x.cur).taken
@@ -175,4 +177,5 @@ module _ {C : Type 0} (bytes : C → List (List ℕ)) (outcomes : C → List Out
         free = is.free;
         stopped = refl;
         workers = is.workers;
+        capacity = is.capacity;
       })

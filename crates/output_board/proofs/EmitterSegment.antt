@@ -68,6 +68,7 @@ module _ {C : Type 0} (bytes : C → List (List ℕ)) (outcomes : C → List Out
         free = λ o. absurd (true≢false o);
         stopped = is.stopped;
         workers = is.workers;
+        capacity = is.capacity;
       })
 
   -- the emitter's own segment
@@ -111,6 +112,7 @@ module _ {C : Type 0} (bytes : C → List (List ℕ)) (outcomes : C → List Out
           free = λ o. absurd (true≢false (sym owns ∙ o));
           stopped = is.stopped;
           workers = is.workers;
+          capacity = is.capacity;
         })
 
     pub names_finish : (y : BoardState) (o : Outcome)
@@ -153,4 +155,5 @@ module _ {C : Type 0} (bytes : C → List (List ℕ)) (outcomes : C → List Out
               (sym (ap (λ (t : SegmentState). t.owner) (at_other x i s j ne)) ∙ his) own));
           stopped = is.stopped;
           workers = is.workers;
+          capacity = is.capacity;
         })

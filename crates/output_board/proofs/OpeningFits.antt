@@ -38,7 +38,7 @@ only v u (suc j) e = absurd (some-ne-none u (sym e))
 
 module _ {C : Type 0} (bytes : C → List (List ℕ)) (outcomes : C → List Outcome) where
   pub opening_fits : (k capacity workers : ℕ) (v : View C) → v.claims ≡ 0
-      → v.role ≡ Emits (new_emitter 0 workers)
+      → v.role ≡ Emits (new_emitter 0 workers capacity)
       → length (bytes v.content.value) ≡ k → length (outcomes v.content.value) ≡ k
       → ((i : ℕ) → length (bytes_at (bytes v.content.value) i) < count_limit) → 1 ≤ capacity
       → Fits bytes outcomes (opening_board k capacity workers) (v ∷ [])
@@ -56,7 +56,7 @@ module _ {C : Type 0} (bytes : C → List (List ℕ)) (outcomes : C → List Out
         emitter = λ j u f e is.
             let o = only v u j e in
             subst (λ (g : EmitterView). (j ≡ 0) × (length (v ∷ []) ≡ g.made + 1) × FitsEmitter b g)
-            (same_emitter (new_emitter 0 workers) f
+            (same_emitter (new_emitter 0 workers capacity) f
             (sym role ∙ (ap (λ (z : View C). z.role) o.1 ∙ is))) (
               o.0,
               refl,
@@ -67,9 +67,10 @@ module _ {C : Type 0} (bytes : C → List (List ℕ)) (outcomes : C → List Out
                 free = λ _. nobody_owns k capacity workers _;
                 stopped = refl;
                 workers = sym (length-replicate workers false);
+                capacity = refl;
               },
             );
-        workers = λ j u w e is. absurd (not_both w (new_emitter 0 workers)
+        workers = λ j u w e is. absurd (not_both w (new_emitter 0 workers capacity)
             (sym is ∙ (ap (λ (z : View C). z.role) (sym (only v u j e).1) ∙ role)));
         unmade = λ w l.
             record { free = nobody_owns k capacity workers _; here = all_here workers w };

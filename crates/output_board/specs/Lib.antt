@@ -5,4 +5,3 @@ pub mod Seats
 pub mod SeatPasses
 pub mod Answers
 pub mod SeatLaws
-pub mod ThreeSegments

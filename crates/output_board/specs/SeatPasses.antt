@@ -14,7 +14,7 @@ use Rattle.output_board.specs.Seats.{SeatValue, new_emitter}
 -- the emitter's view, and any for a worker's
 abbrev pub emitter_of : Role → EmitterView
 emitter_of (Emits e) = e
-emitter_of (Works w) = new_emitter 0 0
+emitter_of (Works w) = new_emitter 0 0 0
 
 -- a worker's view, and any for the emitter's
 abbrev pub worker_of : Role → WorkerView

@@ -14,7 +14,7 @@ use Rattle.output_board.specs.declared.view.Role.{Role}
 use Rattle.output_board.specs.declared.view.Role.TheVariants.{Emits, Works}
 
 -- the emitter's view says which segment is emitted and how many of its bytes are taken, whether the emitter owns it,
--- whether the board is stopped, and how many workers there are
+-- whether the board is stopped, how many workers there are, and how many bytes each ring has room for
 pub record FitsEmitter (b : BoardState) (e : EmitterView) : Type 0 where
   pub cur : e.cur ≡ b.cur
   pub taken : e.taken ≡ (segment_at b b.cur).taken
@@ -22,6 +22,7 @@ pub record FitsEmitter (b : BoardState) (e : EmitterView) : Type 0 where
   pub free : e.owns ≡ false → OwnsNothing b Emitter
   pub stopped : e.stopped ≡ b.stopped
   pub workers : e.workers ≡ length b.left
+  pub capacity : e.capacity ≡ b.capacity
 
 -- nothing is left that a worker could do
 abbrev pub IsOverFor : BoardState → ℕ → Type 0

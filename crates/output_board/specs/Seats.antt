@@ -16,11 +16,12 @@ pub record SeatValue (C V : Type 0) : Type 0 where
   pub holds : ℕ
   pub last : Option (ℕ × ℕ × Seen)
 
--- the emitter's view before the first event
-abbrev pub new_emitter : ℕ → ℕ → EmitterView
-new_emitter made workers = record {
+-- the emitter's view before the first event, with rings of this capacity
+abbrev pub new_emitter : ℕ → ℕ → ℕ → EmitterView
+new_emitter made workers capacity = record {
   made = made;
   workers = workers;
+  capacity = capacity;
   cur = 0;
   taken = 0;
   owns = false;
@@ -40,8 +41,9 @@ module _ {C : Type 0} where
   }
 
   -- the emitter's seat before the first event
-  abbrev pub new_emitter_seat : TableId → C → ℕ → SeatValue C EmitterView
-  new_emitter_seat table content workers = new_seat table content (new_emitter workers workers)
+  abbrev pub new_emitter_seat : TableId → C → ℕ → ℕ → SeatValue C EmitterView
+  new_emitter_seat table content workers capacity =
+      new_seat table content (new_emitter workers workers capacity)
 
   -- the seats of so many workers before the first event, in the order of their numbers
   abbrev pub new_worker_seats : TableId → C → ℕ → List (SeatValue C WorkerView)

@@ -98,6 +98,7 @@ module _ {C : Type 0} (bytes : C → List (List ℕ)) (outcomes : C → List Out
                 free = here.2.free;
                 stopped = here.2.stopped;
                 workers = here.2.workers;
+                capacity = here.2.capacity;
               },
             ))
             (λ f is. absurd (not_both (sym new_is ∙ is))) j u q f is;

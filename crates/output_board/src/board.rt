@@ -46,7 +46,7 @@ impl<C: Content> Board<C> {
         requires short { (i : ℕ) → length (bytes_at (C.bytes content.now) i) < count_limit }
         requires room { 1 ≤ capacity }
         ensures emitter { IfOk result (λ made.
-            made.1 ≡ new_emitter_seat made.0 content.now workers) }
+            made.1 ≡ new_emitter_seat made.0 content.now workers capacity) }
         ensures workers { IfOk result (λ made.
             made.2.items ≡ new_worker_seats made.0 content.now workers) }
     {
@@ -57,6 +57,7 @@ impl<C: Content> Board<C> {
             role: Role::Emits(EmitterView {
                 made: 0,
                 workers: u64::from(workers),
+                capacity: capacity as u64,
                 cur: 0,
                 taken: 0,
                 owns: false,

@@ -37,10 +37,3 @@ pub use rule::BoardRule;
 pub use seat::{EmitterSeat, WorkerSeat};
 pub use seen::Seen;
 pub use view::{EmitterView, Role, View, WorkerView};
-
-#[cfg(test)]
-mod emitter_by_hand;
-#[cfg(test)]
-mod tests;
-#[cfg(test)]
-mod worker_by_hand;

@@ -7,6 +7,8 @@ pub struct EmitterView {
     /// How many workers' seats were made so far, and how many there are to be.
     pub made: u64,
     pub workers: u64,
+    /// How many bytes each ring has room for.
+    pub capacity: u64,
     /// The segment that is emitted, and how many of its bytes were taken or passed.
     pub cur: u64,
     pub taken: u64,

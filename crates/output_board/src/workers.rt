@@ -17,6 +17,7 @@ impl<C: Content> Board<C> {
         requires own { seat.old.table ≡ self.now }
         requires free { seat.old.view.segment ≡ None }
         requires here { seat.old.view.left ≡ false }
+        requires going { seat.old.view.over ≡ false }
         ensures hold { HasHeldOnce seat.old seat.new }
         ensures answer { ClaimGives (length (C.bytes seat.old.content))
             seat.old seat.new result }
@@ -30,6 +31,7 @@ impl<C: Content> Board<C> {
         requires own { seat.old.table ≡ self.now }
         requires some { 1 ≤ length bytes.now }
         requires next { HasNext (C.bytes seat.old.content) seat.old.view bytes.now }
+        requires going { seat.old.view.over ≡ false }
         ensures hold { HasHeldOnce seat.old seat.new }
         ensures answer { PutGives (length bytes.now) seat.old seat.new result }
     {
@@ -41,6 +43,7 @@ impl<C: Content> Board<C> {
         requires own { seat.old.table ≡ self.now }
         requires end { IsAtEnd (C.bytes seat.old.content) (C.outcomes seat.old.content)
             seat.old.view outcome }
+        requires going { seat.old.view.over ≡ false }
         ensures hold { HasHeldOnce seat.old seat.new }
         ensures answer { FinishGives seat.old seat.new result }
     {

@@ -13,7 +13,7 @@ pub new-requires-2-clause-fits : goal.new-requires-2-clause-fits
 new-requires-2-clause-fits g c κs within =
     let content = c.of.ensures in
     let v : View g.row.C.Denot =
-    record { content = c.of.result; claims = 0; role = Emits (new_emitter 0 c.from.result) } in
+    record { content = c.of.result; claims = 0; role = Emits (new_emitter 0 c.from.result c.args.capacity) } in
     subst (λ (b : BoardState). Fits g.C.Content.bytes g.C.Content.outcomes b (v ∷ []))
     (sym c.in_ok-core.ensures)
     (subst (λ w. Fits g.C.Content.bytes g.C.Content.outcomes

@@ -11,6 +11,6 @@ invariant-loop-number g l =
     × IsReady l.first
     × IsFirst l.first
     × (splits_of l.first ≡ l.number)
-    × ((view_of l.first).role ≡ Emits (new_emitter l.number l.workers))
-    × (emitter_value l.first ≡ new_seat (lock_id l.lock) l.fn.content (new_emitter l.number l.workers))
+    × ((view_of l.first).role ≡ Emits (new_emitter l.number l.workers l.capacity))
+    × (emitter_value l.first ≡ new_seat (lock_id l.lock) l.fn.content (new_emitter l.number l.workers l.capacity))
     × (l.seats.items ≡ new_worker_seats (lock_id l.lock) l.fn.content l.number)
