@@ -1,5 +1,5 @@
 -- A file written: its header, its segments, its trailer.
-use Rattle.std.proofs.Common.{◌≡◌, ℕ, Bool, true, false, List, [], ◌++◌, refl, sym, ap, subst, ◌∙◌, append_assoc, append-nil, Option, Some, None, true≢false, Err}
+use Rattle.std.proofs.Common.{◌≡◌, ℕ, ◌+◌, Bool, true, false, List, [], ◌++◌, length, length-append, refl, sym, ap, ap₂, subst, ◌∙◌, append_assoc, append-nil, Option, Some, None, true≢false, Err}
 use Rattle.std.specs.Prelude.{not, ◌&&◌, ◌||◌, if◌then◌else◌}
 use Rattle.jpeg_marker.specs.Plans.{PlanFields}
 use Rattle.handover.specs.declared.outcome.StreamFault.{StreamFault}
@@ -7,9 +7,9 @@ use Rattle.box_format.specs.Parts.{BoxParts}
 use Rattle.segment_meaning.specs.Meanings.{Joined, Meaning, Restored, PadSpelled, Faulty, joined, outputs_of, meaning_by, meaning_of}
 use Rattle.lepton_decode.specs.declared.error.DecodeError.TheVariants as DecodeError
 use Rattle.segment_worker.specs.declared.ending.EmitStop.TheVariants.{Fault}
-use Rattle.segment_worker.specs.Written.{HasWritten}
+use Rattle.segment_worker.specs.Written.{HasWritten, HasFailed}
 use Rattle.segment_worker.specs.Emitting.{Emits}
-use Rattle.segment_worker.proofs.Writing.{written_later}
+use Rattle.segment_worker.proofs.Writing.{written_later, failed_later}
 use Rattle.lepton_decode.specs.Ends.{Ends}
 
 meaning_bytes : (b : BoxParts) (all : Joined) (fault : Option StreamFault)
@@ -69,6 +69,17 @@ pub whole_bytes : (plan : PlanFields) (b : BoxParts) → (joined (outputs_of pla
 whole_bytes plan b none =
     ap (λ (m : Meaning). m.bytes) (unfaulty plan b none)
 
+-- how many bytes that are
+pub whole_length : (plan : PlanFields) (b : BoxParts) (before count : ℕ)
+    → (joined (outputs_of plan b)).fault ≡ None → before ≡ length b.header
+    → count ≡ length (joined (outputs_of plan b)).bytes
+    → before + count + length b.trailer ≡ length (meaning_of plan b).bytes
+whole_length plan b before count none e n =
+    let bytes = (joined (outputs_of plan b)).bytes in
+    ap (λ (k : ℕ). k + length b.trailer) (ap₂ (λ (m k : ℕ). m + k) e n)
+    ∙ sym (ap length (whole_bytes plan b none) ∙ length-append (b.header ++ bytes) b.trailer
+    ∙ ap (λ (k : ℕ). k + length b.trailer) (length-append b.header bytes))
+
 module _ {Sink : Type 0} (held : Sink → Option (List ℕ)) (faults : Sink → ℕ)
     (full : Sink → Type 0) where
   -- the first fault
@@ -93,3 +104,28 @@ module _ {Sink : Type 0} (held : Sink → Option (List ℕ)) (faults : Sink → 
       subst (HasWritten held faults old sink) (sym (whole_bytes plan b none))
       (written_later held faults full old later sink (b.header ++ (joined (outputs_of plan b)).bytes) b.trailer
       (written_later held faults full old mid later b.header (joined (outputs_of plan b)).bytes first more) last)
+
+  -- a write failed in the segments
+  pub failed_in_segments : (plan : PlanFields) (b : BoxParts) (first mid sink : Sink) (before written : ℕ)
+      → before ≡ length b.header → HasWritten held faults first mid b.header
+      → HasFailed held faults full mid sink (joined (outputs_of plan b)).bytes written
+      → HasFailed held faults full first sink (meaning_of plan b).bytes (before + written)
+  failed_in_segments plan b first mid sink before written count has failed =
+      let f = first_bytes plan b in
+      failed_later held faults full first mid sink b.header (joined (outputs_of plan b)).bytes f.0
+      (meaning_of plan b).bytes before written has failed f.1 count
+
+  -- a write failed in the trailer
+  pub failed_in_trailer : (plan : PlanFields) (b : BoxParts) (first mid later sink : Sink)
+      (before count written : ℕ) → (joined (outputs_of plan b)).fault ≡ None
+      → HasWritten held faults first mid b.header
+      → HasWritten held faults mid later (joined (outputs_of plan b)).bytes
+      → HasFailed held faults full later sink b.trailer written
+      → before ≡ length b.header → count ≡ length (joined (outputs_of plan b)).bytes
+      → HasFailed held faults full first sink (meaning_of plan b).bytes (before + count + written)
+  failed_in_trailer plan b first mid later sink before count written none has more failed e n =
+      let bytes = (joined (outputs_of plan b)).bytes in
+      failed_later held faults full first later sink (b.header ++ bytes) b.trailer [] (meaning_of plan b).bytes
+      (before + count) written (written_later held faults full first mid later b.header bytes has more) failed
+      (whole_bytes plan b none ∙ ap (λ (l : List ℕ). (b.header ++ bytes) ++ l) (sym (append-nil b.trailer)))
+      (ap₂ (λ (m k : ℕ). m + k) e n ∙ sym (length-append b.header bytes))

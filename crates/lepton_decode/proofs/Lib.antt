@@ -1,2 +1,3 @@
 mod FilesWritten
 mod NewTeams
+mod EndsMet

@@ -15,7 +15,7 @@ pub new_seats : (table : TableId) (v : BoxSeen) (workers : ℕ)
 new_seats table v zero = λ k d within. absurd (omega (arith, within))
 new_seats table v (suc workers) =
     All-push (IsNewSeat table v) (new_worker_seats table v workers) _ (new_seats table v workers)
-    (record { own = refl; content = refl; free = refl; here = refl; claims = refl })
+    (record { own = refl; content = refl; free = refl; going = refl; here = refl; claims = refl })
 
 pub tail_is : {A : Type 0} (P : A → Type 0) (x : A) (xs : List A) → All P (x ∷ xs) → All P xs
 tail_is P x xs all = λ k d within. all (suc k) d (omega (arith, within))

@@ -7,6 +7,8 @@ use Rattle.output_board.specs.declared.view.EmitterView.{EmitterView}
 use Rattle.output_board.specs.declared.view.WorkerView.{WorkerView}
 use Rattle.segment_worker.specs.Written.{HasWritten, HasFailed}
 use Rattle.segment_worker.specs.Emitting.{IsThrough}
+use Rattle.segment_worker.specs.declared.ending.Emitted.{Emitted}
+use Rattle.segment_worker.specs.declared.ending.EmitStop.{EmitStop}
 use Rattle.lepton_decode.specs.declared.error.DecodeError.{DecodeError}
 use Rattle.lepton_decode.specs.declared.error.DecodeError.TheVariants.{WriteFault, Fault, PadSpelling}
 
@@ -22,6 +24,16 @@ pub record ReadySeen : Type 0 where
 -- what it stands for
 abbrev pub meaning_in : ReadySeen → Meaning
 meaning_in ready = meaning_of ready.plan ready.parts
+
+-- a container that is ready for one thread: its header's plan, its parts, and whether it was decoded
+pub record AloneSeen : Type 0 where
+  pub plan : PlanFields
+  pub parts : BoxParts
+  pub used : Bool
+
+-- what it stands for
+abbrev pub lone_meaning_in : AloneSeen → Meaning
+lone_meaning_in ready = meaning_of ready.plan ready.parts
 
 module _ {Sink : Type 0} (held : Sink → Option (List ℕ)) (faults : Sink → ℕ)
     (full : Sink → Type 0) where
@@ -49,3 +61,14 @@ HaveLeft team (Ok written) = All (λ w. w.left ≡ true) team
 HaveLeft team (Err PadSpelling) = All (λ w. w.left ≡ true) team
 HaveLeft team (Err (Fault fault)) = All (λ w. w.left ≡ true) team
 HaveLeft team (Err (WriteFault written)) = Unit {0}
+
+-- what a decode may answer by how its emitter ended: it is whole only if all segments were written
+abbrev pub Follows : Result Emitted EmitStop → Result ℕ DecodeError → Type 0
+Follows (Ok emitted) (Ok written) = Unit {0}
+Follows (Ok emitted) (Err PadSpelling) = Unit {0}
+Follows (Ok emitted) (Err (Fault fault)) = ⊥
+Follows (Ok emitted) (Err (WriteFault written)) = Unit {0}
+Follows (Err stop) (Ok written) = ⊥
+Follows (Err stop) (Err PadSpelling) = ⊥
+Follows (Err stop) (Err (Fault fault)) = Unit {0}
+Follows (Err stop) (Err (WriteFault written)) = Unit {0}

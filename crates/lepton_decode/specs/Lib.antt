@@ -1,3 +1,4 @@
 pub mod Ends
 pub mod Teams
 pub mod ReadyInside
+pub mod AloneInside

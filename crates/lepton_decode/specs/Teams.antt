@@ -45,6 +45,7 @@ pub record IsNewSeat (table : TableId) (v : BoxSeen) (seat : SeatValue BoxSeen W
   pub own : seat.table ≡ table
   pub content : seat.content ≡ v
   pub free : seat.view.segment ≡ None
+  pub going : seat.view.over ≡ false
   pub here : seat.view.left ≡ false
   pub claims : seat.claims ≡ 0
 

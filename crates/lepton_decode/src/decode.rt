@@ -5,13 +5,14 @@ ghost use Rattle.lepton_decode.specs.Ends.{Ends, HasEmitted, HaveLeft, meaning_i
 ghost use Rattle.lepton_decode.specs.Teams.{IsIdleWorker, IsNewLead, views_of};
 
 use crate::error::DecodeError;
+use crate::file_parts::{put_header, put_rest};
 use crate::ready::Ready;
 use crate::team::{Emitter, Shared, Worker};
 use crate::threads::lead_beside;
 use box_format::BoxView;
 use output_board::Board;
-use outside_core::{Gate, Sink, WriteFault, write_all};
-use segment_worker::{EmitStop, Told};
+use outside_core::{Gate, Sink};
+use segment_worker::Told;
 use std::sync::Wait;
 use std::thread::Threads;
 
@@ -31,6 +32,7 @@ pub fn run<R: Threads + Wait + Sync, K: Sink + Send, G: Gate + Sync>(
     // What the emitter's seat knows then of the board, and that each worker has left it.
     ensures emitted { HasEmitted (length ready.old.parts.handovers) ready.new.emitter result }
     ensures left { HaveLeft ready.new.team result }
+    ensures team { length ready.new.team ≡ length ready.old.team }
     ensures used { ready.new.used ≡ true }
     ensures lasting { K.faults sink.old ≤ K.faults sink.new }
 {
@@ -46,7 +48,7 @@ pub fn run<R: Threads + Wait + Sync, K: Sink + Send, G: Gate + Sync>(
     )
 }
 
-// Header, segments and trailer, and then whether the pad bit is spelled as it has to be.
+// Header, segments and trailer, and then whether the pad bit is spelled as it must be.
 fn restore<'a, R: Threads + Wait + Sync, K: Sink + Send, G: Gate + Sync>(
     rt: &R,
     view: &BoxView<'a>,
@@ -62,33 +64,14 @@ fn restore<'a, R: Threads + Wait + Sync, K: Sink + Send, G: Gate + Sync>(
         (meaning_of view.now.plan view.now.parts) result }
     ensures emitted { HasEmitted (length view.now.parts.handovers) emitter.new.seat.view result }
     ensures left { HaveLeft (views_of team.new.items) result }
+    ensures count { length team.new.items ≡ length team.old.items }
     ensures lasting { K.faults sink.old ≤ K.faults sink.new }
 {
-    let header = view.header();
-    if let Err(WriteFault { written }) = write_all(sink, header) {
-        return Err(DecodeError::WriteFault { written });
-    }
-    let before = header.len() as u64;
-    let shared = Shared { board, view, gate };
-    let emitted = match lead_beside(rt, emitter, team.as_mut_slice(), &shared, sink) {
-        Ok(emitted) => emitted,
-        Err(EmitStop::WriteFault { written }) => {
-            return Err(DecodeError::WriteFault {
-                written: before + written,
-            });
-        }
-        Err(EmitStop::Fault(fault)) => return Err(DecodeError::Fault(fault)),
+    let before = match put_header(view, sink) {
+        Ok(before) => before,
+        Err(written) => return Err(DecodeError::WriteFault { written }),
     };
-    let trailer = view.trailer();
-    if let Err(WriteFault { written }) = write_all(sink, trailer) {
-        return Err(DecodeError::WriteFault {
-            written: before + emitted.bytes + written,
-        });
-    }
-    // A pad bit is 1 where no bit is padded.
-    let told = view.pad() | emitted.padded;
-    if !told {
-        return Err(DecodeError::PadSpelling);
-    }
-    Ok(before + emitted.bytes + trailer.len() as u64)
+    let shared = Shared { board, view, gate };
+    let emitted = lead_beside(rt, emitter, team.as_mut_slice(), &shared, sink);
+    put_rest(view, before, emitted, sink)
 }

@@ -7,18 +7,20 @@
 //!             trailer --write_all--> sink
 //!
 //! `prepare` takes the memory; `run` is given no allocator, so that nothing is lost for want of it once bytes are
-//! written. What a container stands for is `segment_meaning`; what workers and the emitter do is `segment_worker`'s.
+//! written. `prepare_alone` and `run_alone` do the same on the calling thread, with no board: nothing in them waits, so
+//! they are proved to return. What a container stands for is `segment_meaning`; what workers and the emitter do is
+//! `segment_worker`'s.
 #![tactic(auto)]
 
+mod alone;
 mod decode;
 mod error;
+mod file_parts;
 mod ready;
 mod team;
 mod threads;
 
+pub use alone::{ReadyAlone, prepare_alone, run_alone};
 pub use decode::run;
 pub use error::DecodeError;
-pub use ready::{PrepareError, Ready, prepare};
-
-#[cfg(test)]
-mod tests;
+pub use ready::{PrepareError, Ready, ample_ring, prepare};

@@ -1,5 +1,5 @@
 // A container that is ready to be decoded.
-ghost use Rattle.std.specs.Prelude.{◌≡◌, ◌≤◌, IfOk, IsErrOf, false, length};
+ghost use Rattle.std.specs.Prelude.{◌≡◌, ◌≤◌, IfOk, IsErrOf, false, length, min};
 ghost use Rattle.box_format.specs.Parts.{IsBoxOf};
 ghost use Rattle.box_format.specs.BoxChecks.{IsRefusedBox};
 ghost use Rattle.box_format.specs.declared.refusal.BoxRefusal.{BoxRefusal};
@@ -69,9 +69,9 @@ impl From<AllocError> for PrepareError {
     }
 }
 
-/// Reads a container's parts, and takes all the memory that its decoding by so many workers needs: for the emitter and
-/// each worker the bins, two MCU rows of blocks and a piece of bytes, and for each segment a ring of `ring` bytes. With
-/// 0 workers the emitter decodes all.
+/// Reads a container's parts, and allocates all the memory that its decoding by `workers` workers needs: for the emitter
+/// and each worker the bins, two MCU rows of blocks and a piece of bytes, and for each segment a ring of `ring` bytes. No
+/// more workers are made than the container has segments. With 0 workers the emitter decodes all.
 pub fn prepare(
     alloc: Global,
     bytes: &[u8],
@@ -81,7 +81,9 @@ pub fn prepare(
     requires { 1 ≤ ring }
     ensures ready { IfOk result (λ ready. IsBoxOf ready.plan ready.parts bytes.now) }
     ensures fresh { IfOk result (λ ready. ready.used ≡ false) }
-    ensures team { IfOk result (λ ready. length ready.team ≡ workers) }
+    ensures team { IfOk result (λ ready.
+        length ready.team ≡ min workers (length ready.parts.handovers)) }
+    ensures rings { IfOk result (λ ready. ready.emitter.capacity ≡ ring) }
     ensures refused { (refusal : BoxRefusal) → IsErrOf result (PrepareError.Box refusal)
         → IsRefusedBox bytes.now refusal }
 {
@@ -89,6 +91,7 @@ pub fn prepare(
         Ok(view) => view,
         Err(refusal) => return Err(PrepareError::Box(refusal)),
     };
+    let workers = workers.min(view.segments());
     let decoder = SegmentDecoder::prepare(alloc, view.plan())?;
     let piece = Piece::new(alloc)?;
     let (board, seat, seats) = prepare_board(alloc, &view, ring, workers)?;
@@ -104,4 +107,25 @@ pub fn prepare(
         team,
         used: false,
     })
+}
+
+/// The least ring that `ample_ring` gives: 64 KiB.
+const LEAST_RING: usize = 1 << 16;
+
+/// The most: 64 MiB.
+const MOST_RING: usize = 1 << 26;
+
+/// A ring, in bytes, in which a segment of a photograph fits whole, so that no worker waits for the emitter: twice what
+/// the container has for each of its segments, 64 KiB to 64 MiB. Above the least all rings together have at most twice the
+/// container's length.
+pub fn ample_ring(bytes: &[u8]) -> usize
+    ensures some { 1 ≤ result }
+{
+    let segments = match read_box(bytes) {
+        Ok(view) => usize::from(view.segments()).max(1),
+        Err(_) => 1,
+    };
+    (bytes.len() / segments)
+        .saturating_mul(2)
+        .clamp(LEAST_RING, MOST_RING)
 }

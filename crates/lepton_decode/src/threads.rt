@@ -1,5 +1,5 @@
 // Tasks side by side, one of them on this thread.
-ghost use Rattle.std.specs.Prelude.{All};
+ghost use Rattle.std.specs.Prelude.{◌≡◌, All, length};
 
 use std::sync::Wait;
 use std::thread;
@@ -40,7 +40,8 @@ fn perform_all<R: Threads + Wait + Sync, S: Sync, T: Task<S> + Send>(
     shared: &S,
 )
     requires { All (λ task. T.ready task shared.now) tasks.old }
-    ensures { All (λ task. T.done task shared.now) tasks.new }
+    ensures done { All (λ task. T.done task shared.now) tasks.new }
+    ensures count { length tasks.new ≡ length tasks.old }
 {
     let threads = tasks.len();
     if threads > 0 {
@@ -60,6 +61,7 @@ pub(crate) fn lead_beside<R: Threads + Wait + Sync, S: Sync, K, L: Lead<S, K>, T
     requires tasks { All (λ task. T.ready task shared.now) tasks.old }
     ensures lead { L.ends lead.old lead.new shared.now sink.old sink.new result }
     ensures tasks { All (λ task. T.done task shared.now) tasks.new }
+    ensures count { length tasks.new ≡ length tasks.old }
 {
     if tasks.is_empty() {
         return lead.lead(rt, shared, sink);
@@ -68,7 +70,8 @@ pub(crate) fn lead_beside<R: Threads + Wait + Sync, S: Sync, K, L: Lead<S, K>, T
         rt,
         &mut ||
             requires { All (λ task. T.ready task shared.now) tasks.now }
-            ensures { All (λ task. T.done task shared.entry.now) tasks.exit.now }
+            ensures done { All (λ task. T.done task shared.entry.now) tasks.exit.now }
+            ensures count { length tasks.exit.now ≡ length tasks.entry.now }
         { perform_all(rt, tasks, shared) },
         &mut || lead.lead(rt, shared, sink),
     );

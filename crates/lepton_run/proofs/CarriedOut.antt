@@ -1,5 +1,5 @@
 -- How a command ends that has bytes, from what the encoder and the decoder say.
-use Rattle.std.proofs.Common.{◌≡◌, ℕ, ◌+◌, ◌<◌, ◌≤◌, Bool, true, false, if◌then◌else◌, inl, inr, List, [], length, take, Option, Some, None, refl, sym, ap, subst, arith}
+use Rattle.std.proofs.Common.{◌≡◌, ℕ, ◌+◌, ◌<◌, ◌≤◌, Bool, true, false, if◌then◌else◌, inl, inr, List, [], length, take, Option, Some, None, refl, sym, ap, subst, arith, Result, Ok, Err}
 use Rattle.std.specs.List.{AllByRecursion}
 use Rattle.std.specs.Io.KnownBytes.{Appends}
 use Rattle.std.proofs.KnownBytes.{Appends-nil}
@@ -16,6 +16,10 @@ use Rattle.segment_worker.specs.Written.{HasFailed, HasWritten}
 use Rattle.command_words.specs.declared.command.Command.{Command}
 use Rattle.command_words.specs.declared.command.Command.TheVariants.{Encode, Decode}
 use Rattle.lepton_run.specs.Answers.{Answer, Answers, Early, Late, Made, Makes, Writes, answer_by, bytes_of, limit_of}
+use Rattle.lepton_decode.specs.Ends.{Ends}
+use Rattle.lepton_decode.specs.declared.error.DecodeError.{DecodeError}
+use Rattle.lepton_decode.specs.declared.error.DecodeError.TheVariants as DecodeErrors
+use Rattle.lepton_run.specs.DecodeEndings.{decode_ending}
 use Rattle.lepton_run.specs.Endings.{CarriedOut}
 use Rattle.lepton_run.specs.declared.ending.Ending.TheVariants.{Done, Refused, WriteFailed}
 use Rattle.lepton_run.specs.declared.refusal.Refusal.{Refusal}
@@ -126,7 +130,7 @@ module _ {Sink : Type 0} (held : Sink → Option (List ℕ)) (faults : Sink → 
       answers_by answer e =
           answers_so (Decode workers) answer short (meaning_of plan b, inr (plan, b, of, refl), e)
 
-      pub decoded : (meaning_of plan b).verdict ≡ Restored
+      decoded : (meaning_of plan b).verdict ≡ Restored
           → HasWritten held faults old new (meaning_of plan b).bytes
           → CarriedOut held faults full (Decode workers) bytes old new Done
       decoded e has = let file = (meaning_of plan b).bytes in (
@@ -157,19 +161,19 @@ module _ {Sink : Type 0} (held : Sink → Option (List ℕ)) (faults : Sink → 
         refl,
       )
 
-      pub pad_spelled : (meaning_of plan b).verdict ≡ PadSpelled
+      pad_spelled : (meaning_of plan b).verdict ≡ PadSpelled
           → HasWritten held faults old new (meaning_of plan b).bytes
           → CarriedOut held faults full (Decode workers) bytes old new (Refused PadSpelling)
       pad_spelled e has =
           refused_late PadSpelling (sym (ap (answer_by (meaning_of plan b).bytes) e)) has
 
-      pub faulty : (fault : StreamFault) → (meaning_of plan b).verdict ≡ Faulty fault
+      faulty : (fault : StreamFault) → (meaning_of plan b).verdict ≡ Faulty fault
           → HasWritten held faults old new (meaning_of plan b).bytes
           → CarriedOut held faults full (Decode workers) bytes old new (Refused (Fault fault))
       faulty fault e has =
           refused_late (Fault fault) (sym (ap (answer_by (meaning_of plan b).bytes) e)) has
 
-      pub decoded_part : (n : ℕ) → HasFailed held faults full old new (meaning_of plan b).bytes n
+      decoded_part : (n : ℕ) → HasFailed held faults full old new (meaning_of plan b).bytes n
           → CarriedOut held faults full (Decode workers) bytes old new WriteFailed
       decoded_part n has =
           let m = meaning_of plan b in
@@ -187,3 +191,11 @@ module _ {Sink : Type 0} (held : Sink → Option (List ℕ)) (faults : Sink → 
               );
             },
           )
+
+      -- however it ended
+      pub ended : (end : Result ℕ DecodeError) → Ends held faults full old new (meaning_of plan b) end
+          → CarriedOut held faults full (Decode workers) bytes old new (decode_ending end)
+      ended (Ok written) e = decoded e.0 e.2
+      ended (Err DecodeErrors.PadSpelling) e = pad_spelled e.0 e.1
+      ended (Err (DecodeErrors.Fault fault)) e = faulty fault e.0 e.1
+      ended (Err (DecodeErrors.WriteFault written)) e = decoded_part written e

@@ -3,3 +3,4 @@ pub mod Samples
 pub mod Summaries
 pub mod Answers
 pub mod Endings
+pub mod DecodeEndings

@@ -3,13 +3,14 @@ ghost use Rattle.std.specs.Prelude.{◌≡◌, ◌≤◌, length};
 ghost use Rattle.command_words.specs.Meaning.{IsInRange};
 ghost use Rattle.command_words.specs.declared.command.Command.TheVariants.{Encode, Decode};
 ghost use Rattle.lepton_run.specs.Answers.{limit_of, reads};
+ghost use Rattle.lepton_run.specs.DecodeEndings.{decode_ending};
 ghost use Rattle.lepton_run.specs.Endings.{CarriedOut};
 
 use crate::ending::Ending;
 use crate::refusal::Refusal;
 use crate::sampling::show_sample;
 use command_words::Command;
-use lepton_decode::{DecodeError, PrepareError, prepare};
+use lepton_decode::{DecodeError, PrepareError, ample_ring, prepare, prepare_alone, run_alone};
 use lepton_encode::EncodeError;
 use outside_core::{Gate, Sink, write_all};
 use std::alloc::Global;
@@ -21,9 +22,6 @@ const MOST_OF_A_FILE: u64 = 67_108_864;
 
 /// The most bytes of a container that is decoded: 8 GiB.
 const MOST_OF_A_CONTAINER: u64 = 8_589_934_592;
-
-/// The bytes of a segment's ring: 1 MiB.
-pub(crate) const RING: usize = 1 << 20;
 
 /// The most bytes that a command takes.
 pub(crate) fn limit(command: Command) -> u64
@@ -62,6 +60,7 @@ pub(crate) fn carry_out<R: Threads + Wait + Sync, K: Sink + Send, G: Gate + Sync
 {
     match command {
         Command::Encode { segments } => encode(rt, alloc, segments, bytes, sink),
+        Command::Decode { workers: 0 } => decode_alone(alloc, bytes, sink, gate),
         Command::Decode { workers } => decode(rt, alloc, workers, bytes, sink, gate),
         Command::Sample {
             seed,
@@ -71,7 +70,7 @@ pub(crate) fn carry_out<R: Threads + Wait + Sync, K: Sink + Send, G: Gate + Sync
     }
 }
 
-// The container of a file, once it is whole.
+// The container of a file, written once it is whole. It has no `Wait`, so it returns.
 fn encode<R: Threads + Sync, K: Sink>(
     rt: &R,
     alloc: Global,
@@ -97,7 +96,7 @@ fn encode<R: Threads + Sync, K: Sink>(
     }
 }
 
-// The file of a container, while it is decoded by so many workers.
+// The file of a container, decoded by `workers` threads beside this one.
 fn decode<R: Threads + Wait + Sync, K: Sink + Send, G: Gate + Sync>(
     rt: &R,
     alloc: Global,
@@ -111,12 +110,36 @@ fn decode<R: Threads + Wait + Sync, K: Sink + Send, G: Gate + Sync>(
         result }
     ensures lasting { K.faults sink.old ≤ K.faults sink.new }
 {
-    let mut ready = match prepare(alloc, bytes, workers, RING) {
+    let mut ready = match prepare(alloc, bytes, workers, ample_ring(bytes)) {
         Ok(ready) => ready,
         Err(PrepareError::Box(refusal)) => return Ending::Refused(Refusal::Box(refusal)),
         Err(PrepareError::NoMemory) => return Ending::NoMemory,
     };
-    match lepton_decode::run(&mut ready, rt, sink, gate) {
+    let ended = lepton_decode::run(&mut ready, rt, sink, gate);
+    ending_by(ended)
+}
+
+// The file of a container, decoded on this thread. It has no `Wait`, so it returns.
+fn decode_alone<K: Sink, G: Gate>(alloc: Global, bytes: &[u8], sink: &mut K, gate: &G) -> Ending
+    requires { length bytes.now ≤ limit_of (Decode 0) }
+    ensures ending { CarriedOut K.held K.faults K.full (Decode 0) bytes.now sink.old sink.new
+        result }
+    ensures lasting { K.faults sink.old ≤ K.faults sink.new }
+{
+    let mut ready = match prepare_alone(alloc, bytes) {
+        Ok(ready) => ready,
+        Err(PrepareError::Box(refusal)) => return Ending::Refused(Refusal::Box(refusal)),
+        Err(PrepareError::NoMemory) => return Ending::NoMemory,
+    };
+    let ended = run_alone(&mut ready, sink, gate);
+    ending_by(ended)
+}
+
+// How the command ends by what a decode answers.
+fn ending_by(ended: Result<u64, DecodeError>) -> Ending
+    ensures { result ≡ decode_ending ended }
+{
+    match ended {
         Ok(_) => Ending::Done,
         Err(DecodeError::Fault(fault)) => Ending::Refused(Refusal::Fault(fault)),
         Err(DecodeError::PadSpelling) => Ending::Refused(Refusal::PadSpelling),

@@ -6,7 +6,7 @@ use crate::note::Line;
 use crate::refusal::Refusal;
 
 /// How a command ended.
-#[derive(Clone, Copy, Debug, PartialEq, Eq)]
+#[derive(Clone, Copy)]
 pub(crate) enum Ending {
     Done,
     Refused(Refusal),

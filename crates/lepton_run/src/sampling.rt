@@ -8,10 +8,9 @@ ghost use Rattle.lepton_run.specs.Lines.{line_room};
 ghost use Rattle.lepton_run.specs.Samples.{IsSampleFile};
 ghost use Rattle.lepton_run.specs.Summaries.{IsSummary, entry, sample_segments, summary_of};
 
-use crate::carrying::RING;
 use crate::ending::Ending;
 use crate::note::Line;
-use lepton_decode::{PrepareError, prepare};
+use lepton_decode::{PrepareError, ample_ring, prepare};
 use lepton_encode::EncodeError;
 use outside_core::{Compare, Gate, Sink, write_all};
 use sample_jpeg::sample;
@@ -94,7 +93,7 @@ fn restored<R: Threads + Wait + Sync, G: Gate + Sync>(
     requires container { IsContainerOf sample_segments made.now file.now }
     ensures { IfOk result (λ restored. restored ≡ length file.now) }
 {
-    let mut ready = match prepare(alloc, made, WORKERS, RING) {
+    let mut ready = match prepare(alloc, made, WORKERS, ample_ring(made)) {
         Ok(ready) => ready,
         Err(PrepareError::NoMemory) => return Err(AllocError),
         Err(PrepareError::Box(_)) => unreachable!(),

@@ -6,3 +6,5 @@ pub mod Emissions
 pub mod OwnPieces
 pub mod Putting
 pub mod StreamsMade
+pub mod LonePieces
+pub mod LoneWritten

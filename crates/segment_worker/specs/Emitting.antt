@@ -1,5 +1,5 @@
 -- An emitter at work, and how it ends (own).
-use Rattle.std.specs.Prelude.{ℕ, ◌≡◌, ◌+◌, ◌*◌, ◌≤◌, Bool, false, List, ◌++◌, length, take, Option, Some, None, Result, Ok, Err}
+use Rattle.std.specs.Prelude.{ℕ, ◌≡◌, ◌+◌, ◌*◌, ◌<◌, ◌≤◌, Bool, false, List, ◌++◌, length, take, Option, Some, None, Result, Ok, Err}
 use Rattle.atomic_table.specs.Seated.{TableId}
 use Rattle.board_core.specs.BoardInvariants.{bytes_at}
 use Rattle.box_format.specs.Seen.{BoxSeen}
@@ -43,6 +43,12 @@ pub record IsUsedEmitter (table : TableId) (v : BoxSeen) (seat : SeatValue BoxSe
 pub record IsThrough (count : ℕ) (e : EmitterView) : Type 0 where
   pub cur : e.cur ≡ count
   pub going : e.stopped ≡ false
+
+-- how many bytes of joined segments were written, by how an emitter ends
+abbrev pub Counts : Joined → Result Emitted EmitStop → Type 0
+Counts all (Ok emitted) = emitted.bytes ≡ length all.bytes
+Counts all (Err (Fault fault)) = Unit {0}
+Counts all (Err (WriteFault written)) = written < length all.bytes
 
 module _ {Sink : Type 0} (held : Sink → Option (List ℕ)) (faults : Sink → ℕ)
     (full : Sink → Type 0) where

@@ -4,3 +4,4 @@ pub mod Joining
 pub mod Emitting
 pub mod OwnSegments
 pub mod Working
+pub mod LoneSegments

@@ -6,13 +6,14 @@ use Rattle.segment_code.specs.Decoding.{DecoderSeen}
 use Rattle.output_board.specs.declared.view.WorkerView.{WorkerView}
 use Rattle.output_board.specs.Seats.{SeatValue}
 
--- a worker's seat on a container's board, and its decoder, between two segments: it owns nothing and hasn't left, and
--- its decoder began as many segments as the seat claimed
+-- a worker's seat on a container's board, and its decoder, between two segments: it owns nothing, isn't over and hasn't
+-- left, and its decoder began as many segments as the seat claimed
 pub record IsIdle (table : TableId) (v : BoxSeen) (seat : SeatValue BoxSeen WorkerView)
     (decoder : DecoderSeen) : Type 0 where
   pub own : seat.table ≡ table
   pub content : seat.content ≡ v
   pub free : seat.view.segment ≡ None
+  pub going : seat.view.over ≡ false
   pub here : seat.view.left ≡ false
   pub plan : decoder.plan ≡ v.plan
   pub begun : decoder.begun ≡ seat.claims

@@ -24,7 +24,8 @@ pub fn prepare_board<'a>(
     AllocError,
 >
     requires { 1 ≤ ring }
-    ensures emitter { IfOk result (λ made. made.1 ≡ new_emitter_seat made.0 view.now workers) }
+    ensures emitter { IfOk result (λ made.
+        made.1 ≡ new_emitter_seat made.0 view.now workers ring) }
     ensures workers { IfOk result (λ made.
         made.2.items ≡ new_worker_seats made.0 view.now workers) }
 {

@@ -24,11 +24,13 @@ pub(crate) fn put_segment<'a, R: Wait, G: Gate>(
 ) -> bool
     requires own { seat.old.table ≡ board.now }
     requires segment { seat.old.view.segment ≡ Some segment }
+    requires going { seat.old.view.over ≡ false }
     requires running { decoder.old.running ≡ true }
     requires owes { OwesRest seat.old.content segment seat.old.view.put decoder.old }
     ensures same { IsSameSeat seat.old seat.new }
     ensures free { result ≡ true → seat.new.view.segment ≡ None }
     ensures over { result ≡ false → seat.new.view.over ≡ true }
+    ensures going { result ≡ true → seat.new.view.over ≡ false }
     ensures here { seat.new.view.left ≡ seat.old.view.left }
     ensures begun { decoder.new.begun ≡ decoder.old.begun }
     ensures plan { decoder.new.plan ≡ decoder.old.plan }

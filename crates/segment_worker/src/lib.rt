@@ -4,11 +4,15 @@
 //!     worker   claim --> SegmentDecoder::begin, step --> piece --put--> ring of the segment
 //!     emitter  take  <-- ring of the segment that is emitted                 --write_all--> sink
 //!              claim_own, where nobody has claimed it --> begin, step --> piece --write_all--> sink
+//!     alone    for each segment in order:                 begin, step --> piece --write_all--> sink
 //!
 //! What a call of the board does is `output_board`'s, and what a segment's stream gives `segment_code`'s. Who runs in
-//! which thread is left to others: `work` and `emit` are right with any number of workers, in any order of their calls.
+//! which thread is not handled here (see `lepton_decode`): `work` and `emit` are right with any number of workers, in any
+//! order of their calls.
+//! `emit_alone` writes what `emit` does with no board, on one thread. Nothing in it waits, so it is proved to return.
 #![tactic(auto)]
 
+mod alone;
 mod boards;
 mod claimed;
 mod emitter;
@@ -20,6 +24,7 @@ mod streams;
 mod told;
 mod worker;
 
+pub use alone::emit_alone;
 pub use boards::prepare_board;
 pub use emitter::emit;
 pub use ending::{EmitStop, Emitted};

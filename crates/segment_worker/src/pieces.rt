@@ -22,6 +22,7 @@ pub(crate) fn put_bytes<'a, R: Wait, G: Gate>(
 ) -> bool
     requires own { seat.old.table ≡ board.now }
     requires next { HasNext (segments_bytes seat.old.content) seat.old.view bytes.now }
+    requires going { seat.old.view.over ≡ false }
     ensures same { IsSameSeat seat.old seat.new }
     ensures put { result ≡ true → seat.new.view
         ≡ record seat.old.view { put = seat.old.view.put + length bytes.now } }
@@ -56,6 +57,8 @@ pub(crate) fn end<'a, R: Wait>(
     requires own { seat.old.table ≡ board.now }
     requires end { IsAtEnd (segments_bytes seat.old.content) (segments_outcomes seat.old.content)
         seat.old.view outcome }
+    requires going { seat.old.view.over ≡ false }
+    ensures still { result ≡ true → seat.new.view.over ≡ false }
     ensures same { IsSameSeat seat.old seat.new }
     ensures free { result ≡ true → seat.new.view.segment ≡ None }
     ensures over { result ≡ false → seat.new.view.over ≡ true }

@@ -36,6 +36,7 @@ loop-step-preserved g c =
         claims = c.put_bytes.ensures.same.claims ∙ i.same.claims;
       };
       segment = ap (λ (w : WorkerView). w.segment) view ∙ i.segment;
+      going = ap (λ (w : WorkerView). w.over) view ∙ i.going;
       here = c.put_bytes.ensures.here ∙ i.here;
       running = later.1;
       owes = subst (λ (n : ℕ). OwesRest c.args.seat.now.content c.args.segment n c.step-step.new.self) (sym count) later.2;
@@ -66,3 +67,11 @@ end-requires-in-Fault-clause-end g c =
     (ap (λ (w : WorkerView). w.segment) view ∙ i.segment) count (c.put_bytes.ensures.same.content ∙ i.same.content)
     (owed_fault c.args.seat.now.content c.args.segment c.loop-step.seat.view.put c.in-Fault.fault c.step-step.new.out
     c.loop-step.decoder c.step-step.new.self i.owes c.in-Fault.ensures.pays)
+
+pub end-requires-clause-going : goal.end-requires-clause-going
+end-requires-clause-going g c =
+    ap (λ (w : WorkerView). w.over) (c.if-not-put_bytes.ensures.put refl) ∙ c.loop-step.invariant.going
+
+pub end-requires-in-Fault-clause-going : goal.end-requires-in-Fault-clause-going
+end-requires-in-Fault-clause-going g c =
+    ap (λ (w : WorkerView). w.over) (c.if-not-put_bytes.ensures.put refl) ∙ c.loop-step.invariant.going

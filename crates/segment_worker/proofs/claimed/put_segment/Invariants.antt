@@ -1,4 +1,4 @@
-use Rattle.std.proofs.Common.{◌≡◌, Some, true}
+use Rattle.std.proofs.Common.{◌≡◌, Some, false, true}
 use Rattle.segment_worker.specs.OwnSegments.{IsSameSeat, OwesRest}
 use Rattle.segment_worker.proofs.claimed.put_segment.Given as goal
 
@@ -6,6 +6,7 @@ abbrev pub invariant-loop-step : goal.invariant-loop-step
 invariant-loop-step g l = record {
   same : IsSameSeat l.initial.seat l.seat;
   segment : l.seat.view.segment ≡ Some l.segment;
+  going : l.seat.view.over ≡ false;
   here : l.seat.view.left ≡ l.initial.seat.view.left;
   running : l.decoder.running ≡ true;
   owes : OwesRest l.initial.seat.content l.segment l.seat.view.put l.decoder;

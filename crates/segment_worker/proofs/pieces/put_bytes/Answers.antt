@@ -1,4 +1,5 @@
-use Rattle.std.proofs.Common.{sym, subst, List, ℕ}
+use Rattle.std.proofs.Common.{ap, ◌∙◌, sym, subst, List, ℕ}
+use Rattle.output_board.specs.declared.view.WorkerView.{WorkerView}
 use Rattle.box_format.specs.Seen.{BoxSeen}
 use Rattle.output_board.specs.Answers.{HasNext}
 use Rattle.segment_worker.specs.Contents.{segments_bytes}
@@ -12,3 +13,7 @@ put-answer-requires-clause-next g c =
     (λ k. (sym i.1.content k, sym c.split_at.ensures.back k))
     (next_after (segments_bytes c.args.seat.now.content) c.args.seat.now.view c.args.bytes.now c.loop.put
     c.loop.seat.view i.0 c.requires.next i.2)
+
+pub put-answer-requires-clause-going : goal.put-answer-requires-clause-going
+put-answer-requires-clause-going g c =
+    ap (λ (w : WorkerView). w.over) c.loop.invariant.2 ∙ c.requires.going

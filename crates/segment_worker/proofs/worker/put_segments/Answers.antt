@@ -35,3 +35,7 @@ put_segment-requires-clause-owes g c =
     i.plan c.begin.ensures.owes in
     subst (λ (z : BoxSeen). OwesRest z c.in-Segment.segment c.claim.new.seat.view.put c.begin.new.self) (sym content)
     (owes_all v c.in-Segment.segment c.claim.new.seat.view.put c.begin.new.self within none owes)
+
+pub put_segment-requires-clause-going : goal.put_segment-requires-clause-going
+put_segment-requires-clause-going g c =
+    ap (λ (w : WorkerView). w.over) c.in-Segment.ensures.answer.1.view ∙ c.loop.invariant.going

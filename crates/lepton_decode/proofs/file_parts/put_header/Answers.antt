@@ -1,0 +1,14 @@
+use Rattle.std.proofs.Common.{List, ℕ, subst}
+use Rattle.segment_worker.specs.Written.{HasFailed}
+use Rattle.segment_worker.proofs.Writing.{failed_first}
+use Rattle.lepton_decode.proofs.FilesWritten.{first_bytes}
+use Rattle.lepton_decode.proofs.file_parts.put_header.Goals as goal
+
+pub returns-in-Err-clause-failed : goal.returns-in-Err-clause-failed
+returns-in-Err-clause-failed g c =
+    let view = c.args.view.now in
+    let f = first_bytes view.plan view.parts in
+    let failed : HasFailed g.K.Sink.held g.K.Sink.faults g.K.Sink.full c.args.sink.now c.write_all.new.sink view.parts.header c.in-Err.field-0.written =
+    subst (λ (l : List ℕ). HasFailed g.K.Sink.held g.K.Sink.faults g.K.Sink.full c.args.sink.now c.write_all.new.sink l c.in-Err.field-0.written) c.header-header.ensures.bytes
+    (record { rose = c.in-Err.ensures.failed; short = c.in-Err.ensures.short; appended = c.in-Err.ensures.part }) in
+    failed_first g.K.Sink.held g.K.Sink.faults g.K.Sink.full c.args.sink.now c.write_all.new.sink view.parts.header _ _ _ failed f.1

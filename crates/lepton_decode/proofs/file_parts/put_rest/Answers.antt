@@ -1,0 +1,102 @@
+use Rattle.std.proofs.Common.{◌≡◌, ◌<◌, ◌+◌, ◌∙◌, ◌||◌, arith, sym, ap, subst, List, ℕ, Bool, true, false, length, Err}
+use Rattle.segment_worker.specs.Emitting.{Counts, Emits, joined_in}
+use Rattle.segment_worker.specs.Written.{HasWritten, HasFailed}
+use Rattle.segment_worker.specs.declared.ending.EmitStop.{EmitStop}
+use Rattle.lepton_decode.proofs.FilesWritten.{pad_spelled, restored, whole_length, ends_at_fault, all_bytes, failed_in_segments, failed_in_trailer}
+use Rattle.lepton_decode.proofs.file_parts.put_rest.Goals as goal
+
+pub overflow_add-result : goal.overflow_add-result
+overflow_add-result g c =
+    let e = c.in-Err-WriteFault.is ∙ ap (λ (stop : EmitStop). Err stop) c.in-Err-WriteFault.field-0-is in
+    let counts : c.in-Err-WriteFault.written < length (joined_in c.args.view.now).bytes =
+    subst (Counts (joined_in c.args.view.now)) e c.requires.counts in
+    let few = c.requires.few in
+    let fits = c.requires.fits in
+    omega (arith, counts, few, fits)
+
+pub returns-in-Err-WriteFault-clause-ends : goal.returns-in-Err-WriteFault-clause-ends
+returns-in-Err-WriteFault-clause-ends g c = λ first mid has emits.
+    let view = c.args.view.now in
+    let e = c.in-Err-WriteFault.is ∙ ap (λ (stop : EmitStop). Err stop) c.in-Err-WriteFault.field-0-is in
+    failed_in_segments g.K.Sink.held g.K.Sink.faults g.K.Sink.full view.plan view.parts first mid c.args.sink.now
+    c.args.before c.in-Err-WriteFault.written c.requires.before has
+    (subst (Emits g.K.Sink.held g.K.Sink.faults g.K.Sink.full mid c.args.sink.now (joined_in view)) e emits)
+
+pub returns-in-Err-Fault-clause-ends : goal.returns-in-Err-Fault-clause-ends
+returns-in-Err-Fault-clause-ends g c = λ first mid has emits.
+    let view = c.args.view.now in
+    let e = c.in-Err-Fault.is ∙ ap (λ (stop : EmitStop). Err stop) c.in-Err-Fault.field-0-is in
+    ends_at_fault g.K.Sink.held g.K.Sink.faults g.K.Sink.full view.plan view.parts first mid c.args.sink.now
+    c.in-Err-Fault.fault has
+    (subst (Emits g.K.Sink.held g.K.Sink.faults g.K.Sink.full mid c.args.sink.now (joined_in view)) e emits)
+
+pub overflow_add-result-in-Err : goal.overflow_add-result-in-Err
+overflow_add-result-in-Err g c =
+    let counts : c.in-Ok.emitted.bytes ≡ length (joined_in c.args.view.now).bytes =
+    subst (Counts (joined_in c.args.view.now)) c.in-Ok.is c.requires.counts in
+    let few = c.requires.few in
+    let fits = c.requires.fits in
+    omega (arith, counts, few, fits)
+
+pub overflow_add-result-in-Err-2 : goal.overflow_add-result-in-Err-2
+overflow_add-result-in-Err-2 g c =
+    let counts : c.in-Ok.emitted.bytes ≡ length (joined_in c.args.view.now).bytes =
+    subst (Counts (joined_in c.args.view.now)) c.in-Ok.is c.requires.counts in
+    let few = c.requires.few in
+    let fits = c.requires.fits in
+    let trailer = c.trailer-trailer.ensures.fits in
+    let short = c.in-Err.ensures.short in
+    omega (arith, counts, few, fits, trailer, short)
+
+pub returns-in-Err-clause-ends : goal.returns-in-Err-clause-ends
+returns-in-Err-clause-ends g c = λ first mid has emits.
+    let view = c.args.view.now in
+    let all = subst (Emits g.K.Sink.held g.K.Sink.faults g.K.Sink.full mid c.args.sink.now (joined_in view)) c.in-Ok.is emits in
+    let failed : HasFailed g.K.Sink.held g.K.Sink.faults g.K.Sink.full c.args.sink.now c.write_all.new.sink view.parts.trailer c.in-Err.field-0.written =
+    subst (λ (l : List ℕ). HasFailed g.K.Sink.held g.K.Sink.faults g.K.Sink.full c.args.sink.now c.write_all.new.sink l c.in-Err.field-0.written) c.trailer-trailer.ensures.bytes
+    (record { rose = c.in-Err.ensures.failed; short = c.in-Err.ensures.short; appended = c.in-Err.ensures.part }) in
+    failed_in_trailer g.K.Sink.held g.K.Sink.faults g.K.Sink.full view.plan view.parts first mid c.args.sink.now c.write_all.new.sink
+    c.args.before c.in-Ok.emitted.bytes c.in-Err.field-0.written all.0 has all.3 failed c.requires.before all.1
+
+pub returns-then-not-told-clause-ends : goal.returns-then-not-told-clause-ends
+returns-then-not-told-clause-ends g c = λ first mid has emits.
+    let view = c.args.view.now in
+    let all = subst (Emits g.K.Sink.held g.K.Sink.faults g.K.Sink.full mid c.args.sink.now (joined_in view)) c.in-Ok.is emits in
+    let last : HasWritten g.K.Sink.held g.K.Sink.faults c.args.sink.now c.write_all.new.sink view.parts.trailer =
+    subst (HasWritten g.K.Sink.held g.K.Sink.faults c.args.sink.now c.write_all.new.sink) c.trailer-trailer.ensures.bytes
+    (record { appended = c.in_default.ensures.whole; unfailed = c.in_default.ensures.unfailed }) in
+    let told : (c.pad.result || c.in-Ok.emitted.padded) ≡ false = c.if-not-told.true in (
+      pad_spelled view.plan view.parts c.in-Ok.emitted.padded all.0 all.2 (sym (ap (λ (p : Bool). p || c.in-Ok.emitted.padded) c.pad.ensures) ∙ told),
+      all_bytes g.K.Sink.held g.K.Sink.faults g.K.Sink.full view.plan view.parts first mid c.args.sink.now c.write_all.new.sink all.0 has all.3 last,
+    )
+
+pub overflow_add-result-2 : goal.overflow_add-result-2
+overflow_add-result-2 g c =
+    let counts : c.in-Ok.emitted.bytes ≡ length (joined_in c.args.view.now).bytes =
+    subst (Counts (joined_in c.args.view.now)) c.in-Ok.is c.requires.counts in
+    let few = c.requires.few in
+    let fits = c.requires.fits in
+    omega (arith, counts, few, fits)
+
+pub overflow_add-result-3 : goal.overflow_add-result-3
+overflow_add-result-3 g c =
+    let counts : c.in-Ok.emitted.bytes ≡ length (joined_in c.args.view.now).bytes =
+    subst (Counts (joined_in c.args.view.now)) c.in-Ok.is c.requires.counts in
+    let few = c.requires.few in
+    let fits = c.requires.fits in
+    let trailer = c.trailer-trailer.ensures.fits in
+    omega (arith, counts, few, fits, trailer)
+
+pub returns-clause-ends : goal.returns-clause-ends
+returns-clause-ends g c = λ first mid has emits.
+    let view = c.args.view.now in
+    let all = subst (Emits g.K.Sink.held g.K.Sink.faults g.K.Sink.full mid c.args.sink.now (joined_in view)) c.in-Ok.is emits in
+    let last : HasWritten g.K.Sink.held g.K.Sink.faults c.args.sink.now c.write_all.new.sink view.parts.trailer =
+    subst (HasWritten g.K.Sink.held g.K.Sink.faults c.args.sink.now c.write_all.new.sink) c.trailer-trailer.ensures.bytes
+    (record { appended = c.in_default.ensures.whole; unfailed = c.in_default.ensures.unfailed }) in
+    let told : (c.pad.result || c.in-Ok.emitted.padded) ≡ true = c.if-not-told.false in (
+      restored view.plan view.parts c.in-Ok.emitted.padded all.0 all.2 (sym (ap (λ (p : Bool). p || c.in-Ok.emitted.padded) c.pad.ensures) ∙ told),
+      ap (λ (k : ℕ). c.args.before + c.in-Ok.emitted.bytes + k) (ap length c.trailer-trailer.ensures.bytes)
+          ∙ whole_length view.plan view.parts c.args.before c.in-Ok.emitted.bytes all.0 c.requires.before all.1,
+      all_bytes g.K.Sink.held g.K.Sink.faults g.K.Sink.full view.plan view.parts first mid c.args.sink.now c.write_all.new.sink all.0 has all.3 last,
+    )

@@ -1,0 +1,13 @@
+-- What always holds of a container that is ready for one thread (this project's own).
+use Rattle.std.specs.Prelude.{◌≡◌, false}
+use Rattle.lepton_decode.specs.Ends.{AloneSeen}
+use Rattle.lepton_decode.specs.declared.alone.ReadyAlone.TheInside.{Inside}
+
+-- its view, and whether it was decoded
+abbrev pub alone_of : Inside → AloneSeen
+alone_of r = record { plan = r.view.plan; parts = r.view.parts; used = r.used }
+
+-- until it is decoded, its decoder is one for its plan that began no segment
+pub record IsReadyAlone (r : Inside) : Type 0 where
+  pub plan : r.decoder.plan ≡ r.view.plan
+  pub fresh : r.used ≡ false → r.decoder.begun ≡ 0

@@ -1,0 +1,118 @@
+// A container decoded on one thread.
+ghost use Rattle.std.specs.Prelude.{◌≡◌, ◌≤◌, IfOk, IsErrOf, false, true};
+ghost use Rattle.box_format.specs.Parts.{IsBoxOf};
+ghost use Rattle.box_format.specs.BoxChecks.{IsRefusedBox};
+ghost use Rattle.box_format.specs.declared.refusal.BoxRefusal.{BoxRefusal};
+ghost use Rattle.segment_meaning.specs.Meanings.{meaning_of};
+ghost use Rattle.lepton_decode.specs.Ends.{Ends, lone_meaning_in};
+
+use crate::error::DecodeError;
+use crate::file_parts::{put_header, put_rest};
+use crate::ready::PrepareError;
+use bit_list::Piece;
+use box_format::{BoxRefusal, BoxView, read_box};
+use outside_core::{Gate, Sink};
+use segment_code::SegmentDecoder;
+use segment_worker::emit_alone;
+use std::alloc::Global;
+use std::marker::Model;
+
+/// A container that is ready to be decoded on one thread, once: its parts, and all the memory that decoding needs.
+///
+/// Clauses see its header's plan, its parts, and whether it was decoded.
+#[derive(Drop)]
+pub struct ReadyAlone<'a> {
+    pub(crate) view: BoxView<'a>,
+    pub(crate) decoder: SegmentDecoder<'a>,
+    pub(crate) piece: Piece,
+    pub(crate) used: bool,
+}
+
+impl<'a> Model for ReadyAlone<'a> {
+    ghost use Rattle.lepton_decode.specs.Ends.{AloneSeen};
+    ghost use Rattle.lepton_decode.specs.AloneInside.{alone_of, IsReadyAlone};
+
+    ghost Value = { AloneSeen };
+
+    ghost view = { alone_of };
+
+    ghost invariant = { IsReadyAlone };
+}
+
+impl<'a> ReadyAlone<'a> {
+    /// Whether it was decoded.
+    pub fn used(&self) -> bool
+        ensures { result ≡ self.now.used }
+    {
+        self.used
+    }
+}
+
+/// Reads a container's parts, and allocates all the memory that its decoding on one thread needs: the bins, two MCU rows
+/// of blocks and a piece of bytes.
+pub fn prepare_alone(alloc: Global, bytes: &[u8]) -> Result<ReadyAlone<'_>, PrepareError>
+    ensures ready { IfOk result (λ ready. IsBoxOf ready.plan ready.parts bytes.now) }
+    ensures fresh { IfOk result (λ ready. ready.used ≡ false) }
+    ensures refused { (refusal : BoxRefusal) → IsErrOf result (PrepareError.Box refusal)
+        → IsRefusedBox bytes.now refusal }
+{
+    let view = match read_box(bytes) {
+        Ok(view) => view,
+        Err(refusal) => return Err(PrepareError::Box(refusal)),
+    };
+    let decoder = SegmentDecoder::prepare(alloc, view.plan())?;
+    let piece = Piece::new(alloc)?;
+    Ok(ReadyAlone {
+        view,
+        decoder,
+        piece,
+        used: false,
+    })
+}
+
+/// Writes what `run` writes, and answers what it answers, on the calling thread. Nothing in it waits, so it returns, on
+/// any container. It allocates nothing.
+///
+/// The gate is called before each segment.
+pub fn run_alone<K: Sink, G: Gate>(
+    ready: &mut ReadyAlone,
+    sink: &mut K,
+    gate: &G,
+) -> Result<u64, DecodeError>
+    requires { ready.old.used ≡ false }
+    ensures ends { Ends K.held K.faults K.full sink.old sink.new (lone_meaning_in ready.old) result }
+    ensures used { ready.new.used ≡ true }
+    ensures lasting { K.faults sink.old ≤ K.faults sink.new }
+{
+    ready.used = true;
+    restore_alone(
+        &ready.view,
+        &mut ready.decoder,
+        &mut ready.piece,
+        sink,
+        gate,
+    )
+}
+
+// Header, segments and trailer, and then whether the pad bit is spelled as it must be.
+fn restore_alone<'a, K: Sink, G: Gate>(
+    view: &BoxView<'a>,
+    decoder: &mut SegmentDecoder<'a>,
+    piece: &mut Piece,
+    sink: &mut K,
+    gate: &G,
+) -> Result<u64, DecodeError>
+    requires plan { decoder.old.plan ≡ view.now.plan }
+    requires fresh { decoder.old.begun ≡ 0 }
+    ensures ends { Ends K.held K.faults K.full sink.old sink.new
+        (meaning_of view.now.plan view.now.parts) result }
+    ensures plan { decoder.new.plan ≡ decoder.old.plan }
+    ensures lasting { K.faults sink.old ≤ K.faults sink.new }
+{
+    let before = match put_header(view, sink) {
+        Ok(before) => before,
+        Err(written) => return Err(DecodeError::WriteFault { written }),
+    };
+    let emitted = emit_alone(decoder, piece, view, sink, gate);
+    put_rest(view, before, emitted, sink)
+}

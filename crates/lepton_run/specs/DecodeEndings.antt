@@ -1,0 +1,14 @@
+-- How the top call ends by what a decode answers (this project's own).
+use Rattle.std.specs.Prelude.{ℕ, Result, Ok, Err}
+use Rattle.lepton_decode.specs.declared.error.DecodeError.{DecodeError}
+use Rattle.lepton_decode.specs.declared.error.DecodeError.TheVariants.{WriteFault, Fault, PadSpelling}
+use Rattle.lepton_run.specs.declared.ending.Ending.{Ending}
+use Rattle.lepton_run.specs.declared.ending.Ending.TheVariants.{Done, Refused, WriteFailed}
+use Rattle.lepton_run.specs.declared.refusal.Refusal.TheVariants as Refusal
+
+-- the ending of a decode's answer
+abbrev pub decode_ending : Result ℕ DecodeError → Ending
+decode_ending (Ok written) = Done
+decode_ending (Err PadSpelling) = Refused Refusal.PadSpelling
+decode_ending (Err (Fault fault)) = Refused (Refusal.Fault fault)
+decode_ending (Err (WriteFault written)) = WriteFailed

@@ -1,0 +1,147 @@
+-- Pieces of a segment that one thread decodes, written one after another.
+use Rattle.std.proofs.Common.{◌≡◌, ℕ, ◌+◌, ◌*◌, ◌^◌, ◌<◌, ◌≤◌, Bool, true, List, [], ◌++◌, length, take, refl, sym, ap, ap₂, subst, ◌∙◌, arith, append_assoc, append-nil, length-append, Option, ◌⊎◌}
+use Rattle.std.specs.Io.KnownBytes.{Appends}
+use Rattle.std.proofs.KnownBytes.{Appends-trans, Appends-nil}
+use Rattle.outside_core.specs.Faults.{Rose}
+use Rattle.bit_list.specs.Pieces.{piece_room}
+use Rattle.handover.specs.declared.outcome.Outcome.{Outcome}
+use Rattle.handover.specs.declared.outcome.Outcome.TheVariants.{Good, Bad}
+use Rattle.handover.specs.declared.outcome.StreamFault.{StreamFault}
+use Rattle.segment_code.specs.Decoding.{DecoderSeen, Owes, Pays}
+use Rattle.segment_code.specs.declared.step.Step.{Step}
+use Rattle.segment_code.specs.declared.step.Step.TheVariants.{More, Done, Fault}
+use Rattle.segment_worker.specs.Written.{HasWritten, HasFailed}
+use Rattle.segment_worker.specs.LoneSegments.{OwesSome, UnderWay}
+use Rattle.segment_worker.proofs.Writing.{take_into}
+
+-- a step gives the first of the bytes that were owed
+paid_first : (step : Step) (bytes out : List ℕ) (outcome : Outcome) (old new : DecoderSeen)
+    → Pays step bytes outcome out old new → (more : List ℕ) × (bytes ≡ out ++ more)
+paid_first More bytes out outcome old new p = (p.0, p.1)
+paid_first (Done padded) bytes out outcome old new p = ([], p.0 ∙ sym (append-nil out))
+paid_first (Fault fault) bytes out outcome old new p = ([], p.0 ∙ sym (append-nil out))
+
+-- whoever owes pays
+abbrev PaysAll : Step → List ℕ → DecoderSeen → DecoderSeen → Type 0
+PaysAll step out old new =
+    (bytes : List ℕ) (outcome : Outcome) → Owes old bytes outcome
+    → Pays step bytes outcome out old new
+
+module _ {Sink : Type 0} (held : Sink → Option (List ℕ)) (faults : Sink → ℕ)
+    (full : Sink → Type 0) where
+  -- before the first piece
+  pub none_written : (d : DecoderSeen) (sink : Sink) → d.running ≡ true → OwesSome d
+      → UnderWay held faults d d sink sink 0
+  none_written d sink running some = record {
+    running = running;
+    some = some;
+    each = λ bytes outcome owes. record {
+      first = [];
+      more = bytes;
+      parts = refl;
+      owes = owes;
+      appended = Appends-nil (held sink);
+      count = refl;
+    };
+    unfailed = refl;
+    few = omega arith;
+    begun = refl;
+    plan = refl;
+  }
+
+  -- a piece more
+  pub more_written : (from now new : DecoderSeen) (old mid sink : Sink) (written : ℕ) (out : List ℕ)
+      (count : ℕ) → UnderWay held faults from now old mid written → PaysAll More out now new
+      → Appends (held mid) (held sink) out → faults sink ≡ faults mid → count ≡ length out
+      → length out ≤ piece_room → new.begun ≡ now.begun → new.plan ≡ now.plan
+      → (new.left < now.left) × UnderWay held faults from new old sink (written + count)
+  more_written from now new old mid sink written out count u pays appended same e room begun plan =
+      let paid = pays u.some.bytes u.some.outcome u.some.owes in (
+        paid.2,
+        record {
+          running = paid.4;
+          some = record { bytes = paid.0; outcome = u.some.outcome; owes = paid.5 };
+          each = λ bytes outcome owes.
+              let f = u.each bytes outcome owes in
+              let p = pays f.more outcome f.owes in
+              record {
+                first = f.first ++ out;
+                more = p.0;
+                parts = f.parts ∙ ap (λ (l : List ℕ). f.first ++ l) p.1
+                    ∙ sym (append_assoc f.first out p.0);
+                owes = p.5;
+                appended = Appends-trans (held old) (held mid) (held sink) f.first out f.appended appended;
+                count = ap₂ (λ (a b : ℕ). a + b) f.count e ∙ sym (length-append f.first out);
+              };
+          unfailed = same ∙ u.unfailed;
+          few = omega (arith, u.few, paid.2, e, room);
+          begun = begun ∙ u.begun;
+          plan = plan ∙ u.plan;
+        },
+      )
+
+  -- the last piece
+  pub all_written : (step : Step) (from now new : DecoderSeen) (old mid sink : Sink) (written : ℕ)
+      (out : List ℕ) (count : ℕ) (end : Outcome) → UnderWay held faults from now old mid written
+      → PaysAll step out now new
+      → ((bytes : List ℕ) (outcome : Outcome) → Pays step bytes outcome out now new
+      → (bytes ≡ out) × (outcome ≡ end))
+      → Appends (held mid) (held sink) out → faults sink ≡ faults mid → count ≡ length out
+      → (bytes : List ℕ) (outcome : Outcome) → Owes from bytes outcome
+      → (written + count ≡ length bytes) × (end ≡ outcome) × HasWritten held faults old sink bytes
+  all_written step from now new old mid sink written out count end u pays last appended same e bytes outcome owes =
+      let f = u.each bytes outcome owes in
+      let l = last f.more outcome (pays f.more outcome f.owes) in
+      let whole : bytes ≡ f.first ++ out = f.parts ∙ ap (λ (m : List ℕ). f.first ++ m) l.0 in (
+        ap₂ (λ (a b : ℕ). a + b) f.count e ∙ sym (length-append f.first out) ∙ ap length (sym whole),
+        sym l.1,
+        record {
+          appended = subst (Appends (held old) (held sink)) (sym whole)
+              (Appends-trans (held old) (held mid) (held sink) f.first out f.appended appended);
+          unfailed = same ∙ u.unfailed;
+        },
+      )
+
+  pub done_last : (padded : Bool) (out : List ℕ) (now new : DecoderSeen) (bytes : List ℕ)
+      (outcome : Outcome) → Pays (Done padded) bytes outcome out now new
+      → (bytes ≡ out) × (outcome ≡ Good padded)
+  done_last padded out now new bytes outcome p = (p.0, p.1)
+
+  pub fault_last : (fault : StreamFault) (out : List ℕ) (now new : DecoderSeen) (bytes : List ℕ)
+      (outcome : Outcome) → Pays (Fault fault) bytes outcome out now new
+      → (bytes ≡ out) × (outcome ≡ Bad fault)
+  fault_last fault out now new bytes outcome p = (p.0, p.1)
+
+  -- a write of a piece that failed
+  pub write_failed : (step : Step) (from now new : DecoderSeen) (old mid sink : Sink) (written more : ℕ)
+      (out : List ℕ) → UnderWay held faults from now old mid written → PaysAll step out now new
+      → Appends (held mid) (held sink) (take more out) → more < length out
+      → Rose faults full mid sink
+      → (bytes : List ℕ) (outcome : Outcome) → Owes from bytes outcome
+      → HasFailed held faults full old sink bytes (written + more)
+  write_failed step from now new old mid sink written more out u pays appended short rose bytes outcome owes =
+      let f = u.each bytes outcome owes in
+      let p = paid_first step f.more out outcome now new (pays f.more outcome f.owes) in
+      let whole : bytes ≡ f.first ++ (out ++ p.0) = f.parts ∙ ap (λ (m : List ℕ). f.first ++ m) p.1 in
+      let long : length (f.first ++ (out ++ p.0)) ≡ length f.first + (length out + length p.0) =
+      length-append f.first (out ++ p.0) ∙ ap (λ (n : ℕ). length f.first + n) (length-append out p.0) in
+      let some : take (written + more) bytes ≡ f.first ++ take more out =
+      ap₂ (λ (n : ℕ) (l : List ℕ). take (n + more) l) f.count whole
+      ∙ take_into f.first out p.0 more (omega arith) in
+      let all = ap length whole in
+      let count = f.count in
+      record {
+        rose = subst (λ (n : ℕ). (n < faults sink) ⊎ full sink) u.unfailed rose;
+        short = omega (arith, all, long, count, short);
+        appended = subst (Appends (held old) (held sink)) (sym some)
+            (Appends-trans (held old) (held mid) (held sink) f.first (take more out) f.appended appended);
+      }
+
+  -- a piece is no more than what was left room for
+  pub piece_fits : (from now : DecoderSeen) (old mid : Sink) (written count : ℕ)
+      → UnderWay held faults from now old mid written → count ≤ piece_room
+      → from.left < 2 ^ 32 → written + count ≤ piece_room * 2 ^ 32
+  piece_fits from now old mid written count u room few =
+      let stands = u.some.owes.stands in
+      let some : 0 < now.left = subst (λ (n : ℕ). 0 < n) (sym stands.still) stands.some in
+      omega (arith, u.few, some, room, few)

@@ -1,0 +1,110 @@
+// A container's segments decoded on one thread, with no board.
+ghost use Rattle.std.specs.Prelude.{◌≡◌, ◌*◌, ◌≤◌, ◌<◌, ◌^◌, ℕ, List, length, IfOk, IfErr, true};
+ghost use Rattle.handover.specs.declared.outcome.Outcome.{Outcome};
+ghost use Rattle.box_format.specs.Parts.{most_segments};
+ghost use Rattle.segment_code.specs.Decoding.{Owes};
+ghost use Rattle.segment_worker.specs.Contents.{segment_room};
+ghost use Rattle.segment_worker.specs.Emitting.{Emits, joined_in};
+ghost use Rattle.segment_worker.specs.LoneSegments.{OwesSome, SegmentEnds, pieces_room};
+
+use crate::ending::{EmitStop, Emitted};
+use crate::lengths::segments_are_short;
+use bit_list::Piece;
+use box_format::BoxView;
+use handover::Outcome;
+use outside_core::{Gate, Sink, WriteFault, write_all};
+use segment_code::{SegmentDecoder, Step};
+
+/// Writes the segments in order, each decoded on the calling thread when its turn comes: what `emit` writes, with no
+/// other thread to wait for. It returns after the last segment, or after the first with a fault, or if the sink fails.
+///
+/// The gate is called before each segment.
+pub fn emit_alone<'a, K: Sink, G: Gate>(
+    decoder: &mut SegmentDecoder<'a>,
+    piece: &mut Piece,
+    view: &BoxView<'a>,
+    sink: &mut K,
+    gate: &G,
+) -> Result<Emitted, EmitStop>
+    requires plan { decoder.old.plan ≡ view.now.plan }
+    requires fresh { decoder.old.begun ≡ 0 }
+    ensures ends { Emits K.held K.faults K.full sink.old sink.new (joined_in view.now) result }
+    ensures few { length (joined_in view.now).bytes ≤ segment_room * most_segments }
+    ensures plan { decoder.new.plan ≡ decoder.old.plan }
+    ensures lasting { K.faults sink.old ≤ K.faults sink.new }
+{
+    segments_are_short(view);
+    let _segments = view.segments();
+    emit_segments(decoder, piece, view, sink, gate)
+}
+
+// The same.
+fn emit_segments<'a, K: Sink, G: Gate>(
+    decoder: &mut SegmentDecoder<'a>,
+    piece: &mut Piece,
+    view: &BoxView<'a>,
+    sink: &mut K,
+    gate: &G,
+) -> Result<Emitted, EmitStop>
+    requires plan { decoder.old.plan ≡ view.now.plan }
+    requires fresh { decoder.old.begun ≡ 0 }
+    ensures ends { Emits K.held K.faults K.full sink.old sink.new (joined_in view.now) result }
+    ensures plan { decoder.new.plan ≡ decoder.old.plan }
+    ensures lasting { K.faults sink.old ≤ K.faults sink.new }
+{
+    let mut written = 0;
+    let mut padded = false;
+    for segment in 0..view.segments() {
+        gate.before_own(segment);
+        decoder.begin(view, segment);
+        match emit_segment(decoder, piece, sink) {
+            Ok((count, Outcome::Good { padded: more })) => {
+                written += count;
+                padded |= more;
+            }
+            Ok((_, Outcome::Bad(fault))) => return Err(EmitStop::Fault(fault)),
+            Err(count) => {
+                return Err(EmitStop::WriteFault {
+                    written: written + count,
+                });
+            }
+        }
+    }
+    Ok(Emitted {
+        bytes: written,
+        padded,
+    })
+}
+
+// Writes what the decoder owes of a segment, piece by piece. Answers how many bytes these are and how the segment ends,
+// or how many were written before the sink failed.
+fn emit_segment<K: Sink>(
+    decoder: &mut SegmentDecoder,
+    piece: &mut Piece,
+    sink: &mut K,
+) -> Result<(u64, Outcome), u64>
+    requires running { decoder.old.running ≡ true }
+    requires owes { OwesSome decoder.old }
+    requires few { decoder.old.left < 2 ^ 32 }
+    ensures ends { (bytes : List ℕ) (outcome : Outcome) → Owes decoder.old bytes outcome
+        → SegmentEnds K.held K.faults K.full sink.old sink.new bytes outcome result }
+    ensures few { IfOk result (λ ended. ended.0 ≤ pieces_room) }
+    ensures short { IfErr result (λ written. written ≤ pieces_room) }
+    ensures begun { decoder.new.begun ≡ decoder.old.begun }
+    ensures plan { decoder.new.plan ≡ decoder.old.plan }
+    ensures lasting { K.faults sink.old ≤ K.faults sink.new }
+{
+    let mut written = 0;
+    loop {
+        let step = decoder.step(piece);
+        if let Err(WriteFault { written: more }) = write_all(sink, piece.bytes()) {
+            return Err(written + more);
+        }
+        written += piece.len() as u64;
+        match step {
+            Step::More => {}
+            Step::Done { padded } => return Ok((written, Outcome::Good { padded })),
+            Step::Fault(fault) => return Ok((written, Outcome::Bad(fault))),
+        }
+    }
+}
