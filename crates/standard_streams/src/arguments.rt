@@ -1,0 +1,33 @@
+// The arguments that the program was started with.
+use std::alloc::{AllocError, Global};
+use std::env::{Env, FillError};
+
+/// What stands for the program's name, which may be no text and which no command depends on.
+const PROGRAM: &str = "lepton";
+
+/// The most bytes of an argument that is read as it is. Those of commands have fewer.
+const LONGEST: usize = 64;
+
+/// The arguments, after a name for the program. One that is no text gets U+FFFD in place of each byte that isn't; one of
+/// more than 64 bytes is empty: no command has such an argument.
+pub fn given_arguments<R: Env>(rt: &R, alloc: Global) -> Result<Vec<String>, AllocError> {
+    let mut arguments = Vec::new(alloc);
+    arguments.push(String::from_str(alloc, PROGRAM)?)?;
+    for number in 1..usize::MAX {
+        match argument(rt, alloc, number)? {
+            Some(argument) => arguments.push(argument)?,
+            None => break,
+        }
+    }
+    Ok(arguments)
+}
+
+// The argument of this number, if there is one.
+fn argument<R: Env>(rt: &R, alloc: Global, number: usize) -> Result<Option<String>, AllocError> {
+    let mut bytes = [0; LONGEST];
+    match rt.arg(number, &mut bytes) {
+        Ok(length) => Ok(Some(String::from_utf8_lossy(alloc, &bytes[..length])?)),
+        Err(FillError::TooLong) => Ok(Some(String::new(alloc))),
+        Err(FillError::NotPresent) => Ok(None),
+    }
+}
