@@ -190,9 +190,9 @@ module _ (ss : List (List ℕ)) (os : List Outcome) (b : BoardState) (h : IsBoar
 
   done_goes : (o : Outcome) → b.stopped ≡ false → b.cur < length b.segments
       → (segment_at b b.cur).done ≡ Some o → CanGoOn ss os b
-  done_goes (Good padded) go lt e = ⊎_elim
+  done_goes (Good pads) go lt e = ⊎_elim
       (λ none. other Advance
-      (λ q. cc) (record { going = go; more = lt; good = (padded, e); empty = none }) tt)
+      (λ q. cc) (record { going = go; more = lt; good = (pads, e); empty = none }) tt)
       (λ some. takes go lt some) (empty_or_not (segment_at b b.cur).ring)
   done_goes (Bad n) go lt e = ⊎_elim (λ none. due n e none go)
       (λ some. takes go lt some) (empty_or_not (segment_at b b.cur).ring)

@@ -3,6 +3,7 @@ use Rattle.std.specs.Prelude.{◌≡◌, ◌≢◌, ℕ, ◌⊎◌, Bool, true, 
 use Rattle.board_core.specs.declared.actor.Actor.{Actor}
 use Rattle.board_core.specs.declared.actor.Actor.TheVariants.{Worker, Emitter}
 use Rattle.handover.specs.declared.outcome.Outcome.{Outcome}
+use Rattle.handover.specs.declared.pads.PadSum.{PadSum}
 use Rattle.handover.specs.declared.outcome.Outcome.TheVariants.{Good}
 
 -- a segment: its owner, how many of its bytes were put and taken so far, the bytes that wait in its ring, and its
@@ -63,7 +64,7 @@ IsPresent b Emitter = Unit {0}
 
 -- a good outcome
 abbrev pub IsGood : Option Outcome → Type 0
-IsGood done = (padded : Bool) × (done ≡ Some (Good padded))
+IsGood done = (pads : PadSum) × (done ≡ Some (Good pads))
 
 -- all workers left, and nothing is to be emitted any more
 abbrev pub IsEnded : BoardState → Type 0

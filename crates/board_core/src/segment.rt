@@ -46,7 +46,7 @@ pub(crate) fn is_good(done: Option<Outcome>) -> bool
     ensures { IsTrue result ↔ IsGood done }
 {
     match done {
-        Some(Outcome::Good { padded: _ }) => true,
+        Some(Outcome::Good { pads: _ }) => true,
         Some(Outcome::Bad(_)) => false,
         None => false,
     }

@@ -1,3 +1,4 @@
 pub mod Handovers
 pub mod HandoverBytes
 pub mod HandoverInside
+pub mod PadSums

@@ -4,15 +4,17 @@
 //!                    ^ the segment goes on with this bit
 //!
 //! A scan is cut into segments so that several workers decode it. What one of them leaves to the next is a
-//! `Handover`. An `Outcome` says how the segment's stream ended. Which bits and bytes a segment has is left to
-//! others.
+//! `Handover`. An `Outcome` says how the segment's stream ended, and what its restart intervals were padded with. Which
+//! bits and bytes a segment has is left to others.
 #![tactic(auto)]
 
 mod bytes;
 mod handover;
 mod laws;
 mod outcome;
+mod pads;
 
 pub use handover::Handover;
 pub use laws::handovers_have_one_spelling;
 pub use outcome::{Outcome, StreamCause, StreamFault};
+pub use pads::PadSum;

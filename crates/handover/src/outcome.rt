@@ -1,5 +1,6 @@
 // How the stream of a segment ends.
 use crate::handover::Handover;
+use crate::pads::PadSum;
 
 /// Why a segment's stream is refused, by the numbers of the refusals.
 #[derive(Clone, Copy, Debug, PartialEq, Eq)]
@@ -25,9 +26,9 @@ pub struct StreamFault {
     pub cause: StreamCause,
 }
 
-/// How a segment ends: complete, and whether its last byte took pad bits, or refused.
+/// How a segment ends: complete, and what its intervals were padded with, or refused.
 #[derive(Clone, Copy, Debug, PartialEq, Eq)]
 pub enum Outcome {
-    Good { padded: bool },
+    Good { pads: PadSum },
     Bad(StreamFault),
 }

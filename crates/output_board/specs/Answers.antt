@@ -93,10 +93,10 @@ module _ {C : Type 0} where
       (seen : Seen) × EmitterTold old new take_kind n seen
       × (1 ≤ seen.length) × (n ≡ min seen.length (length before))
       × (now ≡ take n (drop old.view.taken (bytes_at ss old.view.cur)) ++ drop n before)
-  TakeGives ss os old new before now (Ended (Good padded)) =
+  TakeGives ss os old new before now (Ended (Good pads)) =
       (seen : Seen) × EmitterTold old new advance_kind 0 seen
       × (seen.length ≡ 0) × (seen.done ≡ true) × (now ≡ before)
-      × (slice_get os old.view.cur ≡ Some (Good padded))
+      × (slice_get os old.view.cur ≡ Some (Good pads))
       × (old.view.taken ≡ length (bytes_at ss old.view.cur))
   TakeGives ss os old new before now (Ended (Bad fault)) =
       (seen : Seen) × EmitterTold old new nothing_kind 0 seen

@@ -51,11 +51,11 @@ pub(crate) fn take<C: Content, R: Wait>(
         return Take::Bytes(n);
     }
     match core.done(seen.cur) {
-        Some(Outcome::Good { padded }) => {
+        Some(Outcome::Good { pads }) => {
             core.step(&Event::Advance);
             held.release(lock, ADVANCE, 0, &seen);
             lock.ring_bell(pass);
-            Take::Ended(Outcome::Good { padded })
+            Take::Ended(Outcome::Good { pads })
         }
         Some(Outcome::Bad(fault)) => {
             held.release(lock, NOTHING, 0, &seen);

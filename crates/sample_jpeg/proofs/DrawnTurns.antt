@@ -1,7 +1,8 @@
 -- Coefficients, blocks and MCUs that are drawn and put turn by turn.
 use Rattle.std.proofs.Common.{◌≡◌, ℕ, suc, ◌+◌, ◌-◌, ◌*◌, ◌<◌, ◌≤◌, true, List, [], ◌∷◌, ◌++◌, length, ℤ, Option, Result, Ok, Err, refl, sym, ap, subst, ◌∙◌, arith, append_assoc, append-nil}
-use Rattle.std.specs.Prelude.{Bool, None}
+use Rattle.std.specs.Prelude.{None}
 use Rattle.jpeg_marker.specs.Plans.{PlanFields}
+use Rattle.scan_text.specs.Pads.{PadBits, Same, bit_for}
 use Rattle.scan_text.specs.ScanCalls.{McuIsPut, McuIsPutOn, ScanWriter, writer_of}
 use Rattle.scan_text.specs.Scans.{Mcu}
 use Rattle.scan_text.specs.Slots.{Shape, shape_of}
@@ -44,16 +45,16 @@ no_stop put made stop a b = let e : Ok made ≡ Err stop = sym a ∙ b in cc
 one_put : (put : Put) (a b : List ℕ × Spot) → put ≡ Ok a → put ≡ Ok b → b ≡ a
 one_put put a b p q = let e : Ok b ≡ Ok a = sym q ∙ p in cc
 
-with_pad : (pad other : Bool) (shape : Shape) (spot : Spot) (mcu : Mcu) → pad ≡ other → mcu_put shape (λ n. pad) spot mcu ≡ mcu_put shape (λ n. other) spot mcu
-with_pad pad other shape spot mcu e = ap (λ (b : Bool). mcu_put shape (λ n. b) spot mcu) e
+with_ones : (pads : PadBits) (shape : Shape) (spot : Spot) (mcu : Mcu) → pads ≡ Same true → mcu_put shape (bit_for pads) spot mcu ≡ mcu_put shape (λ n. true) spot mcu
+with_ones pads shape spot mcu e = ap (λ (p : PadBits). mcu_put shape (bit_for p) spot mcu) e
 
 pub never_stops : (w new : ScanWriter) (state : ℕ) (mcu : Mcu) (out out_new : List ℕ) (result : Result (Unit {0}) WriteStop) (stop : WriteStop) → mcu ≡ (drawn_blocks 3 state).value
     → IsUnderWay w → result ≡ Err stop → McuIsPut w.stop w mcu out result new out_new → ⊥
 never_stops w new state mcu out out_new result stop drawn way err put =
     let on = subst (λ r. McuIsPutOn w mcu out r new out_new) err (put_on w.stop w new mcu out out_new result way.stop put) in
     let few = mcu_few w.shape w.spot state way.slots way.begun way.before in
-    no_stop (mcu_put w.shape (λ n. w.pad) w.spot mcu) few.made stop
-    (with_pad w.pad true w.shape w.spot mcu way.pad ∙ ap (mcu_put w.shape (λ n. true) w.spot) drawn ∙ few.is) on.0
+    no_stop (mcu_put w.shape (bit_for w.pads) w.spot mcu) few.made stop
+    (with_ones w.pads w.shape w.spot mcu way.pads ∙ ap (mcu_put w.shape (λ n. true) w.spot) drawn ∙ few.is) on.0
 
 pub mcu_puts : (w new : ScanWriter) (state : ℕ) (mcu : Mcu) (out out_new bytes file longer : List ℕ) (result : Result (Unit {0}) WriteStop) (done : Unit {0}) → mcu ≡ (drawn_blocks 3 state).value
     → IsUnderWay w → out ≡ [] → result ≡ Ok done → McuIsPut w.stop w mcu out result new out_new → bytes ≡ out_new → longer ≡ file ++ bytes → PutsMcu state w new file longer
@@ -61,7 +62,7 @@ mcu_puts w new state mcu out out_new bytes file longer result done drawn way emp
     let on = subst (λ r. McuIsPutOn w mcu out r new out_new) ok (put_on w.stop w new mcu out out_new result way.stop put) in
     let few = mcu_few w.shape w.spot state way.slots way.begun way.before in
     let text = on.0 in
-    let is = sym (with_pad w.pad true w.shape w.spot mcu way.pad ∙ ap (mcu_put w.shape (λ n. true) w.spot) drawn) ∙ on.1 in
+    let is = sym (with_ones w.pads w.shape w.spot mcu way.pads ∙ ap (mcu_put w.shape (λ n. true) w.spot) drawn) ∙ on.1 in
     let made : (text, new.spot) ≡ few.made = one_put _ few.made (text, new.spot) few.is is in
     let there : out_new ≡ text = on.2 ∙ ap (λ (o : List ℕ). o ++ text) empty in
     record {
@@ -71,7 +72,7 @@ mcu_puts w new state mcu out out_new bytes file longer result done drawn way emp
       shape = ap (λ (x : ScanWriter). x.shape) on.3;
       way = record {
         slots = ap (λ (x : ScanWriter). x.shape.slots) on.3 ∙ way.slots;
-        pad = ap (λ (x : ScanWriter). x.pad) on.3 ∙ way.pad;
+        pads = ap (λ (x : ScanWriter). x.pads) on.3 ∙ way.pads;
         begun = subst (λ (m : List ℕ × Spot). length m.1.begun < 8) (sym made) few.few.begun;
         before = subst (λ (m : List ℕ × Spot). AreDrawnDcs m.1.before) (sym made) few.few.before;
         stop = ap (λ (x : ScanWriter). x.stop) on.3 ∙ way.stop;
@@ -145,17 +146,17 @@ at_end n first old file k state now longer over at =
 
 -- ---- the file
 
-pub way_of : (e : Extent) → IsUnderWay (writer_of (shape_of (sample_plan e)) true)
+pub way_of : (e : Extent) → IsUnderWay (writer_of (shape_of (sample_plan e)) (Same true))
 way_of e = record {
   slots = refl;
-  pad = refl;
+  pads = refl;
   begun = omega arith;
   before = (omega arith, (omega arith, (omega arith, (omega arith, tt))));
   stop = refl;
 }
 
 pub file_is : (seed columns rows : ℕ) (longer : List ℕ) → IsExtent (extent_of seed columns rows)
-    → PutsMcus (columns * rows) seed (writer_of (shape_of (sample_plan (extent_of seed columns rows))) true) (sample_header (extent_of seed columns rows)) longer
+    → PutsMcus (columns * rows) seed (writer_of (shape_of (sample_plan (extent_of seed columns rows))) (Same true)) (sample_header (extent_of seed columns rows)) longer
     → longer ++ end_of_image ≡ sample_file seed columns rows
 unfolding sample_file
 file_is seed columns rows longer is puts =
@@ -167,17 +168,17 @@ file_is seed columns rows longer is puts =
 
 -- what the whole program writes, step by step
 pub sample_done : (seed columns rows : ℕ) (e : Extent) (b0 b1 b2 b3 : List ℕ) (plan : PlanFields) (w : ScanWriter) (mcus state : ℕ) → IsExtent (extent_of seed columns rows)
-    → e ≡ extent_of seed columns rows → b0 ≡ [] → b1 ≡ b0 ++ sample_header e → plan ≡ sample_plan e → w ≡ writer_of (shape_of plan) true
+    → e ≡ extent_of seed columns rows → b0 ≡ [] → b1 ≡ b0 ++ sample_header e → plan ≡ sample_plan e → w ≡ writer_of (shape_of plan) (Same true)
     → mcus ≡ plan.across * plan.down → state ≡ seed → PutsMcus mcus state w b1 b2 → b3 ≡ b2 ++ end_of_image → b3 ≡ sample_file seed columns rows
 sample_done seed columns rows e b0 b1 b2 b3 plan w mcus state is extent none header planned writer count from puts end =
     let f = extent_of seed columns rows in
     let b : b1 ≡ sample_header f = header ∙ ap (λ (l : List ℕ). l ++ sample_header e) none ∙ ap sample_header extent in
     let p : plan ≡ sample_plan f = planned ∙ ap sample_plan extent in
-    let v : w ≡ writer_of (shape_of (sample_plan f)) true = writer ∙ ap (λ (q : PlanFields). writer_of (shape_of q) true) p in
+    let v : w ≡ writer_of (shape_of (sample_plan f)) (Same true) = writer ∙ ap (λ (q : PlanFields). writer_of (shape_of q) (Same true)) p in
     let m : mcus ≡ columns * rows = count ∙ ap (λ (q : PlanFields). q.across * q.down) p in
-    let puts_so : PutsMcus (columns * rows) seed (writer_of (shape_of (sample_plan f)) true) (sample_header f) b2 =
-    subst (λ (n : ℕ). PutsMcus n seed (writer_of (shape_of (sample_plan f)) true) (sample_header f) b2) m
-    (subst (λ (s : ℕ). PutsMcus mcus s (writer_of (shape_of (sample_plan f)) true) (sample_header f) b2) from
+    let puts_so : PutsMcus (columns * rows) seed (writer_of (shape_of (sample_plan f)) (Same true)) (sample_header f) b2 =
+    subst (λ (n : ℕ). PutsMcus n seed (writer_of (shape_of (sample_plan f)) (Same true)) (sample_header f) b2) m
+    (subst (λ (s : ℕ). PutsMcus mcus s (writer_of (shape_of (sample_plan f)) (Same true)) (sample_header f) b2) from
     (subst (λ (x : ScanWriter). PutsMcus mcus state x (sample_header f) b2) v
     (subst (λ (l : List ℕ). PutsMcus mcus state w l b2) b puts))) in
     end ∙ file_is seed columns rows b2 is puts_so

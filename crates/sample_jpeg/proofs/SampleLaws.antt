@@ -3,13 +3,15 @@ use Rattle.std.proofs.Common.{◌≡◌, ℕ, ◌*◌, ◌≤◌, Bool, true, fa
 use Rattle.std.proofs.Math.Nat.{mul-le-mul_left, mul-le-mul_right}
 use Rattle.std.proofs.Math.Seq.{drop-append_seam}
 use Rattle.jpeg_marker.specs.HeaderPlan.{Accepts}
-use Rattle.scan_text.specs.Scans.{scan_bytes}
+use Rattle.scan_text.specs.Scans.{scan_bytes, intervals_of, pad_counts, pad_at}
+use Rattle.scan_text.specs.Pads.{interval_count}
 use Rattle.scan_text.specs.ScanLaws.{IsShape}
 use Rattle.scan_text.specs.Slots.{shape_of}
 use Rattle.scan_text.specs.Spots.{first_spot}
 use Rattle.scan_text.proofs.PlanShapes.{accepted_is_shape}
+use Rattle.scan_text.proofs.PadsAlike.{pads_alike, intervals_are, ones_are, ones_agree}
 use Rattle.sample_jpeg.specs.declared.extent.Extent.{Extent}
-use Rattle.sample_jpeg.specs.SampleFile.{IsSample, SamplesAreFiles, bytes_or_none, end_of_image, sample_file, sample_mcus, sample_scan}
+use Rattle.sample_jpeg.specs.SampleFile.{IsSample, SamplesAreFiles, bytes_or_none, end_of_image, sample_file, sample_mcus, sample_pads, sample_scan}
 use Rattle.sample_jpeg.specs.SampleHeader.{IsExtent, extent_of, sample_header, sample_plan}
 use Rattle.sample_jpeg.proofs.SampleHeaders.{sample_accepts, sample_header_bytes}
 use Rattle.sample_jpeg.proofs.SampleMcus.{AreBytes, all_both}
@@ -54,12 +56,18 @@ pub sample_is : (seed : ℕ) (e : Extent) → IsExtent e → IsSample seed e (sa
 sample_is seed e is =
     let scan = has_scan seed e is in
     let rest = sample_scan seed e ++ end_of_image in
+    let shape = shape_of (sample_plan e) in
+    let mcus = sample_mcus seed e in
+    let grid = in_grid shape seed refl in
+    let counts = pad_counts shape.slots (intervals_of shape mcus) in
+    let pads = interval_count shape in
+    let many : length counts ≡ pads = intervals_are shape mcus (sample_shape e is).mcus grid.count in
     record {
       bytes = all_both (sample_header e) rest (sample_header_bytes e is) (all_both (sample_scan seed e) end_of_image scan.bytes (omega arith, (omega arith, tt)));
       is = record {
         header = sample_accepts e rest is;
         scan = sample_scan seed e;
-        is = record { grid = in_grid (shape_of (sample_plan e)) seed refl; told = λ none. refl; text = scan.text };
+        is = record { grid = grid; told = ones_are counts pads (sym many); text = pads_alike shape mcus (pad_at (sample_pads e)) (λ n. true) (ones_agree counts pads 0) ∙ scan.text };
         text = drop-append_seam (sample_header e) rest;
       };
       short = omega (arith, length-append (sample_header e) rest, length-append (sample_scan seed e) end_of_image, header_few e, scan.few, few_mcus e is);

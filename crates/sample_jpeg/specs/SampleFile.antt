@@ -1,10 +1,11 @@
 -- The file that a seed and a size give (own; docs/SAMPLE.md).
-use Rattle.std.specs.Prelude.{ℕ, ◌*◌, ◌≤◌, true, List, [], ◌∷◌, ◌++◌, length, Ok, Err}
+use Rattle.std.specs.Prelude.{ℕ, ◌*◌, ◌≤◌, Bool, true, List, [], ◌∷◌, ◌++◌, length, replicate, Ok, Err}
 use Rattle.std.specs.List.{AllByRecursion}
 use Rattle.bit_list.specs.Bits.{IsByte}
 use Rattle.scan_text.specs.FileLaws.{IsFileOf}
 use Rattle.scan_text.specs.Scans.{Bytes, Mcu, scan_bytes}
 use Rattle.scan_text.specs.Slots.{shape_of}
+use Rattle.scan_text.specs.Pads.{interval_count}
 use Rattle.sample_jpeg.specs.DrawnMcus.{drawn_mcus}
 use Rattle.sample_jpeg.specs.declared.extent.Extent.{Extent}
 use Rattle.sample_jpeg.specs.SampleHeader.{IsExtent, extent_of, sample_header, sample_plan}
@@ -33,10 +34,14 @@ sample_file seed columns rows =
     let e = extent_of seed columns rows in
     sample_header e ++ (sample_scan seed e ++ end_of_image)
 
+-- pad bits of ones, one for each restart interval
+abbrev pub sample_pads : Extent → List Bool
+sample_pads e = replicate (interval_count (shape_of (sample_plan e))) true
+
 -- it is a file of its header, its MCUs and pad bits of ones, and below 64 MiB
 pub record IsSample (seed : ℕ) (e : Extent) (file : List ℕ) : Type 0 where
   pub bytes : AllByRecursion IsByte file
-  pub is : IsFileOf file (sample_plan e) (sample_mcus seed e) true end_of_image
+  pub is : IsFileOf file (sample_plan e) (sample_mcus seed e) (sample_pads e) end_of_image
   pub short : length file ≤ 40000000
 
 -- and this for every seed and size

@@ -1,6 +1,7 @@
 -- How the scan of a sample is written MCU by MCU (own).
 use Rattle.std.specs.Prelude.{ℕ, ◌≡◌, ◌+◌, ◌<◌, ◌≤◌, true, List, [], ◌∷◌, ◌++◌, length, ℤ, unsigned_abs, None, Ok}
 use Rattle.std.specs.List.{AllByRecursion}
+use Rattle.scan_text.specs.Pads.{Same}
 use Rattle.scan_text.specs.ScanCalls.{ScanWriter}
 use Rattle.scan_text.specs.Slots.{slots_of}
 use Rattle.scan_text.specs.Spots.{Spot, mcu_put, mcus_put}
@@ -19,7 +20,7 @@ AreDrawnDcs before = AllByRecursion (λ dc. unsigned_abs dc ≤ 1000) before
 -- a writer of a sample's scan, between two MCUs
 pub record IsUnderWay (w : ScanWriter) : Type 0 where
   pub slots : w.shape.slots ≡ sample_slots
-  pub pad : w.pad ≡ true
+  pub pads : w.pads ≡ Same true
   pub begun : length w.spot.begun < 8
   pub before : AreDrawnDcs w.spot.before
   pub stop : w.stop ≡ None

@@ -10,6 +10,7 @@ use crate::extent::Extent;
 use crate::header::{plan_of, put_header};
 use bit_list::Piece;
 use huff_table::PlanCodes;
+use scan_text::Pads;
 use scan_write::Writer;
 use std::alloc::{AllocError, Global};
 
@@ -27,7 +28,7 @@ pub fn sample(alloc: Global, seed: u32, columns: u16, rows: u16) -> Result<Vec<u
     put_header(&mut file, &extent)?;
     let plan = plan_of(&file);
     let codes = PlanCodes::build(&plan);
-    let mut writer = Writer::start(&plan, &codes, true);
+    let mut writer = Writer::start(&plan, &codes, Pads::All(true));
     let mut piece = Piece::new(alloc)?;
     let mut draws = Draws::new(seed);
     put_mcus(&mut draws, &mut writer, plan.mcus(), &mut piece, &mut file)?;

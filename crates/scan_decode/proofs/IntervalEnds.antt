@@ -14,21 +14,21 @@ use Rattle.scan_text.specs.declared.refusal.ScanRefusal.TheVariants as refusals
 abbrev pub Next : Type 0
 Next = Result Standing ScanRefusal
 
-of_left : (pad : Option Bool) (left : List Bool) (count number : ℕ) (r : Option (Option Bool)) → count ≡ length left → number ≡ number_of left → r ≡ pad_of (Some pad) (low_bits count number) → r ≡ pad_of (Some pad) left
-of_left pad left count number r is spelled e = e ∙ ap (pad_of (Some pad)) (ap₂ (λ (k n : ℕ). low_bits k n) is spelled ∙ bits_again left)
+of_left : (left : List Bool) (count number : ℕ) (r : Option (Option Bool)) → count ≡ length left → number ≡ number_of left → r ≡ pad_of (Some None) (low_bits count number) → r ≡ pad_of (Some None) left
+of_left left count number r is spelled e = e ∙ ap (pad_of (Some None)) (ap₂ (λ (k n : ℕ). low_bits k n) is spelled ∙ bits_again left)
 
 after : Shape → List ℕ → ℕ → Cursor → Option (Option Bool) → Next
 after shape bytes count cursor pad = and_then (padded_or pad cursor) (after_pads shape bytes count)
 
-pub mixed : (shape : Shape) (bytes : List ℕ) (n : ℕ) (pad : Option Bool) (cursor : Cursor) (count number : ℕ) → count ≡ length cursor.left → number ≡ number_of cursor.left → None ≡ pad_of (Some pad) (low_bits count number)
-    → Err (refusals.MixedPad cursor.last) ≡ and_then (pads_at pad cursor) (after_pads shape bytes n)
+pub mixed : (shape : Shape) (bytes : List ℕ) (n : ℕ) (cursor : Cursor) (count number : ℕ) → count ≡ length cursor.left → number ≡ number_of cursor.left → None ≡ pad_of (Some None) (low_bits count number)
+    → Err (refusals.MixedPad cursor.last) ≡ and_then (pads_at cursor) (after_pads shape bytes n)
 unfolding after
-mixed shape bytes n pad cursor count number is spelled e = ap (after shape bytes n cursor) (of_left pad cursor.left count number None is spelled e)
+mixed shape bytes n cursor count number is spelled e = ap (after shape bytes n cursor) (of_left cursor.left count number None is spelled e)
 
-pub padded : (shape : Shape) (bytes : List ℕ) (n : ℕ) (pad p : Option Bool) (cursor : Cursor) (count number : ℕ) → count ≡ length cursor.left → number ≡ number_of cursor.left → Some p ≡ pad_of (Some pad) (low_bits count number)
-    → after_pads shape bytes n (p, record cursor { left = [] }) ≡ and_then (pads_at pad cursor) (after_pads shape bytes n)
+pub padded : (shape : Shape) (bytes : List ℕ) (n : ℕ) (p : Option Bool) (cursor : Cursor) (count number : ℕ) → count ≡ length cursor.left → number ≡ number_of cursor.left → Some p ≡ pad_of (Some None) (low_bits count number)
+    → after_pads shape bytes n (p, record cursor { left = [] }) ≡ and_then (pads_at cursor) (after_pads shape bytes n)
 unfolding after
-padded shape bytes n pad p cursor count number is spelled e = ap (after shape bytes n cursor) (of_left pad cursor.left count number (Some p) is spelled e)
+padded shape bytes n p cursor count number is spelled e = ap (after shape bytes n cursor) (of_left cursor.left count number (Some p) is spelled e)
 
 by_last : Shape → List ℕ → ℕ → Option Bool → Cursor → Bool → Next
 by_last shape bytes n p cursor last =

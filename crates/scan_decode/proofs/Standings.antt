@@ -1,5 +1,5 @@
 -- An MCU by its blocks and what stands after them.
-use Rattle.std.proofs.Common.{◌≡◌, ℕ, ◌+◌, Bool, true, false, if◌then◌else◌, List, ℤ, Result, Ok, Err, refl, ap, ◌∙◌}
+use Rattle.std.proofs.Common.{◌≡◌, ℕ, ◌+◌, Bool, true, false, if◌then◌else◌, List, ℤ, None, Result, Ok, Err, refl, ap, ◌∙◌}
 use Rattle.scan_text.specs.Slots.{Shape}
 use Rattle.scan_text.specs.Spots.{is_closed}
 use Rattle.scan_text.specs.ScanReading.{and_then, blocks_at, BlocksRead, after_mcu, after_pads, pads_at, mcu_at, Standing}
@@ -22,10 +22,10 @@ blocks_there shape bytes at read e = ap (λ (r : Result BlocksRead ScanRefusal).
 
 abbrev by_closing : Shape → List ℕ → Standing → BlocksRead → Bool → Mcu
 by_closing shape bytes at read closed =
-    and_then (if closed then and_then (pads_at at.pad read.cursor) (after_pads shape bytes at.count) else Ok (record at { cursor = read.cursor; before = read.before; count = at.count + 1 })) (λ next. Ok (read.blocks, next))
+    and_then (if closed then and_then (pads_at read.cursor) (after_pads shape bytes at.count) else Ok (record { cursor = read.cursor; before = read.before; count = at.count + 1; pad = None })) (λ next. Ok (read.blocks, next))
 
 pub goes_on : (shape : Shape) (bytes : List ℕ) (at : Standing) (read : BlocksRead) → Ok read ≡ blocks_at shape.slots at.before bytes at.cursor → false ≡ is_closed shape (at.count + 1)
-    → Ok (read.blocks, record at { cursor = read.cursor; before = read.before; count = at.count + 1 }) ≡ mcu_at shape bytes at
+    → Ok (read.blocks, record { cursor = read.cursor; before = read.before; count = at.count + 1; pad = None }) ≡ mcu_at shape bytes at
 goes_on shape bytes at read e more = ap (by_closing shape bytes at read) more ∙ blocks_there shape bytes at read e
 
 put_both : {A : Type 0} (r : Result A ScanRefusal) (blocks : List (List ℤ)) (next : Standing) → mcu_read r blocks next ≡ and_then (standing_read r next) (λ at. Ok (blocks, at))
@@ -33,6 +33,6 @@ put_both (Ok x) blocks next = refl
 put_both (Err e) blocks next = refl
 
 pub closes_here : {A : Type 0} (r : Result A ScanRefusal) (next : Standing) (shape : Shape) (bytes : List ℕ) (at : Standing) (read : BlocksRead) → Ok read ≡ blocks_at shape.slots at.before bytes at.cursor
-    → true ≡ is_closed shape (at.count + 1) → standing_read r next ≡ and_then (pads_at at.pad read.cursor) (after_pads shape bytes at.count) → mcu_read r read.blocks next ≡ mcu_at shape bytes at
+    → true ≡ is_closed shape (at.count + 1) → standing_read r next ≡ and_then (pads_at read.cursor) (after_pads shape bytes at.count) → mcu_read r read.blocks next ≡ mcu_at shape bytes at
 closes_here r next shape bytes at read e closed is =
     put_both r read.blocks next ∙ ap (λ (s : Result Standing ScanRefusal). and_then s (λ n. Ok (read.blocks, n))) is ∙ ap (by_closing shape bytes at read) closed ∙ blocks_there shape bytes at read e

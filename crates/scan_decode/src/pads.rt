@@ -1,17 +1,17 @@
 // What stands after the MCUs of an interval.
-ghost use Rattle.std.specs.Prelude.{◌≡◌, ◌≤◌, Some};
+ghost use Rattle.std.specs.Prelude.{◌≡◌, ◌≤◌, Some, None};
 ghost use Rattle.bit_list.specs.Bits.{low_bits};
 ghost use Rattle.scan_text.specs.ScanReading.{pad_of, restart_at};
 
 use scan_text::ScanRefusal;
 
-/// The pad bit of bits that are all equal, and equal to the one before, if there are any.
-pub(crate) fn pads(pad: Option<bool>, number: u8, count: u8) -> Option<Option<bool>>
+/// The pad bit of bits that are all equal, if there are any.
+pub(crate) fn pads(number: u8, count: u8) -> Option<Option<bool>>
     requires { count ≤ 8 }
-    ensures { result ≡ pad_of (Some pad) (low_bits count number) }
+    ensures { result ≡ pad_of (Some None) (low_bits count number) }
 {
     let mut left = count;
-    let mut known = pad;
+    let mut known = None;
     while left > 0 {
         left -= 1;
         known = matched(known, (number >> left) & 1 == 1)?;

@@ -2,6 +2,7 @@
 ghost use Rattle.std.specs.Prelude.{◌≡◌, ◌+◌, ◌*◌, ◌<◌, ◌≤◌, ◌==◌, length, map, OnErr};
 ghost use Rattle.scan_text.specs.ScanCalls.{McuIsRead, reader_at, resume_place, stopped_at};
 ghost use Rattle.scan_text.specs.Slots.{shape_of};
+ghost use Rattle.scan_text.specs.Spots.{is_closed};
 ghost use Rattle.scan_text.specs.ShapeInside.{most_slots};
 ghost use Rattle.huff_table.specs.PlanWords.{tables_of};
 ghost use Rattle.scan_text.specs.ScanReading.{and_then, in_zigzag, mcu_at, pads_at, after_pads};
@@ -33,6 +34,7 @@ pub struct Reader<'a> {
     before: [i16; 4],
     // How many MCUs were read.
     count: u32,
+    // The pad bit of the interval that the last of them ended.
     pad: Option<bool>,
     stop: Option<ScanRefusal>,
 }
@@ -142,13 +144,26 @@ impl<'a> Reader<'a> {
         }
     }
 
-    /// The pad bit, if a bit was padded so far, and the place after the last byte that was read: after the last MCU,
-    /// the place after the scan.
-    pub fn end(&self) -> (Option<bool>, usize)
-        ensures pad { result.0 ≡ self.now.at.pad }
-        ensures place { result.1 ≡ self.now.at.cursor.next }
+    /// Whether a restart interval or the scan ends after the MCUs that were read. Before the first one this is true if
+    /// there are restarts.
+    pub fn ends_interval(&self) -> bool
+        ensures { result ≡ is_closed self.now.shape self.now.at.count }
     {
-        (self.pad, self.input.next_place())
+        self.shape.is_closed(self.count)
+    }
+
+    /// The pad bit of the interval that the last MCU ended; none where it ended no interval, or one that pads no bit.
+    pub fn pad(&self) -> Option<bool>
+        ensures { result ≡ self.now.at.pad }
+    {
+        self.pad
+    }
+
+    /// The place after the last byte that was read: after the last MCU, the place after the scan.
+    pub fn end(&self) -> usize
+        ensures { result ≡ self.now.at.cursor.next }
+    {
+        self.input.next_place()
     }
 
     /// What the MCUs that were read hand over (own).
@@ -180,6 +195,7 @@ impl<'a> Reader<'a> {
         if self.shape.is_closed(self.count + 1) {
             return self.close();
         }
+        self.pad = None;
         self.count += 1;
         Ok(())
     }
@@ -189,13 +205,13 @@ impl<'a> Reader<'a> {
         requires { self.old.at.count < self.old.shape.mcus }
         ensures same { self.new ≡ record self.old { at = self.new.at } }
         ensures is { standing_read result self.new.at
-            ≡ and_then (pads_at self.old.at.pad self.old.at.cursor)
+            ≡ and_then (pads_at self.old.at.cursor)
             (after_pads self.old.shape self.old.bytes self.old.at.count) }
         ensures stays { OnErr result (self.new.at ≡ stopped_at self.old.at self.new.at) }
     {
         let last = self.input.place();
         let (number, count) = self.input.rest_of_byte();
-        let pad = match pads(self.pad, number, count) {
+        let pad = match pads(number, count) {
             Some(pad) => pad,
             None => return Err(ScanRefusal::MixedPad { place: last }),
         };

@@ -1,6 +1,6 @@
 -- An interval's bits with their pad bits and the marker after them, from what was taken and back.
 use Rattle.std.proofs.Common.{◌≡◌, ℕ, zero, suc, ◌+◌, ◌-◌, ◌*◌, ◌%◌, ◌<◌, Bool, true, false, ◌==◌, if◌then◌else◌, List, [], ◌∷◌, ◌++◌, length, drop, replicate, Option, Some, None, Ok, Err, refl, sym, ap, ap₂, ◌∙◌, subst, arith, length-append}
-use Rattle.std.specs.Prelude.{◌&&◌}
+use Rattle.std.specs.Prelude.{◌&&◌, unwrap_or}
 use Rattle.std.specs.List.{AllByRecursion}
 use Rattle.std.proofs.lemmas.Bool.{eqb-true, eq-eqb, false≢true}
 use Rattle.std.proofs.lemmas.List.{drop-drop, drop_at, length-replicate}
@@ -32,13 +32,14 @@ last_pad : (n : ℕ) (known pad : Bool) → known ≡ pad → pad_after (Some kn
 last_pad zero known pad e = ap (λ (b : Bool). Some b) e
 last_pad (suc n) known pad e = refl
 
-pub pad_after_more : (known : Option Bool) (k m : ℕ) (pad : Bool) → pad_after (pad_after known k pad) m pad ≡ pad_after known (k + m) pad
-pad_after_more known zero m pad = let e : m ≡ 0 + m = omega arith in ap (λ (n : ℕ). pad_after known n pad) e
-pad_after_more known (suc k) m pad = let e : suc (k + m) ≡ suc k + m = omega arith in last_pad m pad pad refl ∙ ap (λ (n : ℕ). pad_after known n pad) e
+-- a pad bit that isn't known is 1
+pub none_told : (k : ℕ) (known : Option Bool) (pad : Bool) → known ≡ pad_after None k pad → k ≡ 0 → unwrap_or known true ≡ true
+none_told zero known pad e none = ap (λ (o : Option Bool). unwrap_or o true) e
+none_told (suc k) known pad e none = absurd (omega (arith, none))
 
-pub agrees_after : (known : Option Bool) (k : ℕ) (pad : Bool) → Agrees known pad → Agrees (pad_after known k pad) pad
-agrees_after known zero pad a = a
-agrees_after known (suc k) pad a = refl
+pub pad_is : (k : ℕ) (pad : Bool) → (k ≡ 0 → pad ≡ true) → unwrap_or (pad_after None k pad) true ≡ pad
+pad_is zero pad told = sym (told refl)
+pad_is (suc k) pad told = refl
 
 abbrev PadsRead : Option Bool → List Bool → Option Bool → Bool → Type 0
 PadsRead known bits next pad = Agrees known pad × (bits ≡ replicate (length bits) pad) × (next ≡ pad_after known (length bits) pad)
@@ -73,11 +74,11 @@ padded_fine : (o : Option (Option Bool)) (cursor : Cursor) (x : Option Bool × C
 padded_fine None cursor x e = absurd (not_refused (refusals.MixedPad cursor.last) x e)
 padded_fine (Some known) cursor x e = let p = both_fine (known, no_left cursor) x e in (ap (λ (o : Option Bool). Some o) p.0, sym p.1)
 
-pub pads_fine : (known : Option Bool) (cursor : Cursor) (x : Option Bool × Cursor) → pads_at known cursor ≡ Ok x → (pad_of (Some known) cursor.left ≡ Some x.0) × (x.1 ≡ no_left cursor)
-pads_fine known cursor x e = padded_fine (pad_of (Some known) cursor.left) cursor x e
+pub pads_fine : (cursor : Cursor) (x : Option Bool × Cursor) → pads_at cursor ≡ Ok x → (pad_of (Some None) cursor.left ≡ Some x.0) × (x.1 ≡ no_left cursor)
+pads_fine cursor x e = padded_fine (pad_of (Some None) cursor.left) cursor x e
 
-pub pads_are : (k : ℕ) (known : Option Bool) (cursor : Cursor) (pad : Bool) → Agrees known pad → cursor.left ≡ replicate k pad → pads_at known cursor ≡ Ok (pad_after known k pad, no_left cursor)
-pads_are k known cursor pad a e = ap (λ (o : Option (Option Bool)). padded_or o cursor) (ap (pad_of (Some known)) e ∙ pads_again k known pad a)
+pub pads_are : (k : ℕ) (cursor : Cursor) (pad : Bool) → cursor.left ≡ replicate k pad → pads_at cursor ≡ Ok (pad_after None k pad, no_left cursor)
+pads_are k cursor pad e = ap (λ (o : Option (Option Bool)). padded_or o cursor) (ap (pad_of (Some None)) e ∙ pads_again k None pad tt)
 
 -- ---- a marker
 

@@ -83,7 +83,7 @@ good_next (DcBits slot size) (Coded bits) shape bytes run at next after is one a
 good_next (AcWord slot left loose) (Coded bits) shape bytes run at next after is one all s =
     subst (λ (g : Stage). Good g) (sym s.2) (good_symbol (symbol_of left loose s.0) shape run slot left is one all)
 good_next (AcBits slot left size) (Coded bits) shape bytes run at next after is one all s = subst (λ (g : Stage). Good g) (sym s.2) (good_acs shape run slot left false is one all)
-good_next Pads (Coded bits) shape bytes run at next after is one all s = subst (λ (g : Stage). Good g) (sym s.2) (good_pads (pad_of (Some run.pad) bits) shape run all)
+good_next Pads (Coded bits) shape bytes run at next after is one all s = subst (λ (g : Stage). Good g) (sym s.2) (good_pads (pad_of (Some None) bits) shape run all)
 good_next Marker Restart shape bytes run at next after is one all s = subst (λ (g : Stage). Good g) (sym s.3) (good_slots shape.slots run is.slots)
 good_next (DcWord slot) Restart shape bytes run at next after is one all s = absurd s
 good_next (DcBits slot size) Restart shape bytes run at next after is one all s = absurd s
@@ -156,7 +156,7 @@ same_step (AcBits slot left size) (Coded w) (Coded w') shape bytes run at n n' a
     record { items = ap Coded e.0; stages = s.2 ∙ sym t.2; cursors = e.1 }
 same_step Pads (Coded w) (Coded w') shape bytes run at n n' a a' is s t =
     let e : w ≡ w' = s.0 ∙ sym t.0 in
-    record { items = ap Coded e; stages = s.2 ∙ ap (λ (b : List Bool). pads_over shape run (pad_of (Some run.pad) b)) e ∙ sym t.2; cursors = s.1 ∙ sym t.1 }
+    record { items = ap Coded e; stages = s.2 ∙ ap (λ (b : List Bool). pads_over shape run (pad_of (Some None) b)) e ∙ sym t.2; cursors = s.1 ∙ sym t.1 }
 same_step Marker Restart Restart shape bytes run at n n' a a' is s t =
     let r = restart_at bytes (interval_number shape (run.count - 1)) at.next in
     let e = ok_is s.0 t.0 r r s.1 t.1 refl in
@@ -271,11 +271,11 @@ never_both (i ∷ items) (o ∷ others) shape bytes stage last d at end m r is g
     never_both items others shape bytes p.0 last d p.1 end m r is h p.3 f (carry shape bytes p.0 q.0 d p.1 q.1 m others e.stages e.cursors q.3) over
 
 good_first : (shape : Shape) → IsShape shape → Good (first_stage shape)
-good_first shape is = good_slots shape.slots (record { slots = []; before = no_dcs; count = 0; pad = None }) is.slots
+good_first shape is = good_slots shape.slots (record { slots = []; before = no_dcs; count = 0; pads = [] }) is.slots
 
-pub one_outcome : (shape : Shape) (bytes : List ℕ) (place after : ℕ) (pad : Option Bool) (refusal other : ScanRefusal) → IsShape shape → Refuses shape bytes place refusal
-    → (Refuses shape bytes place other → refusal ≡ other) × (Ends shape bytes place pad after → ⊥)
-one_outcome shape bytes place after pad refusal other is r = (
+pub one_outcome : (shape : Shape) (bytes : List ℕ) (place after : ℕ) (pads : List Bool) (refusal other : ScanRefusal) → IsShape shape → Refuses shape bytes place refusal
+    → (Refuses shape bytes place other → refusal ≡ other) × (Ends shape bytes place pads after → ⊥)
+one_outcome shape bytes place after pads refusal other is r = (
   λ s. one_refusal r.items s.items shape bytes (first_stage shape) r.last s.last (starting place 0) r.end s.end refusal other is (good_first shape is) r.path r.stuck s.path s.stuck,
   λ s. never_both r.items s.items shape bytes (first_stage shape) r.last s.last (starting place 0) r.end s.end refusal is (good_first shape is) r.path r.stuck s.path s.over,
 )

@@ -1,6 +1,6 @@
 -- A scan that is read goes over its items.
-use Rattle.std.proofs.Common.{◌≡◌, ℕ, zero, suc, ◌+◌, ◌-◌, ◌<◌, ◌≤◌, Bool, true, false, ◌==◌, ◌||◌, if◌then◌else◌, List, [], ◌∷◌, ◌++◌, length, replicate, ℤ, pos, ◌+ℤ◌, unsigned_abs, Option, Some, None, Result, Ok, Err, refl, sym, ap, ◌∙◌, subst, arith}
-use Rattle.std.specs.Prelude.{nat_le, slice_set}
+use Rattle.std.proofs.Common.{◌≡◌, ℕ, zero, suc, ◌+◌, ◌-◌, ◌<◌, ◌≤◌, Bool, true, false, ◌==◌, ◌||◌, if◌then◌else◌, List, [], ◌∷◌, ◌++◌, length, replicate, ℤ, pos, ◌+ℤ◌, unsigned_abs, Option, Some, None, Result, Ok, Err, refl, sym, ap, ◌∙◌, subst, arith, append-nil, append_assoc}
+use Rattle.std.specs.Prelude.{nat_le, slice_set, unwrap_or}
 use Rattle.std.proofs.lemmas.Bool.{eqb-true, eq-eqb, false_from_ne_true}
 use Rattle.bit_list.specs.Units.{Cursor, starting, bit_at, bits_at}
 use Rattle.bit_list.specs.declared.fault.BitFault.{BitFault}
@@ -13,9 +13,10 @@ use Rattle.scan_text.specs.Blocks.{last_dc}
 use Rattle.scan_text.specs.Slots.{Shape}
 use Rattle.scan_text.specs.Scans.{no_dcs, ends_interval}
 use Rattle.scan_text.specs.Spots.{interval_number}
-use Rattle.scan_text.specs.ScanReading.{and_then, code_refusal, bits_refusal, refused_as, symbol_at, extended_at, within_dc, difference_at, dc_at, Symbol, Value, Sixteen, End, Past, Loose, Unknown, symbol_of, prefixed_values, by_symbol, acs_at, block_at, BlocksRead, blocks_at, pad_of, Standing, standing_at, padded_or, pads_at, restart_at, after_pads, after_mcu, mcu_at, mcus_at, scan_at}
+use Rattle.scan_text.specs.ScanReading.{and_then, code_refusal, bits_refusal, refused_as, symbol_at, extended_at, within_dc, difference_at, dc_at, Symbol, Value, Sixteen, End, Past, Loose, Unknown, symbol_of, prefixed_values, by_symbol, acs_at, block_at, BlocksRead, blocks_at, pad_of, Standing, standing_at, padded_or, pads_at, restart_at, after_pads, after_mcu, mcu_at, mcus_at, pad_told, pads_told, scan_pads, scan_at}
 use Rattle.scan_text.specs.Items.{DcWord, DcBits, AcWord, AcBits, Pads, Marker, Over, Wrong, Run, Stage, slots_due, mcu_due, mcu_over, after_slots, block_over, size_over, dc_over, acs_due, symbol_over, pads_over, Item, Coded, Restart, IsWord, Stands, Path, IsStuck, first_stage, Refuses, Ends}
 use Rattle.scan_text.specs.ScanLaws.{IsSlot, IsShape}
+use Rattle.scan_text.proofs.PadsTold.{pads_more, no_pads_told}
 use Rattle.scan_text.specs.declared.slot.Slot.{Slot}
 use Rattle.scan_text.specs.declared.refusal.ScanRefusal.{ScanRefusal}
 use Rattle.scan_text.specs.declared.refusal.ScanRefusal.TheVariants as refusals
@@ -58,6 +59,11 @@ told_after : {A : Type 0} (shape : Shape) (bytes : List ℕ) (stage mid : Stage)
     → ((x : A) → ok x → last x) → Told shape bytes mid bt r ok → Told shape bytes stage at r last
 told_after shape bytes stage mid at bt (Ok x) ok last p k t = k x t
 told_after shape bytes stage mid at bt (Err refusal) ok last p k t = reaches_fails shape bytes stage mid at bt refusal p t
+
+-- a result that is told is this one
+told_is : {A : Type 0} (shape : Shape) (bytes : List ℕ) (stage : Stage) (at : Cursor) (r : Result A ScanRefusal) (ok : A → Type 0) → Told shape bytes stage at r ok → Told shape bytes stage at r (λ x. ok x × (r ≡ Ok x))
+told_is shape bytes stage at (Ok x) ok t = (t, refl)
+told_is shape bytes stage at (Err refusal) ok t = t
 
 -- a word
 word_told : (shape : Shape) (bytes : List ℕ) (stage : Stage) (at : Cursor) (table : TableFields) (r : Result (ℕ × Cursor) CodeFault) → IsTable table → value_at table bytes at ≡ r
@@ -234,157 +240,180 @@ block_told shape bytes run slot at is =
 
 -- ---- the blocks of an MCU
 
-abbrev run_of : List Slot → List ℤ → ℕ → Option Bool → Run
-run_of slots before count pad = record { slots = slots; before = before; count = count; pad = pad }
+abbrev run_of : List Slot → List ℤ → ℕ → List Bool → Run
+run_of slots before count pads = record { slots = slots; before = before; count = count; pads = pads }
 
-blocks_told : (slots : List Slot) (shape : Shape) (bytes : List ℕ) (before : List ℤ) (count : ℕ) (pad : Option Bool) (at : Cursor) → Rattle.std.specs.List.AllByRecursion IsSlot slots
-    → Told shape bytes (after_slots shape (run_of slots before count pad) slots) at (blocks_at slots before bytes at)
-    (λ r. Reaches shape bytes (after_slots shape (run_of slots before count pad) slots) at (mcu_over shape (run_of [] r.before count pad)) r.cursor)
+blocks_told : (slots : List Slot) (shape : Shape) (bytes : List ℕ) (before : List ℤ) (count : ℕ) (pads : List Bool) (at : Cursor) → Rattle.std.specs.List.AllByRecursion IsSlot slots
+    → Told shape bytes (after_slots shape (run_of slots before count pads) slots) at (blocks_at slots before bytes at)
+    (λ r. Reaches shape bytes (after_slots shape (run_of slots before count pads) slots) at (mcu_over shape (run_of [] r.before count pads)) r.cursor)
 unfolding blocks_at
-blocks_told [] shape bytes before count pad at all = here shape bytes (mcu_over shape (run_of [] before count pad)) at
-blocks_told (slot ∷ slots) shape bytes before count pad at all =
-    let run = run_of slots before count pad in
+blocks_told [] shape bytes before count pads at all = here shape bytes (mcu_over shape (run_of [] before count pads)) at
+blocks_told (slot ∷ slots) shape bytes before count pads at all =
+    let run = run_of slots before count pads in
     let stage = dc_stage run slot in
-    let ok : BlocksRead → Type 0 = λ r. Reaches shape bytes stage at (mcu_over shape (run_of [] r.before count pad)) r.cursor in
+    let ok : BlocksRead → Type 0 = λ r. Reaches shape bytes stage at (mcu_over shape (run_of [] r.before count pads)) r.cursor in
     told_then shape bytes stage at (block_at slot before bytes at)
     (λ block. and_then (blocks_at slots (Rattle.scan_text.specs.ScanReading.dcs_after_read before slot block.0) bytes block.1) (λ more. Ok (record more { blocks = block.0 ∷ more.blocks })))
     (λ x. Reaches shape bytes stage at (block_over shape (run_after run slot x.0)) x.1) ok (block_told shape bytes run slot at all.0)
     (λ x p.
     let before2 = Rattle.scan_text.specs.ScanReading.dcs_after_read before slot x.0 in
-    let next = after_slots shape (run_of slots before2 count pad) slots in
+    let next = after_slots shape (run_of slots before2 count pads) slots in
     told_then shape bytes stage at (blocks_at slots before2 bytes x.1) (λ more. Ok (record more { blocks = x.0 ∷ more.blocks })) ok ok
-    (told_after shape bytes stage next at x.1 (blocks_at slots before2 bytes x.1) (λ r. Reaches shape bytes next x.1 (mcu_over shape (run_of [] r.before count pad)) r.cursor) ok
-    p (λ r q. reaches_then shape bytes stage next (mcu_over shape (run_of [] r.before count pad)) at x.1 r.cursor p q) (blocks_told slots shape bytes before2 count pad x.1 all.1))
+    (told_after shape bytes stage next at x.1 (blocks_at slots before2 bytes x.1) (λ r. Reaches shape bytes next x.1 (mcu_over shape (run_of [] r.before count pads)) r.cursor) ok
+    p (λ r q. reaches_then shape bytes stage next (mcu_over shape (run_of [] r.before count pads)) at x.1 r.cursor p q) (blocks_told slots shape bytes before2 count pads x.1 all.1))
     (λ r q. q))
 
 -- ---- the end of an MCU
 
--- where a standing is: at the end, or before another MCU
-abbrev stage_by : Bool → Shape → Standing → Stage
-stage_by over shape s = if over then record { due = Over; run = run_of [] no_dcs s.count s.pad } else mcu_due shape (run_of [] s.before s.count s.pad)
+-- where a standing is, after these pad bits: at the end, or before another MCU
+abbrev stage_by : Bool → Shape → List Bool → Standing → Stage
+stage_by over shape pads s = if over then record { due = Over; run = run_of [] no_dcs s.count pads } else mcu_due shape (run_of [] s.before s.count pads)
 
-abbrev stage_at : Shape → Standing → Stage
-stage_at shape s = stage_by (s.count == shape.mcus) shape s
+abbrev stage_at : Shape → List Bool → Standing → Stage
+stage_at shape pads s = stage_by (s.count == shape.mcus) shape pads s
+
+-- with the pad bit that an interval tells
+abbrev pads_with : List Bool → Option Bool → List Bool
+pads_with pads known = pads ++ unwrap_or known true ∷ []
 
 -- a marker
-restart_told : (shape : Shape) (bytes : List ℕ) (count : ℕ) (pad : Option Bool) (at : Cursor) (r : Result ℕ ScanRefusal) → restart_at bytes (interval_number shape count) at.next ≡ r
-    → Told shape bytes (record { due = Marker; run = run_of [] no_dcs (count + 1) pad }) at (and_then {A = ℕ} {B = Standing} r (λ place. Ok (record { cursor = starting place 0; before = no_dcs; count = count + 1; pad = pad })))
-    (λ s. Reaches shape bytes (record { due = Marker; run = run_of [] no_dcs (count + 1) pad }) at (stage_by false shape s) s.cursor × (s.count ≡ count + 1))
-restart_told shape bytes count pad at (Ok place) e =
-    let stage : Stage = record { due = Marker; run = run_of [] no_dcs (count + 1) pad } in
+restart_told : (shape : Shape) (bytes : List ℕ) (count : ℕ) (pads : List Bool) (known : Option Bool) (at : Cursor) (r : Result ℕ ScanRefusal) → restart_at bytes (interval_number shape count) at.next ≡ r
+    → Told shape bytes (record { due = Marker; run = run_of [] no_dcs (count + 1) (pads_with pads known) }) at
+    (and_then {A = ℕ} {B = Standing} r (λ place. Ok (record { cursor = starting place 0; before = no_dcs; count = count + 1; pad = known })))
+    (λ s. Reaches shape bytes (record { due = Marker; run = run_of [] no_dcs (count + 1) (pads_with pads known) }) at (stage_by false shape (pads_with pads s.pad) s) s.cursor × (s.count ≡ count + 1))
+restart_told shape bytes count pads known at (Ok place) e =
+    let stage : Stage = record { due = Marker; run = run_of [] no_dcs (count + 1) (pads_with pads known) } in
     let same : count + 1 - 1 ≡ count = omega arith in
-    (one_item shape bytes stage (mcu_due shape (run_of [] no_dcs (count + 1) pad)) at (starting place 0) Restart (place, ap (λ (n : ℕ). restart_at bytes (interval_number shape n) at.next) same ∙ e, refl, refl), refl)
-restart_told shape bytes count pad at (Err refusal) e =
-    let stage : Stage = record { due = Marker; run = run_of [] no_dcs (count + 1) pad } in
+    (one_item shape bytes stage (mcu_due shape (run_of [] no_dcs (count + 1) (pads_with pads known))) at (starting place 0) Restart (place, ap (λ (n : ℕ). restart_at bytes (interval_number shape n) at.next) same ∙ e, refl, refl), refl)
+restart_told shape bytes count pads known at (Err refusal) e =
+    let stage : Stage = record { due = Marker; run = run_of [] no_dcs (count + 1) (pads_with pads known) } in
     let same : count + 1 - 1 ≡ count = omega arith in
     (stage, at, here shape bytes stage at, ap (λ (n : ℕ). restart_at bytes (interval_number shape n) at.next) same ∙ e)
 
 abbrev pads_by : Bool → Shape → Run → Option (Option Bool) → Stage
 pads_by over shape run None = record { due = Wrong refusals.MixedPad; run = run }
-pads_by over shape run (Some pad) = record { due = if over then Over else Marker; run = record run { before = no_dcs; pad = pad } }
+pads_by over shape run (Some pad) = record { due = if over then Over else Marker; run = record run { before = no_dcs; pads = pads_with run.pads pad } }
 
 -- pad bits that were looked at
-padded_told : (over : Bool) (shape : Shape) (bytes : List ℕ) (before : List ℤ) (count : ℕ) (pad : Option Bool) (at : Cursor) (o : Option (Option Bool)) → pad_of (Some pad) at.left ≡ o
-    → (Stands shape bytes (run_of [] before (count + 1) pad) Pads at (Coded at.left) (pads_by over shape (run_of [] before (count + 1) pad) o) (record at { left = [] }))
-    → Told shape bytes (record { due = Pads; run = run_of [] before (count + 1) pad }) at
+padded_told : (over : Bool) (shape : Shape) (bytes : List ℕ) (before : List ℤ) (count : ℕ) (pads : List Bool) (at : Cursor) (o : Option (Option Bool)) → pad_of (Some None) at.left ≡ o
+    → (Stands shape bytes (run_of [] before (count + 1) pads) Pads at (Coded at.left) (pads_by over shape (run_of [] before (count + 1) pads) o) (record at { left = [] }))
+    → Told shape bytes (record { due = Pads; run = run_of [] before (count + 1) pads }) at
     (and_then {A = Option Bool × Cursor} {B = Standing} (padded_or o at)
     (λ padded. if over then Ok (record { cursor = padded.1; before = no_dcs; count = count + 1; pad = padded.0 })
     else and_then (restart_at bytes (interval_number shape count) padded.1.next) (λ place. Ok (record { cursor = starting place 0; before = no_dcs; count = count + 1; pad = padded.0 }))))
-    (λ s. Reaches shape bytes (record { due = Pads; run = run_of [] before (count + 1) pad }) at (stage_by over shape s) s.cursor × (s.count ≡ count + 1))
-padded_told over shape bytes before count pad at None e stands =
-    let stage : Stage = record { due = Pads; run = run_of [] before (count + 1) pad } in
-    let next : Stage = record { due = Wrong refusals.MixedPad; run = run_of [] before (count + 1) pad } in
+    (λ s. Reaches shape bytes (record { due = Pads; run = run_of [] before (count + 1) pads }) at (stage_by over shape (pads_with pads s.pad) s) s.cursor × (s.count ≡ count + 1))
+padded_told over shape bytes before count pads at None e stands =
+    let stage : Stage = record { due = Pads; run = run_of [] before (count + 1) pads } in
+    let next : Stage = record { due = Wrong refusals.MixedPad; run = run_of [] before (count + 1) pads } in
     (next, record at { left = [] }, one_item shape bytes stage next at (record at { left = [] }) (Coded at.left) stands, refl)
-padded_told true shape bytes before count pad at (Some known) e stands =
-    let stage : Stage = record { due = Pads; run = run_of [] before (count + 1) pad } in
-    let next : Stage = record { due = Over; run = run_of [] no_dcs (count + 1) known } in
+padded_told true shape bytes before count pads at (Some known) e stands =
+    let stage : Stage = record { due = Pads; run = run_of [] before (count + 1) pads } in
+    let next : Stage = record { due = Over; run = run_of [] no_dcs (count + 1) (pads_with pads known) } in
     (one_item shape bytes stage next at (record at { left = [] }) (Coded at.left) stands, refl)
-padded_told false shape bytes before count pad at (Some known) e stands =
-    let stage : Stage = record { due = Pads; run = run_of [] before (count + 1) pad } in
-    let next : Stage = record { due = Marker; run = run_of [] no_dcs (count + 1) known } in
+padded_told false shape bytes before count pads at (Some known) e stands =
+    let stage : Stage = record { due = Pads; run = run_of [] before (count + 1) pads } in
+    let next : Stage = record { due = Marker; run = run_of [] no_dcs (count + 1) (pads_with pads known) } in
     let end : Cursor = record at { left = [] } in
     let p = one_item shape bytes stage next at end (Coded at.left) stands in
     told_after shape bytes stage next at end
     (and_then {A = ℕ} {B = Standing} (restart_at bytes (interval_number shape count) end.next) (λ place. Ok (record { cursor = starting place 0; before = no_dcs; count = count + 1; pad = known })))
-    (λ s. Reaches shape bytes next end (stage_by false shape s) s.cursor × (s.count ≡ count + 1)) (λ s. Reaches shape bytes stage at (stage_by false shape s) s.cursor × (s.count ≡ count + 1))
-    p (λ s q. (reaches_then shape bytes stage next (stage_by false shape s) at end s.cursor p q.0, q.1))
-    (restart_told shape bytes count known end (restart_at bytes (interval_number shape count) end.next) refl)
+    (λ s. Reaches shape bytes next end (stage_by false shape (pads_with pads s.pad) s) s.cursor × (s.count ≡ count + 1)) (λ s. Reaches shape bytes stage at (stage_by false shape (pads_with pads s.pad) s) s.cursor × (s.count ≡ count + 1))
+    p (λ s q. (reaches_then shape bytes stage next (stage_by false shape (pads_with pads s.pad) s) at end s.cursor p q.0, q.1))
+    (restart_told shape bytes count pads known end (restart_at bytes (interval_number shape count) end.next) refl)
 
 pads_same : (shape : Shape) (run : Run) (o : Option (Option Bool)) → pads_by (run.count == shape.mcus) shape run o ≡ pads_over shape run o
 pads_same shape run None = refl
 pads_same shape run (Some pad) = refl
 
+-- the pad bits after an MCU, by whether it ends an interval
+abbrev pads_on : Bool → List Bool → Standing → List Bool
+pads_on closed pads s = pads ++ (if closed then unwrap_or s.pad true ∷ [] else [])
+
 -- after the blocks of an MCU
-end_told : (over ends : Bool) (shape : Shape) (bytes : List ℕ) (before : List ℤ) (count : ℕ) (pad : Option Bool) (at : Cursor)
-    → Stands shape bytes (run_of [] before (count + 1) pad) Pads at (Coded at.left) (pads_by over shape (run_of [] before (count + 1) pad) (pad_of (Some pad) at.left)) (record at { left = [] })
-    → Told {A = Standing} shape bytes (if over || ends then record { due = Pads; run = run_of [] before (count + 1) pad } else mcu_due shape (run_of [] before (count + 1) pad)) at
-    (if over || ends then and_then (pads_at pad at)
+end_told : (over ends : Bool) (shape : Shape) (bytes : List ℕ) (before : List ℤ) (count : ℕ) (pads : List Bool) (at : Cursor)
+    → Stands shape bytes (run_of [] before (count + 1) pads) Pads at (Coded at.left) (pads_by over shape (run_of [] before (count + 1) pads) (pad_of (Some None) at.left)) (record at { left = [] })
+    → Told {A = Standing} shape bytes (if over || ends then record { due = Pads; run = run_of [] before (count + 1) pads } else mcu_due shape (run_of [] before (count + 1) pads)) at
+    (if over || ends then and_then (pads_at at)
     (λ padded. if over then Ok (record { cursor = padded.1; before = no_dcs; count = count + 1; pad = padded.0 })
     else and_then (restart_at bytes (interval_number shape count) padded.1.next) (λ place. Ok (record { cursor = starting place 0; before = no_dcs; count = count + 1; pad = padded.0 })))
-    else Ok (record { cursor = at; before = before; count = count + 1; pad = pad }))
-    (λ s. Reaches shape bytes (if over || ends then record { due = Pads; run = run_of [] before (count + 1) pad } else mcu_due shape (run_of [] before (count + 1) pad)) at (stage_by over shape s) s.cursor × (s.count ≡ count + 1))
-end_told true ends shape bytes before count pad at stands = padded_told true shape bytes before count pad at (pad_of (Some pad) at.left) refl stands
-end_told false true shape bytes before count pad at stands = padded_told false shape bytes before count pad at (pad_of (Some pad) at.left) refl stands
-end_told false false shape bytes before count pad at stands = (here shape bytes (mcu_due shape (run_of [] before (count + 1) pad)) at, refl)
+    else Ok (record { cursor = at; before = before; count = count + 1; pad = None }))
+    (λ s. Reaches shape bytes (if over || ends then record { due = Pads; run = run_of [] before (count + 1) pads } else mcu_due shape (run_of [] before (count + 1) pads)) at (stage_by over shape (pads_on (over || ends) pads s) s) s.cursor × (s.count ≡ count + 1))
+end_told true ends shape bytes before count pads at stands = padded_told true shape bytes before count pads at (pad_of (Some None) at.left) refl stands
+end_told false true shape bytes before count pads at stands = padded_told false shape bytes before count pads at (pad_of (Some None) at.left) refl stands
+end_told false false shape bytes before count pads at stands =
+    let run = run_of [] before (count + 1) pads in
+    (subst (λ (l : List Bool). Reaches shape bytes (mcu_due shape run) at (mcu_due shape (run_of [] before (count + 1) l)) at) (sym (append-nil pads)) (here shape bytes (mcu_due shape run) at), refl)
 
 -- the first slot of an MCU
-first_slot : (slots : List Slot) (shape : Shape) (before : List ℤ) (count : ℕ) (pad : Option Bool) → 0 < length slots
-    → slots_due (run_of [] before count pad) slots ≡ after_slots shape (run_of slots before count pad) slots
-first_slot [] shape before count pad some = absurd (omega arith)
-first_slot (slot ∷ slots) shape before count pad some = refl
+first_slot : (slots : List Slot) (shape : Shape) (before : List ℤ) (count : ℕ) (pads : List Bool) → 0 < length slots
+    → slots_due (run_of [] before count pads) slots ≡ after_slots shape (run_of slots before count pads) slots
+first_slot [] shape before count pads some = absurd (omega arith)
+first_slot (slot ∷ slots) shape before count pads some = refl
 
-mcu_told : (shape : Shape) (bytes : List ℕ) (s : Standing) → IsShape shape
-    → Told shape bytes (mcu_due shape (run_of [] s.before s.count s.pad)) s.cursor (mcu_at shape bytes s)
-    (λ x. Reaches shape bytes (mcu_due shape (run_of [] s.before s.count s.pad)) s.cursor (stage_at shape x.1) x.1.cursor × (x.1.count ≡ s.count + 1))
+mcu_told : (shape : Shape) (bytes : List ℕ) (pads : List Bool) (s : Standing) → IsShape shape
+    → Told shape bytes (mcu_due shape (run_of [] s.before s.count pads)) s.cursor (mcu_at shape bytes s)
+    (λ x. Reaches shape bytes (mcu_due shape (run_of [] s.before s.count pads)) s.cursor (stage_at shape (pads ++ pad_told shape x.1) x.1) x.1.cursor × (x.1.count ≡ s.count + 1))
 unfolding mcu_at
-mcu_told shape bytes s is =
-    let stage = mcu_due shape (run_of [] s.before s.count s.pad) in
-    let first = after_slots shape (run_of shape.slots s.before s.count s.pad) shape.slots in
-    let same : stage ≡ first = first_slot shape.slots shape s.before s.count s.pad is.some in
+mcu_told shape bytes pads s is =
+    let stage = mcu_due shape (run_of [] s.before s.count pads) in
+    let first = after_slots shape (run_of shape.slots s.before s.count pads) shape.slots in
+    let same : stage ≡ first = first_slot shape.slots shape s.before s.count pads is.some in
     let over = s.count + 1 == shape.mcus in
-    let ok : List (List ℤ) × Standing → Type 0 = λ x. Reaches shape bytes stage s.cursor (stage_at shape x.1) x.1.cursor × (x.1.count ≡ s.count + 1) in
-    let blocks : BlocksRead → Type 0 = λ r. Reaches shape bytes stage s.cursor (mcu_over shape (run_of [] r.before s.count s.pad)) r.cursor in
+    let ends = ends_interval shape.interval (s.count + 1) in
+    let ok : List (List ℤ) × Standing → Type 0 = λ x. Reaches shape bytes stage s.cursor (stage_at shape (pads ++ pad_told shape x.1) x.1) x.1.cursor × (x.1.count ≡ s.count + 1) in
+    let blocks : BlocksRead → Type 0 = λ r. Reaches shape bytes stage s.cursor (mcu_over shape (run_of [] r.before s.count pads)) r.cursor in
     told_then shape bytes stage s.cursor (blocks_at shape.slots s.before bytes s.cursor) (λ read. and_then (after_mcu shape bytes s read) (λ next. Ok (read.blocks, next))) blocks ok
-    (subst (λ (g : Stage). Told shape bytes g s.cursor (blocks_at shape.slots s.before bytes s.cursor) (λ r. Reaches shape bytes g s.cursor (mcu_over shape (run_of [] r.before s.count s.pad)) r.cursor)) (sym same)
-    (blocks_told shape.slots shape bytes s.before s.count s.pad s.cursor is.slots))
+    (subst (λ (g : Stage). Told shape bytes g s.cursor (blocks_at shape.slots s.before bytes s.cursor) (λ r. Reaches shape bytes g s.cursor (mcu_over shape (run_of [] r.before s.count pads)) r.cursor)) (sym same)
+    (blocks_told shape.slots shape bytes s.before s.count pads s.cursor is.slots))
     (λ r p.
-    let mid = mcu_over shape (run_of [] r.before s.count s.pad) in
-    let run = run_of [] r.before (s.count + 1) s.pad in
-    told_then shape bytes stage s.cursor (after_mcu shape bytes s r) (λ next. Ok (r.blocks, next)) (λ n. Reaches shape bytes stage s.cursor (stage_by over shape n) n.cursor × (n.count ≡ s.count + 1)) ok
-    (told_after shape bytes stage mid s.cursor r.cursor (after_mcu shape bytes s r) (λ n. Reaches shape bytes mid r.cursor (stage_by over shape n) n.cursor × (n.count ≡ s.count + 1))
-    (λ n. Reaches shape bytes stage s.cursor (stage_by over shape n) n.cursor × (n.count ≡ s.count + 1)) p (λ n q. (reaches_then shape bytes stage mid (stage_by over shape n) s.cursor r.cursor n.cursor p q.0, q.1))
-    (end_told over (ends_interval shape.interval (s.count + 1)) shape bytes r.before s.count s.pad r.cursor (refl, refl, pads_same shape run (pad_of (Some s.pad) r.cursor.left))))
-    (λ n q. (subst (λ (k : ℕ). Reaches shape bytes stage s.cursor (stage_by (k == shape.mcus) shape n) n.cursor) (sym q.1) q.0, q.1)))
+    let mid = mcu_over shape (run_of [] r.before s.count pads) in
+    let run = run_of [] r.before (s.count + 1) pads in
+    let goal : Standing → Type 0 = λ n. Reaches shape bytes stage s.cursor (stage_by over shape (pads_on (over || ends) pads n) n) n.cursor × (n.count ≡ s.count + 1) in
+    told_then shape bytes stage s.cursor (after_mcu shape bytes s r) (λ next. Ok (r.blocks, next)) goal ok
+    (told_after shape bytes stage mid s.cursor r.cursor (after_mcu shape bytes s r) (λ n. Reaches shape bytes mid r.cursor (stage_by over shape (pads_on (over || ends) pads n) n) n.cursor × (n.count ≡ s.count + 1))
+    goal p (λ n q. (reaches_then shape bytes stage mid (stage_by over shape (pads_on (over || ends) pads n) n) s.cursor r.cursor n.cursor p q.0, q.1))
+    (end_told over ends shape bytes r.before s.count pads r.cursor (refl, refl, pads_same shape run (pad_of (Some None) r.cursor.left))))
+    (λ n q. (subst (λ (k : ℕ). Reaches shape bytes stage s.cursor (stage_by (k == shape.mcus) shape (pads_on ((k == shape.mcus) || ends_interval shape.interval k) pads n) n) n.cursor) (sym q.1) q.0, q.1)))
 
-mcus_told : (n : ℕ) (shape : Shape) (bytes : List ℕ) (s : Standing) → IsShape shape → s.count + n ≡ shape.mcus
-    → Told shape bytes (stage_at shape s) s.cursor (mcus_at n shape bytes s) (λ x. Reaches shape bytes (stage_at shape s) s.cursor (stage_at shape x.1) x.1.cursor × (x.1.count ≡ shape.mcus))
+mcus_told : (n : ℕ) (shape : Shape) (bytes : List ℕ) (pads : List Bool) (s : Standing) → IsShape shape → s.count + n ≡ shape.mcus
+    → Told shape bytes (stage_at shape pads s) s.cursor (mcus_at n shape bytes s)
+    (λ x. Reaches shape bytes (stage_at shape pads s) s.cursor (stage_at shape (pads ++ pads_told n shape bytes s) x.1) x.1.cursor × (x.1.count ≡ shape.mcus))
 unfolding mcus_at
-mcus_told zero shape bytes s is e = (here shape bytes (stage_at shape s) s.cursor, omega (arith, e))
-mcus_told (suc n) shape bytes s is e =
-    let stage = stage_at shape s in
+mcus_told zero shape bytes pads s is e =
+    let none : pads ≡ pads ++ pads_told 0 shape bytes s = sym (append-nil pads) ∙ ap (λ (l : List Bool). pads ++ l) (sym (no_pads_told shape bytes s)) in
+    (subst (λ (l : List Bool). Reaches shape bytes (stage_at shape pads s) s.cursor (stage_at shape l s) s.cursor) none (here shape bytes (stage_at shape pads s) s.cursor), omega (arith, e))
+mcus_told (suc n) shape bytes pads s is e =
+    let stage = stage_at shape pads s in
     let before : (s.count == shape.mcus) ≡ false = false_from_ne_true (s.count == shape.mcus) (λ g. let same = eqb-true s.count shape.mcus g in omega (arith, same, e)) in
-    let same : stage ≡ mcu_due shape (run_of [] s.before s.count s.pad) = ap (λ (t : Bool). stage_by t shape s) before in
-    let ok : List (List (List ℤ)) × Standing → Type 0 = λ x. Reaches shape bytes stage s.cursor (stage_at shape x.1) x.1.cursor × (x.1.count ≡ shape.mcus) in
+    let same : stage ≡ mcu_due shape (run_of [] s.before s.count pads) = ap (λ (t : Bool). stage_by t shape pads s) before in
+    let all = pads ++ pads_told (suc n) shape bytes s in
+    let ok : List (List (List ℤ)) × Standing → Type 0 = λ x. Reaches shape bytes stage s.cursor (stage_at shape all x.1) x.1.cursor × (x.1.count ≡ shape.mcus) in
+    let one : List (List ℤ) × Standing → Type 0 = λ x. Reaches shape bytes stage s.cursor (stage_at shape (pads ++ pad_told shape x.1) x.1) x.1.cursor × (x.1.count ≡ s.count + 1) in
+    let first : Told shape bytes stage s.cursor (mcu_at shape bytes s) one =
+    subst (λ (g : Stage). Told shape bytes g s.cursor (mcu_at shape bytes s) (λ x. Reaches shape bytes g s.cursor (stage_at shape (pads ++ pad_told shape x.1) x.1) x.1.cursor × (x.1.count ≡ s.count + 1))) (sym same) (mcu_told shape bytes pads s is) in
     told_then shape bytes stage s.cursor (mcu_at shape bytes s) (λ first. and_then (mcus_at n shape bytes first.1) (λ more. Ok (first.0 ∷ more.0, more.1)))
-    (λ x. Reaches shape bytes stage s.cursor (stage_at shape x.1) x.1.cursor × (x.1.count ≡ s.count + 1)) ok
-    (subst (λ (g : Stage). Told shape bytes g s.cursor (mcu_at shape bytes s) (λ x. Reaches shape bytes g s.cursor (stage_at shape x.1) x.1.cursor × (x.1.count ≡ s.count + 1))) (sym same) (mcu_told shape bytes s is))
-    (λ x p.
-    let next = stage_at shape x.1 in
+    (λ x. one x × (mcu_at shape bytes s ≡ Ok x)) ok (told_is shape bytes stage s.cursor (mcu_at shape bytes s) one first)
+    (λ x w.
+    let p = w.0 in
+    let known = pads ++ pad_told shape x.1 in
+    let next = stage_at shape known x.1 in
+    let tells : known ++ pads_told n shape bytes x.1 ≡ all = append_assoc pads (pad_told shape x.1) (pads_told n shape bytes x.1) ∙ ap (λ (l : List Bool). pads ++ l) (sym (pads_more n shape bytes s x.1 x.0 w.1)) in
     told_then shape bytes stage s.cursor (mcus_at n shape bytes x.1) (λ more. Ok (x.0 ∷ more.0, more.1)) ok ok
-    (told_after shape bytes stage next s.cursor x.1.cursor (mcus_at n shape bytes x.1) (λ y. Reaches shape bytes next x.1.cursor (stage_at shape y.1) y.1.cursor × (y.1.count ≡ shape.mcus)) ok p.0
-    (λ y q. (reaches_then shape bytes stage next (stage_at shape y.1) s.cursor x.1.cursor y.1.cursor p.0 q.0, q.1))
-    (let h = p.1 in mcus_told n shape bytes x.1 is (omega (arith, h, e))))
+    (told_after shape bytes stage next s.cursor x.1.cursor (mcus_at n shape bytes x.1) (λ y. Reaches shape bytes next x.1.cursor (stage_at shape all y.1) y.1.cursor × (y.1.count ≡ shape.mcus)) ok p.0
+    (λ y q. (reaches_then shape bytes stage next (stage_at shape all y.1) s.cursor x.1.cursor y.1.cursor p.0 q.0, q.1))
+    (let h = p.1 in subst (λ (l : List Bool). Told shape bytes next x.1.cursor (mcus_at n shape bytes x.1) (λ y. Reaches shape bytes next x.1.cursor (stage_at shape l y.1) y.1.cursor × (y.1.count ≡ shape.mcus))) tells
+    (mcus_told n shape bytes known x.1 is (omega (arith, h, e)))))
     (λ y q. q))
 
 -- a whole scan
 scan_told : (shape : Shape) (bytes : List ℕ) (place : ℕ) → IsShape shape
-    → Told shape bytes (first_stage shape) (starting place 0) (scan_at shape bytes place) (λ x. Reaches shape bytes (first_stage shape) (starting place 0) (stage_at shape x.1) x.1.cursor × (x.1.count ≡ shape.mcus))
+    → Told shape bytes (first_stage shape) (starting place 0) (scan_at shape bytes place) (λ x. Reaches shape bytes (first_stage shape) (starting place 0) (stage_at shape (scan_pads shape bytes place) x.1) x.1.cursor × (x.1.count ≡ shape.mcus))
 scan_told shape bytes place is =
     let before : (0 == shape.mcus) ≡ false = false_from_ne_true (0 == shape.mcus) (λ g. let same = eqb-true 0 shape.mcus g in let h = is.mcus in omega (arith, same, h)) in
     let s = standing_at place in
-    let same : stage_at shape s ≡ first_stage shape = ap (λ (t : Bool). stage_by t shape s) before in
-    subst (λ (g : Stage). Told shape bytes g (starting place 0) (scan_at shape bytes place) (λ x. Reaches shape bytes g (starting place 0) (stage_at shape x.1) x.1.cursor × (x.1.count ≡ shape.mcus))) same
-    (mcus_told shape.mcus shape bytes s is (omega arith))
+    let same : stage_at shape [] s ≡ first_stage shape = ap (λ (t : Bool). stage_by t shape [] s) before in
+    subst (λ (g : Stage). Told shape bytes g (starting place 0) (scan_at shape bytes place) (λ x. Reaches shape bytes g (starting place 0) (stage_at shape (scan_pads shape bytes place) x.1) x.1.cursor × (x.1.count ≡ shape.mcus))) same
+    (mcus_told shape.mcus shape bytes [] s is (omega arith))
 
 told_err : {A : Type 0} (shape : Shape) (bytes : List ℕ) (stage : Stage) (at : Cursor) (r : Result A ScanRefusal) (ok : A → Type 0) (refusal : ScanRefusal) → r ≡ Err refusal → Told shape bytes stage at r ok → Fails shape bytes stage at refusal
 told_err {A} shape bytes stage at r ok refusal e t = subst (λ (x : Result A ScanRefusal). Told shape bytes stage at x ok) e t
@@ -395,13 +424,14 @@ told_ok {A} shape bytes stage at r ok x e t = subst (λ (y : Result A ScanRefusa
 -- a refusal is that of the items
 pub refused_so : (shape : Shape) (bytes : List ℕ) (place : ℕ) (refusal : ScanRefusal) → IsShape shape → scan_at shape bytes place ≡ Err refusal → Refuses shape bytes place refusal
 refused_so shape bytes place refusal is e =
-    let f = told_err shape bytes (first_stage shape) (starting place 0) (scan_at shape bytes place) (λ x. Reaches shape bytes (first_stage shape) (starting place 0) (stage_at shape x.1) x.1.cursor × (x.1.count ≡ shape.mcus)) refusal e (scan_told shape bytes place is) in
+    let f = told_err shape bytes (first_stage shape) (starting place 0) (scan_at shape bytes place) (λ x. Reaches shape bytes (first_stage shape) (starting place 0) (stage_at shape (scan_pads shape bytes place) x.1) x.1.cursor × (x.1.count ≡ shape.mcus)) refusal e (scan_told shape bytes place is) in
     record { items = f.2.0; last = f.0; end = f.1; path = f.2.1; stuck = f.3 }
 
 -- and what is read ends
-pub ends_so : (shape : Shape) (bytes : List ℕ) (place : ℕ) (blocks : List (List (List ℤ))) (end : Standing) → IsShape shape → scan_at shape bytes place ≡ Ok (blocks, end) → Ends shape bytes place end.pad end.cursor.next
+pub ends_so : (shape : Shape) (bytes : List ℕ) (place : ℕ) (blocks : List (List (List ℤ))) (end : Standing) → IsShape shape → scan_at shape bytes place ≡ Ok (blocks, end) → Ends shape bytes place (scan_pads shape bytes place) end.cursor.next
 ends_so shape bytes place blocks end is e =
-    let f = told_ok shape bytes (first_stage shape) (starting place 0) (scan_at shape bytes place) (λ x. Reaches shape bytes (first_stage shape) (starting place 0) (stage_at shape x.1) x.1.cursor × (x.1.count ≡ shape.mcus)) (blocks, end) e (scan_told shape bytes place is) in
+    let f = told_ok shape bytes (first_stage shape) (starting place 0) (scan_at shape bytes place) (λ x. Reaches shape bytes (first_stage shape) (starting place 0) (stage_at shape (scan_pads shape bytes place) x.1) x.1.cursor × (x.1.count ≡ shape.mcus)) (blocks, end) e (scan_told shape bytes place is) in
     let all : (end.count == shape.mcus) ≡ true = eq-eqb end.count shape.mcus f.1 in
-    let last : stage_at shape end ≡ record { due = Over; run = run_of [] no_dcs end.count end.pad } = ap (λ (t : Bool). stage_by t shape end) all in
-    record { items = f.0.0; last = stage_at shape end; end = end.cursor; path = f.0.1; over = ap (λ (g : Stage). g.due) last; told = ap (λ (g : Stage). g.run.pad) last; place_after = refl }
+    let pads = scan_pads shape bytes place in
+    let last : stage_at shape pads end ≡ record { due = Over; run = run_of [] no_dcs end.count pads } = ap (λ (t : Bool). stage_by t shape pads end) all in
+    record { items = f.0.0; last = stage_at shape pads end; end = end.cursor; path = f.0.1; over = ap (λ (g : Stage). g.due) last; told = ap (λ (g : Stage). g.run.pads) last; place_after = refl }

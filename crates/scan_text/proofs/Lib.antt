@@ -7,6 +7,11 @@ pub mod ShapeLemmas
 pub mod Words
 pub mod Cuts
 pub mod Parts
+pub mod PadsTold
+pub mod ListedBits
+pub mod PadLists
+pub mod PadsAlike
+pub mod PadSpelling
 pub mod ItemsRead
 pub mod ItemsOnce
 pub mod PutWhole

@@ -141,22 +141,23 @@ agrees_from None pad e = tt
 agrees_from (Some known) pad e = e
 
 -- an MCU's bytes, by where it stands
-abbrev pub put_by : Bool → Bool → Shape → Bool → Spot → List ℤ → List Bool → List ℕ × Spot
-put_by over ends shape pad spot before bits =
+abbrev pub put_by : Bool → Bool → Shape → (ℕ → Bool) → Spot → List ℤ → List Bool → List ℕ × Spot
+put_by over ends shape pads spot before bits =
     if over || ends
-    then (closing spot.begun bits pad ++ (if over then [] else restart_marker (interval_number shape spot.count)), record { begun = []; before = no_dcs; count = spot.count + 1 })
+    then (closing spot.begun bits (pads (interval_number shape spot.count)) ++ (if over then [] else restart_marker (interval_number shape spot.count)), record { begun = []; before = no_dcs; count = spot.count + 1 })
     else (stuffed (bytes_after spot.begun bits), record { begun = begun_after spot.begun bits; before = before; count = spot.count + 1 })
 
 abbrev PutThere : List ℕ → ℕ → Standing → List ℕ × Spot → Type 0
 PutThere bytes place next put = (drop place bytes ≡ put.0 ++ drop (place + length put.0) bytes) × StandTogether bytes (place + length put.0) put.1 next
 
-put_there : (over ends : Bool) (shape : Shape) (bytes : List ℕ) (place : ℕ) (spot : Spot) (s next : Standing) (read : BlocksRead) (bits : List Bool) (pad : Bool)
-    → StandTogether bytes place spot s → Spans bytes (starting place 0) (spot.begun ++ bits) read.cursor → end_by over ends shape bytes s read ≡ Ok next → Agrees next.pad pad
-    → PutThere bytes place next (put_by over ends shape pad spot read.before bits)
-put_there true ends shape bytes place spot s next read bits pad at spans e a =
+put_there : (over ends : Bool) (shape : Shape) (bytes : List ℕ) (place : ℕ) (spot : Spot) (s next : Standing) (read : BlocksRead) (bits : List Bool) (pads : ℕ → Bool)
+    → StandTogether bytes place spot s → Spans bytes (starting place 0) (spot.begun ++ bits) read.cursor → end_by over ends shape bytes s read ≡ Ok next → Agrees next.pad (pads (interval_number shape spot.count))
+    → PutThere bytes place next (put_by over ends shape pads spot read.before bits)
+put_there true ends shape bytes place spot s next read bits pads at spans e a =
+    let pad = pads (interval_number shape spot.count) in
     let t = end_taken ends shape bytes s next read pad e a in
-    let pads = t.pads in
-    let c = closed_at bytes place pads.k spot.begun bits pad read.cursor at.begun spans pads.left in
+    let taken = t.pads in
+    let c = closed_at bytes place taken.k spot.begun bits pad read.cursor at.begun spans taken.left in
     let text = closing spot.begun bits pad in
     let same : text ≡ text ++ [] = sym (append-nil text) in
     let is = t.is in
@@ -169,11 +170,12 @@ put_there true ends shape bytes place spot s next read bits pad at spans e a =
         count = ap (λ (n : ℕ). n + 1) at.count ∙ sym (ap (λ (g : Standing). g.count) is);
       },
     )
-put_there false true shape bytes place spot s next read bits pad at spans e a =
+put_there false true shape bytes place spot s next read bits pads at spans e a =
+    let pad = pads (interval_number shape spot.count) in
     let t = marker_taken shape bytes s next read e in
     let is = t.is in
-    let pads = t.pads pad (subst (λ (o : Option Bool). Agrees o pad) (ap (λ (g : Standing). g.pad) is) a) in
-    let c = closed_at bytes place pads.k spot.begun bits pad read.cursor at.begun spans pads.left in
+    let taken = t.pads pad (subst (λ (o : Option Bool). Agrees o pad) (ap (λ (g : Standing). g.pad) is) a) in
+    let c = closed_at bytes place taken.k spot.begun bits pad read.cursor at.begun spans taken.left in
     let text = closing spot.begun bits pad in
     let marker = restart_marker (interval_number shape spot.count) in
     let number : restart_marker (interval_number shape s.count) ≡ marker = ap (λ (n : ℕ). restart_marker (interval_number shape n)) (sym at.count) in
@@ -193,8 +195,8 @@ put_there false true shape bytes place spot s next read bits pad at spans e a =
         count = ap (λ (n : ℕ). n + 1) at.count ∙ sym (ap (λ (g : Standing). g.count) is);
       },
     )
-put_there false false shape bytes place spot s next read bits pad at spans e a =
-    let is : on_standing read.cursor read.before s.count s.pad ≡ next = is_fine (on_standing read.cursor read.before s.count s.pad) next e in
+put_there false false shape bytes place spot s next read bits pads at spans e a =
+    let is : on_standing read.cursor read.before s.count ≡ next = is_fine (on_standing read.cursor read.before s.count) next e in
     let m = moved bytes place spot.begun bits read.cursor at.begun spans in (
       m.0,
       record {
@@ -207,7 +209,7 @@ put_there false false shape bytes place spot s next read bits pad at spans e a =
 
 pub mcu_spelled : IsMcuSpelled
 unfolding mcu_put
-mcu_spelled shape bytes place spot s next blocks pad is all at e told =
+mcu_spelled shape bytes place spot s next blocks pads is all at e told =
     let one = mcu_fine shape bytes s (blocks, next) e in
     let read = one.read in
     let m = blocks_read shape.slots s.before bytes s.cursor read is.slots one.is in
@@ -217,10 +219,12 @@ mcu_spelled shape bytes place spot s next blocks pad is all at e told =
     let over = s.count + 1 == shape.mcus in
     let ends = ends_interval shape.interval (s.count + 1) in
     let count = at.count in
-    let put = put_by (spot.count + 1 == shape.mcus) (ends_interval shape.interval (spot.count + 1)) shape pad spot read.before m.bits in
+    let ap_agrees = λ (t : unwrap_or next.pad (pads (interval_number shape s.count)) ≡ pads (interval_number shape s.count)).
+    agrees_from next.pad (pads (interval_number shape spot.count)) (subst (λ (n : ℕ). unwrap_or next.pad (pads (interval_number shape n)) ≡ pads (interval_number shape n)) (sym count) t) in
+    let put = put_by (spot.count + 1 == shape.mcus) (ends_interval shape.interval (spot.count + 1)) shape pads spot read.before m.bits in
     let p : PutThere bytes place next put =
-    put_there (spot.count + 1 == shape.mcus) (ends_interval shape.interval (spot.count + 1)) shape bytes place spot s next read m.bits pad at whole
-    (ap (λ (n : ℕ). end_by (n + 1 == shape.mcus) (ends_interval shape.interval (n + 1)) shape bytes s read) count ∙ one.after) (agrees_from next.pad pad told) in
+    put_there (spot.count + 1 == shape.mcus) (ends_interval shape.interval (spot.count + 1)) shape bytes place spot s next read m.bits pads at whole
+    (ap (λ (n : ℕ). end_by (n + 1 == shape.mcus) (ends_interval shape.interval (n + 1)) shape bytes s read) count ∙ one.after) (ap_agrees told) in
     let text : blocks_text shape.slots spot.before m.mcu ≡ Ok m.bits = ap (λ (d : List ℤ). blocks_text shape.slots d m.mcu) at.before ∙ m.text in
     let last : dcs_after shape.slots spot.before m.mcu ≡ read.before = ap (λ (d : List ℤ). dcs_after shape.slots d m.mcu) at.before ∙ sym m.last in (
       m.mcu,
@@ -228,7 +232,7 @@ mcu_spelled shape bytes place spot s next blocks pad is all at e told =
       put.1,
       (m.long, m.each),
       one.same ∙ m.same,
-      ap₂ (λ (d : List ℤ) (x : Text). put_text shape (λ n. pad) spot d x) last text,
+      ap₂ (λ (d : List ℤ) (x : Text). put_text shape pads spot d x) last text,
       p.0,
       p.1,
     )

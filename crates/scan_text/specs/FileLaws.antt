@@ -15,18 +15,18 @@ AcceptedIsShape =
     (bytes : List ℕ) (plan : PlanFields) → AllByRecursion IsByte bytes → Accepts bytes plan
     → IsShape (shape_of plan) × (length (shape_of plan).slots ≤ most_slots)
 
--- a file by its header's plan, its MCUs, its pad bit and what follows its scan (B.2.1)
-pub record IsFileOf (bytes : List ℕ) (plan : PlanFields) (mcus : List Mcu) (pad : Bool)
+-- a file by its header's plan, its MCUs, the pad bit of each of its intervals and what follows its scan (B.2.1)
+pub record IsFileOf (bytes : List ℕ) (plan : PlanFields) (mcus : List Mcu) (pads : List Bool)
     (trailer : List ℕ) : Type 0 where
   pub header : Accepts bytes plan
   pub scan : List ℕ
-  pub is : IsScan (shape_of plan) mcus pad scan
+  pub is : IsScan (shape_of plan) mcus pads scan
   pub text : drop plan.header_length bytes ≡ scan ++ trailer
 
 -- a file determines them
 abbrev pub OneFile : Type 0
 OneFile =
     (bytes trailer rest : List ℕ) (plan other : PlanFields) (mcus others : List Mcu)
-    (pad bit : Bool) → AllByRecursion IsByte bytes → IsFileOf bytes plan mcus pad trailer
-    → IsFileOf bytes other others bit rest
-    → (plan ≡ other) × (mcus ≡ others) × (pad ≡ bit) × (trailer ≡ rest)
+    (pads bits : List Bool) → AllByRecursion IsByte bytes → IsFileOf bytes plan mcus pads trailer
+    → IsFileOf bytes other others bits rest
+    → (plan ≡ other) × (mcus ≡ others) × (pads ≡ bits) × (trailer ≡ rest)

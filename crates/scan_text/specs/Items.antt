@@ -1,6 +1,6 @@
 -- The items of a scan, one after the other, and where they stop (ITU-T T.81, B.2.1, F.1.2, F.2.2): code words, bits of
 -- categories, pad bits and restart markers.
-use Rattle.std.specs.Prelude.{ℕ, ◌≡◌, ◌+◌, ◌-◌, Bool, true, false, ◌==◌, nat_le, if◌then◌else◌, List, [], ◌∷◌, length, ℤ, ◌+ℤ◌, unsigned_abs, slice_set, Option, Some, None, Ok, Err}
+use Rattle.std.specs.Prelude.{ℕ, ◌≡◌, ◌+◌, ◌-◌, Bool, true, false, ◌==◌, nat_le, if◌then◌else◌, List, [], ◌∷◌, ◌++◌, length, ℤ, ◌+ℤ◌, unsigned_abs, slice_set, Option, Some, None, unwrap_or, Ok, Err}
 use Rattle.bit_list.specs.Units.{Cursor, starting, bits_at}
 use Rattle.coef_block.specs.Block.{most_dc}
 use Rattle.bit_list.specs.declared.fault.BitFault.{BitFault}
@@ -33,12 +33,12 @@ pub data Due : Type 0 where
   Wrong : (ℕ → ScanRefusal) → Due
 
 -- so far (own): the further slots of this MCU, the last DC of each component in this interval, how many MCUs came
--- before, and the pad bit
+-- before, and the pad bits of the intervals before, 1 where one pads none
 pub record Run : Type 0 where
   pub slots : List Slot
   pub before : List ℤ
   pub count : ℕ
-  pub pad : Option Bool
+  pub pads : List Bool
 
 -- both (own)
 pub record Stage : Type 0 where
@@ -56,7 +56,7 @@ mcu_due shape run = slots_due run shape.slots
 
 -- at the start of a scan
 abbrev pub first_stage : Shape → Stage
-first_stage shape = mcu_due shape (record { slots = []; before = no_dcs; count = 0; pad = None })
+first_stage shape = mcu_due shape (record { slots = []; before = no_dcs; count = 0; pads = [] })
 
 -- after the last block of an MCU the pad bits are due, or another MCU
 abbrev pub mcu_over : Shape → Run → Stage
@@ -108,12 +108,12 @@ symbol_over shape run slot left Past = record { due = Wrong refusals.RunPast; ru
 symbol_over shape run slot left Loose = record { due = Wrong refusals.LooseZeros; run = run }
 symbol_over shape run slot left Unknown = record { due = Wrong refusals.SymbolBad; run = run }
 
--- after pad bits: the scan is over, a marker is due, or they differ
+-- after the pad bits of an interval: the scan is over, a marker is due, or they differ
 abbrev pub pads_over : Shape → Run → Option (Option Bool) → Stage
 pads_over shape run None = record { due = Wrong refusals.MixedPad; run = run }
 pads_over shape run (Some pad) = record {
   due = if run.count == shape.mcus then Over else Marker;
-  run = record run { before = no_dcs; pad = pad };
+  run = record run { before = no_dcs; pads = run.pads ++ unwrap_or pad true ∷ [] };
 }
 
 -- an item: bits, or a marker
@@ -142,7 +142,7 @@ Stands shape bytes run (AcBits slot left size) at (Coded bits) after next =
     × (after ≡ acs_due shape run slot left false)
 Stands shape bytes run Pads at (Coded bits) after next =
     (bits ≡ at.left) × (next ≡ record at { left = [] })
-    × (after ≡ pads_over shape run (pad_of (Some run.pad) bits))
+    × (after ≡ pads_over shape run (pad_of (Some None) bits))
 Stands shape bytes run Marker at Restart after next =
     (place : ℕ) × (restart_at bytes (interval_number shape (run.count - 1)) at.next ≡ Ok place)
     × (next ≡ starting place 0) × (after ≡ mcu_due shape run)
@@ -180,13 +180,14 @@ pub record Refuses (shape : Shape) (bytes : List ℕ) (place : ℕ)
   pub path : Path shape bytes (first_stage shape) (starting place 0) items last end
   pub stuck : IsStuck shape bytes last.run last.due end refusal
 
--- from a place on they go on until the scan is over; this is its pad bit, if any bit was padded, and the place after it
-pub record Ends (shape : Shape) (bytes : List ℕ) (place : ℕ) (pad : Option Bool)
+-- from a place on they go on until the scan is over; these are the pad bits of its intervals, 1 where one pads none,
+-- and the place after it
+pub record Ends (shape : Shape) (bytes : List ℕ) (place : ℕ) (pads : List Bool)
     (after : ℕ) : Type 0 where
   pub items : List Item
   pub last : Stage
   pub end : Cursor
   pub path : Path shape bytes (first_stage shape) (starting place 0) items last end
   pub over : last.due ≡ Over
-  pub told : last.run.pad ≡ pad
+  pub told : last.run.pads ≡ pads
   pub place_after : end.next ≡ after

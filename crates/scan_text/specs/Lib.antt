@@ -7,10 +7,12 @@ pub mod Slots
 pub mod ShapeInside
 pub mod Scans
 pub mod Spots
+pub mod Pads
 pub mod ScanReading
 pub mod Items
 pub mod ScanLaws
 pub mod ScanRows
+pub mod PadRows
 pub mod ScanCalls
 pub mod FileLaws
 pub mod PlainScans

@@ -1,12 +1,15 @@
 -- What a reader and a writer of a scan are, and what their calls answer (own).
-use Rattle.std.specs.Prelude.{ℕ, ◌≡◌, ◌+◌, Bool, false, not, ◌&&◌, ◌||◌, ◌==◌, if◌then◌else◌, List, ◌++◌, length, map, ℤ, Option, Some, None, Result, Ok, Err}
-use Rattle.scan_text.specs.BlockBits.{Text}
+use Rattle.std.specs.Prelude.{ℕ, ◌≡◌, ◌+◌, ◌==◌, if◌then◌else◌, List, ◌++◌, length, map, ℤ, Option, Some, None, Result, Ok, Err}
 use Rattle.bit_list.specs.Bits.{begun_after}
 use Rattle.bit_list.specs.Units.{Cursor}
+use Rattle.handover.specs.PadSums.{no_pads, pads_with}
+use Rattle.handover.specs.declared.pads.PadSum.{PadSum}
+use Rattle.scan_text.specs.BlockBits.{Text}
 use Rattle.scan_text.specs.Blocks.{blocks_text}
 use Rattle.scan_text.specs.Slots.{Shape}
 use Rattle.scan_text.specs.Scans.{Mcu}
-use Rattle.scan_text.specs.Spots.{Spot, first_spot, is_closed, mcu_put}
+use Rattle.scan_text.specs.Spots.{Spot, first_spot, is_closed, interval_number, mcu_put}
+use Rattle.scan_text.specs.Pads.{PadBits, bit_for, interval_sum}
 use Rattle.scan_text.specs.ScanReading.{Standing, standing_at, in_zigzag, mcu_at}
 use Rattle.scan_text.specs.declared.refusal.ScanRefusal.{ScanRefusal}
 use Rattle.scan_text.specs.declared.stop.WriteStop.{WriteStop}
@@ -53,44 +56,50 @@ abbrev pub McuIsRead : {A : Type 0} → Option ScanRefusal → ScanReader → Re
 McuIsRead None old result new out = McuIsReadOn old result new out
 McuIsRead (Some refusal) old result new out = (result ≡ Err refusal) × (new ≡ old)
 
--- a writer: the scan, its pad bit, where it leaves off, whether a bit was padded, and the cause why it stopped
+-- a writer: the scan, its pad bits, where it leaves off, what was padded, and the cause why it stopped
 pub record ScanWriter : Type 0 where
   pub shape : Shape
-  pub pad : Bool
+  pub pads : PadBits
   pub spot : Spot
-  pub padded : Bool
+  pub padded : PadSum
   pub stop : Option WriteStop
 
 -- a writer before the first MCU
-abbrev pub writer_of : Shape → Bool → ScanWriter
-writer_of shape pad = record {
+abbrev pub writer_of : Shape → PadBits → ScanWriter
+writer_of shape pads = record {
   shape = shape;
-  pad = pad;
+  pads = pads;
   spot = first_spot;
-  padded = false;
+  padded = no_pads;
   stop = None;
 }
 
--- whether a pad bit follows an MCU's text (F.1.2.3)
-abbrev pub is_padded : Shape → Spot → Text → Bool
-is_padded shape spot (Ok bits) =
-    is_closed shape (spot.count + 1) && not (length (begun_after spot.begun bits) == 0)
-is_padded shape spot (Err stop) = false
+-- what the pad bits after an MCU's text come to, if it ends an interval (F.1.2.3)
+abbrev pub text_sum : Shape → PadBits → Spot → Text → PadSum
+text_sum shape pads spot (Ok bits) =
+    if is_closed shape (spot.count + 1)
+    then interval_sum pads (interval_number shape spot.count)
+    (length (begun_after spot.begun bits) == 0)
+    else no_pads
+text_sum shape pads spot (Err stop) = no_pads
+
+-- and what those before come to with it
+abbrev pub padded_after : Shape → PadBits → Spot → Mcu → PadSum → PadSum
+padded_after shape pads spot mcu padded =
+    pads_with padded (text_sum shape pads spot (blocks_text shape.slots spot.before mcu))
 
 -- an MCU's bytes were appended, or none of them
 abbrev pub McuIsPutOn : {A : Type 0} → ScanWriter → Mcu → List ℕ → Result A WriteStop → ScanWriter
     → List ℕ → Type 0
 McuIsPutOn old mcu out (Ok done) new out_new =
-    (text : List ℕ) × (mcu_put old.shape (λ n. old.pad) old.spot mcu ≡ Ok (text, new.spot))
+    (text : List ℕ) × (mcu_put old.shape (bit_for old.pads) old.spot mcu ≡ Ok (text, new.spot))
     × (out_new ≡ out ++ text)
     × (new ≡ record old {
       spot = new.spot;
-      padded =
-          old.padded || is_padded old.shape old.spot
-          (blocks_text old.shape.slots old.spot.before mcu);
+      padded = padded_after old.shape old.pads old.spot mcu old.padded;
     })
 McuIsPutOn old mcu out (Err stop) new out_new =
-    (mcu_put old.shape (λ n. old.pad) old.spot mcu ≡ Err stop) × (out_new ≡ out)
+    (mcu_put old.shape (bit_for old.pads) old.spot mcu ≡ Err stop) × (out_new ≡ out)
     × (new ≡ record old { stop = Some stop })
 
 -- a stop is answered again, and changes nothing

@@ -1,5 +1,5 @@
 -- What holds of every scan (own).
-use Rattle.std.specs.Prelude.{ℕ, ◌≡◌, ◌+◌, ◌*◌, ◌<◌, ◌≤◌, Bool, true, List, ◌++◌, length, take, drop, map, Option, unwrap_or, slice_set, slice_index, Ok, Err, ℤ}
+use Rattle.std.specs.Prelude.{ℕ, ◌≡◌, ◌+◌, ◌*◌, ◌<◌, ◌≤◌, Bool, List, ◌++◌, length, take, drop, map, unwrap_or, slice_set, slice_index, Ok, Err, ℤ}
 use Rattle.std.specs.List.{AllByRecursion}
 use Rattle.bit_list.specs.Bits.{IsByte}
 use Rattle.bit_list.specs.Units.{Cursor, starting, bits_at}
@@ -10,9 +10,10 @@ use Rattle.jpeg_marker.specs.HuffmanTables.{IsTable}
 use Rattle.scan_text.specs.BlockBits.{block_text}
 use Rattle.scan_text.specs.Blocks.{last_dc, dcs_after, blocks_text}
 use Rattle.scan_text.specs.Slots.{Shape}
-use Rattle.scan_text.specs.Scans.{Mcu, Bytes, IsMcu, AreMcus, IsScan, scan_bytes}
-use Rattle.scan_text.specs.Spots.{Spot, Put, first_spot, then_put, mcu_put, mcus_put, put_first, bytes_done, spot_at}
-use Rattle.scan_text.specs.ScanReading.{and_then, Standing, in_zigzag, block_at, BlocksRead, blocks_at, after_mcu, mcu_at, scan_at}
+use Rattle.scan_text.specs.Pads.{bits_sum}
+use Rattle.scan_text.specs.Scans.{Mcu, Bytes, IsMcu, AreMcus, IsScan, intervals_of, pad_counts, scan_bytes}
+use Rattle.scan_text.specs.Spots.{Spot, Put, first_spot, interval_number, then_put, mcu_put, mcus_put, put_first, bytes_done, spot_at}
+use Rattle.scan_text.specs.ScanReading.{and_then, Standing, in_zigzag, block_at, BlocksRead, blocks_at, after_mcu, mcu_at, scan_at, scan_pads, scan_sum}
 use Rattle.scan_text.specs.Items.{Item, Stage, Path, IsStuck, first_stage, Refuses, Ends}
 use Rattle.scan_text.specs.declared.slot.Slot.{Slot}
 use Rattle.scan_text.specs.declared.refusal.ScanRefusal.{ScanRefusal}
@@ -31,10 +32,10 @@ pub record IsShape (shape : Shape) : Type 0 where
   pub mcus : 0 < shape.mcus
 
 -- bytes go on at a place with a scan, and then at another one
-pub record Begins (shape : Shape) (mcus : List Mcu) (pad : Bool) (bytes : List ℕ)
+pub record Begins (shape : Shape) (mcus : List Mcu) (pads : List Bool) (bytes : List ℕ)
     (place after : ℕ) : Type 0 where
   pub scan : List ℕ
-  pub is : IsScan shape mcus pad scan
+  pub is : IsScan shape mcus pads scan
   pub text : drop place bytes ≡ scan ++ drop after bytes
   pub within : after ≤ length bytes
   pub long : after ≡ place + length scan
@@ -108,15 +109,16 @@ pub record StandTogether (bytes : List ℕ) (place : ℕ) (spot : Spot) (at : St
   pub before : spot.before ≡ at.before
   pub count : spot.count ≡ at.count
 
--- an MCU that is read has the bytes that stand there, and both agree after it
+-- an MCU that is read has the bytes that stand there, its interval's pad bit being the one that was read, if one was,
+-- and both agree after it
 abbrev pub IsMcuSpelled : Type 0
 IsMcuSpelled =
     (shape : Shape) (bytes : List ℕ) (place : ℕ) (spot : Spot) (at next : Standing)
-    (blocks : List (List ℤ)) (pad : Bool) → IsShape shape → AllByRecursion IsByte bytes
+    (blocks : List (List ℤ)) (pads : ℕ → Bool) → IsShape shape → AllByRecursion IsByte bytes
     → StandTogether bytes place spot at → mcu_at shape bytes at ≡ Ok (blocks, next)
-    → unwrap_or next.pad pad ≡ pad
+    → (let pad = pads (interval_number shape at.count) in unwrap_or next.pad pad ≡ pad)
     → (mcu : Mcu) × (text : List ℕ) × (after : Spot) × IsMcu shape.slots mcu
-    × (blocks ≡ map in_zigzag mcu) × (mcu_put shape (λ n. pad) spot mcu ≡ Ok (text, after))
+    × (blocks ≡ map in_zigzag mcu) × (mcu_put shape pads spot mcu ≡ Ok (text, after))
     × (drop place bytes ≡ text ++ drop (place + length text) bytes)
     × StandTogether bytes (place + length text) after next
 
@@ -141,22 +143,30 @@ IsSpelled =
     → IsShape shape → AllByRecursion IsByte bytes → place ≤ length bytes
     → scan_at shape bytes place ≡ Ok (blocks, end)
     → (mcus : List Mcu) × (blocks ≡ zigzag_of mcus)
-    × Begins shape mcus (unwrap_or end.pad true) bytes place end.cursor.next
+    × Begins shape mcus (scan_pads shape bytes place) bytes place end.cursor.next
 
 -- and a scan whose bytes stand there is read
 abbrev pub IsReadAgain : Type 0
 IsReadAgain =
-    (shape : Shape) (bytes : List ℕ) (place after : ℕ) (mcus : List Mcu) (pad : Bool)
-    → IsShape shape → Begins shape mcus pad bytes place after
+    (shape : Shape) (bytes : List ℕ) (place after : ℕ) (mcus : List Mcu) (pads : List Bool)
+    → IsShape shape → Begins shape mcus pads bytes place after
     → (end : Standing) × (scan_at shape bytes place ≡ Ok (zigzag_of mcus, end))
-    × (end.cursor.next ≡ after) × (unwrap_or end.pad true ≡ pad)
+    × (end.cursor.next ≡ after) × (scan_pads shape bytes place ≡ pads)
 
--- bytes determine the MCUs, the pad bit, the scan's bytes and what follows
+-- what its pad bits come to is what was read
+abbrev pub IsSummed : Type 0
+IsSummed =
+    (shape : Shape) (bytes : List ℕ) (place after : ℕ) (mcus : List Mcu) (pads : List Bool)
+    → IsShape shape → Begins shape mcus pads bytes place after
+    → scan_sum shape bytes place
+    ≡ bits_sum (pad_counts shape.slots (intervals_of shape mcus)) pads
+
+-- bytes determine the MCUs, the pad bit of each interval, the scan's bytes and what follows
 abbrev pub OneScan : Type 0
 OneScan =
-    (shape : Shape) (mcus others : List Mcu) (pad other : Bool) (a b x y : List ℕ) → IsShape shape
-    → IsScan shape mcus pad a → IsScan shape others other b → a ++ x ≡ b ++ y
-    → (mcus ≡ others) × (pad ≡ other) × (a ≡ b) × (x ≡ y)
+    (shape : Shape) (mcus others : List Mcu) (pads bits : List Bool) (a b x y : List ℕ)
+    → IsShape shape → IsScan shape mcus pads a → IsScan shape others bits b → a ++ x ≡ b ++ y
+    → (mcus ≡ others) × (pads ≡ bits) × (a ≡ b) × (x ≡ y)
 
 -- a scan that can't be read is refused for where its items stop
 abbrev pub IsRefusalOfItems : Type 0
@@ -169,14 +179,14 @@ abbrev pub IsEndOfItems : Type 0
 IsEndOfItems =
     (shape : Shape) (bytes : List ℕ) (place : ℕ) (blocks : List (List (List ℤ))) (end : Standing)
     → IsShape shape → scan_at shape bytes place ≡ Ok (blocks, end)
-    → Ends shape bytes place end.pad end.cursor.next
+    → Ends shape bytes place (scan_pads shape bytes place) end.cursor.next
 
 -- bytes have one outcome, so that both hold the other way round too
 abbrev pub OneOutcome : Type 0
 OneOutcome =
-    (shape : Shape) (bytes : List ℕ) (place after : ℕ) (pad : Option Bool)
+    (shape : Shape) (bytes : List ℕ) (place after : ℕ) (pads : List Bool)
     (refusal other : ScanRefusal) → IsShape shape → Refuses shape bytes place refusal
-    → (Refuses shape bytes place other → refusal ≡ other) × (Ends shape bytes place pad after → ⊥)
+    → (Refuses shape bytes place other → refusal ≡ other) × (Ends shape bytes place pads after → ⊥)
 
 -- no items that stand go on past those that stop, so that these are the longest list
 abbrev pub IsLongest : Type 0

@@ -1,5 +1,5 @@
 -- A scan read MCU by MCU, with the first fault (ITU-T T.81, B.2.1, F.1.1.5.1, F.2.2). Blocks are in zigzag order here.
-use Rattle.std.specs.Prelude.{ℕ, zero, suc, ◌+◌, ◌-◌, ◌/◌, ◌%◌, Bool, true, false, ◌&&◌, ◌==◌, nat_lt, nat_le, if◌then◌else◌, List, [], ◌∷◌, ◌++◌, length, drop, replicate, ℤ, pos, ◌+ℤ◌, unsigned_abs, slice_set, Option, Some, None, Result, Ok, Err}
+use Rattle.std.specs.Prelude.{ℕ, zero, suc, ◌+◌, ◌-◌, ◌/◌, ◌%◌, Bool, true, false, ◌&&◌, ◌==◌, nat_lt, nat_le, if◌then◌else◌, List, [], ◌∷◌, ◌++◌, length, drop, replicate, ℤ, pos, ◌+ℤ◌, unsigned_abs, slice_set, Option, Some, None, unwrap_or, Result, Ok, Err}
 use Rattle.bit_list.specs.Units.{Cursor, starting, bits_at}
 use Rattle.coef_block.specs.Block.{most_dc}
 use Rattle.bit_list.specs.declared.fault.BitFault.{BitFault}
@@ -8,12 +8,15 @@ use Rattle.huff_table.specs.Decoding.{value_at}
 use Rattle.huff_table.specs.declared.fault.CodeFault.{CodeFault}
 use Rattle.huff_table.specs.declared.fault.CodeFault.TheVariants.{Bits, NoWord}
 use Rattle.jpeg_marker.specs.HuffmanTables.{TableFields}
+use Rattle.handover.specs.PadSums.{no_pads, pads_with}
+use Rattle.handover.specs.declared.pads.PadSum.{PadSum}
 use Rattle.scan_text.specs.ValueBits.{extend}
 use Rattle.scan_text.specs.BlockBits.{coefficient_at, ac_values}
 use Rattle.scan_text.specs.Blocks.{last_dc}
 use Rattle.scan_text.specs.Slots.{Shape}
 use Rattle.scan_text.specs.Scans.{no_dcs}
 use Rattle.scan_text.specs.Spots.{is_closed, interval_number}
+use Rattle.scan_text.specs.Pads.{Same, interval_sum}
 use Rattle.scan_text.specs.declared.slot.Slot.{Slot}
 use Rattle.scan_text.specs.declared.refusal.ScanRefusal.{ScanRefusal}
 use Rattle.scan_text.specs.declared.refusal.ScanRefusal.TheVariants as refusals
@@ -168,7 +171,7 @@ pad_of (Some pad) [] = Some pad
 pad_of (Some pad) (bit ∷ bits) = pad_of (pad_with pad bit) bits
 
 -- between two MCUs (own): the cursor, the last DC of each component in this interval, how many MCUs came before, and
--- the pad bit of the intervals before, if one of them had any
+-- the pad bit of the interval that the last of them ended, if it ended one that has any
 pub record Standing : Type 0 where
   pub cursor : Cursor
   pub before : List ℤ
@@ -185,8 +188,8 @@ padded_or (Some pad) cursor = Ok (pad, record cursor { left = [] })
 padded_or None cursor = Err (refusals.MixedPad cursor.last)
 
 -- the bits that are left of the unit are pad bits (F.1.2.3)
-abbrev pub pads_at : Option Bool → Cursor → Result (Option Bool × Cursor) ScanRefusal
-pads_at pad cursor = padded_or (pad_of (Some pad) cursor.left) cursor
+abbrev pub pads_at : Cursor → Result (Option Bool × Cursor) ScanRefusal
+pads_at cursor = padded_or (pad_of (Some None) cursor.left) cursor
 
 -- the place after the marker of interval n, which begins the bytes from a place on, without fill bytes (own); `end` is
 -- where they end (E.1.4)
@@ -218,8 +221,13 @@ after_pads shape bytes count padded =
 abbrev pub after_mcu : Shape → List ℕ → Standing → BlocksRead → Result Standing ScanRefusal
 after_mcu shape bytes at read =
     if is_closed shape (at.count + 1)
-    then and_then (pads_at at.pad read.cursor) (after_pads shape bytes at.count)
-    else Ok (record at { cursor = read.cursor; before = read.before; count = at.count + 1 })
+    then and_then (pads_at read.cursor) (after_pads shape bytes at.count)
+    else Ok (record {
+      cursor = read.cursor;
+      before = read.before;
+      count = at.count + 1;
+      pad = None;
+    })
 
 -- an MCU, with the pad bits and the marker after it
 unfoldable pub mcu_at : Shape → List ℕ → Standing → Result (List (List ℤ) × Standing) ScanRefusal
@@ -235,6 +243,51 @@ mcus_at (suc count) shape bytes at =
     and_then (mcu_at shape bytes at)
     (λ first. and_then (mcus_at count shape bytes first.1)
     (λ more. Ok (first.0 ∷ more.0, more.1)))
+
+-- the pad bit of the interval that the last MCU ended, 1 where that pads none; no bit where it ended none (own)
+abbrev pub pad_told : Shape → Standing → List Bool
+pad_told shape at = if is_closed shape at.count then unwrap_or at.pad true ∷ [] else []
+
+-- the pad bits of an MCU that was read and of those after it
+abbrev pub pads_after : Shape → Result (List (List ℤ) × Standing) ScanRefusal
+    → (Standing → List Bool) → List Bool
+pads_after shape (Ok first) more = pad_told shape first.1 ++ more first.1
+pads_after shape (Err refusal) more = []
+
+-- the pad bits of the intervals that the next `count` MCUs end, in their order
+unfoldable pub pads_told : ℕ → Shape → List ℕ → Standing → List Bool
+pads_told zero shape bytes at = []
+pads_told (suc count) shape bytes at =
+    pads_after shape (mcu_at shape bytes at) (λ next. pads_told count shape bytes next)
+
+-- the pad bits of the scan that stands at a place, one for each interval
+abbrev pub scan_pads : Shape → List ℕ → ℕ → List Bool
+scan_pads shape bytes place = pads_told shape.mcus shape bytes (standing_at place)
+
+-- what the pad bit of an interval comes to, if it pads one (own)
+abbrev pub pad_sum : Option Bool → PadSum
+pad_sum None = no_pads
+pad_sum (Some bit) = interval_sum (Same bit) 0 false
+
+-- and of the interval that the last MCU ended, if it ended one
+abbrev pub sum_ended : Shape → Standing → PadSum
+sum_ended shape at = if is_closed shape at.count then pad_sum at.pad else no_pads
+
+-- of an MCU that was read and of those after it
+abbrev pub sum_after : Shape → Result (List (List ℤ) × Standing) ScanRefusal
+    → (Standing → PadSum) → PadSum
+sum_after shape (Ok first) more = pads_with (sum_ended shape first.1) (more first.1)
+sum_after shape (Err refusal) more = no_pads
+
+-- what the intervals come to that the next `count` MCUs end
+unfoldable pub sum_told : ℕ → Shape → List ℕ → Standing → PadSum
+sum_told zero shape bytes at = no_pads
+sum_told (suc count) shape bytes at =
+    sum_after shape (mcu_at shape bytes at) (λ next. sum_told count shape bytes next)
+
+-- and those of the scan that stands at a place
+abbrev pub scan_sum : Shape → List ℕ → ℕ → PadSum
+scan_sum shape bytes place = sum_told shape.mcus shape bytes (standing_at place)
 
 -- the scan that stands at a place
 abbrev pub scan_at : Shape → List ℕ → ℕ → Result (List (List (List ℤ)) × Standing) ScanRefusal

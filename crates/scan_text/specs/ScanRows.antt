@@ -1,13 +1,13 @@
 -- Worked scans, written and read (own).
-use Rattle.std.specs.Prelude.{ℕ, ◌≡◌, true, false, [], ◌∷◌, map, pos, replicate, Some, Ok, Err}
+use Rattle.std.specs.Prelude.{ℕ, ◌≡◌, true, false, List, [], ◌∷◌, map, pos, replicate, Some, Ok, Err}
 use Rattle.jpeg_marker.specs.HuffmanTables.{no_table}
 use Rattle.jpeg_marker.specs.declared.component.Component.{Component}
 use Rattle.huff_table.specs.declared.plan_codes.ComponentCodes.{ComponentCodes}
 use Rattle.scan_text.specs.BlockRows.{level, level_table}
 use Rattle.scan_text.specs.Slots.{Shape, slots_of}
-use Rattle.scan_text.specs.Scans.{Mcu, no_dcs, scan_bytes, pad_count}
+use Rattle.scan_text.specs.Scans.{Mcu, no_dcs, scan_bytes, intervals_of, pad_counts, pad_at}
 use Rattle.scan_text.specs.Spots.{first_spot, mcu_put, mcus_put, put_first, bytes_done, spot_at}
-use Rattle.scan_text.specs.ScanReading.{scan_at}
+use Rattle.scan_text.specs.ScanReading.{scan_at, scan_pads}
 use Rattle.scan_text.specs.Items.{Refuses}
 use Rattle.scan_text.specs.declared.slot.Slot.{Slot}
 use Rattle.scan_text.specs.declared.refusal.ScanRefusal.TheVariants.{ScanCut, MarkerInScan, MixedPad, LooseZeros, RunPast, RestartBad}
@@ -43,6 +43,10 @@ blank = replicate 64 (pos 0) ∷ []
 abbrev pub component : ℕ → ℕ → Component
 component h v = record { id = 0; h = h; v = v; dc = no_table; ac = no_table }
 
+-- how many pad bits each interval has
+abbrev pub counts : Shape → List Mcu → List ℕ
+counts shape mcus = pad_counts shape.slots (intervals_of shape mcus)
+
 -- the bytes of scans
 abbrev pub written : Type 0
 written =
@@ -56,8 +60,10 @@ written =
     × (scan_bytes (grey ones 4 0) (λ n. true) (blank ∷ blank ∷ blank ∷ blank ∷ [])
     ≡ Ok (0xff ∷ 0x00 ∷ []))
     × (scan_bytes (grey ones 1 0) (λ n. true) (blank ∷ []) ≡ Ok (0xff ∷ 0x00 ∷ []))
-    × (pad_count (grey ones 4 0) (blank ∷ blank ∷ blank ∷ blank ∷ []) ≡ 0)
-    × (pad_count (grey level 2 1) (blank ∷ blank ∷ []) ≡ 12)
+    × (scan_bytes (grey level 2 1) (pad_at (true ∷ false ∷ [])) (blank ∷ blank ∷ [])
+    ≡ Ok (0x3f ∷ 0xff ∷ 0xd0 ∷ 0x00 ∷ []))
+    × (counts (grey ones 4 0) (blank ∷ blank ∷ blank ∷ blank ∷ []) ≡ 0 ∷ [])
+    × (counts (grey level 2 1) (blank ∷ blank ∷ []) ≡ 6 ∷ 6 ∷ [])
 
 -- one byte across four MCUs, and a marker after the MCU that ends an interval
 abbrev pub put : Type 0
@@ -108,8 +114,11 @@ read =
         pad = Some true;
       },
     ))
-    × (scan_at (grey level 2 1) (0x3f ∷ 0xff ∷ 0xd0 ∷ 0x00 ∷ []) 0 ≡ Err (MixedPad 3))
+    × (scan_pads (grey level 2 1) (0x3f ∷ 0xff ∷ 0xd0 ∷ 0x00 ∷ []) 0 ≡ true ∷ false ∷ [])
+    × (scan_pads (grey level 2 0) (0x00 ∷ []) 0 ≡ false ∷ [])
+    × (scan_pads (grey ones 4 0) (0xff ∷ 0x00 ∷ []) 0 ≡ true ∷ [])
     × (scan_at (grey level 1 0) (0x2f ∷ []) 0 ≡ Err (MixedPad 0))
+    × (scan_at (grey level 2 1) (0x3e ∷ 0xff ∷ 0xd0 ∷ 0x3f ∷ []) 0 ≡ Err (MixedPad 0))
     × (scan_at (grey level 2 1) (0x3f ∷ 0xff ∷ 0xd1 ∷ 0x3f ∷ []) 0 ≡ Err (RestartBad 1))
     × (scan_at (grey level 2 1) (0x3f ∷ 0xff ∷ []) 0 ≡ Err (ScanCut 2))
     × (scan_at (grey loose 1 0) (0x3f ∷ []) 0 ≡ Err (LooseZeros 0))

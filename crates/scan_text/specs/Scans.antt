@@ -1,5 +1,5 @@
 -- The bytes of a scan (ITU-T T.81, A.2, B.1.1.5, B.2.1, E.1.4, F.1.2.3): restart intervals with markers between them.
-use Rattle.std.specs.Prelude.{ℕ, ◌≡◌, ◌+◌, ◌%◌, Bool, true, not, ◌&&◌, ◌==◌, if◌then◌else◌, List, [], ◌∷◌, ◌++◌, length, replicate, flat_map, sum_by, ℤ, pos, Result, Ok, Err}
+use Rattle.std.specs.Prelude.{ℕ, ◌≡◌, ◌+◌, ◌%◌, Bool, true, not, ◌&&◌, ◌==◌, if◌then◌else◌, List, [], ◌∷◌, ◌++◌, length, map, get_or, replicate, flat_map, ℤ, pos, Result, Ok, Err}
 use Rattle.std.specs.List.{AllByRecursion, onto_first}
 use Rattle.bit_list.specs.Bits.{bytes_after, begun_after, padding, stuffed}
 use Rattle.coef_block.specs.Block.{IsBlock}
@@ -95,13 +95,24 @@ abbrev pub pad_bits_of : Text → ℕ
 pad_bits_of (Ok bits) = length (padding (begun_after [] bits) true)
 pad_bits_of (Err stop) = 0
 
--- how many there are in all (own)
-abbrev pub pad_count : Shape → List Mcu → ℕ
-pad_count shape mcus =
-    sum_by (λ interval. pad_bits_of (mcus_bits shape.slots interval)) (intervals_of shape mcus)
+-- and the bits of each of some intervals (own)
+abbrev pub pad_counts : List Slot → List (List Mcu) → List ℕ
+pad_counts slots intervals = map (λ interval. pad_bits_of (mcus_bits slots interval)) intervals
 
--- MCUs and one pad bit, which is 1 where no bit is padded, as a scan of these bytes (own)
-pub record IsScan (shape : Shape) (mcus : List Mcu) (pad : Bool) (scan : List ℕ) : Type 0 where
+-- a pad bit for each interval, by how many bits of each it fills up: 1 where there are none (own)
+abbrev pub ArePads : List ℕ → List Bool → Type 0
+ArePads [] [] = Unit {0}
+ArePads [] (pad ∷ pads) = ⊥
+ArePads (count ∷ counts) [] = ⊥
+ArePads (count ∷ counts) (pad ∷ pads) = (count ≡ 0 → pad ≡ true) × ArePads counts pads
+
+-- the pad bit of interval n, by the list of them; 1 after its end (own)
+abbrev pub pad_at : List Bool → ℕ → Bool
+pad_at pads n = get_or pads n true
+
+-- MCUs and a pad bit for each restart interval, which is 1 where the interval pads none, as a scan of these bytes (own)
+pub record IsScan (shape : Shape) (mcus : List Mcu) (pads : List Bool)
+    (scan : List ℕ) : Type 0 where
   pub grid : AreMcus shape mcus
-  pub told : pad_count shape mcus ≡ 0 → pad ≡ true
-  pub text : scan_bytes shape (λ n. pad) mcus ≡ Ok scan
+  pub told : ArePads (pad_counts shape.slots (intervals_of shape mcus)) pads
+  pub text : scan_bytes shape (pad_at pads) mcus ≡ Ok scan

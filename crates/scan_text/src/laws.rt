@@ -5,8 +5,9 @@ ghost use Rattle.scan_text.specs.ValueBits.{mag, extend};
 ghost use Rattle.scan_text.specs.BlockBits.{then_text};
 ghost use Rattle.scan_text.specs.Blocks.{blocks_text, dcs_after};
 ghost use Rattle.scan_text.specs.BlockRows.{rows};
+ghost use Rattle.scan_text.specs.PadRows.{listed, summed, spelled};
 ghost use Rattle.scan_text.specs.ScanRows.{written, put, done, read, sampled, stuck};
-ghost use Rattle.scan_text.specs.ScanLaws.{IsPutInParts, IsBlockSpelled, IsBlockReadAgain, AreBlocksSpelled, AreBlocksReadAgain, IsMcuSpelled, IsMcuReadAgain, IsSpelled, IsReadAgain, OneScan, IsRefusalOfItems, IsEndOfItems, OneOutcome, IsLongest, IsPutWhole, IsDoneWhole, IsDoneInParts, IsDoneInOrder, ZigzagDetermines, IsSetInZigzag, TextsAreShort};
+ghost use Rattle.scan_text.specs.ScanLaws.{IsPutInParts, IsBlockSpelled, IsBlockReadAgain, AreBlocksSpelled, AreBlocksReadAgain, IsMcuSpelled, IsMcuReadAgain, IsSpelled, IsReadAgain, IsSummed, OneScan, IsRefusalOfItems, IsEndOfItems, OneOutcome, IsLongest, IsPutWhole, IsDoneWhole, IsDoneInParts, IsDoneInOrder, ZigzagDetermines, IsSetInZigzag, TextsAreShort};
 ghost use Rattle.scan_text.specs.FileLaws.{AcceptedIsShape, OneFile};
 ghost use Rattle.scan_text.specs.declared.slot.Slot.{Slot};
 
@@ -47,6 +48,13 @@ pub fn rows_of_scans()
     ensures whole { IsPutWhole }
 {}
 
+/// The definitions computed on worked pad bits.
+pub fn rows_of_pads()
+    ensures listed { listed }
+    ensures summed { summed }
+    ensures spelled { spelled }
+{}
+
 /// The first MCUs of a scan complete its first bytes, the others complete the rest from the spot after them, and all of
 /// them the whole scan.
 pub fn first_mcus_are_first_bytes()
@@ -80,17 +88,18 @@ pub fn blocks_are_text()
 {}
 
 /// A scan that is read has the bytes that stand there, a scan whose bytes stand there is read, and so bytes determine
-/// the MCUs, the pad bit and the trailer.
+/// the MCUs, the pad bit of each interval, what these come to, and the trailer.
 pub fn scans_are_text()
     ensures mcu { IsMcuSpelled }
     ensures mcu_again { IsMcuReadAgain }
     ensures spelled { IsSpelled }
     ensures again { IsReadAgain }
+    ensures summed { IsSummed }
     ensures one { OneScan }
 {}
 
-/// A header that is taken gives the shape of a scan. A file determines its header's plan, its MCUs, its pad bit and
-/// what follows the scan.
+/// A header that is taken gives the shape of a scan. A file determines its header's plan, its MCUs, the pad bit of each
+/// of its intervals and what follows the scan.
 pub fn a_file_has_one_reading()
     ensures shape { AcceptedIsShape }
     ensures one { OneFile }

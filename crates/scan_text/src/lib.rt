@@ -14,6 +14,7 @@
 
 mod additional_bits;
 mod laws;
+mod pads;
 mod plain;
 mod plain_bytes;
 mod refusal;
@@ -24,9 +25,10 @@ mod stop;
 pub use additional_bits::{extend, value_bits};
 pub use laws::{
     a_file_has_one_reading, blocks_are_text, blocks_in_parts, first_mcus_are_first_bytes,
-    items_are_read, rows_of_scans, rows_of_the_definition, scans_are_text, values_are_bits,
-    zigzag_determines_blocks,
+    items_are_read, rows_of_pads, rows_of_scans, rows_of_the_definition, scans_are_text,
+    values_are_bits, zigzag_determines_blocks,
 };
+pub use pads::Pads;
 pub use plain::{PlainError, plain_block, plain_blocks};
 pub use plain_bytes::plain_scan;
 pub use refusal::ScanRefusal;

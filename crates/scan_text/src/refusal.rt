@@ -20,6 +20,6 @@ pub enum ScanRefusal {
     MarkerInScan { place: usize },
     /// Another byte or marker than the restart marker that is due.
     RestartBad { place: usize },
-    /// Pad bits that differ.
+    /// Pad bits of one interval that differ.
     MixedPad { place: usize },
 }

@@ -1,13 +1,15 @@
 // A scan, MCU by MCU.
-ghost use Rattle.std.specs.Prelude.{◌≡◌, ◌+◌, ◌*◌, ◌<◌, ◌≤◌, ◌==◌, ◌||◌, not, ◌++◌, [], length, map};
+ghost use Rattle.std.specs.Prelude.{◌≡◌, ◌+◌, ◌*◌, ◌<◌, ◌≤◌, ◌==◌, ◌++◌, [], true, length, map};
 ghost use Rattle.bit_list.specs.Bits.{bytes_after, padding, stuffed};
 ghost use Rattle.bit_list.specs.Pieces.{piece_room};
 ghost use Rattle.huff_table.specs.PlanWords.{tables_of};
+ghost use Rattle.handover.specs.PadSums.{pads_with};
+ghost use Rattle.scan_text.specs.Pads.{pads_given, bit_for, interval_sum, is_long_for};
 ghost use Rattle.scan_text.specs.ScanCalls.{McuIsPut, writer_of};
 ghost use Rattle.scan_text.specs.Scans.{no_dcs};
 ghost use Rattle.scan_text.specs.ShapeInside.{most_slots};
 ghost use Rattle.scan_text.specs.Slots.{shape_of};
-ghost use Rattle.scan_text.specs.Spots.{marker_after};
+ghost use Rattle.scan_text.specs.Spots.{interval_number, marker_after};
 ghost use Rattle.scan_write.specs.Outputs.{mcu_room};
 ghost use Rattle.segment_text.specs.HandedOver.{writer_from};
 ghost use Rattle.segment_text.specs.RowHandovers.{handover_of, markers_before};
@@ -17,10 +19,10 @@ use crate::blocks::blocks;
 use crate::pads::restart;
 use bit_list::{BitOut, Piece};
 use coef_block::Block;
-use handover::Handover;
+use handover::{Handover, PadSum};
 use huff_table::PlanCodes;
 use jpeg_marker::Plan;
-use scan_text::{ScanShape, WriteStop};
+use scan_text::{Pads, ScanShape, WriteStop};
 use std::marker::Model;
 
 /// How many free bytes of a piece are enough for any MCU.
@@ -32,21 +34,21 @@ pub fn mcu_room() -> usize
 
 /// A scan that is written MCU by MCU (ITU-T T.81, F.1.2). It keeps the first stop, and takes no memory.
 ///
-/// Clauses see the scan's shape, its pad bit, the spot after the last MCU, whether a bit was padded, and the stop.
+/// Clauses see the scan's shape, its pad bits, the spot after the last MCU, what was padded, and the stop.
 #[derive(Drop)]
-pub struct Writer {
+pub struct Writer<'a> {
     shape: ScanShape,
-    pad: bool,
+    pads: Pads<'a>,
     output: BitOut,
     // The last DC of each component in this interval.
     before: [i16; 4],
     // How many MCUs were written.
     count: u32,
-    padded: bool,
+    padded: PadSum,
     stop: Option<WriteStop>,
 }
 
-impl Model for Writer {
+impl<'a> Model for Writer<'a> {
     ghost use Rattle.scan_text.specs.ScanCalls.{ScanWriter};
     ghost use Rattle.scan_write.specs.WriterInside.{writer_in, IsWriter};
 
@@ -57,40 +59,43 @@ impl Model for Writer {
     ghost invariant = { IsWriter };
 }
 
-impl Writer {
-    /// Before the first MCU of a plan's scan. `pad` is the bit that fills up the last byte of each interval.
-    pub fn start(plan: &Plan, codes: &PlanCodes, pad: bool) -> Writer
-        requires { codes.now ≡ map tables_of plan.now.components }
-        ensures { result ≡ writer_of (shape_of plan.now) pad }
+impl<'a> Writer<'a> {
+    /// Before the first MCU of a plan's scan. `pads` are the bits that fill up the last byte of each interval.
+    pub fn start(plan: &Plan, codes: &PlanCodes, pads: Pads<'a>) -> Self
+        requires codes { codes.now ≡ map tables_of plan.now.components }
+        requires pads { is_long_for (shape_of plan.now) (pads_given pads) ≡ true }
+        ensures { result ≡ writer_of (shape_of plan.now) (pads_given pads.entry) }
     {
         Writer {
             shape: ScanShape::of(plan, codes),
-            pad,
+            pads,
             output: BitOut::at(0, 0),
             before: [0; 4],
             count: 0,
-            padded: false,
+            padded: PadSum::none(),
             stop: None,
         }
     }
 
     /// Before the first MCU of a row of MCUs, given what the MCUs before it hand over: the row is one of the grid, from
-    /// 0. `pad` is the bit that fills up the last byte of each interval.
-    pub fn at(plan: &Plan, codes: &PlanCodes, handover: Handover, row: u32, pad: bool) -> Writer
+    /// 0. `pads` are the bits that fill up the last byte of each interval of the scan.
+    pub fn at(plan: &Plan, codes: &PlanCodes, handover: Handover, row: u32, pads: Pads<'a>) -> Self
         requires codes { codes.now ≡ map tables_of plan.now.components }
         requires row { row < plan.now.down }
         requires restarts { handover.restarts
             ≡ markers_before (shape_of plan.now) (plan.now.across * row) }
-        ensures { result ≡ writer_from (shape_of plan.now) pad handover (plan.now.across * row) }
+        requires pads { is_long_for (shape_of plan.now) (pads_given pads) ≡ true }
+        ensures { result
+            ≡ writer_from (shape_of plan.now) (pads_given pads.entry) handover (plan.now.across * row) }
     {
         let shape = ScanShape::of(plan, codes);
         Writer {
             shape,
-            pad,
+            pads,
             output: BitOut::at(handover.partial(), handover.bits()),
             before: handover.preds(),
             count: plan.across() * row,
-            padded: false,
+            padded: PadSum::none(),
             stop: None,
         }
     }
@@ -129,8 +134,8 @@ impl Writer {
         }
     }
 
-    /// Whether a bit was padded.
-    pub fn padded(&self) -> bool
+    /// What the intervals that ended were padded with.
+    pub fn padded(&self) -> PadSum
         ensures { result ≡ self.now.padded }
     {
         self.padded
@@ -178,7 +183,8 @@ impl Writer {
         requires more { self.old.spot.count < self.old.shape.mcus }
         requires room { length out.old + 4 ≤ piece_room }
         ensures bytes { out.new ≡ (out.old
-            ++ stuffed (bytes_after self.old.spot.begun (padding self.old.spot.begun self.old.pad)))
+            ++ stuffed (bytes_after self.old.spot.begun (padding self.old.spot.begun
+            (bit_for self.old.pads (interval_number self.old.shape self.old.spot.count)))))
             ++ marker_after self.old.shape self.old.spot.count }
         ensures is { self.new ≡ record self.old {
           spot = record {
@@ -186,13 +192,16 @@ impl Writer {
             before = no_dcs;
             count = self.old.spot.count + 1;
           };
-          padded = self.old.padded || not (length self.old.spot.begun == 0);
+          padded =
+              pads_with self.old.padded (interval_sum self.old.pads
+              (interval_number self.old.shape self.old.spot.count)
+              (length self.old.spot.begun == 0));
         } }
     {
-        let begun = self.output.pad(self.pad, out);
-        self.padded = self.padded || begun;
+        let number = self.shape.interval_number(self.count);
+        let begun = self.output.pad(self.pads.bit(number), out);
+        self.padded = self.padded.with(&self.pads.sum(number, !begun));
         if self.count + 1 != self.shape.mcus() {
-            let number = self.shape.interval_number(self.count);
             restart(number, &mut self.output, out);
         }
         self.before = [0; 4];

@@ -1,29 +1,34 @@
 -- The first of some MCUs that are read, put one after another.
-use Rattle.std.proofs.Common.{◌≡◌, ℕ, zero, suc, ◌+◌, ◌≤◌, Bool, List, [], ◌∷◌, ◌++◌, length, take, drop, map, ℤ, Ok, refl, sym, ap, ◌∙◌, subst, arith, length-append}
+use Rattle.std.proofs.Common.{◌≡◌, ℕ, zero, suc, ◌+◌, ◌≤◌, Bool, true, ◌==◌, List, [], ◌∷◌, ◌++◌, length, take, drop, map, ℤ, Ok, refl, sym, ap, ◌∙◌, subst, arith, length-append}
 use Rattle.std.specs.List.{AllByRecursion}
+use Rattle.std.proofs.lemmas.Bool.{eqb-true}
 use Rattle.scan_text.specs.Slots.{Shape}
 use Rattle.scan_text.specs.Scans.{Mcu, IsMcu}
-use Rattle.scan_text.specs.Spots.{Spot, Put, prefixed_put, then_put, mcu_put, mcus_put}
-use Rattle.scan_text.specs.ScanReading.{Standing, in_zigzag, mcu_at, mcus_at}
+use Rattle.scan_text.specs.Spots.{Spot, Put, interval_number, prefixed_put, then_put, mcu_put, mcus_put}
+use Rattle.scan_text.specs.ScanReading.{Standing, in_zigzag, mcu_at, mcus_at, pads_told}
 use Rattle.scan_text.specs.ScanLaws.{IsShape, zigzag_of}
 use Rattle.scan_text.proofs.Intervals.{Agrees}
+use Rattle.scan_text.proofs.PadsTold.{Follows}
 use Rattle.scan_text.proofs.BitsTaken.{fine}
 use Rattle.scan_text.proofs.ScanTaken.{mcus_fine, mcus_more, no_mcus}
 use Rattle.segment_text.proofs.UnitsBegun.{AreBytes}
 use Rattle.segment_text.proofs.McuOn.{IsOn, mcu_on}
 use Rattle.segment_text.proofs.McusAfter.{mcu_after, mcus_after}
+use Rattle.segment_text.proofs.PadsFollowed.{followed}
 
 -- the first of some MCUs are read and put, and the others stand after them
-pub record Firsts (n : ℕ) (shape : Shape) (bytes : List ℕ) (pad : Bool) (place : ℕ) (spot : Spot)
-    (s : Standing) (mcus : List Mcu) (end : Standing) : Type 0 where
+pub record Firsts (n : ℕ) (shape : Shape) (bytes : List ℕ) (pads : ℕ → Bool) (place : ℕ)
+    (spot : Spot) (s : Standing) (mcus : List Mcu) (end : Standing) : Type 0 where
   pub at : Standing
   pub read : mcus_at n shape bytes s ≡ Ok (zigzag_of (take n mcus), at)
   pub text : List ℕ
   pub after : Spot
-  pub put : mcus_put shape (λ i. pad) spot (take n mcus) ≡ Ok (text, after)
+  pub put : mcus_put shape pads spot (take n mcus) ≡ Ok (text, after)
   pub on : IsOn bytes (place + length text) after at
   pub count : after.count ≡ spot.count + n
   pub rest : mcus_at (length (drop n mcus)) shape bytes at ≡ Ok (zigzag_of (drop n mcus), end)
+  pub follows : Follows pads (interval_number shape at.count)
+      (pads_told (length (drop n mcus)) shape bytes at)
 
 both_lists : (a b : List (List ℤ)) (xs ys : List (List (List ℤ))) → a ∷ xs ≡ b ∷ ys
     → (a ≡ b) × (xs ≡ ys)
@@ -46,26 +51,28 @@ pub on_at : (bytes : List ℕ) (place other : ℕ) (spot : Spot) (at : Standing)
     → IsOn bytes place spot at → IsOn bytes other spot at
 on_at bytes place other spot at same on = subst (λ (p : ℕ). IsOn bytes p spot at) same on
 
-pub firsts : (n : ℕ) (mcus : List Mcu) (shape : Shape) (bytes : List ℕ) (pad : Bool)
+pub firsts : (n : ℕ) (mcus : List Mcu) (shape : Shape) (bytes : List ℕ) (pads : ℕ → Bool)
     (place after : ℕ) (spot : Spot) (s end : Standing) → IsShape shape
     → AllByRecursion (IsMcu shape.slots) mcus → n ≤ length mcus
     → AreBytes bytes place after → IsOn bytes place spot s
     → mcus_at (length mcus) shape bytes s ≡ Ok (zigzag_of mcus, end) → end.cursor.next ≤ after
-    → Agrees end.pad pad
-    → Firsts n shape bytes pad place spot s mcus end
-firsts zero mcus shape bytes pad place after spot s end is each few are on e within a = record {
+    → s.count + length mcus ≤ shape.mcus
+    → Follows pads (interval_number shape s.count) (pads_told (length mcus) shape bytes s)
+    → Firsts n shape bytes pads place spot s mcus end
+firsts zero mcus shape bytes pads place after spot s end is each few are on e within most goes = record {
   at = s;
   read = no_mcus shape bytes s;
   text = [];
   after = spot;
-  put = no_first shape (λ i. pad) spot;
+  put = no_first shape pads spot;
   on = on_at bytes place (place + 0) spot s (omega arith) on;
   count = omega arith;
   rest = e;
+  follows = goes;
 }
-firsts (suc n) [] shape bytes pad place after spot s end is each few are on e within a =
+firsts (suc n) [] shape bytes pads place after spot s end is each few are on e within most goes =
     absurd (omega (arith, few))
-firsts (suc n) (mcu ∷ mcus) shape bytes pad place after spot s end is each few are on e within a =
+firsts (suc n) (mcu ∷ mcus) shape bytes pads place after spot s end is each few are on e within most goes =
     let f = mcus_fine (length mcus) shape bytes s (zigzag_of (mcu ∷ mcus), end) e in
     let p = both_lists (map in_zigzag mcu) f.first (zigzag_of mcus) f.more f.same in
     let one : mcu_at shape bytes s ≡ Ok (map in_zigzag mcu, f.next) =
@@ -76,10 +83,17 @@ firsts (suc n) (mcu ∷ mcus) shape bytes pad place after spot s end is each few
     let x = mcu_after shape bytes s f.next (map in_zigzag mcu) is skip one in
     let y = mcus_after (length mcus) shape bytes f.next end (zigzag_of mcus) is x.skip others in
     let stop = y.on in
-    let m = mcu_on shape bytes place after spot s f.next mcu pad is each.0 are on one
-    (omega (arith, stop, within)) (y.agrees pad a) in
-    let r = firsts n mcus shape bytes pad (place + length m.text) after m.after f.next end is
-    each.1 (omega (arith, few)) (λ q l h. are q (omega (arith, l)) h) m.on others within a in
+    let last : (s.count + 1 == shape.mcus) ≡ true → length mcus ≡ 0 =
+    λ over. let h = eqb-true (s.count + 1) shape.mcus over in omega (arith, h, most) in
+    let w = followed shape bytes pads s f.next (map in_zigzag mcu) (length mcus) one last goes in
+    let known = subst (λ (k : ℕ). Agrees f.next.pad (pads (interval_number shape k)))
+    (sym on.count) w.agrees in
+    let counted = w.count in
+    let m = mcu_on shape bytes place after spot s f.next mcu pads is each.0 are on one
+    (omega (arith, stop, within)) known in
+    let r = firsts n mcus shape bytes pads (place + length m.text) after m.after f.next end is
+    each.1 (omega (arith, few)) (λ q l h. are q (omega (arith, l)) h) m.on others within
+    (omega (arith, most, counted)) w.follows in
     let sum = length-append m.text r.text in
     let long : place + length m.text + length r.text ≡ place + length (m.text ++ r.text) =
     omega (arith, sum) in
@@ -89,10 +103,11 @@ firsts (suc n) (mcu ∷ mcus) shape bytes pad place after spot s end is each few
           (zigzag_of (take n mcus)) one r.read;
       text = m.text ++ r.text;
       after = r.after;
-      put = one_more shape (λ i. pad) spot m.after r.after mcu
+      put = one_more shape pads spot m.after r.after mcu
           (take n mcus) m.text r.text m.is r.put;
       on = on_at bytes (place + length m.text + length r.text)
           (place + length (m.text ++ r.text)) r.after r.at long r.on;
       count = let c = m.count in let d = r.count in omega (arith, c, d);
       rest = r.rest;
+      follows = r.follows;
     }

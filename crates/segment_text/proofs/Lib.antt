@@ -6,6 +6,7 @@ pub mod UnitsBegun
 pub mod BegunHandedOver
 pub mod ScanBytes
 pub mod CursorsAlike
+pub mod PadsFollowed
 pub mod McusAlike
 pub mod McusAfter
 pub mod McuOn

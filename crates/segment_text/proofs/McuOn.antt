@@ -57,11 +57,13 @@ abbrev PutOn : List ℕ → ℕ → Standing → List ℕ × Spot → Type 0
 PutOn bytes place next put = IsOn bytes (place + length put.0) put.1 next
 
 put_on : (over ends : Bool) (shape : Shape) (bytes : List ℕ) (place after : ℕ) (spot : Spot)
-    (s next : Standing) (read : BlocksRead) (bits : List Bool) (pad : Bool)
+    (s next : Standing) (read : BlocksRead) (bits : List Bool) (pads : ℕ → Bool)
     → AreBytes bytes place after → IsOn bytes place spot s → Takes bytes s.cursor bits read.cursor
-    → end_by over ends shape bytes s read ≡ Ok next → next.cursor.next ≤ after → Agrees next.pad pad
-    → PutOn bytes place next (put_by over ends shape pad spot read.before bits)
-put_on true ends shape bytes place after spot s next read bits pad are on takes e within a =
+    → end_by over ends shape bytes s read ≡ Ok next → next.cursor.next ≤ after
+    → Agrees next.pad (pads (interval_number shape spot.count))
+    → PutOn bytes place next (put_by over ends shape pads spot read.before bits)
+put_on true ends shape bytes place after spot s next read bits pads are on takes e within a =
+    let pad = pads (interval_number shape spot.count) in
     let t = end_taken ends shape bytes s next read pad e a in
     let stop = t.next in
     let begun = on.begun in
@@ -82,18 +84,19 @@ put_on true ends shape bytes place after spot s next read bits pad are on takes 
       before = sym (ap (λ (g : Standing). g.before) is);
       count = ap (λ (n : ℕ). n + 1) on.count ∙ sym (ap (λ (g : Standing). g.count) is);
     }
-put_on false true shape bytes place after spot s next read bits pad are on takes e within a =
+put_on false true shape bytes place after spot s next read bits pads are on takes e within a =
+    let pad = pads (interval_number shape spot.count) in
     let t = marker_taken shape bytes s next read e in
     let is = t.is in
-    let pads =
+    let taken =
     t.pads pad
     (subst (λ (o : Option Bool). Agrees o pad) (ap (λ (g : Standing). g.pad) is) a) in
     let stop = t.place_is in
     let at = ap (λ (g : Standing). g.cursor.next) is in
     let text = closing spot.begun bits pad in
     let marker = restart_marker (interval_number shape spot.count) in
-    let here = closed_on bytes place after pads.k spot.begun bits pad s.cursor read.cursor are
-    on.begun takes (omega (arith, within, stop, at)) pads.left in
+    let here = closed_on bytes place after taken.k spot.begun bits pad s.cursor read.cursor are
+    on.begun takes (omega (arith, within, stop, at)) taken.left in
     let long : length (text ++ marker) ≡ length text + 2 = length-append text marker in
     let last : IsBegun bytes (place + length (text ++ marker)) [] (starting t.place 0) =
     record { skip = refl; unit = (refl, omega (arith, here, stop, long)) } in
@@ -103,8 +106,8 @@ put_on false true shape bytes place after spot s next read bits pad are on takes
       before = sym (ap (λ (g : Standing). g.before) is);
       count = ap (λ (n : ℕ). n + 1) on.count ∙ sym (ap (λ (g : Standing). g.count) is);
     }
-put_on false false shape bytes place after spot s next read bits pad are on takes e within a =
-    let is = is_fine (on_standing read.cursor read.before s.count s.pad) next e in
+put_on false false shape bytes place after spot s next read bits pads are on takes e within a =
+    let is = is_fine (on_standing read.cursor read.before s.count) next e in
     let at = ap (λ (g : Standing). g.cursor.next) is in
     let b = bits_begun bits bytes place after spot.begun s.cursor read.cursor are on.begun takes
     (omega (arith, within, at)) in
@@ -117,28 +120,29 @@ put_on false false shape bytes place after spot s next read bits pad are on take
       count = ap (λ (n : ℕ). n + 1) on.count ∙ ap (λ (g : Standing). g.count) is;
     }
 
-count_put : (over ends : Bool) (shape : Shape) (pad : Bool) (spot : Spot) (before : List ℤ)
-    (bits : List Bool) → (put_by over ends shape pad spot before bits).1.count ≡ spot.count + 1
-count_put true ends shape pad spot before bits = refl
-count_put false true shape pad spot before bits = refl
-count_put false false shape pad spot before bits = refl
+count_put : (over ends : Bool) (shape : Shape) (pads : ℕ → Bool) (spot : Spot) (before : List ℤ)
+    (bits : List Bool) → (put_by over ends shape pads spot before bits).1.count ≡ spot.count + 1
+count_put true ends shape pads spot before bits = refl
+count_put false true shape pads spot before bits = refl
+count_put false false shape pads spot before bits = refl
 
 -- what an MCU puts
-pub record McuPut (shape : Shape) (bytes : List ℕ) (pad : Bool) (place : ℕ) (spot : Spot)
+pub record McuPut (shape : Shape) (bytes : List ℕ) (pads : ℕ → Bool) (place : ℕ) (spot : Spot)
     (mcu : Mcu) (next : Standing) : Type 0 where
   pub text : List ℕ
   pub after : Spot
-  pub is : mcu_put shape (λ n. pad) spot mcu ≡ Ok (text, after)
+  pub is : mcu_put shape pads spot mcu ≡ Ok (text, after)
   pub on : IsOn bytes (place + length text) after next
   pub count : after.count ≡ spot.count + 1
 
 pub mcu_on : (shape : Shape) (bytes : List ℕ) (place after : ℕ) (spot : Spot) (s next : Standing)
-    (mcu : Mcu) (pad : Bool) → IsShape shape → IsMcu shape.slots mcu → AreBytes bytes place after
+    (mcu : Mcu) (pads : ℕ → Bool) → IsShape shape → IsMcu shape.slots mcu → AreBytes bytes place after
     → IsOn bytes place spot s
     → mcu_at shape bytes s ≡ Ok (map in_zigzag mcu, next) → next.cursor.next ≤ after
-    → Agrees next.pad pad → McuPut shape bytes pad place spot mcu next
+    → Agrees next.pad (pads (interval_number shape spot.count))
+    → McuPut shape bytes pads place spot mcu next
 unfolding mcu_put
-mcu_on shape bytes place after spot s next mcu pad is fits are on e within a =
+mcu_on shape bytes place after spot s next mcu pads is fits are on e within a =
     let one = mcu_fine shape bytes s (map in_zigzag mcu, next) e in
     let read = one.read in
     let m = blocks_read shape.slots s.before bytes s.cursor read is.slots one.is in
@@ -150,14 +154,14 @@ mcu_on shape bytes place after spot s next mcu pad is fits are on e within a =
     ap₂ (λ (d : List ℤ) (b : Mcu). blocks_text shape.slots d b) on.before (sym same) ∙ m.text in
     let over = spot.count + 1 == shape.mcus in
     let ends = ends_interval shape.interval (spot.count + 1) in
-    let put = put_by over ends shape pad spot read.before m.bits in
+    let put = put_by over ends shape pads spot read.before m.bits in
     record {
       text = put.0;
       after = put.1;
-      is = ap₂ (λ (d : List ℤ) (t : Text). put_text shape (λ n. pad) spot d t) last text;
-      on = put_on over ends shape bytes place after spot s next read m.bits pad are on m.takes
+      is = ap₂ (λ (d : List ℤ) (t : Text). put_text shape pads spot d t) last text;
+      on = put_on over ends shape bytes place after spot s next read m.bits pads are on m.takes
           (ap
           (λ (n : ℕ). end_by (n + 1 == shape.mcus) (ends_interval shape.interval (n + 1)) shape
           bytes s read) on.count ∙ one.after) within a;
-      count = count_put over ends shape pad spot read.before m.bits;
+      count = count_put over ends shape pads spot read.before m.bits;
     }

@@ -1,5 +1,5 @@
 -- A reader that has read MCUs stands after where it stood.
-use Rattle.std.proofs.Common.{◌≡◌, ℕ, zero, suc, ◌+◌, ◌≤◌, Bool, true, false, ◌==◌, List, [], ℤ, Option, Ok, sym, ap, ◌∙◌, subst, arith}
+use Rattle.std.proofs.Common.{◌≡◌, ℕ, zero, suc, ◌+◌, ◌≤◌, Bool, true, false, ◌==◌, List, [], ℤ, Ok, refl, sym, ap, ◌∙◌, subst, arith}
 use Rattle.std.specs.Prelude.{unwrap_or}
 use Rattle.scan_text.specs.Slots.{Shape}
 use Rattle.scan_text.specs.Scans.{ends_interval}
@@ -7,15 +7,13 @@ use Rattle.scan_text.specs.ScanReading.{BlocksRead, Standing, mcu_at, mcus_at}
 use Rattle.scan_text.specs.ScanLaws.{IsShape}
 use Rattle.scan_text.proofs.BitsTaken.{is_fine, both_fine}
 use Rattle.scan_text.proofs.BlocksTaken.{blocks_read}
-use Rattle.scan_text.proofs.Intervals.{Agrees}
 use Rattle.scan_text.proofs.ScanTaken.{on_standing, end_by, end_taken, marker_taken, mcu_fine, mcus_fine, no_mcus, agrees_known}
 use Rattle.segment_text.proofs.BitsOn.{bits_on}
 
--- no cursor skips bits, each stands after the one before, and pad bits agree with those before them
+-- no cursor skips bits, and each stands after the one before
 pub record IsAfter (s next : Standing) : Type 0 where
   pub skip : next.cursor.skip ≡ 0
   pub on : s.cursor.next ≤ next.cursor.next
-  pub agrees : (pad : Bool) → Agrees next.pad pad → Agrees s.pad pad
 
 after_by : (over ends : Bool) (shape : Shape) (bytes : List ℕ) (s next : Standing)
     (read : BlocksRead) → end_by over ends shape bytes s read ≡ Ok next → read.cursor.skip ≡ 0
@@ -23,12 +21,11 @@ after_by : (over ends : Bool) (shape : Shape) (bytes : List ℕ) (s next : Stand
     → IsAfter s next
 after_by true ends shape bytes s next read e skip on =
     let t = end_taken ends shape bytes s next read (unwrap_or next.pad true) e
-    (agrees_known next.pad) in
+    (agrees_known next.pad (unwrap_or next.pad true) refl) in
     let stop = t.next in
     record {
       skip = ap (λ (g : Standing). g.cursor.skip) t.is ∙ skip;
       on = omega (arith, on, stop);
-      agrees = λ pad a. (end_taken ends shape bytes s next read pad e a).pads.agrees;
     }
 after_by false true shape bytes s next read e skip on =
     let t = marker_taken shape bytes s next read e in
@@ -37,19 +34,13 @@ after_by false true shape bytes s next read e skip on =
     record {
       skip = ap (λ (g : Standing). g.cursor.skip) t.is;
       on = omega (arith, on, stop, is);
-      agrees =
-          λ pad a.
-          (t.pads pad
-          (subst (λ (o : Option Bool). Agrees o pad) (ap (λ (g : Standing). g.pad) t.is) a)).agrees;
     }
 after_by false false shape bytes s next read e skip on =
-    let is = is_fine (on_standing read.cursor read.before s.count s.pad) next e in
+    let is = is_fine (on_standing read.cursor read.before s.count) next e in
     let stop = ap (λ (g : Standing). g.cursor.next) is in
     record {
       skip = sym (ap (λ (g : Standing). g.cursor.skip) is) ∙ skip;
       on = omega (arith, on, stop);
-      agrees = λ pad a. subst (λ (o : Option Bool). Agrees o pad)
-          (sym (ap (λ (g : Standing). g.pad) is)) a;
     }
 
 pub mcu_after : (shape : Shape) (bytes : List ℕ) (s next : Standing) (blocks : List (List ℤ))
@@ -68,7 +59,7 @@ mcus_after zero shape bytes s end blocks is skip e =
     let p = both_fine {A = List (List (List ℤ))} {B = Standing} ([], s) (blocks, end)
     (sym (no_mcus shape bytes s) ∙ e) in
     subst (λ (g : Standing). IsAfter s g) p.1
-    (record { skip = skip; on = omega arith; agrees = λ pad a. a })
+    (record { skip = skip; on = omega arith })
 mcus_after (suc n) shape bytes s end blocks is skip e =
     let f = mcus_fine n shape bytes s (blocks, end) e in
     let a = mcu_after shape bytes s f.next f.first is skip f.one in
@@ -78,6 +69,4 @@ mcus_after (suc n) shape bytes s end blocks is skip e =
     record {
       skip = b.skip;
       on = omega (arith, on, more);
-      agrees =
-          λ pad h. a.agrees pad (b.agrees pad h);
     }

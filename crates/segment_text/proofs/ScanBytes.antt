@@ -7,7 +7,7 @@ use Rattle.bit_list.specs.Bits.{IsByte, number_of, bytes_after, stuffed}
 use Rattle.bit_list.proofs.LowBits.{number_below}
 use Rattle.scan_text.specs.BlockBits.{Text}
 use Rattle.scan_text.specs.Slots.{Shape}
-use Rattle.scan_text.specs.Scans.{Mcu, Bytes, bytes_of, then_bytes, padded, interval_bytes, restart_marker, mcus_bits, intervals_of, intervals_bytes, scan_bytes}
+use Rattle.scan_text.specs.Scans.{Mcu, Bytes, bytes_of, then_bytes, padded, interval_bytes, restart_marker, mcus_bits, intervals_of, intervals_bytes, scan_bytes, pad_at}
 use Rattle.scan_text.specs.ScanLaws.{Begins}
 use Rattle.scan_text.specs.declared.slot.Slot.{Slot}
 use Rattle.scan_text.specs.declared.stop.WriteStop.{WriteStop}
@@ -114,15 +114,15 @@ first_small [] ys i all below = absurd (omega (arith, below))
 first_small (x ∷ xs) ys zero all below = all.0
 first_small (x ∷ xs) ys (suc i) all below = first_small xs ys i all.1 (omega (arith, below))
 
-pub are_bytes : (shape : Shape) (mcus : List Mcu) (pad : Bool) (bytes : List ℕ) (place after : ℕ)
-    → Begins shape mcus pad bytes place after → AreBytes bytes place after
-are_bytes shape mcus pad bytes place after b = λ p least below.
+pub are_bytes : (shape : Shape) (mcus : List Mcu) (pads : List Bool) (bytes : List ℕ)
+    (place after : ℕ) → Begins shape mcus pads bytes place after → AreBytes bytes place after
+are_bytes shape mcus pads bytes place after b = λ p least below.
     let i = p - place in
     let at : place + i ≡ p = omega (arith, least) in
     let text = b.is.text in
     let long = b.long in
     let small = first_small b.scan (drop after bytes) i
-    (scan_of_bytes shape (λ n. pad) mcus b.scan text) (omega (arith, long, below, least)) in
+    (scan_of_bytes shape (pad_at pads) mcus b.scan text) (omega (arith, long, below, least)) in
     let there : get_or (b.scan ++ drop after bytes) i 0 ≡ byte_at bytes p =
     ap (λ (l : List ℕ). get_or l i 0) (sym b.text) ∙ get_or-drop place bytes i 0
     ∙ ap (λ (n : ℕ). get_or bytes n 0) at in

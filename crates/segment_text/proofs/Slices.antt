@@ -1,14 +1,12 @@
 -- Segments are slices of the scan, and joined they are the scan.
-use Rattle.std.proofs.Common.{◌≡◌, ℕ, zero, suc, ◌+◌, ◌-◌, ◌*◌, ◌/◌, ◌<◌, ◌≤◌, Bool, List, [], ◌∷◌, ◌++◌, length, take, drop, Result, Ok, Err, refl, sym, ap, ap₂, subst, ◌∙◌, arith, zero-add}
+use Rattle.std.proofs.Common.{◌≡◌, ℕ, zero, suc, ◌+◌, ◌-◌, ◌<◌, ◌≤◌, Bool, List, [], ◌++◌, length, take, drop, Ok, Err, refl, sym, ap, ap₂, subst, ◌∙◌, arith, zero-add}
 use Rattle.std.specs.Prelude.{flat_map}
 use Rattle.std.proofs.lemmas.List.{take-append-drop, drop-take, take-take, take_all, length-append, drop-drop, length-take-le}
 use Rattle.std.proofs.Math.Seq.{take-append_seam, drop-append_seam, take-length}
-use Rattle.std.proofs.Math.Nat.{zero-div, zero-mul, mul-div_cancel_left, mul-le-mul_left}
 use Rattle.scan_text.specs.Slots.{Shape}
 use Rattle.scan_text.specs.Scans.{Mcu, Bytes, AreMcus, scan_bytes}
 use Rattle.scan_text.specs.Spots.{Spot, Put, first_spot, prefixed_put, then_put, mcus_put, put_first, count_in, bytes_done, spot_at, spot_in}
 use Rattle.scan_text.specs.ScanLaws.{IsShape, bytes_in}
-use Rattle.scan_text.specs.declared.stop.WriteStop.{WriteStop}
 use Rattle.segment_text.proofs.SpotsBegun.{handover_is_spot, spots_are_begun}
 use Rattle.scan_text.proofs.Parts.{put_in_parts}
 use Rattle.scan_text.proofs.PutWhole.{put_whole}

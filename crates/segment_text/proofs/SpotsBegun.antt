@@ -1,5 +1,5 @@
 -- Spots between two MCUs, their handovers, and cuts at rows.
-use Rattle.std.proofs.Common.{◌≡◌, ℕ, zero, suc, ◌+◌, ◌-◌, ◌*◌, ◌/◌, ◌%◌, ◌<◌, ◌≤◌, Bool, true, false, if◌then◌else◌, List, [], ◌∷◌, ◌++◌, length, take, drop, Result, Ok, Err, refl, sym, ap, ap₂, subst, ◌∙◌, arith, ℤ, replicate, add-zero}
+use Rattle.std.proofs.Common.{◌≡◌, ℕ, ◌+◌, ◌-◌, ◌*◌, ◌/◌, ◌%◌, ◌<◌, ◌≤◌, Bool, true, false, if◌then◌else◌, List, [], ◌∷◌, ◌++◌, length, take, Ok, Err, refl, sym, ap, ap₂, subst, ◌∙◌, arith, ℤ, replicate, add-zero}
 use Rattle.std.proofs.lemmas.List.{length-append, length-replicate}
 use Rattle.std.proofs.Math.Seq.{take-append_seam}
 use Rattle.std.proofs.Math.Nat.{zero-div, zero-mul, mul-zero, mul-div_cancel_left, mul-le-mul_left, le-div_iff_mul-le, div-mul-le_self, mod-lt}
@@ -10,9 +10,9 @@ use Rattle.scan_text.specs.BlockBits.{Text}
 use Rattle.scan_text.specs.Blocks.{blocks_text, dcs_after}
 use Rattle.scan_text.specs.Slots.{Shape}
 use Rattle.scan_text.specs.Scans.{Mcu}
-use Rattle.scan_text.specs.Spots.{Spot, Put, first_spot, is_closed, put_bits, put_text, mcu_put, prefixed_put, then_put, mcus_put, spot_in}
-use Rattle.segment_text.specs.Cuts.{Cut, row_of, first_mcu}
-use Rattle.segment_text.specs.RowHandovers.{handover_of, spot_of, partial_byte}
+use Rattle.scan_text.specs.Spots.{Spot, Put, is_closed, put_bits, put_text, mcu_put, prefixed_put, then_put, mcus_put, spot_in}
+use Rattle.segment_text.specs.Cuts.{row_of}
+use Rattle.segment_text.specs.RowHandovers.{partial_byte}
 use Rattle.segment_text.specs.Seams.{HandoverIsSpot, SpotsAreBegun, RowsAreCuts, EachHasRows}
 
 begun_again : (bits : List Bool) → length bits ≤ 7 → take (length bits) (low_bits 8 (partial_byte bits)) ≡ bits

@@ -1,13 +1,15 @@
 -- A reader and a writer of a scan that start from a handover, and what a reader hands over (own).
-use Rattle.std.specs.Prelude.{ℕ, ◌-◌, ◌==◌, if◌then◌else◌, Bool, false, List, [], length, take, get_or, None, Result, Ok, Err}
+use Rattle.std.specs.Prelude.{ℕ, ◌-◌, ◌==◌, if◌then◌else◌, Bool, List, [], length, take, get_or, None, Result, Ok, Err}
 use Rattle.bit_list.specs.Bits.{low_bits}
 use Rattle.bit_list.specs.Units.{Cursor, starting, bits_at}
 use Rattle.bit_list.specs.declared.fault.BitFault.{BitFault}
 use Rattle.scan_text.specs.Slots.{Shape}
 use Rattle.scan_text.specs.Spots.{Spot}
+use Rattle.scan_text.specs.Pads.{PadBits}
 use Rattle.scan_text.specs.ScanReading.{Standing}
 use Rattle.scan_text.specs.ScanCalls.{ScanReader, ScanWriter}
 use Rattle.handover.specs.Handovers.{HandoverFields}
+use Rattle.handover.specs.PadSums.{no_pads}
 use Rattle.segment_text.specs.RowHandovers.{spot_of}
 
 -- the cursor after bits, or another one where they aren't there
@@ -40,12 +42,12 @@ reader_from shape bytes h count place = record {
 }
 
 -- a writer that starts from a handover (own)
-abbrev pub writer_from : Shape → Bool → HandoverFields → ℕ → ScanWriter
-writer_from shape pad h count = record {
+abbrev pub writer_from : Shape → PadBits → HandoverFields → ℕ → ScanWriter
+writer_from shape pads h count = record {
   shape = shape;
-  pad = pad;
+  pads = pads;
   spot = spot_of h count;
-  padded = false;
+  padded = no_pads;
   stop = None;
 }
 

@@ -1,7 +1,7 @@
 -- What holds of readers at handovers (own).
 use Rattle.std.specs.Prelude.{ℕ, ◌≡◌, ◌+◌, ◌-◌, ◌<◌, ◌≤◌, Bool, List, Ok}
 use Rattle.scan_text.specs.Slots.{Shape}
-use Rattle.scan_text.specs.Scans.{Mcu}
+use Rattle.scan_text.specs.Scans.{Mcu, pad_at}
 use Rattle.scan_text.specs.Spots.{bytes_done, spot_at}
 use Rattle.scan_text.specs.ScanCalls.{resume_place}
 use Rattle.scan_text.specs.ScanLaws.{IsShape, Begins, zigzag_of}
@@ -19,21 +19,21 @@ pub record StandsAt (shape : Shape) (pads : ℕ → Bool) (mcus : List Mcu) (byt
 -- a scan's first n MCUs are read from its start, and hand over
 abbrev pub FirstAreRead : Type 0
 FirstAreRead =
-    (shape : Shape) (bytes : List ℕ) (place after : ℕ) (mcus : List Mcu) (pad : Bool) (n : ℕ)
-    → IsShape shape → Begins shape mcus pad bytes place after → n ≤ shape.mcus
+    (shape : Shape) (bytes : List ℕ) (place after : ℕ) (mcus : List Mcu) (pads : List Bool)
+    (n : ℕ) → IsShape shape → Begins shape mcus pads bytes place after → n ≤ shape.mcus
     → (at : Standing)
     × (mcus_at n shape bytes (standing_at place) ≡ Ok (zigzag_of (mcus_between mcus 0 n), at))
-    × StandsAt shape (λ i. pad) mcus bytes place n at
+    × StandsAt shape (pad_at pads) mcus bytes place n at
 
 -- the MCUs from one on, up to before another, are read from what those before hand over, and hand over in turn
 abbrev pub SegmentIsRead : Type 0
 SegmentIsRead =
-    (shape : Shape) (bytes : List ℕ) (place after : ℕ) (mcus : List Mcu) (pad : Bool)
-    (from to : ℕ) → IsShape shape → Begins shape mcus pad bytes place after
+    (shape : Shape) (bytes : List ℕ) (place after : ℕ) (mcus : List Mcu) (pads : List Bool)
+    (from to : ℕ) → IsShape shape → Begins shape mcus pads bytes place after
     → from < to → to ≤ shape.mcus
     → (at : Standing)
     × (mcus_at (to - from) shape bytes
-    (standing_from bytes (handover_at shape (λ i. pad) mcus from) from
-    (place + bytes_done shape (λ i. pad) mcus from))
+    (standing_from bytes (handover_at shape (pad_at pads) mcus from) from
+    (place + bytes_done shape (pad_at pads) mcus from))
     ≡ Ok (zigzag_of (mcus_between mcus from to), at))
-    × StandsAt shape (λ i. pad) mcus bytes place to at
+    × StandsAt shape (pad_at pads) mcus bytes place to at

@@ -81,7 +81,7 @@ step-requires-in-Some-Good-clause-can g c =
     ap (λ i. (segment_at c.value-core.result.now i).done) (sym c.look-seen.ensures.2.cur) ∙ (sym
     c.in-Some-Good.ensures ∙ ap Some c.in-Some-Good.field-0-is) in
     may_advance g.C.Content.bytes g.C.Content.outcomes _ _ _ _ k.fitted k.at _ role c.requires.going more
-    (c.in-Some-Good.padded, done) empty
+    (c.in-Some-Good.pads, done) empty
 
 pub returns-then-seen-count-clause-answer : goal.returns-then-seen-count-clause-answer
 returns-then-seen-count-clause-answer g c =

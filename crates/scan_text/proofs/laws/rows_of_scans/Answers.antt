@@ -1,4 +1,4 @@
-use Rattle.std.proofs.Common.{refl, [], ◌∷◌, true, false, None, List, Bool}
+use Rattle.std.proofs.Common.{refl, [], ◌∷◌, true, false, List, Bool}
 use Rattle.huff_table.specs.CodeWords.{word_of, words_of, value_of}
 use Rattle.huff_table.specs.Decoding.{value_after}
 use Rattle.bit_list.specs.Units.{Cursor, unit_at, filled, bit_at, bits_at}
@@ -6,7 +6,7 @@ use Rattle.scan_text.specs.BlockBits.{block_text, dc_text, ac_text, ac_values, v
 use Rattle.scan_text.specs.Blocks.{blocks_text, dcs_after}
 use Rattle.scan_text.specs.Scans.{mcus_bits, intervals_bytes, scan_bytes, no_dcs}
 use Rattle.scan_text.specs.Spots.{mcu_put, mcus_put}
-use Rattle.scan_text.specs.ScanReading.{dc_at, acs_at, block_at, blocks_at, restart_at, mcu_at, mcus_at}
+use Rattle.scan_text.specs.ScanReading.{dc_at, acs_at, block_at, blocks_at, restart_at, mcu_at, mcus_at, pads_told}
 use Rattle.scan_text.specs.Items.{Coded, Stage, Due, DcBits, AcWord, Wrong}
 use Rattle.scan_text.specs.declared.slot.Slot.{Slot}
 use Rattle.scan_text.specs.declared.refusal.ScanRefusal.TheVariants.{LooseZeros}
@@ -17,7 +17,7 @@ use Rattle.scan_text.proofs.laws.rows_of_scans.Goals as goal
 
 pub returns-clause-written : goal.returns-clause-written
 unfolding block_text dc_text ac_text ac_values value_text zeros_text word_text word_of words_of blocks_text mcus_bits intervals_bytes scan_bytes
-returns-clause-written c = (refl, refl, refl, refl, refl, refl, refl, refl, refl)
+returns-clause-written c = (refl, refl, refl, refl, refl, refl, refl, refl, refl, refl)
 
 pub returns-clause-put : goal.returns-clause-put
 unfolding block_text dc_text ac_text ac_values value_text zeros_text word_text word_of words_of blocks_text dcs_after mcu_put mcus_put
@@ -28,8 +28,8 @@ unfolding block_text dc_text ac_text ac_values value_text zeros_text word_text w
 returns-clause-done c = (refl, refl, refl, refl, refl, refl, refl, refl)
 
 pub returns-clause-read : goal.returns-clause-read
-unfolding value_of words_of value_after unit_at filled bit_at bits_at dc_at acs_at block_at blocks_at restart_at mcu_at mcus_at ac_values
-returns-clause-read c = (refl, refl, refl, refl, refl, refl, refl, refl, refl, refl, refl)
+unfolding value_of words_of value_after unit_at filled bit_at bits_at dc_at acs_at block_at blocks_at restart_at mcu_at mcus_at pads_told ac_values
+returns-clause-read c = (refl, refl, refl, refl, refl, refl, refl, refl, refl, refl, refl, refl, refl, refl)
 
 pub returns-clause-parts : goal.returns-clause-parts
 returns-clause-parts c = λ shape pads spot mcus more. put_in_parts shape pads mcus more spot
@@ -38,7 +38,7 @@ abbrev slot : Slot
 slot = record { component = 0; codes = loose }
 
 abbrev stage : Due → Stage
-stage due = record { due = due; run = record { slots = []; before = no_dcs; count = 0; pad = None } }
+stage due = record { due = due; run = record { slots = []; before = no_dcs; count = 0; pads = [] } }
 
 abbrev left : List Bool → Cursor
 left bits = record { left = bits; skip = 0; last = 0; next = 1 }

@@ -1,5 +1,5 @@
 use Rattle.scan_text.proofs.McuByMcu.{mcu_spelled, mcu_read_again}
-use Rattle.scan_text.proofs.ScanTaken.{spelled, read_again, one_scan}
+use Rattle.scan_text.proofs.ScanTaken.{spelled, read_again, summed_again, one_scan}
 use Rattle.scan_text.proofs.laws.scans_are_text.Goals as goal
 
 pub returns-clause-mcu : goal.returns-clause-mcu
@@ -13,6 +13,9 @@ returns-clause-spelled c = spelled
 
 pub returns-clause-again : goal.returns-clause-again
 returns-clause-again c = read_again
+
+pub returns-clause-summed : goal.returns-clause-summed
+returns-clause-summed c = summed_again
 
 pub returns-clause-one : goal.returns-clause-one
 returns-clause-one c = one_scan

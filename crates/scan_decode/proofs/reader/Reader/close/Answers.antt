@@ -10,7 +10,7 @@ use Rattle.scan_decode.proofs.IntervalEnds.{Next, mixed, padded, scan_over, no_r
 use Rattle.scan_decode.proofs.reader.Reader.close.Goals as goal
 
 abbrev After : ScanReader → Next
-After s = and_then (pads_at s.at.pad s.at.cursor) (after_pads s.shape s.bytes s.at.count)
+After s = and_then (pads_at s.at.cursor) (after_pads s.shape s.bytes s.at.count)
 
 pub returns-in-None-clause-is : goal.returns-in-None-clause-is
 returns-in-None-clause-is c =
@@ -18,7 +18,7 @@ returns-in-None-clause-is c =
     let e = c.rest_of_byte-number.ensures in
     ap (λ (n : ℕ). Err (refusals.MixedPad n)) c.place-last.ensures
     ∙ subst (λ (s : ScanReader). Err (refusals.MixedPad c.self.inside.input.cursor.last) ≡ After s) c.self.view_is
-    (mixed r.shape r.bytes r.at.count r.at.pad r.at.cursor c.rest_of_byte-number.result.1 c.rest_of_byte-number.result.0 e.count e.number c.in-None.ensures)
+    (mixed r.shape r.bytes r.at.count r.at.cursor c.rest_of_byte-number.result.1 c.rest_of_byte-number.result.0 e.count e.number c.in-None.ensures)
 
 pub returns-then-self-mcus-clause-is : goal.returns-then-self-mcus-clause-is
 returns-then-self-mcus-clause-is c =
@@ -26,7 +26,7 @@ returns-then-self-mcus-clause-is c =
     let r = reader_of i in
     let e = c.rest_of_byte-number.ensures in
     let p = c.in-Some.pad in
-    let after = padded r.shape r.bytes r.at.count r.at.pad p r.at.cursor c.rest_of_byte-number.result.1 c.rest_of_byte-number.result.0 e.count e.number c.in-Some.ensures in
+    let after = padded r.shape r.bytes r.at.count p r.at.cursor c.rest_of_byte-number.result.1 c.rest_of_byte-number.result.0 e.count e.number c.in-Some.ensures in
     let over = scan_over r.shape r.bytes r.at.count p (record i.input.cursor { left = [] }) (c.if-self-mcus.true ∙ c.mcus.ensures) in
     ap (λ (s : ScanReader). Ok s.at) c.begin.ensures
     ∙ ap (λ (k : Cursor). Ok (record { cursor = k; before = no_dcs; count = i.count + 1; pad = p })) e.cursor
@@ -40,7 +40,7 @@ returns-in_err-place-clause-is c =
     let e = c.rest_of_byte-number.ensures in
     let p = c.in-Some.pad in
     let f = c.in_err-place.field-0.0 in
-    let after = padded r.shape r.bytes r.at.count r.at.pad p r.at.cursor c.rest_of_byte-number.result.1 c.rest_of_byte-number.result.0 e.count e.number c.in-Some.ensures in
+    let after = padded r.shape r.bytes r.at.count p r.at.cursor c.rest_of_byte-number.result.1 c.rest_of_byte-number.result.0 e.count e.number c.in-Some.ensures in
     let stands =
     c.in_err-place.ensures ∙ ap (λ (b : List ℕ). restart_at b c.interval_number-number.result c.next_place.result) (sym c.self.invariant.bytes)
     ∙ ap₂ (λ (n k : ℕ). restart_at r.bytes n k) c.interval_number-number.ensures (c.next_place.ensures ∙ ap (λ (k : Cursor). k.next) e.cursor) in
@@ -54,7 +54,7 @@ returns-clause-is c =
     let e = c.rest_of_byte-number.ensures in
     let p = c.in-Some.pad in
     let place = c.in_ok-place.place in
-    let after = padded r.shape r.bytes r.at.count r.at.pad p r.at.cursor c.rest_of_byte-number.result.1 c.rest_of_byte-number.result.0 e.count e.number c.in-Some.ensures in
+    let after = padded r.shape r.bytes r.at.count p r.at.cursor c.rest_of_byte-number.result.1 c.rest_of_byte-number.result.0 e.count e.number c.in-Some.ensures in
     let stands =
     c.in_ok-place.ensures ∙ ap (λ (b : List ℕ). restart_at b c.interval_number-number.result c.next_place.result) (sym c.self.invariant.bytes)
     ∙ ap₂ (λ (n k : ℕ). restart_at r.bytes n k) c.interval_number-number.ensures (c.next_place.ensures ∙ ap (λ (k : Cursor). k.next) e.cursor) in

@@ -1,4 +1,4 @@
-use Rattle.std.proofs.Common.{◌≡◌, ◌+◌, List, ℕ, Ok, Err, map, sym, subst, ◌∙◌}
+use Rattle.std.proofs.Common.{◌≡◌, ◌+◌, List, ℕ, None, Ok, Err, map, sym, subst, ◌∙◌}
 use Rattle.std.proofs.lemmas.Result.{err_from_is_err_and}
 use Rattle.scan_text.specs.declared.slot.Slot.{Slot}
 use Rattle.scan_text.specs.ScanCalls.{ScanReader}
@@ -22,7 +22,7 @@ returns-then-is_closed-clause-is c =
     let r = reader_of i in
     let read : BlocksRead = record { blocks = map in_zigzag c.blocks-2.new.out; before = c.blocks-2.new.before; cursor = c.blocks-2.new.input.cursor } in
     let e = subst (λ (slots : List Slot). Ok read ≡ blocks_at slots i.before i.input.bytes i.input.cursor) c.slots.ensures.slots c.in_ok-blocks.ensures.is in
-    let after = subst (λ (bytes : List ℕ). standing_read c.close.result c.close.new.self.at ≡ and_then (pads_at i.pad c.blocks-2.new.input.cursor) (after_pads r.shape bytes i.count)) c.blocks-2.ensures.bytes c.close.ensures.is in
+    let after = subst (λ (bytes : List ℕ). standing_read c.close.result c.close.new.self.at ≡ and_then (pads_at c.blocks-2.new.input.cursor) (after_pads r.shape bytes i.count)) c.blocks-2.ensures.bytes c.close.ensures.is in
     subst (λ (s : ScanReader). mcu_read c.close.result (map in_zigzag c.blocks-2.new.out) c.close.new.self.at ≡ mcu_at s.shape s.bytes s.at) c.self.view_is
     (closes_here c.close.result c.close.new.self.at r.shape r.bytes r.at read e (sym c.if-is_closed.true ∙ c.is_closed.ensures) after)
 
@@ -32,5 +32,5 @@ returns-clause-is c =
     let r = reader_of i in
     let read : BlocksRead = record { blocks = map in_zigzag c.blocks-2.new.out; before = c.blocks-2.new.before; cursor = c.blocks-2.new.input.cursor } in
     let e = subst (λ (slots : List Slot). Ok read ≡ blocks_at slots i.before i.input.bytes i.input.cursor) c.slots.ensures.slots c.in_ok-blocks.ensures.is in
-    subst (λ (s : ScanReader). Ok (map in_zigzag c.blocks-2.new.out, record { cursor = c.blocks-2.new.input.cursor; before = c.blocks-2.new.before; count = i.count + 1; pad = i.pad }) ≡ mcu_at s.shape s.bytes s.at) c.self.view_is
+    subst (λ (s : ScanReader). Ok (map in_zigzag c.blocks-2.new.out, record { cursor = c.blocks-2.new.input.cursor; before = c.blocks-2.new.before; count = i.count + 1; pad = None }) ≡ mcu_at s.shape s.bytes s.at) c.self.view_is
     (goes_on r.shape r.bytes r.at read e (sym c.if-is_closed.false ∙ c.is_closed.ensures))

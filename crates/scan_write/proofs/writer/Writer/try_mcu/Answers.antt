@@ -2,6 +2,7 @@ use Rattle.std.proofs.Common.{◌≡◌, ◌+◌, List, true, Ok, Err, refl, sym
 use Rattle.std.proofs.lemmas.Result.{err_from_is_err_and}
 use Rattle.bit_list.specs.Bits.{bytes_after, stuffed}
 use Rattle.scan_text.specs.Blocks.{blocks_text, dcs_after}
+use Rattle.scan_text.specs.Pads.{bit_for}
 use Rattle.scan_text.specs.ScanCalls.{ScanWriter, McuIsPutOn}
 use Rattle.scan_text.specs.Spots.{mcu_put}
 use Rattle.scan_text.specs.declared.slot.Slot.{Slot}
@@ -19,7 +20,7 @@ returns-in_err-blocks c =
     let new = output_of c.blocks-2.new.output c.blocks-2.new.out in
     let stop = c.in_err-blocks.field-0.0 in
     let e = subst (λ (slots : List Slot). IsStopped stop (output_of i.output out) new (blocks_text slots i.before mcu)) c.slots.ensures.slots c.in_err-blocks.ensures.is in
-    let none = subst (λ (s : ScanWriter). mcu_put s.shape (λ n. s.pad) s.spot mcu ≡ Err stop) c.self.view_is (no_put (writer_in i) mcu stop e.1) in
+    let none = subst (λ (s : ScanWriter). mcu_put s.shape (bit_for s.pads) s.spot mcu ≡ Err stop) c.self.view_is (no_put (writer_in i) mcu stop e.1) in
     let p = err_from_is_err_and c.from_residual.result c.from_residual.ensures.1 in
     rw (p.1, p.2) (stuffed (bytes_after i.output e.0), none, ap (λ (o : OutputState). o.bytes) e.2, refl)
 

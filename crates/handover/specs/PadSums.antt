@@ -1,0 +1,12 @@
+-- What restart intervals were padded with (this project's own; docs/FORMAT.md).
+use Rattle.std.specs.Prelude.{false, ◌||◌}
+use Rattle.handover.specs.declared.pads.PadSum.{PadSum}
+
+-- no interval
+abbrev pub no_pads : PadSum
+no_pads = record { zero = false; one = false; vain = false }
+
+-- some intervals and others
+abbrev pub pads_with : PadSum → PadSum → PadSum
+pads_with a b =
+    record { zero = a.zero || b.zero; one = a.one || b.one; vain = a.vain || b.vain }
