@@ -6,56 +6,68 @@ use Rattle.std.proofs.lemmas.List.{take_at, drop_at, drop-drop}
 use Rattle.jpeg_marker.specs.Plans.{PlanFields}
 use Rattle.jpeg_marker.specs.HeaderPlan.{Accepts}
 use Rattle.jpeg_marker.proofs.HeaderLaws as header_laws
-use Rattle.scan_text.specs.Slots.{shape_of}
+use Rattle.scan_text.specs.Slots.{Shape, shape_of}
 use Rattle.handover.specs.Handovers.{HandoverFields}
-use Rattle.box_format.specs.Parts.{BoxParts, IsBox, IsBoxOf, magic, version, pad_byte, records, box_bytes, bad_start, cut_in, most_segments}
-use Rattle.box_format.specs.Raws.{Raw, raw_of, parts_of, numbers, parted, handover_at, record_place, stream_length, stream_lengths, segments_in, header_length, header_place, trailer_length, trailer_place, streams_place, named_end}
-use Rattle.box_format.specs.BoxChecks.{PassesChecks, FailsAfter, late_fault}
-use Rattle.box_format.specs.BoxLaws.{BoxPasses, OneBox, OneBoxRefusal, NeverBoth}
-use Rattle.box_format.specs.Whole.{IsWhole, are_wrong}
+use Rattle.scan_text.specs.Pads.{PadBits, Same, Listed}
+use Rattle.box_format.specs.Versions.{layout_of, version_in, is_version}
+use Rattle.box_format.specs.Parts.{BoxParts, IsBox, IsBoxOf, magic, pad_byte, list_bytes, can_pad, records, box_bytes, bad_start, cut_in}
+use Rattle.box_format.specs.Raws.{Raw, raw_of, parts_of, numbers, parted, handover_at, front_room, record_place, list_place, list_long, pads_in, stream_length, stream_lengths, segments_in, header_length, header_place, trailer_length, trailer_place, streams_place, named_end}
+use Rattle.box_format.specs.BoxChecks.{PassesChecks, FailsAfter, late_fault, is_bad_pad}
+use Rattle.box_format.specs.BoxLaws.{BoxPasses, OneBox, OneBoxRefusal, NeverBoth, MigratedIsBox}
+use Rattle.box_format.specs.Whole.{IsWhole, are_wrong, list_in}
+use Rattle.box_format.specs.declared.version.Version.{Version}
 use Rattle.box_format.specs.declared.refusal.BoxRefusal.{BoxRefusal}
 use Rattle.box_format.specs.declared.refusal.BoxRefusal.TheVariants.{BoxHeader}
+use Rattle.box_format.proofs.Fronts.{most_more, is_one, pads_again, pads_good, none_listed}
 use Rattle.box_format.proofs.Passed.{IsEarly, IsLate, early_none, late_none}
 pub use Rattle.box_format.proofs.PassedBox.{passed_is_box}
 use Rattle.box_format.proofs.Written.{IsLaid, AreRead, laid_box, records_read, records_long, streams_again, streams_long}
 
 -- ---- a container's checks pass
 
-pub parts_same : (p : Bool) (h t : List ℕ) (hs : List HandoverFields) (ss : List (List ℕ))
-    (b : BoxParts) → p ≡ b.pad → h ≡ b.header → t ≡ b.trailer → hs ≡ b.handovers → ss ≡ b.streams
+pub parts_same : (v : Version) (p : PadBits) (h t : List ℕ) (hs : List HandoverFields)
+    (ss : List (List ℕ)) (b : BoxParts) → v ≡ b.version → p ≡ b.pads → h ≡ b.header
+    → t ≡ b.trailer → hs ≡ b.handovers → ss ≡ b.streams
     → ◌≡◌ {A = BoxParts}
-    (record { pad = p; header = h; trailer = t; handovers = hs; streams = ss }) b
-parts_same p h t hs ss b e f g i j = rw (e, f, g, i, j) refl
+    (record { version = v; pads = p; header = h; trailer = t; handovers = hs; streams = ss }) b
+parts_same v p h t hs ss b d e f g i j = rw (d, e, f, g, i, j) refl
 
-pad_same : (pad : Bool) → not (pad_byte pad == 0) ≡ pad
-pad_same true = refl
-pad_same false = refl
-
-pad_low : (pad : Bool) → pad_byte pad ≤ 1
-pad_low true = omega arith
-pad_low false = omega arith
-
-not_wrong : (segments rows : ℕ) → 0 < segments → segments ≤ most_segments → segments ≤ rows
-    → are_wrong segments rows ≡ false
-not_wrong segments rows some few within =
-    or_from (segments == 0) (nat_lt most_segments segments || nat_lt rows segments)
+not_wrong : (most segments rows : ℕ) → 0 < segments → segments ≤ most → segments ≤ rows
+    → are_wrong most segments rows ≡ false
+not_wrong most segments rows some few within =
+    or_from (segments == 0) (nat_lt most segments || nat_lt rows segments)
     (ne_eqb segments 0 (λ e. omega arith))
-    (or_from (nat_lt most_segments segments) (nat_lt rows segments)
-    (le-ltb most_segments segments few) (le-ltb rows segments within))
+    (or_from (nat_lt most segments) (nat_lt rows segments)
+    (le-ltb most segments few) (le-ltb rows segments within))
 
 module _ (plan : PlanFields) (b : BoxParts) (bytes : List ℕ) (laid : IsLaid bytes b)
     (is : IsBox plan b) where
   abbrev joined : List ℕ
   joined = flat_map (λ stream. stream) b.streams
 
-  read : AreRead bytes 0 b.handovers b.streams (b.header ++ (b.trailer ++ joined))
-  read = records_read bytes (b.header ++ (b.trailer ++ joined)) 0 b.handovers b.streams laid.after
-      is.streams is.each is.streams_fit
+  abbrev listed : List ℕ
+  listed = list_bytes b.pads
+
+  read : AreRead bytes 0 b.handovers b.streams (listed ++ (b.header ++ (b.trailer ++ joined)))
+  read =
+      let zero : record_place bytes 0 ≡ front_room bytes = omega arith in
+      records_read bytes (listed ++ (b.header ++ (b.trailer ++ joined))) 0 b.handovers b.streams
+      (ap (λ (p : ℕ). drop p bytes) zero ∙ laid.after) is.streams is.each is.streams_fit
+
+  at_list : drop (list_place bytes) bytes ≡ listed ++ (b.header ++ (b.trailer ++ joined))
+  at_list =
+      let z : length b.handovers ≡ 0 + length b.handovers = omega arith in
+      ap (λ (k : ℕ). drop (record_place bytes k) bytes) (laid.segments ∙ z) ∙ read.tail_is
+
+  list_again_is : list_in bytes ≡ listed
+  list_again_is = ap (take (list_long bytes)) at_list
+      ∙ take_at listed (b.header ++ (b.trailer ++ joined)) (list_long bytes) (sym laid.list)
 
   at_header : drop (header_place bytes) bytes ≡ b.header ++ (b.trailer ++ joined)
   at_header =
-      let z : length b.handovers ≡ 0 + length b.handovers = omega arith in
-      ap (λ (k : ℕ). drop (record_place k) bytes) (laid.segments ∙ z) ∙ read.tail_is
+      sym (drop-drop (list_long bytes) (list_place bytes) bytes)
+      ∙ ap (drop (list_long bytes)) at_list
+      ∙ drop_at listed (b.header ++ (b.trailer ++ joined)) (list_long bytes) (sym laid.list)
 
   header_again : take (header_length bytes) (drop (header_place bytes) bytes) ≡ b.header
   header_again = ap (take (header_length bytes)) at_header
@@ -91,8 +103,9 @@ module _ (plan : PlanFields) (b : BoxParts) (bytes : List ℕ) (laid : IsLaid by
   parts_again : parts_of (raw_of bytes) ≡ b
   unfolding raw_of
   parts_again =
-      parts_same (not (slice_index bytes 5 == 0)) _ _ _ _ b (ap (λ (n : ℕ). not (n == 0)) laid.pad
-      ∙ pad_same b.pad) header_again trailer_again handovers_again all_streams
+      parts_same (version_in bytes) (pads_in (slice_index bytes 5) (list_in bytes)) _ _ _ _ b
+      laid.version (ap₂ pads_in laid.pad list_again_is ∙ pads_again b.pads) header_again
+      trailer_again handovers_again all_streams
 
   end_is : length bytes ≡ named_end bytes
   end_is =
@@ -102,7 +115,10 @@ module _ (plan : PlanFields) (b : BoxParts) (bytes : List ℕ) (laid : IsLaid by
         laid.segments,
         laid.header,
         laid.trailer,
-        length-append (records b.handovers b.streams) (b.header ++ (b.trailer ++ joined)),
+        laid.list,
+        length-append (records b.handovers b.streams)
+            (listed ++ (b.header ++ (b.trailer ++ joined))),
+        length-append listed (b.header ++ (b.trailer ++ joined)),
         length-append b.header (b.trailer ++ joined),
         length-append b.trailer joined,
         records_long b.handovers b.streams is.streams is.each,
@@ -116,23 +132,27 @@ module _ (plan : PlanFields) (b : BoxParts) (bytes : List ℕ) (laid : IsLaid by
   early : IsEarly bytes
   early = record {
     begins = ap (λ (l : List ℕ). bytes_eq l magic) laid.begins;
-    versions = and_right (nat_lt 4 (length bytes)) (not (slice_index bytes 4 == version))
-        (ap (λ (n : ℕ). not (n == version)) laid.versions);
+    versions = and_right (nat_lt 4 (length bytes)) (not (is_version (slice_index bytes 4)))
+        (ap (λ (n : ℕ). not (is_version n)) laid.versions ∙ ap not (is_one b.version));
     whole = whole;
   }
 
   late : IsLate plan bytes
   late =
-      let pad = laid.pad in
-      let low = pad_low b.pad in
       let header = laid.header in
       let length_is = is.whole in
       let end = end_is in
       record {
         header = omega arith;
-        segments = ap (λ (k : ℕ). are_wrong k plan.down) laid.segments
-            ∙ not_wrong (length b.handovers) plan.down is.some is.few is.rows;
-        pad = omega arith;
+        segments = ap₂ (λ (v : Version) (k : ℕ). are_wrong (layout_of v).most k plan.down)
+            laid.version laid.segments
+            ∙ not_wrong (layout_of b.version).most (length b.handovers) plan.down is.some is.few
+            is.rows;
+        pad = ap₂ (λ (v : Version) (n : ℕ). is_bad_pad (layout_of v).listed (shape_of plan) n
+            (list_in bytes)) laid.version laid.pad
+            ∙ ap (is_bad_pad (layout_of b.version).listed (shape_of plan) (pad_byte b.pads))
+            list_again_is
+            ∙ pads_good (layout_of b.version).listed (shape_of plan) b.pads is.pads;
         starts = ap₂ (λ (k : ℕ) (hs : List HandoverFields). bad_start (shape_of plan)
             (cut_in plan k) 0 hs) laid.segments handovers_again ∙ is.starts;
         end = omega arith;
@@ -151,7 +171,8 @@ module _ (plan : PlanFields) (b : BoxParts) (bytes : List ℕ) (laid : IsLaid by
 
 pub box_passes : BoxPasses
 box_passes plan b is =
-    let laid = laid_box b is.header_fits is.trailer_fits in
+    let laid = laid_box b is.header_fits is.trailer_fits is.list_fits
+    (none_listed (layout_of b.version).listed (shape_of plan) b.pads is.pads) in
     (passes plan b (box_bytes b) laid is, parts_again plan b (box_bytes b) laid is)
 
 -- ---- so bytes say one thing
@@ -207,3 +228,35 @@ never_both bytes plan b refusal is (inl p) =
 never_both bytes plan b refusal is (inr p) =
     let x = (checked plan b bytes is).0 in
     apart_after (raw_of bytes) plan refusal x.header x.late p.1
+
+-- ---- the second version says all that the first one does
+
+pads_more : (listed : Bool) (shape : Shape) (pads : PadBits) → can_pad listed shape pads ≡ true
+    → can_pad true shape pads ≡ true
+pads_more listed shape (Same pad) e = refl
+pads_more true shape (Listed bytes) e = e
+pads_more false shape (Listed bytes) e = cc
+
+pub migrated_is : MigratedIsBox
+migrated_is plan b is =
+    let more = most_more b.version in
+    let few = is.few in
+    record {
+      header = is.header;
+      whole = is.whole;
+      some = is.some;
+      few = omega (arith, more, few);
+      rows = is.rows;
+      pads = pads_more (layout_of b.version).listed (shape_of plan) b.pads is.pads;
+      streams = is.streams;
+      each = is.each;
+      starts = is.starts;
+      header_fits = is.header_fits;
+      trailer_fits = is.trailer_fits;
+      list_fits = is.list_fits;
+      streams_fit = is.streams_fit;
+      list_bytes_are = is.list_bytes_are;
+      header_bytes = is.header_bytes;
+      trailer_bytes = is.trailer_bytes;
+      stream_bytes = is.stream_bytes;
+    }

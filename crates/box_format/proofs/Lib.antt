@@ -2,6 +2,8 @@ pub mod Lists
 pub mod FirstBad
 pub mod Coded
 pub mod Sound
+pub mod Fronts
+pub mod CleanBits
 pub mod Passed
 pub mod RawParts
 pub mod ByteParts
@@ -10,3 +12,4 @@ pub mod PassedBox
 pub mod Spelled
 pub mod Written
 pub mod BoxLawsProved
+pub mod Migrated

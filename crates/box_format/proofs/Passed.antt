@@ -1,17 +1,29 @@
 -- What checks say that pass.
-use Rattle.std.proofs.Common.{◌≡◌, ◌≤◌, ◌-◌, ℕ, List, length, take, drop, refl, sym, ap, ◌∙◌, arith, true, false, Bool, nat_lt, ◌==◌, ◌&&◌, not, cond, length-drop}
+use Rattle.std.proofs.Common.{◌≡◌, ◌≤◌, ◌-◌, ℕ, List, length, take, drop, refl, sym, ap, ◌∙◌, arith, true, false, Bool, nat_lt, ◌&&◌, not, cond, length-drop}
 use Rattle.std.specs.Prelude.{Option, Some, None, option_map, bytes_eq, slice_index}
 use Rattle.std.proofs.lemmas.Bool.{ltb-false, le-ltb, or_parts, or_from}
 use Rattle.std.proofs.lemmas.Bool.Decides.{nat_tests}
 use Rattle.std.proofs.lemmas.List.{length-take-le}
 use Rattle.jpeg_marker.specs.Plans.{PlanFields}
-use Rattle.box_format.specs.Parts.{magic, version}
-use Rattle.box_format.specs.Raws.{raw_of, handover_at, segments_in, header_place, header_length, named_end}
-use Rattle.box_format.specs.BoxChecks.{early_fault, late_fault, is_cut, or_else, where_failed}
-use Rattle.box_format.specs.Whole.{IsWhole, are_wrong, field_fault, bad_segment, record_fault}
+use Rattle.scan_text.specs.Slots.{shape_of}
+use Rattle.box_format.specs.Versions.{layout_of, version_in, is_version}
+use Rattle.box_format.specs.Parts.{magic}
+use Rattle.box_format.specs.Raws.{raw_of, handover_at, segments_in, list_place, header_place, header_length, named_end}
+use Rattle.box_format.specs.BoxChecks.{early_fault, late_fault, is_cut, is_bad_pad, or_else, where_failed}
+use Rattle.box_format.specs.Whole.{IsWhole, are_wrong, list_in, field_fault, bad_segment, record_fault}
 use Rattle.box_format.specs.declared.refusal.BoxRefusal.{BoxRefusal}
 use Rattle.box_format.specs.declared.refusal.BoxRefusal.TheVariants.{BoxMagic, BoxVersion, BoxCut, HeaderLong, BoxSegments, BoxPad, HandoverBad, BoxLong}
 use Rattle.box_format.proofs.Lists.{length_values}
+
+-- the most segments of a version
+abbrev pub most_in : List ℕ → ℕ
+most_in bytes = (layout_of (version_in bytes)).most
+
+-- whether the pad byte and the list are wrong
+abbrev pub bad_pad : PlanFields → List ℕ → Bool
+bad_pad plan bytes =
+    is_bad_pad (layout_of (version_in bytes)).listed (shape_of plan) (slice_index bytes 5)
+    (list_in bytes)
 
 -- three tests in a row that don't fail
 pub three_passed : (a b c : Bool) (r s t : BoxRefusal)
@@ -29,15 +41,15 @@ not_false false e = cc
 -- what the checks before the header say
 pub record IsEarly (bytes : List ℕ) : Type 0 where
   pub begins : bytes_eq (take 4 bytes) magic ≡ true
-  pub versions : (nat_lt 4 (length bytes) && not (slice_index bytes 4 == version)) ≡ false
+  pub versions : (nat_lt 4 (length bytes) && not (is_version (slice_index bytes 4))) ≡ false
   pub whole : IsWhole bytes
 
 pub whole_of : (bytes : List ℕ) → is_cut bytes ≡ false → IsWhole bytes
 whole_of bytes e =
-    let parts = or_parts (nat_lt (length bytes) (header_place bytes))
+    let parts = or_parts (nat_lt (length bytes) (list_place bytes))
     (nat_lt (length bytes) (named_end bytes)) e in
     record {
-      fields = ltb-false (length bytes) (header_place bytes) parts.0;
+      fields = ltb-false (length bytes) (list_place bytes) parts.0;
       ends = ltb-false (length bytes) (named_end bytes) parts.1;
     }
 
@@ -45,7 +57,7 @@ pub early_of : (bytes : List ℕ) → early_fault bytes ≡ None → IsEarly byt
 unfolding early_fault
 early_of bytes e =
     let parts = three_passed (not (bytes_eq (take 4 bytes) magic))
-    (nat_lt 4 (length bytes) && not (slice_index bytes 4 == version))
+    (nat_lt 4 (length bytes) && not (is_version (slice_index bytes 4)))
     (is_cut bytes) BoxMagic BoxVersion BoxCut e in
     record {
       begins = not_false (bytes_eq (take 4 bytes) magic) parts.0;
@@ -97,14 +109,14 @@ late_is plan bytes whole =
     rw (count, long, rest)
     (or_four (where_failed (nat_lt plan.header_length (header_length bytes))
     (HeaderLong plan.header_length))
-    (where_failed (are_wrong (segments_in bytes) plan.down) BoxSegments)
-    (where_failed (nat_lt 1 (slice_index bytes 5)) BoxPad) (record_fault plan bytes))
+    (where_failed (are_wrong (most_in bytes) (segments_in bytes) plan.down) BoxSegments)
+    (where_failed (bad_pad plan bytes) BoxPad) (record_fault plan bytes))
 
 -- what they say
 pub record IsLate (plan : PlanFields) (bytes : List ℕ) : Type 0 where
   pub header : header_length bytes ≤ plan.header_length
-  pub segments : are_wrong (segments_in bytes) plan.down ≡ false
-  pub pad : slice_index bytes 5 ≤ 1
+  pub segments : are_wrong (most_in bytes) (segments_in bytes) plan.down ≡ false
+  pub pad : bad_pad plan bytes ≡ false
   pub starts : bad_segment plan bytes ≡ None
   pub end : length bytes ≤ named_end bytes
 
@@ -115,19 +127,19 @@ late_of plan bytes whole e =
     (sym (late_is plan bytes whole) ∙ e) in
     let fields = or_none
     (where_failed (nat_lt plan.header_length (header_length bytes)) (HeaderLong plan.header_length))
-    (or_else (where_failed (are_wrong (segments_in bytes) plan.down) BoxSegments)
-    (where_failed (nat_lt 1 (slice_index bytes 5)) BoxPad)) parts.0 in
-    let more = or_none (where_failed (are_wrong (segments_in bytes) plan.down) BoxSegments)
-    (where_failed (nat_lt 1 (slice_index bytes 5)) BoxPad) fields.1 in
+    (or_else (where_failed (are_wrong (most_in bytes) (segments_in bytes) plan.down) BoxSegments)
+    (where_failed (bad_pad plan bytes) BoxPad)) parts.0 in
+    let more =
+    or_none (where_failed (are_wrong (most_in bytes) (segments_in bytes) plan.down) BoxSegments)
+    (where_failed (bad_pad plan bytes) BoxPad) fields.1 in
     let records = or_none (option_map (λ i. HandoverBad i) (bad_segment plan bytes))
     (where_failed (nat_lt (named_end bytes) (length bytes)) BoxLong) parts.1 in
     record {
       header = ltb-false plan.header_length (header_length bytes)
           (passes (nat_lt plan.header_length (header_length bytes)) (HeaderLong plan.header_length)
           fields.0);
-      segments = passes (are_wrong (segments_in bytes) plan.down) BoxSegments more.0;
-      pad =
-          ltb-false 1 (slice_index bytes 5) (passes (nat_lt 1 (slice_index bytes 5)) BoxPad more.1);
+      segments = passes (are_wrong (most_in bytes) (segments_in bytes) plan.down) BoxSegments more.0;
+      pad = passes (bad_pad plan bytes) BoxPad more.1;
       starts = none_mapped (bad_segment plan bytes) records.0;
       end = ltb-false (named_end bytes) (length bytes)
           (passes (nat_lt (named_end bytes) (length bytes)) BoxLong records.1);
@@ -143,11 +155,11 @@ unfolding early_fault
 early_none bytes early =
     let begins : not (bytes_eq (take 4 bytes) magic) ≡ false = ap not early.begins in
     let whole : is_cut bytes ≡ false =
-    or_from (nat_lt (length bytes) (header_place bytes)) (nat_lt (length bytes) (named_end bytes))
-    (le-ltb (length bytes) (header_place bytes) early.whole.fields)
+    or_from (nat_lt (length bytes) (list_place bytes)) (nat_lt (length bytes) (named_end bytes))
+    (le-ltb (length bytes) (list_place bytes) early.whole.fields)
     (le-ltb (length bytes) (named_end bytes) early.whole.ends) in
     three_none (not (bytes_eq (take 4 bytes) magic))
-    (nat_lt 4 (length bytes) && not (slice_index bytes 4 == version))
+    (nat_lt 4 (length bytes) && not (is_version (slice_index bytes 4)))
     (is_cut bytes) BoxMagic BoxVersion BoxCut begins early.versions whole
 
 five_none : (a b c d : Bool) (o : Option ℕ) (r s t u : BoxRefusal) → a ≡ false → b ≡ false
@@ -161,9 +173,9 @@ pub late_none : (plan : PlanFields) (bytes : List ℕ) → IsWhole bytes → IsL
 late_none plan bytes whole late =
     late_is plan bytes whole
     ∙ five_none (nat_lt plan.header_length (header_length bytes))
-    (are_wrong (segments_in bytes) plan.down) (nat_lt 1 (slice_index bytes 5))
+    (are_wrong (most_in bytes) (segments_in bytes) plan.down) (bad_pad plan bytes)
     (nat_lt (named_end bytes) (length bytes))
     (bad_segment plan bytes) (HeaderLong plan.header_length) BoxSegments BoxPad BoxLong
     (le-ltb plan.header_length (header_length bytes) late.header) late.segments
-    (le-ltb 1 (slice_index bytes 5) late.pad) late.starts
+    late.pad late.starts
     (le-ltb (named_end bytes) (length bytes) late.end)

@@ -1,26 +1,31 @@
 -- Bytes whose checks pass are the container of their fields.
-use Rattle.std.proofs.Common.{◌≡◌, ◌<◌, ◌≤◌, ◌+◌, ◌^◌, ◌==◌, ◌||◌, false, not, ℕ, List, [], ◌∷◌, ◌++◌, length, take, drop, map, nat_lt, flat_map, sym, ap, ap₂, ◌∙◌, arith, subst, length-drop, append_assoc}
+use Rattle.std.proofs.Common.{◌≡◌, ◌<◌, ◌≤◌, ◌+◌, ◌^◌, ◌==◌, ◌||◌, Bool, true, false, if◌then◌else◌, refl, ℕ, List, [], ◌∷◌, ◌++◌, length, take, drop, map, nat_lt, flat_map, sym, ap, ap₂, ◌∙◌, arith, subst, length-drop, append_assoc}
 use Rattle.std.specs.Prelude.{slice_index}
 use Rattle.std.specs.List.{AllByRecursion}
 use Rattle.std.proofs.lemmas.Bool.{ltb-false, eqb-false, or_parts}
 use Rattle.std.proofs.lemmas.List.{length-take-le}
-use Rattle.byteorder.specs.Endian.{big_bytes}
+use Rattle.byteorder.specs.Endian.{big_bytes, big_number}
 use Rattle.bit_list.specs.Bits.{IsByte}
 use Rattle.jpeg_marker.specs.Plans.{PlanFields}
 use Rattle.jpeg_marker.specs.HeaderPlan.{Accepts}
 use Rattle.jpeg_marker.proofs.HeadersTaken.{accepted_has_plan}
 use Rattle.scan_text.specs.Slots.{shape_of}
 use Rattle.handover.specs.Handovers.{HandoverFields, IsHandover}
-use Rattle.box_format.specs.Parts.{BoxParts, IsBox, records, box_bytes, bad_start, cut_in, most_segments}
-use Rattle.box_format.specs.Raws.{raw_of, numbers, handover_at, record_place, segments_in, header_place, header_length, trailer_place, trailer_length, streams_place, stream_length, stream_lengths, parted}
+use Rattle.scan_text.specs.Pads.{PadBits}
+use Rattle.box_format.specs.Versions.{layout_of, version_in}
+use Rattle.box_format.specs.Parts.{BoxParts, IsBox, list_bytes, list_length, records, box_bytes, bad_start, cut_in}
+use Rattle.box_format.specs.Raws.{raw_of, numbers, handover_at, front_room, record_place, segments_in, list_place, list_long, header_place, header_length, trailer_place, trailer_length, streams_place, stream_length, stream_lengths, parted}
 use Rattle.box_format.specs.BoxLaws.{PassedIsBox}
-use Rattle.box_format.specs.Whole.{IsWhole, are_wrong}
+use Rattle.box_format.specs.Whole.{IsWhole, are_wrong, list_in}
+use Rattle.box_format.specs.declared.version.Version.{Version}
+use Rattle.box_format.specs.declared.version.Version.TheVariants.{First, Second}
 use Rattle.box_format.proofs.Lists.{length_values}
 use Rattle.box_format.proofs.ByteParts.{all_take, all_drop, peel, four_spelled, four_small, eight_small}
 use Rattle.box_format.proofs.PartedLists.{parted_count, parted_lengths, parted_joined, parted_bytes, all_values}
-use Rattle.box_format.proofs.Passed.{IsEarly, IsLate, early_of, late_of, header_is}
+use Rattle.box_format.proofs.Fronts.{front_low, list_again, pad_can}
+use Rattle.box_format.proofs.Passed.{IsEarly, IsLate, most_in, early_of, late_of, header_is}
 use Rattle.box_format.proofs.RawParts.{is_sound_at}
-use Rattle.box_format.proofs.Spelled.{fronted, front_is, is_handover_at, records_spelled}
+use Rattle.box_format.proofs.Spelled.{fronted, pads_at, front_is, is_handover_at, records_spelled}
 
 -- the trailer is as long as its field says
 pub trailer_is : (bytes : List ℕ) → IsWhole bytes
@@ -31,21 +36,22 @@ trailer_is bytes whole =
     (omega (arith, length-drop (trailer_place bytes) bytes))
 
 -- a grid's segments
-pub record IsCount (segments rows : ℕ) : Type 0 where
+pub record IsCount (most segments rows : ℕ) : Type 0 where
   pub some : 0 < segments
-  pub few : segments ≤ most_segments
+  pub few : segments ≤ most
   pub within : segments ≤ rows
 
 not_zero : (n : ℕ) → (n ≡ 0 → ⊥) → 0 < n
 not_zero n f = omega arith
 
-pub count_is : (segments rows : ℕ) → are_wrong segments rows ≡ false → IsCount segments rows
-count_is segments rows e =
-    let one = or_parts (segments == 0) (nat_lt most_segments segments || nat_lt rows segments) e in
-    let two = or_parts (nat_lt most_segments segments) (nat_lt rows segments) one.1 in
+pub count_is : (most segments rows : ℕ) → are_wrong most segments rows ≡ false
+    → IsCount most segments rows
+count_is most segments rows e =
+    let one = or_parts (segments == 0) (nat_lt most segments || nat_lt rows segments) e in
+    let two = or_parts (nat_lt most segments) (nat_lt rows segments) one.1 in
     record {
       some = not_zero segments (eqb-false segments 0 one.0);
-      few = ltb-false most_segments segments two.0;
+      few = ltb-false most segments two.0;
       within = ltb-false rows segments two.1;
     }
 
@@ -56,8 +62,26 @@ all_lengths : (P : ℕ → Type 0) (streams : List (List ℕ))
 all_lengths P [] h = tt
 all_lengths P (s ∷ streams) h = (h.0, all_lengths P streams h.1)
 
-pub tail_is : (r h t s : List ℕ) → r ++ (h ++ (t ++ s)) ≡ r ++ h ++ t ++ s
-tail_is r h t s = simp append_assoc
+pub tail_is : (a r l h t s : List ℕ)
+    → a ++ (r ++ (l ++ (h ++ (t ++ s)))) ≡ a ++ r ++ l ++ h ++ t ++ s
+tail_is a r l h t s = simp append_assoc
+
+small_list : (bytes : List ℕ) (listed : Bool) → AllByRecursion IsByte bytes
+    → (if listed then big_number 4 (drop 15 bytes) else 0) < 2 ^ 32
+small_list bytes true are = four_small (drop 15 bytes) (all_drop IsByte 15 bytes are)
+small_list bytes false are = omega arith
+
+-- the field of the pad list's length, where a version has one
+list_field : (bytes : List ℕ) (v : Version) (list : List ℕ) → AllByRecursion IsByte bytes
+    → (layout_of v).front ≤ length bytes
+    → (if (layout_of v).listed then big_number 4 (drop 15 bytes) else 0) ≡ length list
+    → drop 15 bytes ≡ list_length (layout_of v).listed list ++ drop (layout_of v).front bytes
+list_field bytes First list are long e = refl
+list_field bytes Second list are long e =
+    peel 4 15 bytes
+    ∙ ap (λ (l : List ℕ). l ++ drop 19 bytes)
+    (four_spelled (drop 15 bytes) (omega (arith, long, length-drop 15 bytes))
+    (all_drop IsByte 15 bytes are) ∙ ap (big_bytes 4) e)
 
 module _ (plan : PlanFields) (bytes : List ℕ) (are : AllByRecursion IsByte bytes)
     (early : IsEarly bytes) (late : IsLate plan bytes) where
@@ -73,9 +97,13 @@ module _ (plan : PlanFields) (bytes : List ℕ) (are : AllByRecursion IsByte byt
   abbrev streams : List (List ℕ)
   streams = parted (stream_lengths bytes) (drop (streams_place bytes) bytes)
 
+  abbrev pads : PadBits
+  pads = pads_at bytes
+
   abbrev parts : BoxParts
   parts = record {
-    pad = not (slice_index bytes 5 == 0);
+    version = version_in bytes;
+    pads = pads;
     header = header;
     trailer = trailer;
     handovers = handovers;
@@ -92,8 +120,8 @@ module _ (plan : PlanFields) (bytes : List ℕ) (are : AllByRecursion IsByte byt
   streams_fit =
       let small : AllByRecursion (λ n. n < 2 ^ 64) (stream_lengths bytes) =
       all_values (λ n. n < 2 ^ 64) (stream_length bytes) 0 (segments_in bytes)
-      (λ i below. eight_small (drop (record_place (0 + i) + 14) bytes)
-      (all_drop IsByte (record_place (0 + i) + 14) bytes are)) in
+      (λ i below. eight_small (drop (record_place bytes (0 + i) + 14) bytes)
+      (all_drop IsByte (record_place bytes (0 + i) + 14) bytes are)) in
       all_lengths (λ n. n < 2 ^ 64) streams
       (subst (AllByRecursion (λ n. n < 2 ^ 64)) (sym lengths_are) small)
 
@@ -103,43 +131,65 @@ module _ (plan : PlanFields) (bytes : List ℕ) (are : AllByRecursion IsByte byt
       (λ i below. is_handover_at bytes (0 + i) are
       (is_sound_at plan bytes (0 + i) late.starts (omega arith)))
 
+  list_is : list_in bytes ≡ list_bytes pads
+  list_is = list_again (layout_of (version_in bytes)).listed (shape_of plan) (slice_index bytes 5)
+      (list_in bytes) late.pad
+
+  list_count : list_long bytes ≡ length (list_bytes pads)
+  list_count =
+      let ends = early.whole.ends in
+      sym (length-take-le (list_long bytes) (drop (list_place bytes) bytes)
+      (omega (arith, length-drop (list_place bytes) bytes))) ∙ ap length list_is
+
+  list_small : list_long bytes < 2 ^ 32
+  list_small = small_list bytes (layout_of (version_in bytes)).listed are
+
   text_is : bytes ≡ box_bytes parts
   unfolding box_bytes
   text_is =
       let all = length_values (handover_at bytes) 0 (segments_in bytes) in
       let z : 0 + segments_in bytes ≡ segments_in bytes = omega arith in
-      let place : record_place (0 + segments_in bytes) ≤ length bytes =
+      let place : record_place bytes (0 + segments_in bytes) ≤ length bytes =
       let h = early.whole.fields in omega arith in
-      let long : 15 ≤ length bytes =
+      let front : front_room bytes ≤ length bytes =
       let h = early.whole.fields in omega arith in
+      let low = front_low (version_in bytes) in
+      let long : 15 ≤ length bytes = omega (arith, front, low) in
       let ends = late.end in
       let first = four_spelled (drop 7 bytes) (omega (arith, length-drop 7 bytes))
       (all_drop IsByte 7 bytes are) ∙ ap (big_bytes 4) (sym (header_is bytes early.whole)) in
       let second = four_spelled (drop 11 bytes) (omega (arith, length-drop 11 bytes))
       (all_drop IsByte 11 bytes are) ∙ ap (big_bytes 4) (sym (trailer_is bytes early.whole)) in
-      let third = records_spelled bytes 0 (segments_in bytes) streams are place lengths_are
-      ∙ ap (λ (k : ℕ). records handovers streams ++ drop (record_place k) bytes) z in
+      let field = list_field bytes (version_in bytes) (list_bytes pads) are front list_count in
+      let zero : front_room bytes ≡ record_place bytes 0 = omega arith in
+      let third =
+      ap (λ (p : ℕ). drop p bytes) zero
+      ∙ records_spelled bytes 0 (segments_in bytes) streams are place lengths_are
+      ∙ ap (λ (k : ℕ). records handovers streams ++ drop (record_place bytes k) bytes) z in
       let last = sym (parted_joined (stream_lengths bytes) (drop (streams_place bytes) bytes)
       (omega (arith, length-drop (streams_place bytes) bytes))) in
       let sixth = peel (trailer_length bytes) (trailer_place bytes) bytes
       ∙ ap (λ (l : List ℕ). trailer ++ l) last in
       let fifth = peel (header_length bytes) (header_place bytes) bytes
       ∙ ap (λ (l : List ℕ). header ++ l) sixth in
-      let fourth = third ∙ ap (λ (l : List ℕ). records handovers streams ++ l) fifth in
-      front_is bytes early late.pad
-      ∙ ap₂ (λ (k : ℕ) (l : List ℕ). fronted (not (slice_index bytes 5 == 0)) k l) (sym all)
-      (peel 4 7 bytes)
-      ∙ ap₂ (λ (a l : List ℕ). fronted (not (slice_index bytes 5 == 0)) (length handovers) (a ++ l))
-      first (peel 4 11 bytes)
-      ∙ ap₂ (λ (a l : List ℕ). fronted (not (slice_index bytes 5 == 0)) (length handovers)
-      (big_bytes 4 (length header) ++ (a ++ l))) second fourth
-      ∙ ap (λ (l : List ℕ). fronted (not (slice_index bytes 5 == 0)) (length handovers)
+      let listed = peel (list_long bytes) (list_place bytes) bytes
+      ∙ ap₂ (λ (l m : List ℕ). l ++ m) list_is fifth in
+      let fourth = third ∙ ap (λ (l : List ℕ). records handovers streams ++ l) listed in
+      let head : ℕ → List ℕ → List ℕ = fronted (version_in bytes) pads in
+      let named = list_length (layout_of (version_in bytes)).listed (list_bytes pads) in
+      front_is bytes plan early late.pad
+      ∙ ap₂ (λ (k : ℕ) (l : List ℕ). head k l) (sym all) (peel 4 7 bytes)
+      ∙ ap₂ (λ (a l : List ℕ). head (length handovers) (a ++ l)) first (peel 4 11 bytes)
+      ∙ ap₂ (λ (a l : List ℕ). head (length handovers) (big_bytes 4 (length header) ++ (a ++ l)))
+      second (field ∙ ap (λ (l : List ℕ). named ++ l) fourth)
+      ∙ ap (λ (l : List ℕ). head (length handovers)
       (big_bytes 4 (length header) ++ (big_bytes 4 (length trailer) ++ l)))
-      (tail_is (records handovers streams) header trailer (flat_map (λ stream. stream) streams))
+      (tail_is named (records handovers streams) (list_bytes pads) header trailer
+      (flat_map (λ stream. stream) streams))
 
   box_is : Accepts header plan → IsBox plan parts
   box_is accepts =
-      let count = count_is (segments_in bytes) plan.down late.segments in
+      let count = count_is (most_in bytes) (segments_in bytes) plan.down late.segments in
       let some = count.some in
       let few = count.few in
       let within = count.within in
@@ -158,6 +208,8 @@ module _ (plan : PlanFields) (bytes : List ℕ) (are : AllByRecursion IsByte byt
         some = omega arith;
         few = omega arith;
         rows = omega arith;
+        pads = pad_can (layout_of (version_in bytes)).listed (shape_of plan) (slice_index bytes 5)
+            (list_in bytes) late.pad;
         streams = parted_count (stream_lengths bytes) (drop (streams_place bytes) bytes)
             ∙ length_values (stream_length bytes) 0 (segments_in bytes) ∙ sym all;
         each = each_is;
@@ -165,7 +217,11 @@ module _ (plan : PlanFields) (bytes : List ℕ) (are : AllByRecursion IsByte byt
             ∙ late.starts;
         header_fits = omega arith;
         trailer_fits = omega arith;
+        list_fits = let small = list_small in let count = list_count in omega (arith, small, count);
         streams_fit = streams_fit;
+        list_bytes_are = subst (AllByRecursion IsByte) list_is
+            (all_take IsByte (list_long bytes) (drop (list_place bytes) bytes)
+            (all_drop IsByte (list_place bytes) bytes are));
         header_bytes = all_take IsByte (header_length bytes) (drop (header_place bytes) bytes)
             (all_drop IsByte (header_place bytes) bytes are);
         trailer_bytes = all_take IsByte (trailer_length bytes) (drop (trailer_place bytes) bytes)

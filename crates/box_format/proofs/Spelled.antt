@@ -1,32 +1,27 @@
 -- Bytes as the fields that they are looked up as.
-use Rattle.std.proofs.Common.{◌≡◌, ◌<◌, ◌≤◌, ◌+◌, ◌==◌, ◌&&◌, not, Bool, true, false, ℕ, zero, suc, List, [], ◌∷◌, ◌++◌, length, take, drop, map, nat_lt, refl, sym, ap, ap₂, ◌∙◌, arith, drop-cons, append_assoc, take-append-drop, length-drop}
+use Rattle.std.proofs.Common.{◌≡◌, ◌<◌, ◌≤◌, ◌+◌, true, false, ℕ, zero, suc, List, [], ◌∷◌, ◌++◌, length, take, drop, map, nat_lt, refl, sym, ap, ap₂, ◌∙◌, arith, drop-cons, append_assoc, take-append-drop, length-drop}
 use Rattle.std.specs.Prelude.{slice_index}
 use Rattle.std.specs.List.{AllByRecursion}
 use Rattle.std.specs.Cmp.Lexicographic.{same_text}
-use Rattle.std.proofs.lemmas.Bool.{lt-ltb, eqb-true}
+use Rattle.std.proofs.lemmas.Bool.{lt-ltb}
 use Rattle.std.proofs.lemmas.List.{length-take-le}
 use Rattle.byteorder.specs.Endian.{big_bytes}
 use Rattle.bit_list.specs.Bits.{IsByte}
 use Rattle.handover.specs.Handovers.{IsHandover}
 use Rattle.handover.specs.HandoverBytes.{handover_bytes, handover_in, is_handover}
 use Rattle.handover.proofs.FieldBytes.{bytes_again}
-use Rattle.box_format.specs.Parts.{magic, version, pad_byte, records}
-use Rattle.box_format.specs.Raws.{numbers, handover_at, record_place, stream_length, segments_in, header_place}
+use Rattle.jpeg_marker.specs.Plans.{PlanFields}
+use Rattle.scan_text.specs.Pads.{PadBits}
+use Rattle.scan_text.specs.Slots.{shape_of}
+use Rattle.box_format.specs.Versions.{layout_of, version_byte, version_in}
+use Rattle.box_format.specs.Parts.{magic, pad_byte, records}
+use Rattle.box_format.specs.Raws.{numbers, handover_at, record_place, stream_length, segments_in, list_place, pads_in}
+use Rattle.box_format.specs.Whole.{list_in}
+use Rattle.box_format.specs.declared.version.Version.{Version}
 use Rattle.box_format.proofs.ByteParts.{all_take, all_drop, all_at, peel, eight_spelled, four_small}
-use Rattle.box_format.proofs.Passed.{IsEarly, not_false}
+use Rattle.box_format.proofs.Fronts.{front_low, version_is, pad_again}
+use Rattle.box_format.proofs.Passed.{IsEarly, bad_pad}
 use Rattle.box_format.proofs.Sound.{handover_of_test}
-
--- the byte of a pad bit
-pad_again : (n : ℕ) → n ≤ 1 → n ≡ pad_byte (not (n == 0))
-pad_again zero low = refl
-pad_again (suc zero) low = refl
-pad_again (suc (suc n)) low = absurd (omega arith)
-
--- the byte of the version
-version_is : (there : Bool) (b : ℕ) → there ≡ true → (there && not (b == version)) ≡ false
-    → b ≡ version
-version_is true b e same = eqb-true b version (not_false (b == version) same)
-version_is false b e same = cc
 
 -- a byte and those after it
 next : (bytes : List ℕ) (i j : ℕ) → i < length bytes → j ≡ suc i
@@ -34,33 +29,39 @@ next : (bytes : List ℕ) (i j : ℕ) → i < length bytes → j ≡ suc i
 next bytes i j below e = rw e (drop-cons bytes i 0 below)
 
 -- the fields before the two lengths, and what follows them
-abbrev pub fronted : Bool → ℕ → List ℕ → List ℕ
-fronted pad count rest = magic ++ version ∷ pad_byte pad ∷ count ∷ rest
+abbrev pub fronted : Version → PadBits → ℕ → List ℕ → List ℕ
+fronted version pads count rest = magic ++ version_byte version ∷ pad_byte pads ∷ count ∷ rest
 
-pub front_is : (bytes : List ℕ) → IsEarly bytes → slice_index bytes 5 ≤ 1
-    → bytes ≡ fronted (not (slice_index bytes 5 == 0)) (segments_in bytes) (drop 7 bytes)
-front_is bytes early low =
-    let long : header_place bytes ≤ length bytes = early.whole.fields in
-    let more : nat_lt 4 (length bytes) ≡ true = lt-ltb 4 (length bytes) (omega arith) in
+-- the pad bits of the fields
+abbrev pub pads_at : List ℕ → PadBits
+pads_at bytes = pads_in (slice_index bytes 5) (list_in bytes)
+
+pub front_is : (bytes : List ℕ) (plan : PlanFields) → IsEarly bytes → bad_pad plan bytes ≡ false
+    → bytes ≡ fronted (version_in bytes) (pads_at bytes) (segments_in bytes) (drop 7 bytes)
+front_is bytes plan early good =
+    let long : list_place bytes ≤ length bytes = early.whole.fields in
+    let low = front_low (version_in bytes) in
+    let more : nat_lt 4 (length bytes) ≡ true = lt-ltb 4 (length bytes) (omega (arith, long, low)) in
     let begins = same_text (take 4 bytes) magic (sym early.begins) in
     let versions = version_is (nat_lt 4 (length bytes)) (slice_index bytes 4) more early.versions in
-    let pad = pad_again (slice_index bytes 5) low in
-    let four = next bytes 4 5 (omega arith) refl in
-    let five = next bytes 5 6 (omega arith) refl in
-    let six = next bytes 6 7 (omega arith) refl in
+    let pad = pad_again (layout_of (version_in bytes)).listed (shape_of plan) (slice_index bytes 5)
+    (list_in bytes) good in
+    let four = next bytes 4 5 (omega (arith, long, low)) refl in
+    let five = next bytes 5 6 (omega (arith, long, low)) refl in
+    let six = next bytes 6 7 (omega (arith, long, low)) refl in
     sym (take-append-drop 4 bytes) ∙ ap₂ (λ (l m : List ℕ). l ++ m) begins four
     ∙ ap₂ (λ (v : ℕ) (l : List ℕ). magic ++ v ∷ l) versions five
-    ∙ ap₂ (λ (p : ℕ) (l : List ℕ). magic ++ version ∷ p ∷ l) pad six
+    ∙ ap₂ (λ (p : ℕ) (l : List ℕ). magic ++ version_byte (version_in bytes) ∷ p ∷ l) pad six
 
 -- a record's handover
 pub handover_spelled : (bytes : List ℕ) (i : ℕ) → AllByRecursion IsByte bytes
-    → record_place (i + 1) ≤ length bytes
-    → take 14 (drop (record_place i) bytes) ≡ handover_bytes (handover_at bytes i)
+    → record_place bytes (i + 1) ≤ length bytes
+    → take 14 (drop (record_place bytes i) bytes) ≡ handover_bytes (handover_at bytes i)
 handover_spelled bytes i are long =
-    sym (bytes_again (take 14 (drop (record_place i) bytes))
-    (length-take-le 14 (drop (record_place i) bytes)
-    (omega (arith, length-drop (record_place i) bytes)))
-    (all_take IsByte 14 (drop (record_place i) bytes) (all_drop IsByte (record_place i) bytes are)))
+    sym (bytes_again (take 14 (drop (record_place bytes i) bytes))
+    (length-take-le 14 (drop (record_place bytes i) bytes)
+    (omega (arith, length-drop (record_place bytes i) bytes)))
+    (all_take IsByte 14 (drop (record_place bytes i) bytes) (all_drop IsByte (record_place bytes i) bytes are)))
 
 -- which is one that a segment can start from
 is_handover_in : (bytes : List ℕ) → AllByRecursion IsByte bytes
@@ -72,8 +73,8 @@ is_handover_in bytes are e = handover_of_test (handover_in bytes) e refl (all_at
 pub is_handover_at : (bytes : List ℕ) (i : ℕ) → AllByRecursion IsByte bytes
     → is_handover (handover_at bytes i) ≡ true → IsHandover (handover_at bytes i)
 is_handover_at bytes i are e =
-    is_handover_in (take 14 (drop (record_place i) bytes))
-    (all_take IsByte 14 (drop (record_place i) bytes) (all_drop IsByte (record_place i) bytes are))
+    is_handover_in (take 14 (drop (record_place bytes i) bytes))
+    (all_take IsByte 14 (drop (record_place bytes i) bytes) (all_drop IsByte (record_place bytes i) bytes are))
     e
 
 -- the records, from one on, and what follows them
@@ -84,10 +85,10 @@ pub together : (a b c d : List ℕ) → a ++ (b ++ (c ++ d)) ≡ ((a ++ b) ++ c)
 together a b c d = simp append_assoc
 
 pub records_spelled : (bytes : List ℕ) (from n : ℕ) (streams : List (List ℕ))
-    → AllByRecursion IsByte bytes → record_place (from + n) ≤ length bytes
+    → AllByRecursion IsByte bytes → record_place bytes (from + n) ≤ length bytes
     → map (λ (s : List ℕ). length s) streams ≡ map (stream_length bytes) (numbers from n)
-    → drop (record_place from) bytes ≡ records (map (handover_at bytes) (numbers from n)) streams
-    ++ drop (record_place (from + n)) bytes
+    → drop (record_place bytes from) bytes ≡ records (map (handover_at bytes) (numbers from n)) streams
+    ++ drop (record_place bytes (from + n)) bytes
 records_spelled bytes from zero streams are long e =
     let z : from + 0 ≡ from = omega arith in
     rw z refl
@@ -96,17 +97,17 @@ records_spelled bytes from (suc n) (s ∷ streams) are long e =
     let parts = first_same (length s) (stream_length bytes from)
     (map (λ (s : List ℕ). length s) streams) (map (stream_length bytes) (numbers (from + 1) n)) e in
     let k : from + suc n ≡ from + 1 + n = omega arith in
-    let place : record_place from + 14 + 8 ≡ record_place (from + 1) = omega arith in
-    let room : record_place (from + 1) ≤ length bytes = omega arith in
+    let place : record_place bytes from + 14 + 8 ≡ record_place bytes (from + 1) = omega arith in
+    let room : record_place bytes (from + 1) ≤ length bytes = omega arith in
     let later = records_spelled bytes (from + 1) n streams are (omega arith) parts.1 in
-    let number = eight_spelled (drop (record_place from + 14) bytes)
-    (omega (arith, length-drop (record_place from + 14) bytes))
-    (all_drop IsByte (record_place from + 14) bytes are)
+    let number = eight_spelled (drop (record_place bytes from + 14) bytes)
+    (omega (arith, length-drop (record_place bytes from + 14) bytes))
+    (all_drop IsByte (record_place bytes from + 14) bytes are)
     ∙ ap (big_bytes 8) (sym parts.0) in
-    let last = peel 8 (record_place from + 14) bytes
+    let last = peel 8 (record_place bytes from + 14) bytes
     ∙ ap₂ (λ (l m : List ℕ). l ++ m) number (ap (λ (p : ℕ). drop p bytes) place ∙ later) in
-    let all = peel 14 (record_place from) bytes
+    let all = peel 14 (record_place bytes from) bytes
     ∙ ap₂ (λ (l m : List ℕ). l ++ m) (handover_spelled bytes from are room) last in
     rw k (all ∙ together (handover_bytes (handover_at bytes from)) (big_bytes 8 (length s))
     (records (map (handover_at bytes) (numbers (from + 1) n)) streams)
-    (drop (record_place (from + 1 + n)) bytes))
+    (drop (record_place bytes (from + 1 + n)) bytes))

@@ -1,5 +1,5 @@
 -- A container's bytes, looked up again.
-use Rattle.std.proofs.Common.{◌≡◌, ◌<◌, ◌+◌, ◌*◌, ◌^◌, ℕ, suc, List, [], ◌∷◌, ◌++◌, length, take, drop, map, flat_map, refl, sym, ap, ◌∙◌, arith, subst, length-append}
+use Rattle.std.proofs.Common.{◌≡◌, ◌<◌, ◌+◌, ◌*◌, ◌^◌, false, ℕ, suc, List, [], ◌∷◌, ◌++◌, length, take, drop, map, flat_map, refl, sym, ap, ◌∙◌, arith, subst, length-append}
 use Rattle.std.specs.Prelude.{slice_index, sum}
 use Rattle.std.specs.List.{AllByRecursion}
 use Rattle.std.proofs.lemmas.List.{take_at, drop_at, drop-drop}
@@ -8,8 +8,12 @@ use Rattle.byteorder.specs.Numbers.{big_number-reads_back}
 use Rattle.handover.specs.Handovers.{HandoverFields, IsHandover}
 use Rattle.handover.specs.HandoverBytes.{handover_bytes, handover_in}
 use Rattle.handover.proofs.FieldBytes.{fields_again}
-use Rattle.box_format.specs.Parts.{BoxParts, magic, version, pad_byte, records, box_bytes}
-use Rattle.box_format.specs.Raws.{numbers, parted, handover_at, record_place, stream_length, segments_in, header_length, trailer_length}
+use Rattle.scan_text.specs.Pads.{PadBits}
+use Rattle.box_format.specs.Versions.{layout_of, version_byte, version_in}
+use Rattle.box_format.specs.Parts.{BoxParts, magic, pad_byte, list_bytes, list_length, records, box_bytes}
+use Rattle.box_format.specs.Raws.{numbers, parted, handover_at, front_room, record_place, stream_length, segments_in, header_length, trailer_length, list_long}
+use Rattle.box_format.specs.declared.version.Version.{Version}
+use Rattle.box_format.specs.declared.version.Version.TheVariants.{First, Second}
 use Rattle.box_format.proofs.Lists.{sum_first}
 use Rattle.box_format.proofs.PassedBox.{tail_is}
 use Rattle.box_format.proofs.Spelled.{fronted, together}
@@ -17,50 +21,86 @@ use Rattle.box_format.proofs.Spelled.{fronted, together}
 -- what follows the lengths
 abbrev pub after_fields : BoxParts → List ℕ
 after_fields b = records b.handovers b.streams
-    ++ (b.header ++ (b.trailer ++ flat_map (λ stream. stream) b.streams))
+    ++ (list_bytes b.pads ++ (b.header ++ (b.trailer ++ flat_map (λ stream. stream) b.streams)))
+
+-- fields, by their values
+pub record IsFront (bytes : List ℕ) (v : Version) (pads : PadBits) (count h t : ℕ)
+    (rest : List ℕ) : Type 0 where
+  pub begins : take 4 bytes ≡ magic
+  pub versions : slice_index bytes 4 ≡ version_byte v
+  pub version : version_in bytes ≡ v
+  pub pad : slice_index bytes 5 ≡ pad_byte pads
+  pub segments : segments_in bytes ≡ count
+  pub header : header_length bytes ≡ h
+  pub trailer : trailer_length bytes ≡ t
+  pub list : list_long bytes ≡ length (list_bytes pads)
+  pub after : drop (front_room bytes) bytes ≡ rest
+  pub long : length bytes ≡ front_room bytes + length rest
 
 -- a container's fields
-pub record IsLaid (bytes : List ℕ) (b : BoxParts) : Type 0 where
-  pub begins : take 4 bytes ≡ magic
-  pub versions : slice_index bytes 4 ≡ version
-  pub pad : slice_index bytes 5 ≡ pad_byte b.pad
-  pub segments : segments_in bytes ≡ length b.handovers
-  pub header : header_length bytes ≡ length b.header
-  pub trailer : trailer_length bytes ≡ length b.trailer
-  pub after : drop 15 bytes ≡ after_fields b
-  pub long : length bytes ≡ 15 + length (after_fields b)
+abbrev pub IsLaid : List ℕ → BoxParts → Type 0
+IsLaid bytes b =
+    IsFront bytes b.version b.pads (length b.handovers) (length b.header) (length b.trailer)
+    (after_fields b)
 
 -- with what is after them joined to the right
-abbrev nested : BoxParts → List ℕ
-nested b =
-    fronted b.pad (length b.handovers)
-    (big_bytes 4 (length b.header) ++ (big_bytes 4 (length b.trailer) ++ after_fields b))
+abbrev pub nested : Version → PadBits → ℕ → ℕ → ℕ → List ℕ → List ℕ
+nested v pads count header trailer after =
+    fronted v pads count (big_bytes 4 header ++ (big_bytes 4 trailer
+    ++ (list_length (layout_of v).listed (list_bytes pads) ++ after)))
 
-nested_is : (b : BoxParts) → nested b ≡ box_bytes b
+pub nested_is : (b : BoxParts)
+    → nested b.version b.pads (length b.handovers) (length b.header) (length b.trailer)
+    (after_fields b)
+    ≡ box_bytes b
 unfolding box_bytes
 nested_is b =
-    ap (λ (l : List ℕ). fronted b.pad (length b.handovers)
+    ap (λ (l : List ℕ). fronted b.version b.pads (length b.handovers)
     (big_bytes 4 (length b.header) ++ (big_bytes 4 (length b.trailer) ++ l)))
-    (tail_is (records b.handovers b.streams) b.header b.trailer
+    (tail_is (list_length (layout_of b.version).listed (list_bytes b.pads))
+    (records b.handovers b.streams) (list_bytes b.pads) b.header b.trailer
     (flat_map (λ stream. stream) b.streams))
 
-laid_nested : (b : BoxParts) → length b.header < 2 ^ 32 → length b.trailer < 2 ^ 32
-    → IsLaid (nested b) b
-laid_nested b h t = record {
+laid_nested : (v : Version) (pads : PadBits) (count header trailer : ℕ) (after : List ℕ)
+    → header < 2 ^ 32 → trailer < 2 ^ 32 → length (list_bytes pads) < 2 ^ 32
+    → ((layout_of v).listed ≡ false → length (list_bytes pads) ≡ 0)
+    → IsFront (nested v pads count header trailer after) v pads count header trailer after
+laid_nested First pads count header trailer after h t l none = record {
   begins = refl;
   versions = refl;
+  version = refl;
   pad = refl;
   segments = refl;
-  header = big_number-reads_back 4 (length b.header)
-      (big_bytes 4 (length b.trailer) ++ after_fields b) h;
-  trailer = big_number-reads_back 4 (length b.trailer) (after_fields b) t;
+  header = big_number-reads_back 4 header (big_bytes 4 trailer ++ after) h;
+  trailer = big_number-reads_back 4 trailer after t;
+  list = sym (none refl);
   after = refl;
   long = omega arith;
 }
+laid_nested Second pads count header trailer after h t l none =
+    let list = big_bytes 4 (length (list_bytes pads)) in
+    record {
+      begins = refl;
+      versions = refl;
+      version = refl;
+      pad = refl;
+      segments = refl;
+      header = big_number-reads_back 4 header (big_bytes 4 trailer ++ (list ++ after)) h;
+      trailer = big_number-reads_back 4 trailer (list ++ after) t;
+      list = big_number-reads_back 4 (length (list_bytes pads)) after l;
+      after = refl;
+      long = omega arith;
+    }
 
 pub laid_box : (b : BoxParts) → length b.header < 2 ^ 32 → length b.trailer < 2 ^ 32
+    → length (list_bytes b.pads) < 2 ^ 32
+    → ((layout_of b.version).listed ≡ false → length (list_bytes b.pads) ≡ 0)
     → IsLaid (box_bytes b) b
-laid_box b h t = subst (λ (l : List ℕ). IsLaid l b) (nested_is b) (laid_nested b h t)
+laid_box b h t l none =
+    subst
+    (λ (bytes : List ℕ). IsLaid bytes b) (nested_is b)
+    (laid_nested b.version b.pads (length b.handovers) (length b.header) (length b.trailer)
+    (after_fields b) h t l none)
 
 -- the records, from one on, as they were put
 pub record AreRead (bytes : List ℕ) (from : ℕ) (handovers : List HandoverFields)
@@ -68,14 +108,14 @@ pub record AreRead (bytes : List ℕ) (from : ℕ) (handovers : List HandoverFie
   pub handovers_are : map (handover_at bytes) (numbers from (length handovers)) ≡ handovers
   pub lengths_are : map (stream_length bytes) (numbers from (length handovers))
       ≡ map (λ (s : List ℕ). length s) streams
-  pub tail_is : drop (record_place (from + length handovers)) bytes ≡ tail
+  pub tail_is : drop (record_place bytes (from + length handovers)) bytes ≡ tail
 
 both_first : {A : Type 0} (a b : A) (xs ys : List A) → a ≡ b → xs ≡ ys → a ∷ xs ≡ b ∷ ys
 both_first a b xs ys e f = cc
 
 pub records_read : (bytes tail : List ℕ) (from : ℕ) (handovers : List HandoverFields)
     (streams : List (List ℕ))
-    → drop (record_place from) bytes ≡ records handovers streams ++ tail
+    → drop (record_place bytes from) bytes ≡ records handovers streams ++ tail
     → length streams ≡ length handovers
     → AllByRecursion IsHandover handovers
     → AllByRecursion (λ (s : List ℕ). length s < 2 ^ 64) streams
@@ -92,12 +132,12 @@ records_read bytes tail from (h ∷ handovers) (s ∷ streams) e same each fit =
     let first = ap (take 14) split
     ∙ take_at (handover_bytes h) (big_bytes 8 (length s) ++ (records handovers streams ++ tail)) 14
     again.0 in
-    let second = sym (drop-drop 14 (record_place from) bytes) ∙ ap (drop 14) split
+    let second = sym (drop-drop 14 (record_place bytes from) bytes) ∙ ap (drop 14) split
     ∙ drop_at (handover_bytes h) (big_bytes 8 (length s) ++ (records handovers streams ++ tail)) 14
     again.0 in
-    let place : record_place from + 14 + 8 ≡ record_place (from + 1) = omega arith in
+    let place : record_place bytes from + 14 + 8 ≡ record_place bytes (from + 1) = omega arith in
     let third = ap (λ (p : ℕ). drop p bytes) (sym place)
-    ∙ sym (drop-drop 8 (record_place from + 14) bytes) ∙ ap (drop 8) second in
+    ∙ sym (drop-drop 8 (record_place bytes from + 14) bytes) ∙ ap (drop 8) second in
     let later =
     records_read bytes tail (from + 1) handovers streams third (omega arith) each.1 fit.1 in
     let number = ap (big_number 8) second

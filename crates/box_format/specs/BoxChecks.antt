@@ -3,21 +3,22 @@ use Rattle.std.specs.Prelude.{ℕ, ◌≡◌, ◌⊎◌, Bool, ◌&&◌, ◌||�
 use Rattle.jpeg_marker.specs.Plans.{PlanFields}
 use Rattle.jpeg_marker.specs.HeaderPlan.{Accepts, Refuses as HeaderRefuses}
 use Rattle.jpeg_marker.specs.declared.refusal.HeaderRefusal.{HeaderRefusal}
-use Rattle.scan_text.specs.Slots.{shape_of}
-use Rattle.box_format.specs.Parts.{magic, version, bad_start, cut_in, most_segments}
-use Rattle.box_format.specs.Raws.{Raw, raw_of, header_place, named_end}
+use Rattle.scan_text.specs.Slots.{Shape, shape_of}
+use Rattle.box_format.specs.Versions.{layout_of, is_version}
+use Rattle.box_format.specs.Parts.{magic, is_list, bad_start, cut_in}
+use Rattle.box_format.specs.Raws.{Raw, raw_of, list_place, named_end}
 use Rattle.box_format.specs.declared.refusal.BoxRefusal.{BoxRefusal}
 use Rattle.box_format.specs.declared.refusal.BoxRefusal.TheVariants.{BoxMagic, BoxVersion, BoxCut, BoxHeader, HeaderLong, BoxSegments, BoxPad, HandoverBad, BoxLong}
 
 -- the bytes end within the fields, or before the end that these name
 abbrev pub is_cut : List ℕ → Bool
-is_cut bytes = nat_lt (length bytes) (header_place bytes) || nat_lt (length bytes) (named_end bytes)
+is_cut bytes = nat_lt (length bytes) (list_place bytes) || nat_lt (length bytes) (named_end bytes)
 
 -- the checks before the header, in their order
 unfoldable pub early_fault : List ℕ → Option BoxRefusal
 early_fault bytes =
     if not (bytes_eq (take 4 bytes) magic) then Some BoxMagic
-    else if nat_lt 4 (length bytes) && not (slice_index bytes 4 == version) then Some BoxVersion
+    else if nat_lt 4 (length bytes) && not (is_version (slice_index bytes 4)) then Some BoxVersion
     else if is_cut bytes then Some BoxCut
     else None
 
@@ -30,6 +31,12 @@ or_else None later = later
 abbrev pub where_failed : Bool → BoxRefusal → Option BoxRefusal
 where_failed failed refusal = if failed then Some refusal else None
 
+-- whether a version can't say a pad byte with a list: without a list the byte says one bit, and with one it is 2
+abbrev pub is_bad_pad : Bool → Shape → ℕ → List ℕ → Bool
+is_bad_pad listed shape pad list =
+    if listed && pad == 2 then not (is_list shape list)
+    else nat_lt 1 pad || nat_lt 0 (length list)
+
 -- the checks after a header that is taken, in their order
 unfoldable pub late_fault : PlanFields → Raw → Option BoxRefusal
 late_fault plan raw =
@@ -37,8 +44,10 @@ late_fault plan raw =
     or_else (where_failed (nat_lt plan.header_length (length raw.header))
     (HeaderLong plan.header_length))
     (or_else (where_failed
-    (segments == 0 || (nat_lt most_segments segments || nat_lt plan.down segments)) BoxSegments)
-    (or_else (where_failed (nat_lt 1 raw.pad) BoxPad)
+    (segments == 0 || (nat_lt (layout_of raw.version).most segments || nat_lt plan.down segments))
+    BoxSegments)
+    (or_else (where_failed (is_bad_pad (layout_of raw.version).listed (shape_of plan) raw.pad
+    raw.list) BoxPad)
     (or_else (option_map (λ i. HandoverBad i)
     (bad_start (shape_of plan) (cut_in plan segments) 0 raw.handovers))
     (where_failed (nat_lt 0 (length raw.rest)) BoxLong))))

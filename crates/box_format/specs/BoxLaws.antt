@@ -3,10 +3,11 @@ use Rattle.std.specs.Prelude.{ℕ, ◌≡◌, List}
 use Rattle.std.specs.List.{AllByRecursion}
 use Rattle.bit_list.specs.Bits.{IsByte}
 use Rattle.jpeg_marker.specs.Plans.{PlanFields}
-use Rattle.box_format.specs.Parts.{BoxParts, IsBox, IsBoxOf, box_bytes}
+use Rattle.box_format.specs.Parts.{BoxParts, IsBox, IsBoxOf, box_bytes, migrated, relaid}
 use Rattle.box_format.specs.Raws.{raw_of, parts_of}
 use Rattle.box_format.specs.BoxChecks.{IsRefusedBox, PassesChecks}
 use Rattle.box_format.specs.declared.refusal.BoxRefusal.{BoxRefusal}
+use Rattle.box_format.specs.declared.version.Version.TheVariants.{First, Second}
 
 -- a container's checks pass, and its fields are its parts
 abbrev pub BoxPasses : Type 0
@@ -37,3 +38,17 @@ abbrev pub NeverBoth : Type 0
 NeverBoth =
     (bytes : List ℕ) (plan : PlanFields) (b : BoxParts) (refusal : BoxRefusal)
     → IsBoxOf plan b bytes → IsRefusedBox bytes refusal → ⊥
+
+-- a container of the second version is migrated already
+abbrev pub SecondStays : Type 0
+SecondStays = (b : BoxParts) → b.version ≡ Second → migrated b ≡ b
+
+-- the parts of a container are those of one of the second version too
+abbrev pub MigratedIsBox : Type 0
+MigratedIsBox = (plan : PlanFields) (b : BoxParts) → IsBox plan b → IsBox plan (migrated b)
+
+-- and the bytes of that one are a container's of the first version, but for the fields of the version and of the list
+abbrev pub RelaidIsMigrated : Type 0
+RelaidIsMigrated =
+    (plan : PlanFields) (b : BoxParts) → IsBox plan b → b.version ≡ First
+    → relaid (box_bytes b) ≡ box_bytes (migrated b)

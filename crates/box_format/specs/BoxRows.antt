@@ -1,11 +1,13 @@
 -- Worked containers (own).
-use Rattle.std.specs.Prelude.{ℕ, ◌≡◌, true, List, [], ◌∷◌, ◌++◌, length, replicate, map, take, drop, slice_set, Some, None}
+use Rattle.std.specs.Prelude.{ℕ, ◌≡◌, true, List, [], ◌∷◌, ◌++◌, length, replicate, map, take, drop, slice_set, slice_index, Some, None}
 use Rattle.jpeg_marker.specs.Plans.{PlanFields}
 use Rattle.scan_text.specs.BlockRows.{level_table}
 use Rattle.handover.specs.Handovers.{start}
-use Rattle.box_format.specs.Parts.{BoxParts, box_bytes}
+use Rattle.scan_text.specs.Pads.{Same, Listed}
+use Rattle.box_format.specs.Parts.{BoxParts, box_bytes, migrated}
 use Rattle.box_format.specs.Raws.{numbers, raw_of, parts_of}
 use Rattle.box_format.specs.BoxChecks.{early_fault, late_fault}
+use Rattle.box_format.specs.declared.version.Version.TheVariants.{First, Second}
 use Rattle.box_format.specs.declared.refusal.BoxRefusal.TheVariants.{BoxMagic, BoxVersion, BoxCut, BoxSegments, BoxPad, HandoverBad, BoxLong, HeaderLong}
 
 -- a header of one component with one code word in each table, eight columns wide
@@ -39,7 +41,8 @@ image_end = 0xff ∷ 0xd9 ∷ []
 -- the parts of the smallest file
 abbrev pub least_parts : BoxParts
 least_parts = record {
-  pad = true;
+  version = First;
+  pads = Same true;
   header = grey_header 8;
   trailer = image_end;
   handovers = start ∷ [];
@@ -49,7 +52,8 @@ least_parts = record {
 -- two segments, of which the first has no byte
 abbrev pub byteless_parts : BoxParts
 byteless_parts = record {
-  pad = true;
+  version = First;
+  pads = Same true;
   header = grey_header 16;
   trailer = image_end;
   handovers = start ∷ record start { bits = 2 } ∷ [];
@@ -61,6 +65,29 @@ abbrev pub least_box : List ℕ
 least_box =
     0x4c ∷ 0x50 ∷ 0x53 ∷ 0x47 ∷ 1 ∷ 1 ∷ 1 ∷ 0 ∷ 0 ∷ 0 ∷ 0x45 ∷ 0 ∷ 0 ∷ 0 ∷ 2 ∷ replicate 14 0
     ++ 0 ∷ 0 ∷ 0 ∷ 0 ∷ 0 ∷ 0 ∷ 0 ∷ 3 ∷ grey_header 8 ++ 0xff ∷ 0xd9 ∷ 0 ∷ 0 ∷ 0 ∷ []
+
+-- that of the second version
+abbrev pub second_box : List ℕ
+second_box =
+    0x4c ∷ 0x50 ∷ 0x53 ∷ 0x47 ∷ 2 ∷ 1 ∷ 1 ∷ 0 ∷ 0 ∷ 0 ∷ 0x45 ∷ 0 ∷ 0 ∷ 0 ∷ 2 ∷ 0 ∷ 0 ∷ 0 ∷ 0
+    ∷ replicate 14 0 ++ 0 ∷ 0 ∷ 0 ∷ 0 ∷ 0 ∷ 0 ∷ 0 ∷ 3 ∷ grey_header 8
+    ++ 0xff ∷ 0xd9 ∷ 0 ∷ 0 ∷ 0 ∷ []
+
+-- two intervals of one MCU that pad different bits
+abbrev pub mixed_parts : BoxParts
+mixed_parts = record byteless_parts {
+  version = Second;
+  pads = Listed (0x80 ∷ []);
+  handovers = start ∷ record start { restarts = 1 } ∷ [];
+}
+
+-- the plan of their header
+abbrev pub mixed_plan : PlanFields
+mixed_plan = record (grey_plan 2) { interval = 1 }
+
+-- their container
+abbrev pub mixed_box : List ℕ
+mixed_box = box_bytes mixed_parts
 
 -- that of two segments
 abbrev pub byteless_box : List ℕ
@@ -77,6 +104,15 @@ laid_out =
     × (length byteless_box ≡ 136)
     × (parts_of (raw_of byteless_box) ≡ byteless_parts)
     × (late_fault (grey_plan 2) (raw_of byteless_box) ≡ None)
+    × (length second_box ≡ 115)
+    × (box_bytes (migrated least_parts) ≡ second_box)
+    × (parts_of (raw_of second_box) ≡ migrated least_parts)
+    × (early_fault second_box ≡ None)
+    × (late_fault (grey_plan 1) (raw_of second_box) ≡ None)
+    × (slice_index mixed_box 5 ≡ 2)
+    × (slice_index mixed_box 63 ≡ 0x80)
+    × (parts_of (raw_of mixed_box) ≡ mixed_parts)
+    × (late_fault mixed_plan (raw_of mixed_box) ≡ None)
 
 -- containers that are refused before a header is looked for
 abbrev pub early : Type 0
@@ -87,6 +123,8 @@ early =
     × (early_fault (take 4 least_box) ≡ Some BoxCut)
     × (early_fault (slice_set least_box 4 0x07) ≡ Some BoxVersion)
     × (early_fault (take 110 least_box) ≡ Some BoxCut)
+    × (early_fault (slice_set least_box 4 2) ≡ Some BoxCut)
+    × (early_fault (slice_set second_box 4 3) ≡ Some BoxVersion)
 
 -- and after one that is taken
 abbrev pub late : Type 0
@@ -100,6 +138,11 @@ late =
     × (late_fault (grey_plan 1) (raw_of (slice_set (slice_set least_box 10 0x46) 14 1))
     ≡ Some (HeaderLong 69))
     × (late_fault (grey_plan 2) (raw_of (slice_set byteless_box 38 3)) ≡ None)
+    × (late_fault mixed_plan (raw_of (slice_set mixed_box 63 0xa0)) ≡ Some BoxPad)
+    × (late_fault mixed_plan (raw_of (slice_set mixed_box 63 0xc0)) ≡ None)
+    × (late_fault mixed_plan (raw_of (slice_set mixed_box 5 1)) ≡ Some BoxPad)
+    × (late_fault mixed_plan (raw_of (slice_set mixed_box 5 3)) ≡ Some BoxPad)
+    × (late_fault (grey_plan 1) (raw_of (slice_set second_box 5 2)) ≡ Some BoxPad)
 
 -- every proper prefix of a container is refused for its first bytes, or as cut
 abbrev pub prefixes : Type 0

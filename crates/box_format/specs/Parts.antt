@@ -1,19 +1,24 @@
 -- A container by its parts, and its bytes (this project's own): docs/FORMAT.md has it by offset.
-use Rattle.std.specs.Prelude.{ℕ, ◌<◌, ◌≤◌, ◌≡◌, ◌^◌, Bool, ◌&&◌, ◌||◌, not, ◌==◌, if◌then◌else◌, List, [], ◌∷◌, ◌++◌, length, flat_map, ◌+◌, unsigned_abs, slice_index_or, pos, Option, Some, None}
+use Rattle.std.specs.Prelude.{ℕ, ◌<◌, ◌≤◌, ◌≡◌, ◌^◌, Bool, ◌&&◌, ◌||◌, not, ◌==◌, true, if◌then◌else◌, List, [], ◌∷◌, ◌++◌, length, take, drop, flat_map, ◌+◌, unsigned_abs, slice_index_or, pos, Option, Some, None}
 use Rattle.std.specs.List.{list_all, list_any, AllByRecursion}
 use Rattle.byteorder.specs.Endian.{big_bytes}
-use Rattle.bit_list.specs.Bits.{IsByte}
+use Rattle.bit_list.specs.Bits.{IsByte, bits_of}
 use Rattle.jpeg_marker.specs.Plans.{PlanFields}
 use Rattle.jpeg_marker.specs.HeaderPlan.{Accepts}
+use Rattle.scan_text.specs.Pads.{PadBits, Same, Listed, interval_count, list_room}
 use Rattle.scan_text.specs.Slots.{Shape, shape_of}
 use Rattle.handover.specs.Handovers.{HandoverFields, IsHandover}
 use Rattle.handover.specs.HandoverBytes.{handover_bytes, is_handover}
 use Rattle.segment_text.specs.Cuts.{Cut, first_mcu}
 use Rattle.segment_text.specs.RowHandovers.{markers_before}
+use Rattle.box_format.specs.Versions.{layout_of, version_byte}
+use Rattle.box_format.specs.declared.version.Version.{Version}
+use Rattle.box_format.specs.declared.version.Version.TheVariants.{Second}
 
--- a pad bit, the header, the trailer, and for each segment what it starts from and its stream
+-- a version, the pad bits, the header, the trailer, and for each segment what it starts from and its stream
 pub record BoxParts : Type 0 where
-  pub pad : Bool
+  pub version : Version
+  pub pads : PadBits
   pub header : List ℕ
   pub trailer : List ℕ
   pub handovers : List HandoverFields
@@ -23,13 +28,23 @@ pub record BoxParts : Type 0 where
 abbrev pub magic : List ℕ
 magic = 0x4c ∷ 0x50 ∷ 0x53 ∷ 0x47 ∷ []
 
--- the version
-abbrev pub version : ℕ
-version = 1
+-- the byte of one pad bit
+abbrev pub bit_byte : Bool → ℕ
+bit_byte pad = if pad then 1 else 0
 
--- the byte of a pad bit
-abbrev pub pad_byte : Bool → ℕ
-pad_byte pad = if pad then 1 else 0
+-- the byte of pad bits: 2 says that there is a list
+abbrev pub pad_byte : PadBits → ℕ
+pad_byte (Same pad) = bit_byte pad
+pad_byte (Listed bytes) = 2
+
+-- the pad list, if there is one
+abbrev pub list_bytes : PadBits → List ℕ
+list_bytes (Same pad) = []
+list_bytes (Listed bytes) = bytes
+
+-- its length, in the versions that have one
+abbrev pub list_length : Bool → List ℕ → List ℕ
+list_length listed list = if listed then big_bytes 4 (length list) else []
 
 -- a record for each segment: its handover, and its stream's length
 abbrev pub records : List HandoverFields → List (List ℕ) → List ℕ
@@ -38,12 +53,13 @@ records (h ∷ handovers) [] = []
 records (h ∷ handovers) (stream ∷ streams) =
     handover_bytes h ++ big_bytes 8 (length stream) ++ records handovers streams
 
--- the container: fields, records, header, trailer, streams
+-- the container: fields, records, pad list, header, trailer, streams
 unfoldable pub box_bytes : BoxParts → List ℕ
 box_bytes b =
-    magic ++ version ∷ pad_byte b.pad ∷ length b.handovers
+    magic ++ version_byte b.version ∷ pad_byte b.pads ∷ length b.handovers
     ∷ big_bytes 4 (length b.header) ++ big_bytes 4 (length b.trailer)
-    ++ records b.handovers b.streams
+    ++ list_length (layout_of b.version).listed (list_bytes b.pads)
+    ++ records b.handovers b.streams ++ list_bytes b.pads
     ++ b.header ++ b.trailer ++ flat_map (λ stream. stream) b.streams
 
 -- whether a component has blocks in the scan
@@ -78,23 +94,33 @@ abbrev pub cut_in : PlanFields → ℕ → Cut
 cut_in plan segments =
     record { across = plan.across; from = 0; to = plan.down; segments = segments }
 
--- the most segments of a container
-abbrev pub most_segments : ℕ
-most_segments = 16
+-- whether a list has a bit for each interval, and bits of 0 after them
+abbrev pub is_list : Shape → List ℕ → Bool
+is_list shape bytes =
+    length bytes == list_room shape
+    && list_all (λ bit. not bit) (drop (interval_count shape) (bits_of bytes))
+
+-- whether a version can say these pad bits
+abbrev pub can_pad : Bool → Shape → PadBits → Bool
+can_pad listed shape (Same pad) = true
+can_pad listed shape (Listed bytes) = listed && is_list shape bytes
 
 -- the parts of a container whose header has this plan
 pub record IsBox (plan : PlanFields) (b : BoxParts) : Type 0 where
   pub header : Accepts b.header plan
   pub whole : plan.header_length ≡ length b.header
   pub some : 0 < length b.handovers
-  pub few : length b.handovers ≤ most_segments
+  pub few : length b.handovers ≤ (layout_of b.version).most
   pub rows : length b.handovers ≤ plan.down
+  pub pads : can_pad (layout_of b.version).listed (shape_of plan) b.pads ≡ true
   pub streams : length b.streams ≡ length b.handovers
   pub each : AllByRecursion IsHandover b.handovers
   pub starts : bad_start (shape_of plan) (cut_in plan (length b.handovers)) 0 b.handovers ≡ None
   pub header_fits : length b.header < 2 ^ 32
   pub trailer_fits : length b.trailer < 2 ^ 32
+  pub list_fits : length (list_bytes b.pads) < 2 ^ 32
   pub streams_fit : AllByRecursion (λ stream. length stream < 2 ^ 64) b.streams
+  pub list_bytes_are : AllByRecursion IsByte (list_bytes b.pads)
   pub header_bytes : AllByRecursion IsByte b.header
   pub trailer_bytes : AllByRecursion IsByte b.trailer
   pub stream_bytes : AllByRecursion (AllByRecursion IsByte) b.streams
@@ -103,3 +129,14 @@ pub record IsBox (plan : PlanFields) (b : BoxParts) : Type 0 where
 pub record IsBoxOf (plan : PlanFields) (b : BoxParts) (bytes : List ℕ) : Type 0 where
   pub box : IsBox plan b
   pub text : bytes ≡ box_bytes b
+
+-- the same parts in the second version
+abbrev pub migrated : BoxParts → BoxParts
+migrated b = record b { version = Second }
+
+-- the bytes of a container of the first version as those of one of the second: the version's byte is changed, and a
+-- length of 0 for the pad list follows the trailer's length
+abbrev pub relaid : List ℕ → List ℕ
+relaid bytes =
+    take 4 bytes ++ version_byte Second ∷ [] ++ take 10 (drop 5 bytes) ++ 0 ∷ 0 ∷ 0 ∷ 0 ∷ []
+    ++ drop 15 bytes

@@ -1,13 +1,18 @@
 -- The fields of bytes that may be a container, looked up by their offsets, before anything is known of them (own).
-use Rattle.std.specs.Prelude.{ℕ, zero, suc, ◌+◌, ◌*◌, not, ◌==◌, List, [], ◌∷◌, take, drop, map, sum, slice_index}
+use Rattle.std.specs.Prelude.{ℕ, zero, suc, ◌+◌, ◌*◌, not, ◌==◌, if◌then◌else◌, List, [], ◌∷◌, take, drop, map, sum, slice_index}
 use Rattle.byteorder.specs.Endian.{big_number}
 use Rattle.handover.specs.Handovers.{HandoverFields}
 use Rattle.handover.specs.HandoverBytes.{handover_in}
+use Rattle.scan_text.specs.Pads.{PadBits, Same, Listed}
 use Rattle.box_format.specs.Parts.{BoxParts}
+use Rattle.box_format.specs.Versions.{layout_of, version_in}
+use Rattle.box_format.specs.declared.version.Version.{Version}
 
--- the pad byte, the parts, and what follows them
+-- the version, the pad byte, the pad list, the parts, and what follows them
 pub record Raw : Type 0 where
+  pub version : Version
   pub pad : ℕ
+  pub list : List ℕ
   pub handovers : List HandoverFields
   pub header : List ℕ
   pub trailer : List ℕ
@@ -19,17 +24,17 @@ abbrev pub numbers : ℕ → ℕ → List ℕ
 numbers from zero = []
 numbers from (suc count) = from ∷ numbers (from + 1) count
 
--- the bytes of the fields before the records
-abbrev pub front_room : ℕ
-front_room = 15
-
 -- the bytes of a record
 abbrev pub record_room : ℕ
 record_room = 22
 
--- where the record of segment i starts; after the last record starts the header
-abbrev pub record_place : ℕ → ℕ
-record_place i = front_room + record_room * i
+-- the bytes of the fields before the records
+abbrev pub front_room : List ℕ → ℕ
+front_room bytes = (layout_of (version_in bytes)).front
+
+-- where the record of segment i starts; after the last record starts the pad list
+abbrev pub record_place : List ℕ → ℕ → ℕ
+record_place bytes i = front_room bytes + record_room * i
 
 -- how many segments there are, 0 where that byte is missing
 abbrev pub segments_in : List ℕ → ℕ
@@ -43,17 +48,26 @@ header_length bytes = big_number 4 (drop 7 bytes)
 abbrev pub trailer_length : List ℕ → ℕ
 trailer_length bytes = big_number 4 (drop 11 bytes)
 
+-- the length of the pad list, 0 in a version that has none
+abbrev pub list_long : List ℕ → ℕ
+list_long bytes =
+    if (layout_of (version_in bytes)).listed then big_number 4 (drop 15 bytes) else 0
+
 -- the length of a segment's stream
 abbrev pub stream_length : List ℕ → ℕ → ℕ
-stream_length bytes i = big_number 8 (drop (record_place i + 14) bytes)
+stream_length bytes i = big_number 8 (drop (record_place bytes i + 14) bytes)
 
 -- the lengths of all streams
 abbrev pub stream_lengths : List ℕ → List ℕ
 stream_lengths bytes = map (stream_length bytes) (numbers 0 (segments_in bytes))
 
+-- where the pad list starts
+abbrev pub list_place : List ℕ → ℕ
+list_place bytes = record_place bytes (segments_in bytes)
+
 -- where the header starts
 abbrev pub header_place : List ℕ → ℕ
-header_place bytes = record_place (segments_in bytes)
+header_place bytes = list_place bytes + list_long bytes
 
 -- where the trailer starts
 abbrev pub trailer_place : List ℕ → ℕ
@@ -74,12 +88,14 @@ parted (n ∷ lengths) bytes = take n bytes ∷ parted lengths (drop n bytes)
 
 -- the handover fields in a record
 abbrev pub handover_at : List ℕ → ℕ → HandoverFields
-handover_at bytes i = handover_in (take 14 (drop (record_place i) bytes))
+handover_at bytes i = handover_in (take 14 (drop (record_place bytes i) bytes))
 
 -- the fields
 unfoldable pub raw_of : List ℕ → Raw
 raw_of bytes = record {
+  version = version_in bytes;
   pad = slice_index bytes 5;
+  list = take (list_long bytes) (drop (list_place bytes) bytes);
   handovers = map (handover_at bytes) (numbers 0 (segments_in bytes));
   header = take (header_length bytes) (drop (header_place bytes) bytes);
   trailer = take (trailer_length bytes) (drop (trailer_place bytes) bytes);
@@ -87,10 +103,15 @@ raw_of bytes = record {
   rest = drop (named_end bytes) bytes;
 }
 
+-- the pad bits of a pad byte and a list
+abbrev pub pads_in : ℕ → List ℕ → PadBits
+pads_in pad list = if pad == 2 then Listed list else Same (not (pad == 0))
+
 -- the parts
 abbrev pub parts_of : Raw → BoxParts
 parts_of raw = record {
-  pad = not (raw.pad == 0);
+  version = raw.version;
+  pads = pads_in raw.pad raw.list;
   header = raw.header;
   trailer = raw.trailer;
   handovers = raw.handovers;

@@ -3,11 +3,14 @@ use Rattle.std.specs.Prelude.{ℕ, ◌+◌, length, map, sum}
 use Rattle.std.specs.List.{AllByRecursion}
 use Rattle.bit_list.specs.Bits.{IsByte}
 use Rattle.jpeg_marker.specs.Plans.{PlanFields}
-use Rattle.box_format.specs.Parts.{BoxParts}
-use Rattle.box_format.specs.Raws.{front_room, record_room, raw_of, parts_of}
+use Rattle.scan_text.specs.Pads.{pads_given}
+use Rattle.box_format.specs.Versions.{layout_of}
+use Rattle.box_format.specs.Parts.{BoxParts, list_bytes}
+use Rattle.box_format.specs.Raws.{record_room, raw_of, parts_of}
 use Rattle.box_format.specs.BoxChecks.{PassesChecks}
 use Rattle.box_format.specs.declared.view.BoxView.TheInside.{Inside}
 use Rattle.box_format.specs.declared.parts.Parts.{Parts}
+use Rattle.box_format.specs.declared.version.Version.TheVariants.{Second}
 
 -- the header's plan, and the parts
 pub record BoxSeen : Type 0 where
@@ -23,10 +26,11 @@ pub record IsView (v : Inside) : Type 0 where
   pub checks : PassesChecks v.plan v.bytes.now
   pub bytes : AllByRecursion IsByte v.bytes.now
 
--- the parts that a container is written from
+-- the parts that a container is written from, which is one of the second version
 abbrev pub parts_given : Parts → BoxParts
 parts_given p = record {
-  pad = p.pad;
+  version = Second;
+  pads = pads_given p.pad;
   header = p.header.now;
   trailer = p.trailer.now;
   handovers = p.handovers.now;
@@ -36,5 +40,5 @@ parts_given p = record {
 -- how many bytes a container of these parts has
 abbrev pub room_of : BoxParts → ℕ
 room_of b =
-    front_room + length b.header + length b.trailer
+    (layout_of b.version).front + length (list_bytes b.pads) + length b.header + length b.trailer
     + sum (map (λ stream. record_room + length stream) b.streams)

@@ -1,36 +1,43 @@
 -- Bytes that have every part that their fields name, and the checks on the parts in two groups (own).
-use Rattle.std.specs.Prelude.{ℕ, ◌≤◌, ◌==◌, ◌||◌, nat_lt, Bool, List, [], ◌∷◌, length, slice_index, map, Option, option_map}
+use Rattle.std.specs.Prelude.{ℕ, ◌≤◌, ◌==◌, ◌||◌, nat_lt, Bool, List, [], ◌∷◌, length, take, drop, slice_index, map, Option, option_map}
 use Rattle.std.specs.List.{list_all}
 use Rattle.handover.specs.Handovers.{HandoverFields}
 use Rattle.jpeg_marker.specs.Plans.{PlanFields}
 use Rattle.scan_text.specs.Slots.{Shape, shape_of}
-use Rattle.box_format.specs.Parts.{bad_start, cut_in, is_unused_zero, most_segments}
-use Rattle.box_format.specs.Raws.{header_place, header_length, named_end, segments_in, handover_at, numbers}
-use Rattle.box_format.specs.BoxChecks.{or_else, where_failed}
+use Rattle.box_format.specs.Versions.{layout_of, version_in}
+use Rattle.box_format.specs.Parts.{bad_start, cut_in, is_unused_zero}
+use Rattle.box_format.specs.Raws.{list_place, list_long, header_length, named_end, segments_in, handover_at, numbers}
+use Rattle.box_format.specs.BoxChecks.{or_else, where_failed, is_bad_pad}
 use Rattle.box_format.specs.declared.refusal.BoxRefusal.{BoxRefusal}
 use Rattle.box_format.specs.declared.refusal.BoxRefusal.TheVariants.{HeaderLong, BoxSegments, BoxPad, HandoverBad, BoxLong}
 
 -- no part ends after the bytes
 pub record IsWhole (bytes : List ℕ) : Type 0 where
-  pub fields : header_place bytes ≤ length bytes
+  pub fields : list_place bytes ≤ length bytes
   pub ends : named_end bytes ≤ length bytes
 
--- whether a grid of these rows can't have these segments
-abbrev pub are_wrong : ℕ → ℕ → Bool
-are_wrong segments rows =
-    segments == 0 || (nat_lt most_segments segments || nat_lt rows segments)
+-- whether a grid of these rows can't have these segments, of which there can be so many at most
+abbrev pub are_wrong : ℕ → ℕ → ℕ → Bool
+are_wrong most segments rows =
+    segments == 0 || (nat_lt most segments || nat_lt rows segments)
 
 -- whether the last DC of each component without blocks is 0
 abbrev pub are_unused_zeros : Shape → HandoverFields → Bool
 are_unused_zeros shape h = list_all (is_unused_zero shape h) (0 ∷ 1 ∷ 2 ∷ 3 ∷ [])
+
+-- the pad list
+abbrev pub list_in : List ℕ → List ℕ
+list_in bytes = take (list_long bytes) (drop (list_place bytes) bytes)
 
 -- the checks on single fields, in their order
 abbrev pub field_fault : PlanFields → List ℕ → Option BoxRefusal
 field_fault plan bytes =
     or_else (where_failed (nat_lt plan.header_length (header_length bytes))
     (HeaderLong plan.header_length))
-    (or_else (where_failed (are_wrong (segments_in bytes) plan.down) BoxSegments)
-    (where_failed (nat_lt 1 (slice_index bytes 5)) BoxPad))
+    (or_else (where_failed
+    (are_wrong (layout_of (version_in bytes)).most (segments_in bytes) plan.down) BoxSegments)
+    (where_failed (is_bad_pad (layout_of (version_in bytes)).listed (shape_of plan)
+    (slice_index bytes 5) (list_in bytes)) BoxPad))
 
 -- the first segment that can't start from its record
 abbrev pub bad_segment : PlanFields → List ℕ → Option ℕ

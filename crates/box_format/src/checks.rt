@@ -1,24 +1,22 @@
 // The checks on bytes that may be a container, but for the header's own.
 ghost use Rattle.std.specs.Prelude.{◌≡◌, ◌&&◌, ◌==◌, bytes_eq, length, nat_lt, not, slice_index, take};
 ghost use Rattle.box_format.specs.BoxChecks.{early_fault, is_cut, late_fault, where_failed};
-ghost use Rattle.box_format.specs.Parts.{magic, version};
+ghost use Rattle.box_format.specs.Versions.{is_version};
+ghost use Rattle.box_format.specs.Parts.{magic};
 ghost use Rattle.box_format.specs.Raws.{named_end, raw_of};
 ghost use Rattle.box_format.specs.declared.refusal.BoxRefusal.TheVariants.{BoxLong};
 ghost use Rattle.box_format.specs.Whole.{IsWhole, are_wrong, field_fault, record_fault};
 
-use crate::fields::{byte_in, header_length, named_end, record_place, segments_in};
+use crate::fields::{
+    byte_in, header_length, list_in, list_place, named_end, segments_in, version_in,
+};
+use crate::pad_lists::is_bad_pad;
 use crate::refusal::BoxRefusal;
 use crate::starts::bad_segment;
 use jpeg_marker::Plan;
 
 /// The bytes that a container begins with.
 pub(crate) const MAGIC: [u8; 4] = [0x4c, 0x50, 0x53, 0x47];
-
-/// The version.
-pub(crate) const VERSION: u8 = 1;
-
-// The most segments.
-const MOST_SEGMENTS: u8 = 16;
 
 /// The first check before the header's that fails.
 #[tactic(auto, unfolding(crate::specs::BoxChecks::early_fault))]
@@ -43,18 +41,26 @@ fn has_magic(bytes: &[u8]) -> bool
     bytes.starts_with(&MAGIC)
 }
 
-// Whether the byte of the version is there, and says another.
+// Whether the byte of the version is there, and says none.
 fn has_other_version(bytes: &[u8]) -> bool
-    ensures { result ≡ (nat_lt 4 (length bytes.now) && not (slice_index bytes.now 4 == version)) }
+    ensures { result
+        ≡ (nat_lt 4 (length bytes.now) && not (is_version (slice_index bytes.now 4))) }
 {
-    bytes.len() > 4 && byte_in(bytes, 4) != VERSION
+    bytes.len() > 4 && !is_version(byte_in(bytes, 4))
+}
+
+// Whether a byte says a version.
+fn is_version(byte: u8) -> bool
+    ensures { result ≡ is_version byte }
+{
+    byte == 1 || byte == 2
 }
 
 // Whether the bytes end within the fields, or before the end that these name.
 fn is_cut(bytes: &[u8]) -> bool
     ensures { result ≡ is_cut bytes.now }
 {
-    bytes.len() < record_place(segments_in(bytes)) || (bytes.len() as u128) < named_end(bytes)
+    bytes.len() < list_place(bytes) || (bytes.len() as u128) < named_end(bytes)
 }
 
 /// The first check that fails after a header that is taken.
@@ -73,23 +79,24 @@ fn field_fault(bytes: &[u8], plan: &Plan) -> Option<BoxRefusal>
     requires { IsWhole bytes.now }
     ensures { result ≡ field_fault plan.now bytes.now }
 {
+    let version = version_in(bytes);
     let place = plan.header_length();
     if place < header_length(bytes) as usize {
         Some(BoxRefusal::HeaderLong { place })
-    } else if are_wrong(segments_in(bytes), plan.down()) {
+    } else if are_wrong(version.most_segments(), segments_in(bytes), plan.down()) {
         Some(BoxRefusal::BoxSegments)
-    } else if byte_in(bytes, 5) > 1 {
+    } else if is_bad_pad(version.is_listed(), plan, byte_in(bytes, 5), list_in(bytes)) {
         Some(BoxRefusal::BoxPad)
     } else {
         None
     }
 }
 
-// Whether a grid of these rows can't have these segments.
-fn are_wrong(segments: u8, rows: u32) -> bool
-    ensures { result ≡ are_wrong segments rows }
+// Whether a grid of these rows can't have these segments, of which there can be so many at most.
+fn are_wrong(most: u8, segments: u8, rows: u32) -> bool
+    ensures { result ≡ are_wrong most segments rows }
 {
-    segments == 0 || segments > MOST_SEGMENTS || u32::from(segments) > rows
+    segments == 0 || segments > most || u32::from(segments) > rows
 }
 
 // The first check on what is in the records, and on the end, that fails.

@@ -1,13 +1,12 @@
 // The numbers that a container's fields have, and where its parts start.
-ghost use Rattle.std.specs.Prelude.{◌≡◌, ◌+◌, ◌≤◌, length, take, drop, map, sum, slice_index};
+ghost use Rattle.std.specs.Prelude.{◌≡◌, ◌+◌, ◌*◌, ◌^◌, ◌≤◌, length, take, drop, map, sum, slice_index};
 ghost use Rattle.byteorder.specs.Endian.{big_number};
-ghost use Rattle.box_format.specs.Raws.{front_room, header_length, header_place, named_end, numbers, record_place, segments_in, stream_length, streams_place, trailer_length, trailer_place};
-ghost use Rattle.box_format.specs.Whole.{IsWhole};
+ghost use Rattle.box_format.specs.Raws.{front_room, header_length, header_place, list_long, list_place, named_end, numbers, record_place, segments_in, stream_length, streams_place, trailer_length, trailer_place};
+ghost use Rattle.box_format.specs.Versions.{version_in};
+ghost use Rattle.box_format.specs.Whole.{IsWhole, list_in};
 
+use crate::version::Version;
 use byteorder::{BigEndian, ByteOrder};
-
-/// The bytes of the fields before the records.
-pub(crate) const FRONT: usize = 15;
 
 /// The bytes of a record.
 pub(crate) const RECORD: usize = 22;
@@ -22,6 +21,17 @@ pub(crate) fn byte_in(bytes: &[u8], place: usize) -> u8
     }
 }
 
+/// The version, which is the first one where the bytes say none.
+pub(crate) fn version_in(bytes: &[u8]) -> Version
+    ensures { result ≡ version_in bytes.now }
+{
+    if byte_in(bytes, 4) == 2 {
+        Version::Second
+    } else {
+        Version::First
+    }
+}
+
 /// How many segments there are, 0 where that byte is missing.
 pub(crate) fn segments_in(bytes: &[u8]) -> u8
     ensures { result ≡ segments_in bytes.now }
@@ -29,16 +39,25 @@ pub(crate) fn segments_in(bytes: &[u8]) -> u8
     byte_in(bytes, 6)
 }
 
-/// Where the record of a segment starts; after the last record starts the header.
-pub(crate) fn record_place(segment: u8) -> usize
-    ensures { result ≡ record_place segment }
+/// Where the record of a segment starts; after the last record starts the pad list.
+pub(crate) fn record_place(bytes: &[u8], segment: u8) -> usize
+    ensures value { result ≡ record_place bytes.now segment }
+    ensures within { result ≤ 19 + 22 * segment }
 {
-    FRONT + RECORD * usize::from(segment)
+    version_in(bytes).front() + RECORD * usize::from(segment)
+}
+
+/// Where the pad list starts.
+pub(crate) fn list_place(bytes: &[u8]) -> usize
+    ensures value { result ≡ list_place bytes.now }
+    ensures within { result ≤ 5629 }
+{
+    record_place(bytes, segments_in(bytes))
 }
 
 /// The length of the header.
 pub(crate) fn header_length(bytes: &[u8]) -> u32
-    requires { front_room ≤ length bytes.now }
+    requires { front_room bytes.now ≤ length bytes.now }
     ensures { result ≡ header_length bytes.now }
 {
     BigEndian::read_u32(&bytes[7..])
@@ -46,29 +65,50 @@ pub(crate) fn header_length(bytes: &[u8]) -> u32
 
 /// The length of the trailer.
 pub(crate) fn trailer_length(bytes: &[u8]) -> u32
-    requires { front_room ≤ length bytes.now }
+    requires { front_room bytes.now ≤ length bytes.now }
     ensures { result ≡ trailer_length bytes.now }
 {
     BigEndian::read_u32(&bytes[11..])
 }
 
+/// The length of the pad list, 0 in a version that has none.
+pub(crate) fn list_length(bytes: &[u8]) -> u32
+    requires { front_room bytes.now ≤ length bytes.now }
+    ensures { result ≡ list_long bytes.now }
+{
+    if version_in(bytes).is_listed() {
+        BigEndian::read_u32(&bytes[15..])
+    } else {
+        0
+    }
+}
+
+/// Where the header starts.
+pub(crate) fn header_place(bytes: &[u8]) -> usize
+    requires { front_room bytes.now ≤ length bytes.now }
+    ensures value { result ≡ header_place bytes.now }
+    ensures within { result ≤ 5629 + 2 ^ 32 }
+{
+    list_place(bytes) + list_length(bytes) as usize
+}
+
 /// The length of a segment's stream.
 pub(crate) fn stream_length(bytes: &[u8], segment: u8) -> u64
-    requires { record_place (segment + 1) ≤ length bytes.now }
+    requires { record_place bytes.now (segment + 1) ≤ length bytes.now }
     ensures { result ≡ stream_length bytes.now segment }
 {
-    BigEndian::read_u64(&bytes[record_place(segment) + 14..])
+    BigEndian::read_u64(&bytes[record_place(bytes, segment) + 14..])
 }
 
 /// Where the stream of a segment starts, and after the last one the end that the fields name. Lengths of 64 bits each
 /// don't overflow it.
 pub(crate) fn stream_place(bytes: &[u8], segment: u8) -> u128
-    requires fields { header_place bytes.now ≤ length bytes.now }
+    requires fields { list_place bytes.now ≤ length bytes.now }
     requires segment { segment ≤ segments_in bytes.now }
     ensures { result
         ≡ streams_place bytes.now + sum (map (stream_length bytes.now) (numbers 0 segment)) }
 {
-    let before = record_place(segments_in(bytes)) as u128;
+    let before = header_place(bytes) as u128;
     let mut place = before + u128::from(header_length(bytes)) + u128::from(trailer_length(bytes));
     for i in 0..segment {
         place += u128::from(stream_length(bytes, i));
@@ -78,10 +118,20 @@ pub(crate) fn stream_place(bytes: &[u8], segment: u8) -> u128
 
 /// The end that the fields name.
 pub(crate) fn named_end(bytes: &[u8]) -> u128
-    requires { header_place bytes.now ≤ length bytes.now }
+    requires { list_place bytes.now ≤ length bytes.now }
     ensures { result ≡ named_end bytes.now }
 {
     stream_place(bytes, segments_in(bytes))
+}
+
+/// The pad list.
+pub(crate) fn list_in(bytes: &[u8]) -> &[u8]
+    requires { IsWhole bytes.now }
+    ensures { result.now ≡ list_in bytes.now }
+{
+    let (_, rest) = bytes.split_at(list_place(bytes));
+    let (list, _) = rest.split_at(list_length(bytes) as usize);
+    list
 }
 
 /// The header.
@@ -89,7 +139,7 @@ pub(crate) fn header_in(bytes: &[u8]) -> &[u8]
     requires { IsWhole bytes.now }
     ensures { result.now ≡ take (header_length bytes.now) (drop (header_place bytes.now) bytes.now) }
 {
-    let (_, rest) = bytes.split_at(record_place(segments_in(bytes)));
+    let (_, rest) = bytes.split_at(header_place(bytes));
     let (header, _) = rest.split_at(header_length(bytes) as usize);
     header
 }
@@ -99,7 +149,7 @@ pub(crate) fn trailer_in(bytes: &[u8]) -> &[u8]
     requires { IsWhole bytes.now }
     ensures { result.now ≡ take (trailer_length bytes.now) (drop (trailer_place bytes.now) bytes.now) }
 {
-    let place = record_place(segments_in(bytes)) + header_length(bytes) as usize;
+    let place = header_place(bytes) + header_length(bytes) as usize;
     let (_, rest) = bytes.split_at(place);
     let (trailer, _) = rest.split_at(trailer_length(bytes) as usize);
     trailer
@@ -120,11 +170,11 @@ pub(crate) fn stream_in(bytes: &[u8], segment: u8) -> &[u8]
 
 /// The record of a segment without the length of its stream.
 pub(crate) fn record_in(bytes: &[u8], segment: u8) -> [u8; 14]
-    requires { record_place (segment + 1) ≤ length bytes.now }
-    ensures { result ≡ take 14 (drop (record_place segment) bytes.now) }
+    requires { record_place bytes.now (segment + 1) ≤ length bytes.now }
+    ensures { result ≡ take 14 (drop (record_place bytes.now segment) bytes.now) }
 {
     let mut record = [0; 14];
-    let (_, rest) = bytes.split_at(record_place(segment));
+    let (_, rest) = bytes.split_at(record_place(bytes, segment));
     let (first, _) = rest.split_at(14);
     record.copy_from_slice(first);
     record

@@ -1,14 +1,18 @@
 // What holds of all containers, and the definitions computed on worked ones.
-ghost use Rattle.box_format.specs.BoxLaws.{BoxPasses, PassedIsBox, OneBox, OneBoxRefusal, NeverBoth};
+ghost use Rattle.box_format.specs.BoxLaws.{BoxPasses, PassedIsBox, OneBox, OneBoxRefusal, NeverBoth, MigratedIsBox, RelaidIsMigrated, SecondStays};
 ghost use Rattle.box_format.specs.BoxRows.{laid_out, early, late, prefixes};
 
-/// A container has one plan and one list of parts, other bytes have one refusal, and no bytes are both.
+/// A container has one plan and one list of parts, other bytes have one refusal, and no bytes are both. The parts of
+/// each are those of one of the second version, whose bytes differ in two fields.
 pub fn containers_have_one_spelling()
     ensures passes { BoxPasses }
     ensures passed { PassedIsBox }
     ensures one { OneBox }
     ensures refusal { OneBoxRefusal }
     ensures apart { NeverBoth }
+    ensures migrated { MigratedIsBox }
+    ensures stays { SecondStays }
+    ensures relaid { RelaidIsMigrated }
 {}
 
 /// The definitions computed on worked containers.

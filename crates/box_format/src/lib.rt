@@ -1,6 +1,7 @@
 //! The container of a file: its fields, and its parts (this project's own; docs/FORMAT.md has it by offset).
 //!
 //!     LPSG | 1 | pad | K | lengths of header and trailer | K records | header | trailer | K streams
+//!     LPSG | 2 | pad | K | these, and of a pad list | K records | pad list | header | trailer | K streams
 //!
 //! A record has what a segment starts from and the length of its stream. A container has one spelling: what can be said
 //! in one way only is checked, and every check that fails has a refusal of its own. What a stream stands for is left to
@@ -10,16 +11,21 @@
 mod checks;
 mod fields;
 mod laws;
+mod migrating;
+mod pad_lists;
 mod parts;
 mod reading;
 mod refusal;
 mod starts;
+mod version;
 mod view;
 mod writing;
 
 pub use laws::{containers_have_one_spelling, rows_of_containers};
+pub use migrating::migrate;
 pub use parts::Parts;
 pub use reading::read_box;
-pub use refusal::BoxRefusal;
+pub use refusal::{BoxRefusal, Migrate};
+pub use version::Version;
 pub use view::BoxView;
 pub use writing::write_box;

@@ -1,11 +1,12 @@
 // What a container is written from.
 use handover::Handover;
+use scan_text::Pads;
 
 /// What a container is written from. Clauses see `BoxParts`.
 #[derive(Clone, Copy)]
 pub struct Parts<'a> {
-    /// The bit that fills up the last byte of each restart interval; 1 where no bit is padded.
-    pub pad: bool,
+    /// The bits that fill up the last byte of each restart interval.
+    pub pad: Pads<'a>,
     /// The file's bytes up to its scan.
     pub header: &'a [u8],
     /// The file's bytes after its scan.

@@ -6,7 +6,7 @@ ghost use Rattle.scan_text.specs.Slots.{shape_of};
 ghost use Rattle.segment_text.specs.Cuts.{first_mcu};
 ghost use Rattle.segment_text.specs.RowHandovers.{markers_before};
 ghost use Rattle.box_format.specs.Parts.{bad_start, can_start, cut_in, is_start};
-ghost use Rattle.box_format.specs.Raws.{handover_at, header_place, segments_in};
+ghost use Rattle.box_format.specs.Raws.{handover_at, list_place, segments_in};
 ghost use Rattle.box_format.specs.Whole.{bad_segment, are_unused_zeros};
 
 use crate::fields::{record_in, segments_in};
@@ -15,7 +15,7 @@ use jpeg_marker::Plan;
 
 /// The first segment that can't start from its record.
 pub(crate) fn bad_segment(bytes: &[u8], plan: &Plan) -> Option<u8>
-    requires { header_place bytes.now ≤ length bytes.now }
+    requires { list_place bytes.now ≤ length bytes.now }
     ensures { result ≡ bad_segment plan.now bytes.now }
 {
     let segments = segments_in(bytes);
@@ -29,7 +29,7 @@ pub(crate) fn bad_segment(bytes: &[u8], plan: &Plan) -> Option<u8>
 
 // Whether a segment can start from its record.
 fn can_start_at(bytes: &[u8], plan: &Plan, segment: u8) -> bool
-    requires fields { header_place bytes.now ≤ length bytes.now }
+    requires fields { list_place bytes.now ≤ length bytes.now }
     requires segment { segment < segments_in bytes.now }
     ensures { result
         ≡ can_start (shape_of plan.now)

@@ -1,11 +1,18 @@
 // A container that was read.
-ghost use Rattle.std.specs.Prelude.{◌≡◌, ◌≤◌, ◌<◌, ◌^◌, length, get_or, []};
+ghost use Rattle.std.specs.Prelude.{◌≡◌, ◌≤◌, ◌<◌, ◌^◌, length, get_or, [], true};
 ghost use Rattle.handover.specs.Handovers.{start};
-ghost use Rattle.box_format.specs.Parts.{IsBox, most_segments};
+ghost use Rattle.scan_text.specs.Pads.{is_long_for, pads_given};
+ghost use Rattle.scan_text.specs.Slots.{shape_of};
+ghost use Rattle.box_format.specs.Parts.{IsBox};
+ghost use Rattle.box_format.specs.Versions.{layout_of, most_segments};
 
-use crate::fields::{byte_in, header_in, record_in, segments_in, stream_in, trailer_in};
+use crate::fields::{
+    byte_in, header_in, list_in, record_in, segments_in, stream_in, trailer_in, version_in,
+};
+use crate::version::Version;
 use handover::Handover;
 use jpeg_marker::Plan;
+use scan_text::Pads;
 use std::marker::Model;
 
 /// A container that was read, by its parts, which it borrows.
@@ -37,16 +44,28 @@ impl<'a> BoxView<'a> {
         &self.plan
     }
 
-    /// The bit that fills up the last byte of each restart interval; 1 where no bit is padded.
-    pub fn pad(&self) -> bool
-        ensures { result ≡ self.now.parts.pad }
+    /// The version that it is written in.
+    pub fn version(&self) -> Version
+        ensures { result ≡ self.now.parts.version }
     {
-        byte_in(self.bytes, 5) != 0
+        version_in(self.bytes)
     }
 
-    /// How many segments there are, 1 to 16, and at most as many as MCU rows.
+    /// The bits that fill up the last byte of each restart interval.
+    pub fn pad(&self) -> Pads<'a>
+        ensures value { pads_given result ≡ self.now.parts.pads }
+        ensures long { is_long_for (shape_of self.now.plan) (pads_given result) ≡ true }
+    {
+        match byte_in(self.bytes, 5) {
+            2 => Pads::Each(list_in(self.bytes)),
+            pad => Pads::All(pad != 0),
+        }
+    }
+
+    /// How many segments there are, 1 to 16 in version 1 and to 64 in version 2, and at most as many as MCU rows.
     pub fn segments(&self) -> u8
         ensures count { result ≡ length self.now.parts.handovers }
+        ensures of_version { result ≤ (layout_of self.now.parts.version).most }
         ensures few { result ≤ most_segments }
     {
         segments_in(self.bytes)

@@ -3,29 +3,41 @@ ghost use Rattle.std.specs.Prelude.{◌≡◌, ◌-◌, ◌^◌, min, ◌∷◌,
 ghost use Rattle.byteorder.specs.Endian.{big_bytes};
 ghost use Rattle.handover.specs.HandoverBytes.{handover_bytes};
 ghost use Rattle.jpeg_marker.specs.Plans.{PlanFields};
-ghost use Rattle.box_format.specs.Parts.{IsBox, box_bytes, magic, pad_byte, records, version};
+ghost use Rattle.scan_text.specs.Pads.{pads_given};
+ghost use Rattle.box_format.specs.Parts.{IsBox, box_bytes, list_bytes, magic, pad_byte, records};
+ghost use Rattle.box_format.specs.Versions.{version_byte};
+ghost use Rattle.box_format.specs.declared.version.Version.TheVariants.{Second};
 ghost use Rattle.box_format.specs.Seen.{parts_given, room_of};
 
-use crate::checks::{MAGIC, VERSION};
-use crate::fields::{FRONT, RECORD};
+use crate::checks::MAGIC;
+use crate::fields::RECORD;
 use crate::parts::Parts;
+use crate::version::Version;
 use handover::Handover;
+use scan_text::Pads;
 use std::alloc::{AllocError, Global};
 
-/// Writes the container of these parts, which have to be those of one: their checks pass. The one error is want of
-/// memory.
+/// Writes the container of these parts, in version 2. They have to be those of one: their checks pass. The one error is
+/// want of memory.
 pub fn write_box(alloc: Global, parts: &Parts) -> Result<Vec<u8>, AllocError>
     requires { (plan : PlanFields) × IsBox plan (parts_given parts.now) }
     ensures { IfOk result (λ bytes. bytes.items ≡ box_bytes (parts_given parts.now)) }
 {
     let mut bytes = Vec::with_capacity(alloc, room(parts))?;
-    put_front(&mut bytes, parts.pad, parts.handovers.len() as u8)?;
+    let list = list_of(&parts.pad);
+    put_front(
+        &mut bytes,
+        pad_byte(&parts.pad),
+        parts.handovers.len() as u8,
+    )?;
     put_lengths(
         &mut bytes,
         parts.header.len() as u32,
         parts.trailer.len() as u32,
+        list.len() as u32,
     )?;
     put_records(&mut bytes, parts.handovers, parts.streams)?;
+    bytes.extend_from_slice(list)?;
     bytes.extend_from_slice(parts.header)?;
     bytes.extend_from_slice(parts.trailer)?;
     put_streams(&mut bytes, parts.streams)?;
@@ -36,7 +48,9 @@ pub fn write_box(alloc: Global, parts: &Parts) -> Result<Vec<u8>, AllocError>
 fn room(parts: &Parts) -> usize
     ensures { result ≡ min (2 ^ 64 - 1) (room_of (parts_given parts.now)) }
 {
-    let mut room = FRONT
+    let mut room = Version::Second
+        .front()
+        .saturating_add(list_of(&parts.pad).len())
         .saturating_add(parts.header.len())
         .saturating_add(parts.trailer.len());
     for stream in parts.streams {
@@ -46,31 +60,46 @@ fn room(parts: &Parts) -> usize
 }
 
 // The fields up to the lengths.
-fn put_front(bytes: &mut Vec<u8>, pad: bool, segments: u8) -> Result<(), AllocError>
+fn put_front(bytes: &mut Vec<u8>, pad: u8, segments: u8) -> Result<(), AllocError>
     ensures { OnOk result (bytes.new.items
-        ≡ bytes.old.items ++ (magic ++ version ∷ pad_byte pad ∷ segments ∷ [])) }
+        ≡ bytes.old.items ++ (magic ++ version_byte Second ∷ pad ∷ segments ∷ [])) }
 {
     bytes.extend_from_slice(&MAGIC)?;
-    bytes.push(VERSION)?;
-    bytes.push(byte_of(pad))?;
+    bytes.push(Version::Second.byte())?;
+    bytes.push(pad)?;
     bytes.push(segments)?;
     Ok(())
 }
 
-// The byte of a pad bit.
-fn byte_of(pad: bool) -> u8
-    ensures { result ≡ pad_byte pad }
+// The byte of pad bits.
+fn pad_byte(pads: &Pads) -> u8
+    ensures { result ≡ pad_byte (pads_given pads.now) }
 {
-    if pad { 1 } else { 0 }
+    match *pads {
+        Pads::All(false) => 0,
+        Pads::All(true) => 1,
+        Pads::Each(_) => 2,
+    }
 }
 
-// The lengths of header and trailer.
-fn put_lengths(bytes: &mut Vec<u8>, header: u32, trailer: u32) -> Result<(), AllocError>
+// The pad list, if there is one.
+fn list_of<'a>(pads: &Pads<'a>) -> &'a [u8]
+    ensures { result.now ≡ list_bytes (pads_given pads.now) }
+{
+    match *pads {
+        Pads::All(_) => &[],
+        Pads::Each(list) => list,
+    }
+}
+
+// The lengths of header, trailer and pad list.
+fn put_lengths(bytes: &mut Vec<u8>, header: u32, trailer: u32, list: u32) -> Result<(), AllocError>
     ensures { OnOk result (bytes.new.items
-        ≡ bytes.old.items ++ (big_bytes 4 header ++ big_bytes 4 trailer)) }
+        ≡ bytes.old.items ++ (big_bytes 4 header ++ (big_bytes 4 trailer ++ big_bytes 4 list))) }
 {
     bytes.extend_from_slice(&header.to_be_bytes())?;
     bytes.extend_from_slice(&trailer.to_be_bytes())?;
+    bytes.extend_from_slice(&list.to_be_bytes())?;
     Ok(())
 }
 

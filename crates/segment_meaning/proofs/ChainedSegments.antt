@@ -1,17 +1,19 @@
 -- Segments that end well, each starting from where the one before it leaves off, have one list of MCUs.
 use Rattle.std.proofs.Common.{◌≡◌, ℕ, zero, suc, ◌+◌, ◌-◌, ◌^◌, ◌<◌, ◌≤◌, Bool, List, [], ◌∷◌, ◌++◌, length, take, drop, map, get_or, Ok, Err, None, inl, inr, refl, sym, ap, ap₂, ◌∙◌, arith, length-append, zero-add}
-use Rattle.std.specs.Prelude.{◌||◌}
 use Rattle.std.specs.List.{AllByRecursion}
 use Rattle.std.proofs.lemmas.Bool.{cases_eq}
 use Rattle.std.proofs.lemmas.List.{take_at}
 use Rattle.std.proofs.Math.Seq.{take-append-add}
 use Rattle.huff_table.proofs.Pairs.{all-append}
 use Rattle.jpeg_marker.specs.Plans.{PlanFields}
+use Rattle.scan_text.specs.Pads.{bit_for}
 use Rattle.scan_text.specs.Scans.{Mcu, IsMcu}
 use Rattle.scan_text.specs.Slots.{Shape, shape_of}
 use Rattle.scan_text.specs.Spots.{Spot, Put, prefixed_put, then_put, mcus_put, spot_in}
 use Rattle.scan_text.proofs.Parts.{put_in_parts}
 use Rattle.handover.specs.Handovers.{IsHandover, start}
+use Rattle.handover.specs.PadSums.{pads_with}
+use Rattle.handover.specs.declared.pads.PadSum.{PadSum}
 use Rattle.segment_text.specs.RowHandovers.{handover_of}
 use Rattle.block_events.specs.Grid.{IsGrid}
 use Rattle.box_format.specs.Parts.{BoxParts}
@@ -19,10 +21,10 @@ use Rattle.box_format.specs.Raws.{numbers}
 use Rattle.segment_meaning.specs.ScanStream.{grid_of, blocks_of, blocks_stream}
 use Rattle.segment_meaning.specs.Segments.{Output, segment_output}
 use Rattle.handover.specs.declared.outcome.Outcome.TheVariants.{Good}
-use Rattle.segment_meaning.specs.SegmentLaws.{is_any_padded}
+use Rattle.segment_meaning.specs.SegmentLaws.{mcus_sum}
 use Rattle.segment_meaning.specs.Meanings.{Joined, segment_in, joined_with, joined}
 use Rattle.segment_meaning.proofs.CutsOfPlans.{AreCuts, starts_at, cuts_rise}
-use Rattle.segment_meaning.proofs.PutParts.{padded_parts}
+use Rattle.segment_meaning.proofs.PutParts.{sums_parts}
 use Rattle.segment_meaning.proofs.ReachedSegments.{first_good, Reached, shape, pads, Ends, good_there, reached_next}
 
 -- ---- lists in two parts
@@ -60,7 +62,7 @@ module _ (plan : PlanFields) (b : BoxParts) (few : (shape_of plan).mcus ≤ 2 ^ 
   form = shape_of plan
 
   abbrev bits : ℕ → Bool
-  bits n = b.pad
+  bits = bit_for b.pads
 
   abbrev cut : ℕ → ℕ
   cut i = starts_at plan (length b.handovers) i
@@ -76,7 +78,7 @@ module _ (plan : PlanFields) (b : BoxParts) (few : (shape_of plan).mcus ≤ 2 ^ 
     pub long : length mcus + cut i ≡ cut (i + count)
     pub all : AllByRecursion (IsMcu form.slots) mcus
     pub text : mcus_put form bits spot mcus ≡ Ok ((all_from i count).bytes, end)
-    pub padded : (all_from i count).padded ≡ is_any_padded form bits spot mcus
+    pub padded : (all_from i count).padded ≡ mcus_sum form b.pads spot mcus
     pub handovers : (j : ℕ) → i ≤ j → j < i + count
         → get_or b.handovers j start
         ≡ handover_of form (spot_in (mcus_put form bits spot (take (cut j - cut i) mcus)))
@@ -167,8 +169,8 @@ module _ (plan : PlanFields) (b : BoxParts) (few : (shape_of plan).mcus ≤ 2 ^ 
         (blocks_of (take (cut (n + 1) - cut n) (drop (cut n - cut i) (good.mcus ++ more.mcus)))))
         (sym e)
 
-    chain_more : (padded : Bool) → segment_output (segment_in plan b i) ≡ (bytes, Good padded)
-        → padded ≡ is_any_padded form bits spot good.mcus
+    chain_more : (padded : PadSum) → segment_output (segment_in plan b i) ≡ (bytes, Good padded)
+        → padded ≡ mcus_sum form b.pads spot good.mcus
         → get_or b.handovers i start ≡ handover_of form spot → Chained i (suc count) spot
     chain_more padded out padded_is at =
         let all : all_from i (suc count) ≡ joined_with bytes (Good padded)
@@ -188,8 +190,8 @@ module _ (plan : PlanFields) (b : BoxParts) (few : (shape_of plan).mcus ≤ 2 ^ 
               ∙ ap (prefixed_put bytes) more.text
               ∙ ap (λ (x : Joined). Ok (x.bytes, more.end)) (sym all);
           padded =
-              ap (λ (x : Joined). x.padded) all ∙ ap₂ (λ (x y : Bool). x || y) padded_is more.padded
-              ∙ sym (padded_parts good.mcus more.mcus form bits spot good.end bytes good.text);
+              ap (λ (x : Joined). x.padded) all ∙ ap₂ pads_with padded_is more.padded
+              ∙ sym (sums_parts good.mcus more.mcus form b.pads spot good.end bytes good.text);
           handovers = λ j after before. elim (cases_eq j i) [
             | inl same ↦ first_handover j same at
             | inr other ↦ later_handover j (omega (arith, other, after)) before

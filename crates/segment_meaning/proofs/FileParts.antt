@@ -1,8 +1,8 @@
 -- The parts of a file's container.
-use Rattle.std.proofs.Common.{◌≡◌, ℕ, zero, suc, ◌+◌, ◌-◌, ◌*◌, ◌^◌, ◌<◌, ◌≤◌, List, [], ◌++◌, length, take, drop, map, refl, sym, ap, ◌∙◌, subst, arith, append-nil, length-append}
+use Rattle.std.proofs.Common.{◌≡◌, ℕ, zero, suc, ◌+◌, ◌-◌, ◌*◌, ◌/◌, ◌^◌, ◌<◌, ◌≤◌, Bool, true, false, ◌==◌, not, ◌&&◌, if◌then◌else◌, List, [], ◌++◌, length, take, drop, map, refl, sym, ap, ◌∙◌, subst, arith, append-nil, length-append}
 use Rattle.std.specs.Prelude.{min}
 use Rattle.std.specs.List.{AllByRecursion}
-use Rattle.std.proofs.Math.Nat.{mul-le-mul_right}
+use Rattle.std.proofs.Math.Nat.{mul-le-mul_right, div-le_self}
 use Rattle.std.proofs.lemmas.List.{take-append-drop, length-take-le, drop_at}
 use Rattle.bit_list.specs.Bits.{IsByte}
 use Rattle.jpeg_marker.specs.AcceptedPlans.{HasPlan}
@@ -10,18 +10,25 @@ use Rattle.jpeg_marker.specs.HeaderPlan.{Accepts}
 use Rattle.jpeg_marker.specs.Plans.{IsPlan, most_blocks}
 use Rattle.jpeg_marker.proofs.HeadersTaken.{accepted_has_plan}
 use Rattle.jpeg_marker.proofs.PlanGrids.{few_mcus}
-use Rattle.scan_text.specs.Slots.{shape_of}
+use Rattle.scan_text.specs.Pads.{Same, Listed, pad_list, bits_sum}
+use Rattle.scan_text.specs.Scans.{padded, pad_counts, pad_at, intervals_of}
+use Rattle.scan_text.specs.Slots.{Shape, shape_of}
+use Rattle.scan_text.proofs.PadSpelling.{list_is_clean}
+use Rattle.scan_text.proofs.PadsAlike.{are_long, intervals_are}
 use Rattle.scan_text.proofs.PlanShapes.{slots_count}
 use Rattle.handover.specs.Handovers.{HandoverFields, IsHandover}
 use Rattle.segment_text.specs.RowHandovers.{mcus_between}
-use Rattle.box_format.specs.Parts.{IsBox, cut_in, bad_start}
+use Rattle.box_format.specs.Parts.{IsBox, cut_in, bad_start, list_bytes}
+use Rattle.box_format.specs.Versions.{layout_of}
+use Rattle.box_format.specs.declared.version.Version.{Version}
 use Rattle.box_format.specs.Raws.{numbers}
 use Rattle.segment_meaning.specs.ScanStream.{grid_of, blocks_of, stream_of}
-use Rattle.segment_meaning.specs.Files.{IsContainerOf, segment_mcus, segment_start, parts_of_file}
+use Rattle.segment_meaning.specs.Files.{IsContainerOf, segment_mcus, segment_start, parts_of_file, told_pads}
 use Rattle.segment_meaning.specs.SegmentLaws.{Suits}
 use Rattle.segment_meaning.proofs.CutsOfPlans.{AreCuts, starts_at, plan_cuts, cut_within}
 use Rattle.segment_meaning.proofs.Numbered.{mapped_long}
 use Rattle.segment_meaning.proofs.PlanGrids.{plan_suits}
+use Rattle.segment_meaning.proofs.ScanBytes.{completed}
 use Rattle.segment_meaning.proofs.SlicesMeant.{all_take, all_drop, blocks_are, between_are, between_long}
 use Rattle.segment_meaning.proofs.StartsOfSegments.{handover_at_is, starts_there, none_bad}
 use Rattle.segment_meaning.proofs.StreamSizes.{stream_short, blocks_long}
@@ -37,7 +44,25 @@ all_mapped P f (suc count) i each = (
       (λ j after within. each j (omega (arith, after)) (omega (arith, within))),
 )
 
-module _ (most : ℕ) (made file : List ℕ) (some : 0 < most) (is : IsContainerOf most made file) where
+-- the list of pad bits: bytes, and at most one for eight of them
+record IsFew (count : ℕ) (bytes : List ℕ) : Type 0 where
+  pub long : length bytes ≤ (count + 7) / 8
+  pub are : AllByRecursion IsByte bytes
+
+list_few : (listed bit : Bool) (pads : List Bool)
+    → IsFew (length pads) (list_bytes (if listed then Listed (pad_list pads) else Same bit))
+list_few true bit pads = record {
+  long = (let h = (list_is_clean pads).0 in omega (arith, h));
+  are = completed (padded pads false) [];
+}
+list_few false bit pads = record { long = omega arith; are = tt }
+
+number_few : (t : Bool) (n k : ℕ) → (if t then 0 else n / k) ≤ n
+number_few true n k = omega arith
+number_few false n k = div-le_self n k
+
+module _ (version : Version) (most : ℕ) (made file : List ℕ) (some : 0 < most)
+    (is : IsContainerOf version most made file) where
   has_plan : HasPlan file is.plan
   has_plan = accepted_has_plan file is.plan is.bytes is.is.header
 
@@ -60,8 +85,11 @@ module _ (most : ℕ) (made file : List ℕ) (some : 0 < most) (is : IsContainer
   pub cuts : AreCuts cut segments (is.plan.across * is.plan.down)
   cuts = plan_cuts is.plan segments some_segments
 
+  pub mcus_few : is.plan.across * is.plan.down ≤ most_blocks
+  mcus_few = few_mcus is.plan plan_is
+
   few : is.plan.across * is.plan.down ≤ 2 ^ 32
-  few = let h = few_mcus is.plan plan_is in omega (arith, h)
+  few = let h = mcus_few in omega (arith, h)
 
   pub header_long : length (take is.plan.header_length file) ≡ is.plan.header_length
   header_long = length-take-le is.plan.header_length file has_plan.within
@@ -139,16 +167,37 @@ module _ (most : ℕ) (made file : List ℕ) (some : 0 < most) (is : IsContainer
       let all = all_blocks in
       omega (arith, long, product, all)
 
-  handovers_are : (j : ℕ) → j < segments → IsHandover (segment_start is.plan is.mcus is.pad most j)
+  handovers_are : (j : ℕ) → j < segments → IsHandover (segment_start is.plan is.mcus is.pads most j)
   handovers_are j within =
       handover_at_is (shape_of is.plan)
-      (λ n. is.pad) is.mcus is.is.scan suits.shape_is is.is.is.grid
+      (pad_at is.pads) is.mcus is.is.scan suits.shape_is is.is.is.grid
       is.is.is.text (cut j) few
 
-  pub box_is : most ≤ 16 → IsBox is.plan (parts_of_file is.plan is.mcus is.pad
+  -- the pad list has at most a bit for each MCU
+  list_is : IsFew (length is.pads) (list_bytes (told_pads is.plan is.mcus is.pads))
+  list_is =
+      let shape = shape_of is.plan in
+      let sum = bits_sum (pad_counts shape.slots (intervals_of shape is.mcus)) is.pads in
+      list_few (sum.zero && sum.one) (not sum.zero) is.pads
+
+  pub list_long : length (list_bytes (told_pads is.plan is.mcus is.pads))
+      ≤ (is.plan.across * is.plan.down + 7) / 8
+  list_long =
+      let shape : Shape = shape_of is.plan in
+      let some_mcus = suits.shape_is.mcus in
+      let grid = is.is.is.grid.count in
+      let each =
+      are_long (pad_counts shape.slots (intervals_of shape is.mcus)) is.pads is.is.is.told in
+      let count = intervals_are shape is.mcus (omega (arith, some_mcus)) (omega (arith, grid)) in
+      let number = number_few (shape.interval == 0) (shape.mcus - 1) shape.interval in
+      let few_bytes = list_is.long in
+      omega (arith, each, count, number, few_bytes, some_mcus)
+
+  pub box_is : most ≤ (layout_of version).most
+      → IsBox is.plan (parts_of_file version is.plan is.mcus is.pads
       (take is.plan.header_length file) is.trailer most)
-  box_is sixteen =
-      let start : ℕ → HandoverFields = segment_start is.plan is.mcus is.pad most in
+  box_is allowed =
+      let start : ℕ → HandoverFields = segment_start is.plan is.mcus is.pads most in
       let stream : ℕ → List ℕ = λ j. stream_of is.plan (segment_mcus is.plan is.mcus most j) in
       let many = mapped_long start 0 segments in
       let count = some_segments in
@@ -156,8 +205,9 @@ module _ (most : ℕ) (made file : List ℕ) (some : 0 < most) (is : IsContainer
         header = header_taken;
         whole = sym header_long;
         some = omega (arith, many, count);
-        few = omega (arith, many, sixteen);
+        few = omega (arith, many, allowed);
         rows = omega (arith, many);
+        pads = is.can;
         streams = mapped_long stream 0 segments ∙ sym many;
         each = all_mapped IsHandover start segments 0
             (λ j after within. handovers_are j (omega (arith, within)));
@@ -166,10 +216,12 @@ module _ (most : ℕ) (made file : List ℕ) (some : 0 < most) (is : IsContainer
             ∙ none_bad (shape_of is.plan) (cut_in is.plan segments) start segments 0
             (λ j after within.
             starts_there (shape_of is.plan)
-            (λ n. is.pad) is.mcus is.is.scan suits.shape_is is.is.is.grid
+            (pad_at is.pads) is.mcus is.is.scan suits.shape_is is.is.is.grid
             is.is.is.text (cut j) few (cut_within cut segments _ j cuts (omega (arith, within))));
         header_fits = let h = is.header_fits in omega (arith, h, header_long);
         trailer_fits = is.trailer_fits;
+        list_fits = let l = list_long in let m = few in omega (arith, l, m);
+        list_bytes_are = list_is.are;
         streams_fit = all_mapped (λ l. length l < 2 ^ 64) stream segments 0
             (λ j after within. stream_fits j (omega (arith, within)));
         header_bytes = all_take IsByte is.plan.header_length file is.bytes;

@@ -1,39 +1,48 @@
 -- What stands for a file is its container.
-use Rattle.std.proofs.Common.{◌≡◌, ℕ, ◌+◌, ◌-◌, ◌^◌, ◌≤◌, Bool, true, false, List, [], ◌∷◌, ◌++◌, length, take, drop, map, inl, inr, refl, sym, ap, subst, ◌∙◌, arith, append_assoc, zero-add}
+use Rattle.std.proofs.Common.{◌≡◌, ℕ, ◌+◌, ◌-◌, ◌^◌, ◌≤◌, Bool, true, not, ◌==◌, ◌/◌, if◌then◌else◌, List, [], ◌∷◌, ◌++◌, length, take, drop, map, inl, inr, refl, sym, ap, subst, ◌∙◌, arith, append_assoc, zero-add}
 use Rattle.std.specs.Prelude.{min}
-use Rattle.std.specs.List.{AllByRecursion}
+use Rattle.std.specs.List.{AllByRecursion, list_all}
+use Rattle.std.proofs.lemmas.Bool.{and_parts, eqb-true}
 use Rattle.std.proofs.lemmas.List.{take_at, drop_at}
 use Rattle.huff_table.proofs.Pairs.{all-append}
-use Rattle.bit_list.specs.Bits.{IsByte}
+use Rattle.bit_list.specs.Bits.{IsByte, bits_of}
 use Rattle.jpeg_marker.specs.HeaderPlan.{Accepts}
 use Rattle.jpeg_marker.specs.MarkerSegments.{header_text}
 use Rattle.jpeg_marker.specs.Plans.{PlanFields, IsPlan}
 use Rattle.jpeg_marker.proofs.HeadersTaken.{accepted_has_plan}
 use Rattle.jpeg_marker.proofs.PlanGrids.{few_mcus}
-use Rattle.scan_text.specs.Scans.{AreMcus, IsScan, pad_count}
+use Rattle.scan_text.specs.Pads.{PadBits, Same, Listed, bit_for, intervals_sum, is_spelled, interval_count, list_room}
+use Rattle.scan_text.specs.Scans.{AreMcus, IsScan, pad_counts, pad_at, intervals_of}
 use Rattle.scan_text.specs.ScanLaws.{bytes_in}
 use Rattle.scan_text.specs.Slots.{Shape, shape_of}
 use Rattle.scan_text.specs.Spots.{first_spot, mcus_put, spot_in}
 use Rattle.scan_text.specs.FileLaws.{IsFileOf}
+use Rattle.scan_text.proofs.PadSpelling.{CanTell, kept, kept_are, kept_agree, told_again}
+use Rattle.scan_text.proofs.PadsAlike.{pads_alike, intervals_are}
 use Rattle.scan_text.proofs.PutWhole.{put_whole}
+use Rattle.handover.specs.declared.pads.PadSum.{PadSum}
 use Rattle.handover.specs.Handovers.{HandoverFields, start}
 use Rattle.segment_text.specs.Cuts.{first_mcu}
 use Rattle.segment_text.specs.RowHandovers.{handover_of, handover_at, mcus_between}
-use Rattle.box_format.specs.Parts.{BoxParts, IsBox, box_bytes, cut_in}
+use Rattle.box_format.specs.Parts.{BoxParts, IsBox, box_bytes, cut_in, can_pad, is_list, list_bytes}
+use Rattle.box_format.specs.Versions.{layout_of, version_byte, version_in}
+use Rattle.box_format.specs.declared.version.Version.{Version}
+use Rattle.box_format.specs.declared.version.Version.TheVariants.{First, Second}
 use Rattle.box_format.specs.Raws.{numbers}
 use Rattle.segment_meaning.specs.ScanStream.{grid_of, blocks_of, blocks_stream, stream_of}
-use Rattle.segment_meaning.specs.SegmentLaws.{Suits, is_any_padded}
+use Rattle.segment_meaning.specs.SegmentLaws.{Suits}
 use Rattle.segment_meaning.specs.Meanings.{Meaning, outputs_of, joined}
-use Rattle.segment_meaning.specs.Files.{IsContainerOf, parts_of_file}
+use Rattle.segment_meaning.specs.Files.{IsContainerOf, parts_of_file, told_pads}
 use Rattle.segment_meaning.specs.MeaningLaws.{RestoredIsContainer}
 use Rattle.segment_meaning.proofs.ChainedSegments.{Chained, chained}
 use Rattle.segment_meaning.proofs.CutsOfPlans.{AreCuts, starts_at, plan_cuts}
 use Rattle.segment_meaning.proofs.Numbered.{mapped_is}
-use Rattle.segment_meaning.proofs.PaddedMcus.{padded_told}
+use Rattle.segment_meaning.proofs.PaddedMcus.{scan_sum}
 use Rattle.segment_meaning.proofs.PlanGrids.{plan_suits}
 use Rattle.segment_meaning.proofs.ReachedSegments.{Reached}
 use Rattle.segment_meaning.proofs.RestoredMeanings.{IsRestored, first_start, is_restored}
 use Rattle.segment_meaning.proofs.ScanBytes.{put_are_bytes}
+use Rattle.segment_meaning.proofs.SpotsAlike.{handovers_alike}
 use Rattle.segment_meaning.proofs.SpotsKept.{first_is_spot}
 use Rattle.segment_meaning.proofs.StartsOfSegments.{first_handover}
 
@@ -50,15 +59,37 @@ accepts_more header rest plan is = record {
   says = is.says;
 }
 
-not_true : (t : Bool) → (t ≡ true → ⊥) → t ≡ false
-not_true true h = absurd (h refl)
-not_true false h = refl
+-- the version that a container names
+version_again : (v : Version) → (if version_byte v == 2 then Second else First) ≡ v
+version_again First = refl
+version_again Second = refl
 
--- parts by the three lists that a file determines
-same_parts : (b : BoxParts) (header : List ℕ) (handovers : List HandoverFields)
-    (streams : List (List ℕ)) → b.header ≡ header → b.handovers ≡ handovers → b.streams ≡ streams
-    → b ≡ record b { header = header; handovers = handovers; streams = streams }
-same_parts b header handovers streams e f g = rw (← e, ← f, ← g) refl
+version_said : (b : BoxParts) → version_in (box_bytes b) ≡ b.version
+unfolding box_bytes
+version_said b = version_again b.version
+
+-- pad bits that a version can say
+can_tell : (listed : Bool) (shape : Shape) (count : ℕ) (told : PadBits)
+    → count ≡ interval_count shape → AllByRecursion IsByte (list_bytes told)
+    → can_pad listed shape told ≡ true → CanTell count told
+can_tell listed shape count (Same pad) e all can = tt
+can_tell listed shape count (Listed bytes) e all can =
+    let clean = list_all (λ bit. not bit) (drop (interval_count shape) (bits_of bytes)) in
+    let there = (and_parts listed (is_list shape bytes) can).1 in
+    let parts = and_parts (length bytes == list_room shape) clean there in
+    record {
+      are = all;
+      long = eqb-true (length bytes) (list_room shape) parts.0
+          ∙ ap (λ n. (n + 7) / 8) (sym e);
+      clean = ap (λ n. list_all (λ bit. not bit) (drop n (bits_of bytes))) e ∙ parts.1;
+    }
+
+-- parts by what a file determines
+same_parts : (b : BoxParts) (pads : PadBits) (header : List ℕ) (handovers : List HandoverFields)
+    (streams : List (List ℕ)) → b.pads ≡ pads → b.header ≡ header → b.handovers ≡ handovers
+    → b.streams ≡ streams
+    → b ≡ record b { pads = pads; header = header; handovers = handovers; streams = streams }
+same_parts b pads header handovers streams d e f g = rw (← d, ← e, ← f, ← g) refl
 
 module _ (plan : PlanFields) (b : BoxParts) (file : List ℕ) (is : IsBox plan b)
     (so : IsRestored b (joined (outputs_of plan b)) file) where
@@ -66,7 +97,7 @@ module _ (plan : PlanFields) (b : BoxParts) (file : List ℕ) (is : IsBox plan b
   shape = shape_of plan
 
   abbrev pads : ℕ → Bool
-  pads n = b.pad
+  pads = bit_for b.pads
 
   abbrev count : ℕ
   count = length b.handovers
@@ -110,17 +141,34 @@ module _ (plan : PlanFields) (b : BoxParts) (file : List ℕ) (is : IsBox plan b
     each = chain.all;
   }
 
-  told : pad_count shape chain.mcus ≡ 0 → b.pad ≡ true
-  told none =
-      let tells = padded_told shape pads chain.mcus (scan, chain.end) are chain.text in
-      so.told (chain.padded ∙ not_true (is_any_padded shape pads first_spot chain.mcus)
-      (λ some. let h = tells.0 some in omega (arith, h, none)))
+  abbrev counts : List ℕ
+  counts = pad_counts shape.slots (intervals_of shape chain.mcus)
 
-  is_scan : IsScan shape chain.mcus b.pad scan
+  -- the pad bits of the file
+  abbrev bits : List Bool
+  bits = kept b.pads 0 counts
+
+  spelled : is_spelled b.pads (intervals_sum b.pads 0 counts) ≡ true
+  spelled =
+      ap (λ (sum : PadSum). is_spelled b.pads sum)
+      (sym (chain.padded ∙ scan_sum shape b.pads chain.mcus (scan, chain.end) are chain.text))
+      ∙ so.told
+
+  -- they are told as they were
+  told : told_pads plan chain.mcus bits ≡ b.pads
+  told =
+      let some = suits.shape_is.mcus in
+      told_again b.pads counts
+      (can_tell (layout_of b.version).listed shape (length counts) b.pads
+      (intervals_are shape chain.mcus (omega (arith, some)) are.count) is.list_bytes_are is.pads)
+      spelled
+
+  is_scan : IsScan shape chain.mcus bits scan
   is_scan = record {
     grid = are;
-    told = told;
-    text = sym (put_whole shape pads chain.mcus suits.shape_is are) ∙ ap bytes_in chain.text;
+    told = kept_are counts b.pads 0;
+    text = sym (pads_alike shape chain.mcus pads (pad_at bits) (kept_agree counts b.pads))
+        ∙ sym (put_whole shape pads chain.mcus suits.shape_is are) ∙ ap bytes_in chain.text;
   }
 
   file_is : file ≡ b.header ++ (scan ++ b.trailer)
@@ -131,7 +179,7 @@ module _ (plan : PlanFields) (b : BoxParts) (file : List ℕ) (is : IsBox plan b
       sym (ap (take plan.header_length) file_is
       ∙ take_at b.header (scan ++ b.trailer) plan.header_length (sym is.whole))
 
-  file_of : IsFileOf file plan chain.mcus b.pad b.trailer
+  file_of : IsFileOf file plan chain.mcus bits b.trailer
   file_of = record {
     header = subst (λ l. Accepts l plan) (sym file_is)
         (accepts_more b.header (scan ++ b.trailer) plan is.header);
@@ -149,7 +197,7 @@ module _ (plan : PlanFields) (b : BoxParts) (file : List ℕ) (is : IsBox plan b
       (put_are_bytes shape pads chain.mcus first_spot chain.end scan chain.text) is.trailer_bytes))
 
   abbrev handed : ℕ → ℕ → HandoverFields
-  handed n i = handover_at shape pads chain.mcus (first_mcu (cut_in plan n) i)
+  handed n i = handover_at shape (pad_at bits) chain.mcus (first_mcu (cut_in plan n) i)
 
   abbrev streamed : ℕ → ℕ → List ℕ
   streamed n i =
@@ -168,7 +216,8 @@ module _ (plan : PlanFields) (b : BoxParts) (file : List ℕ) (is : IsBox plan b
       let e : cut k - cut 0 ≡ cut (0 + k) = omega (arith, none, f) in
       chain.handovers k (omega arith) (omega (arith, within))
       ∙ ap (λ n. handover_of shape
-      (spot_in (mcus_put shape pads first_spot (take n chain.mcus)))) e)
+      (spot_in (mcus_put shape pads first_spot (take n chain.mcus)))) e
+      ∙ handovers_alike shape pads (pad_at bits) chain.mcus (cut (0 + k)))
       ∙ ap (λ n. map (handed n) (numbers 0 n)) as_many
 
   streams_are : b.streams ≡ map (streamed (min count plan.down)) (numbers 0 (min count plan.down))
@@ -186,20 +235,22 @@ module _ (plan : PlanFields) (b : BoxParts) (file : List ℕ) (is : IsBox plan b
       ∙ ap (λ n. map (streamed n) (numbers 0 n)) as_many
 
   parts_are : b
-      ≡ parts_of_file plan chain.mcus b.pad (take plan.header_length file) b.trailer count
+      ≡ parts_of_file b.version plan chain.mcus bits (take plan.header_length file) b.trailer count
   parts_are =
-      same_parts b (take plan.header_length file) _ _ header_is handovers_are streams_are
+      same_parts b (told_pads plan chain.mcus bits) (take plan.header_length file) _ _ (sym told)
+      header_is handovers_are streams_are
 
-  pub container_is : (made : List ℕ) → made ≡ box_bytes b → IsContainerOf count made file
+  pub container_is : (made : List ℕ) → made ≡ box_bytes b → IsContainerOf b.version count made file
   container_is made text = record {
     bytes = all_bytes;
     plan = plan;
     mcus = chain.mcus;
-    pad = b.pad;
+    pads = bits;
     trailer = b.trailer;
     is = file_of;
     header_fits = let h = is.header_fits in let e = is.whole in omega (arith, h, e);
     trailer_fits = is.trailer_fits;
+    can = ap (can_pad (layout_of b.version).listed shape) told ∙ is.pads;
     spelled = text ∙ ap box_bytes parts_are;
   }
 
@@ -207,9 +258,11 @@ pub restored_is_container : RestoredIsContainer
 restored_is_container made file each (inl refused) =
     absurd (let f = ap (λ (m : Meaning). m.verdict) refused.2 in cc)
 restored_is_container made file each (inr (plan, b, of, e)) =
-    let so = is_restored plan b file e in (
+    let so = is_restored plan b file e in
+    let version : b.version ≡ version_in made = sym (ap version_in of.text ∙ version_said b) in (
       length b.handovers,
       of.box.some,
-      of.box.few,
-      container_is plan b file of.box so made of.text,
+      subst (λ v. length b.handovers ≤ (layout_of v).most) version of.box.few,
+      subst (λ v. IsContainerOf v (length b.handovers) made file) version
+          (container_is plan b file of.box so made of.text),
     )

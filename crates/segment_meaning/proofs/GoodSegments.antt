@@ -1,17 +1,20 @@
 -- A segment that ends well has MCUs, whose stream is its own.
 use Rattle.std.proofs.Common.{◌≡◌, ℕ, zero, suc, Bool, true, false, if◌then◌else◌, List, [], ◌∷◌, ◌++◌, length, Result, Ok, Err, Option, Some, None, refl, sym, ap, subst, ◌∙◌, append_assoc, append-nil, ℤ}
-use Rattle.std.specs.Prelude.{bytes_eq, IfSome, ◌||◌}
+use Rattle.std.specs.Prelude.{bytes_eq, IfSome}
 use Rattle.std.specs.List.{AllByRecursion}
 use Rattle.std.proofs.lemmas.Slice.Eq.{bytes_eq-Decides}
 use Rattle.coef_block.specs.Block.{IsBlock}
 use Rattle.scan_text.specs.Blocks.{blocks_text}
-use Rattle.scan_text.specs.ScanCalls.{is_padded}
+use Rattle.scan_text.specs.Pads.{bit_for}
+use Rattle.scan_text.specs.ScanCalls.{text_sum}
 use Rattle.scan_text.specs.Scans.{Mcu, IsMcu}
 use Rattle.scan_text.specs.Spots.{Spot, prefixed_put, then_put, mcu_put, mcus_put, spot_in}
 use Rattle.scan_text.specs.declared.stop.WriteStop.{WriteStop}
 use Rattle.scan_text.specs.declared.stop.WriteStop.TheVariants as stops
 use Rattle.handover.specs.Handovers.{HandoverFields, IsHandover}
 use Rattle.handover.specs.HandoverBytes.{handover_bytes, handover_in}
+use Rattle.handover.specs.PadSums.{pads_with}
+use Rattle.handover.specs.declared.pads.PadSum.{PadSum}
 use Rattle.handover.proofs.FieldBytes.{fields_again}
 use Rattle.handover.specs.declared.outcome.Outcome.{Outcome}
 use Rattle.handover.specs.declared.outcome.Outcome.TheVariants.{Good}
@@ -25,8 +28,8 @@ use Rattle.block_reading.specs.ReadingLaws.{HaveGiven}
 use Rattle.block_reading.proofs.BlocksRead.{blocks_are_given}
 use Rattle.segment_meaning.specs.ScanStream.{blocks_of, blocks_stream}
 use Rattle.segment_meaning.specs.Segments.{SegmentFields, Progress, Output, progress_after, fault_cause, stop_cause, stopped, stream_ending, ending_by, ending, after_step, mcu_step, mcus_output}
-use Rattle.segment_meaning.specs.SegmentLaws.{Meets, IsGood, IsSpot, CanMeet, GoodHasItsStream, is_any_padded}
-use Rattle.segment_meaning.proofs.PutParts.{or_more, or_none}
+use Rattle.segment_meaning.specs.SegmentLaws.{Meets, IsGood, IsSpot, CanMeet, GoodHasItsStream, mcus_sum}
+use Rattle.segment_meaning.proofs.PutParts.{sums_more, sums_none}
 use Rattle.segment_meaning.proofs.SpotsKept.{spot_kept, handover_is}
 
 -- ---- results
@@ -58,9 +61,9 @@ value_of d (Err e) = d
 
 -- ---- one MCU
 
--- whether a bit is padded after it
-abbrev here : SegmentFields → Progress → Mcu → Bool
-here s at mcu = is_padded s.shape at.spot (blocks_text s.shape.slots at.spot.before mcu)
+-- what is padded after it
+abbrev here : SegmentFields → Progress → Mcu → PadSum
+here s at mcu = text_sum s.shape s.pads at.spot (blocks_text s.shape.slots at.spot.before mcu)
 
 pub record Stepped (s : SegmentFields) (at : Progress) (bytes : List ℕ)
     (next : Progress) : Type 0 where
@@ -68,7 +71,7 @@ pub record Stepped (s : SegmentFields) (at : Progress) (bytes : List ℕ)
   pub spot : Spot
   pub is : IsMcu s.shape.slots mcu
   pub given : HaveGiven s.grid s.stream (at.blocks ++ mcu)
-  pub put : mcu_put s.shape s.pads at.spot mcu ≡ Ok (bytes, spot)
+  pub put : mcu_put s.shape (bit_for s.pads) at.spot mcu ≡ Ok (bytes, spot)
   pub at_next : progress_after s at mcu spot ≡ next
 
 last_are : (xs ys : List (List ℤ)) → AllByRecursion IsBlock (xs ++ ys) → AllByRecursion IsBlock ys
@@ -82,9 +85,9 @@ unfolding mcu_step value_of
 stepped s at bytes next have h =
     let read = blocks_read s.grid s.stream at.blocks (length s.shape.slots) in
     let p = and_ok (fault_cause read)
-    (λ mcu. and_then (stop_cause (mcu_put s.shape s.pads at.spot mcu))
+    (λ mcu. and_then (stop_cause (mcu_put s.shape (bit_for s.pads) at.spot mcu))
     (λ (put : List ℕ × Spot). Ok (put.0, progress_after s at mcu put.1))) (bytes, next) h in
-    let q = and_ok (stop_cause (mcu_put s.shape s.pads at.spot p.0))
+    let q = and_ok (stop_cause (mcu_put s.shape (bit_for s.pads) at.spot p.0))
     (λ (put : List ℕ × Spot). Ok (put.0, progress_after s at p.0 put.1)) (bytes, next) p.2 in
     let e = ap (value_of (bytes, next)) q.2 in
     let given = blocks_are_given s.grid s.stream at.blocks p.0 (length s.shape.slots) have
@@ -94,7 +97,7 @@ stepped s at bytes next have h =
       spot = q.0.1;
       is = (given.0, last_are at.blocks p.0 given.1.each);
       given = given.1;
-      put = stop_ok (mcu_put s.shape s.pads at.spot p.0) q.0 q.1
+      put = stop_ok (mcu_put s.shape (bit_for s.pads) at.spot p.0) q.0 q.1
           ∙ ap (λ (l : List ℕ). Ok (l, q.0.1)) (ap (λ (x : List ℕ × Progress). x.0) e);
       at_next = ap (λ (x : List ℕ × Progress). x.1) e;
     }
@@ -102,18 +105,18 @@ stepped s at bytes next have h =
 -- ---- endings
 
 good_test : (t : Bool) (s : SegmentFields) (a : Output) (cause : StreamCause) (bytes : List ℕ)
-    (padded : Bool) → (if t then a else stopped s cause) ≡ (bytes, Good padded)
+    (padded : PadSum) → (if t then a else stopped s cause) ≡ (bytes, Good padded)
     → (t ≡ true) × (a ≡ (bytes, Good padded))
 good_test true s a cause bytes padded h = (refl, h)
 good_test false s a cause bytes padded h =
     absurd (let e = ap (λ (o : Output). o.1) h in cc)
 
-record Ended (s : SegmentFields) (at : Progress) (bytes : List ℕ) (padded : Bool) : Type 0 where
+record Ended (s : SegmentFields) (at : Progress) (bytes : List ℕ) (padded : PadSum) : Type 0 where
   pub stream : blocks_stream s.grid at.blocks ≡ s.stream
   pub none : [] ≡ bytes
   pub padded_is : at.padded ≡ padded
 
-good_stream : (s : SegmentFields) (at : Progress) (bytes : List ℕ) (padded : Bool)
+good_stream : (s : SegmentFields) (at : Progress) (bytes : List ℕ) (padded : PadSum)
     → stream_ending s at ≡ (bytes, Good padded) → Ended s at bytes padded
 good_stream s at bytes padded h =
     let g = good_test (bytes_eq (blocks_stream s.grid at.blocks) s.stream) s ([], Good at.padded)
@@ -123,7 +126,7 @@ good_stream s at bytes padded h =
       none = ap (λ (o : Output). o.0) g.1;
       padded_is = padded_same (ap (λ (o : Output). o.1) g.1);
     } where
-      padded_same : {a b : Bool} → Good a ≡ Good b → a ≡ b
+      padded_same : {a b : PadSum} → Good a ≡ Good b → a ≡ b
       padded_same e = cc
 
 one_handover : (h k : HandoverFields) → IsHandover h → IsHandover k
@@ -132,7 +135,7 @@ one_handover h k is are e =
     sym (fields_again h is).1 ∙ ap handover_in e ∙ (fields_again k are).1
 
 good_end : (s : SegmentFields) (at : Progress) (next : Option HandoverFields)
-    (found : HandoverFields) (bytes : List ℕ) (padded : Bool) → IsHandover found
+    (found : HandoverFields) (bytes : List ℕ) (padded : PadSum) → IsHandover found
     → IfSome next IsHandover → ending_by s at found next ≡ (bytes, Good padded)
     → Meets found next × Ended s at bytes padded
 good_end s at None found bytes padded is are h = (tt, good_stream s at bytes padded h)
@@ -146,13 +149,13 @@ good_end s at (Some kept) found bytes padded is are h =
 
 -- ---- all MCUs
 
--- a segment that ended well, and whether a bit was padded
-abbrev IsGoodWith : SegmentFields → Progress → ℕ → List ℕ → Bool → Type 0
+-- a segment that ended well, and what was padded
+abbrev IsGoodWith : SegmentFields → Progress → ℕ → List ℕ → PadSum → Type 0
 IsGoodWith s at left bytes padded =
     (good : IsGood s at left bytes)
-    × (padded ≡ at.padded || is_any_padded s.shape s.pads at.spot good.mcus)
+    × (padded ≡ pads_with at.padded (mcus_sum s.shape s.pads at.spot good.mcus))
 
-good_none : (s : SegmentFields) (at : Progress) (bytes : List ℕ) (padded : Bool) → CanMeet s
+good_none : (s : SegmentFields) (at : Progress) (bytes : List ℕ) (padded : PadSum) → CanMeet s
     → IsSpot at.spot → ending s at ≡ (bytes, Good padded) → IsGoodWith s at 0 bytes padded
 unfolding ending mcus_put
 good_none s at bytes padded can spot h =
@@ -167,12 +170,12 @@ good_none s at bytes padded can spot h =
         stream = ap (blocks_stream s.grid) (append-nil at.blocks) ∙ g.1.stream;
         seam = g.0;
       },
-      sym g.1.padded_is ∙ sym (or_none at.padded),
+      sym g.1.padded_is ∙ sym (sums_none at.padded),
     )
 
 good_more : (left : ℕ) (s : SegmentFields) (at : Progress) (mcu : Mcu) (spot : Spot)
-    (before rest : List ℕ) (padded : Bool) → IsMcu s.shape.slots mcu
-    → mcu_put s.shape s.pads at.spot mcu ≡ Ok (before, spot)
+    (before rest : List ℕ) (padded : PadSum) → IsMcu s.shape.slots mcu
+    → mcu_put s.shape (bit_for s.pads) at.spot mcu ≡ Ok (before, spot)
     → IsGoodWith s (progress_after s at mcu spot) left rest padded
     → IsGoodWith s at (suc left) (before ++ rest) padded
 unfolding mcus_put
@@ -182,32 +185,33 @@ good_more left s at mcu spot before rest padded is put (g, p) = (
     end = g.end;
     long = ap suc g.long;
     each = (is, g.each);
-    text = ap (λ q. then_put q (λ next. mcus_put s.shape s.pads next g.mcus)) put
+    text = ap (λ q. then_put q (λ next. mcus_put s.shape (bit_for s.pads) next g.mcus)) put
         ∙ ap (prefixed_put before) g.text;
     stream = ap (blocks_stream s.grid) (sym (append_assoc at.blocks mcu (blocks_of g.mcus)))
         ∙ g.stream;
     seam = g.seam;
   },
-  p ∙ or_more at.padded (here s at mcu) (is_any_padded s.shape s.pads spot g.mcus)
-      ∙ ap (λ (end : Spot). at.padded || (here s at mcu || is_any_padded s.shape s.pads end g.mcus))
+  p ∙ sums_more at.padded (here s at mcu) (mcus_sum s.shape s.pads spot g.mcus)
+      ∙ ap (λ (end : Spot).
+      pads_with at.padded (pads_with (here s at mcu) (mcus_sum s.shape s.pads end g.mcus)))
       (sym (ap spot_in put)),
 )
 
 -- after a step, where what is left of a segment that ends well has its stream
-abbrev Again : ℕ → SegmentFields → Bool → Type 0
+abbrev Again : ℕ → SegmentFields → PadSum → Type 0
 Again left s padded =
     (next : Progress) (rest : List ℕ) → IsSpot next.spot → HaveGiven s.grid s.stream next.blocks
     → mcus_output left s next ≡ (rest, Good padded) → IsGoodWith s next left rest padded
 
 one_spot : (s : SegmentFields) (at : Progress) (mcu : Mcu) (spot : Spot) (bytes : List ℕ)
     → IsSpot at.spot → IsMcu s.shape.slots mcu
-    → mcu_put s.shape s.pads at.spot mcu ≡ Ok (bytes, spot) → IsSpot spot
+    → mcu_put s.shape (bit_for s.pads) at.spot mcu ≡ Ok (bytes, spot) → IsSpot spot
 unfolding mcus_put
 one_spot s at mcu spot bytes is each put =
-    spot_kept s.shape s.pads (mcu ∷ []) at.spot spot (bytes ++ []) (each, tt) is
-    (ap (λ q. then_put q (λ next. mcus_put s.shape s.pads next [])) put)
+    spot_kept s.shape (bit_for s.pads) (mcu ∷ []) at.spot spot (bytes ++ []) (each, tt) is
+    (ap (λ q. then_put q (λ next. mcus_put s.shape (bit_for s.pads) next [])) put)
 
-good_step : (left : ℕ) (s : SegmentFields) (at : Progress) (bytes : List ℕ) (padded : Bool)
+good_step : (left : ℕ) (s : SegmentFields) (at : Progress) (bytes : List ℕ) (padded : PadSum)
     (r : Result (List ℕ × Progress) StreamCause) → IsSpot at.spot
     → HaveGiven s.grid s.stream at.blocks → Again left s padded → mcu_step s at ≡ r
     → after_step s r (λ next. mcus_output left s next) ≡ (bytes, Good padded)
@@ -225,7 +229,7 @@ good_step left s at bytes padded (Ok made) spot have again e h =
     subst (λ (l : List ℕ). IsGoodWith s at (suc left) l padded) (ap (λ (o : Output). o.0) h)
     (good_more left s at m.mcu m.spot made.0 rest padded m.is m.put more)
 
-good : (left : ℕ) (s : SegmentFields) (at : Progress) (bytes : List ℕ) (padded : Bool)
+good : (left : ℕ) (s : SegmentFields) (at : Progress) (bytes : List ℕ) (padded : PadSum)
     → CanMeet s → IsSpot at.spot → HaveGiven s.grid s.stream at.blocks
     → mcus_output left s at ≡ (bytes, Good padded) → IsGoodWith s at left bytes padded
 unfolding mcus_output

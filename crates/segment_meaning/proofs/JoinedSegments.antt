@@ -1,25 +1,27 @@
 -- Segments that end well, one after another.
-use Rattle.std.proofs.Common.{◌≡◌, ℕ, zero, suc, ◌+◌, ◌<◌, ◌≤◌, Bool, false, List, map, refl, ap₂, arith, None}
-use Rattle.std.specs.Prelude.{flat_map, ◌||◌}
+use Rattle.std.proofs.Common.{◌≡◌, ℕ, zero, suc, ◌+◌, ◌<◌, ◌≤◌, List, map, refl, ap₂, arith, None}
+use Rattle.std.specs.Prelude.{flat_map}
+use Rattle.handover.specs.PadSums.{no_pads, pads_with}
+use Rattle.handover.specs.declared.pads.PadSum.{PadSum}
 use Rattle.handover.specs.declared.outcome.Outcome.TheVariants.{Good}
 use Rattle.segment_text.specs.Seams.{slices}
 use Rattle.box_format.specs.Raws.{numbers}
 use Rattle.segment_meaning.specs.Segments.{Output}
 use Rattle.segment_meaning.specs.Meanings.{Joined, joined_with, joined}
 
--- whether one of some segments padded a bit
-abbrev pub any_padded : (ℕ → Bool) → ℕ → ℕ → Bool
-any_padded padded i zero = false
-any_padded padded i (suc count) = padded i || any_padded padded (i + 1) count
+-- what some segments padded
+abbrev pub all_sum : (ℕ → PadSum) → ℕ → ℕ → PadSum
+all_sum padded i zero = no_pads
+all_sum padded i (suc count) = pads_with (padded i) (all_sum padded (i + 1) count)
 
-abbrev pub good_join : List ℕ → Bool → Joined
+abbrev pub good_join : List ℕ → PadSum → Joined
 good_join bytes padded = record { bytes = bytes; fault = None; padded = padded }
 
 pub joined_good : (output : ℕ → Output) (slice : ℕ → ℕ → List ℕ) (cut : ℕ → ℕ)
-    (padded : ℕ → Bool) (count i : ℕ)
+    (padded : ℕ → PadSum) (count i : ℕ)
     → ((j : ℕ) → i ≤ j → j < i + count → output j ≡ (slice (cut j) (cut (j + 1)), Good (padded j)))
     → joined (map output (numbers i count))
-    ≡ good_join (flat_map (λ bytes. bytes) (slices slice cut i count)) (any_padded padded i count)
+    ≡ good_join (flat_map (λ bytes. bytes) (slices slice cut i count)) (all_sum padded i count)
 joined_good output slice cut padded zero i each = refl
 joined_good output slice cut padded (suc count) i each =
     let first = each i (omega arith) (omega arith) in

@@ -5,6 +5,7 @@ pub mod PaddedMcus
 pub mod PutParts
 pub mod McusPut
 pub mod SlicesMeant
+pub mod SpotsAlike
 pub mod SpotsKept
 pub mod GoodSegments
 pub mod PlanGrids
@@ -24,3 +25,5 @@ pub mod ChainedSegments
 pub mod RestoredMeanings
 pub mod FilesOfContainers
 pub mod ShortSegments
+pub mod PadsTold
+pub mod MigratedMeanings

@@ -1,20 +1,22 @@
 -- A stream of MCUs stands for what they put.
-use Rattle.std.proofs.Common.{◌≡◌, ℕ, Bool, List, [], ◌∷◌, ◌++◌, length, Ok, refl, sym, ap, ap₂, subst, ◌∙◌, append_assoc, append-nil, ℤ}
-use Rattle.std.specs.Prelude.{◌||◌}
+use Rattle.std.proofs.Common.{◌≡◌, ℕ, List, [], ◌∷◌, ◌++◌, length, Ok, refl, sym, ap, ap₂, subst, ◌∙◌, append_assoc, append-nil, ℤ}
 use Rattle.std.specs.List.{AllByRecursion}
 use Rattle.scan_text.specs.Blocks.{blocks_text}
-use Rattle.scan_text.specs.ScanCalls.{is_padded}
+use Rattle.scan_text.specs.Pads.{bit_for}
+use Rattle.scan_text.specs.ScanCalls.{text_sum}
 use Rattle.scan_text.specs.Scans.{Mcu, IsMcu}
 use Rattle.scan_text.specs.Spots.{Spot, mcu_put, mcus_put, spot_in}
+use Rattle.handover.specs.PadSums.{pads_with}
+use Rattle.handover.specs.declared.pads.PadSum.{PadSum}
 use Rattle.block_reading.specs.BlockReading.{and_then, blocks_read}
 use Rattle.block_reading.specs.ReadingLaws.{HaveGiven}
 use Rattle.block_reading.proofs.BlocksRead.{given_blocks_are_read}
 use Rattle.block_reading.proofs.FirstGiven.{given_first}
 use Rattle.segment_meaning.specs.ScanStream.{blocks_of}
 use Rattle.segment_meaning.specs.Segments.{SegmentFields, Progress, progress_after, with_prefix, after_step, ending, fault_cause, stop_cause, mcu_step, mcus_output}
-use Rattle.segment_meaning.specs.SegmentLaws.{is_any_padded, progress_through, McusArePut}
+use Rattle.segment_meaning.specs.SegmentLaws.{mcus_sum, progress_through, McusArePut}
 use Rattle.segment_meaning.proofs.JoinedPieces.{prefix_twice}
-use Rattle.segment_meaning.proofs.PutParts.{bytes_in, put_parts, or_more, or_none}
+use Rattle.segment_meaning.proofs.PutParts.{bytes_in, put_parts, sums_more, sums_none}
 
 -- an MCU whose blocks are given is read
 mcu_read : (s : SegmentFields) (at : Progress) (mcu : Mcu) (more : List (List ℤ))
@@ -30,22 +32,22 @@ mcu_read s at mcu more is have =
 -- and put
 pub step_is : (s : SegmentFields) (at : Progress) (mcu : Mcu) (bytes : List ℕ) (next : Spot)
     → blocks_read s.grid s.stream at.blocks (length s.shape.slots) ≡ Ok mcu
-    → mcu_put s.shape s.pads at.spot mcu ≡ Ok (bytes, next)
+    → mcu_put s.shape (bit_for s.pads) at.spot mcu ≡ Ok (bytes, next)
     → mcu_step s at ≡ Ok (bytes, progress_after s at mcu next)
 unfolding mcu_step
 step_is s at mcu bytes next read put =
     ap (λ r. and_then (fault_cause r)
-    (λ m. and_then (stop_cause (mcu_put s.shape s.pads at.spot m))
+    (λ m. and_then (stop_cause (mcu_put s.shape (bit_for s.pads) at.spot m))
     (λ p. Ok (p.0, progress_after s at m p.1)))) read
     ∙ ap (λ r. and_then (stop_cause r)
     (λ (p : List ℕ × Spot). Ok (p.0, progress_after s at mcu p.1))) put
 
--- whether a bit is padded after the next MCU
-abbrev here : SegmentFields → Progress → Mcu → Bool
-here s at mcu = is_padded s.shape at.spot (blocks_text s.shape.slots at.spot.before mcu)
+-- what is padded after the next MCU
+abbrev here : SegmentFields → Progress → Mcu → PadSum
+here s at mcu = text_sum s.shape s.pads at.spot (blocks_text s.shape.slots at.spot.before mcu)
 
 -- a progress by its parts
-progress : (blocks others : List (List ℤ)) (spot end : Spot) (padded other : Bool)
+progress : (blocks others : List (List ℤ)) (spot end : Spot) (padded other : PadSum)
     → blocks ≡ others → spot ≡ end → padded ≡ other
     → ◌≡◌ {A = Progress} (record { blocks = blocks; spot = spot; padded = padded })
     (record { blocks = others; spot = end; padded = other })
@@ -54,17 +56,17 @@ progress blocks others spot end padded other e f g = rw (e, f, g) refl
 puts : (mcus : List Mcu) (s : SegmentFields) (at : Progress) (bytes : List ℕ) (end : Spot)
     → HaveGiven s.grid s.stream (at.blocks ++ blocks_of mcus)
     → AllByRecursion (IsMcu s.shape.slots) mcus
-    → mcus_put s.shape s.pads at.spot mcus ≡ Ok (bytes, end)
+    → mcus_put s.shape (bit_for s.pads) at.spot mcus ≡ Ok (bytes, end)
     → mcus_output (length mcus) s at
     ≡ with_prefix bytes (ending s (progress_through s at mcus end))
 unfolding mcus_output mcus_put
 puts [] s at bytes end have each put =
     ap₂ (λ (b : List ℕ) (a : Progress). with_prefix b (ending s a)) (ap bytes_in put)
-    (progress at.blocks (at.blocks ++ []) at.spot end at.padded (at.padded || _)
-    (sym (append-nil at.blocks)) (ap spot_in put) (sym (or_none at.padded)))
+    (progress at.blocks (at.blocks ++ []) at.spot end at.padded (pads_with at.padded _)
+    (sym (append-nil at.blocks)) (ap spot_in put) (sym (sums_none at.padded)))
 puts (mcu ∷ mcus) s at bytes end have each put =
-    let p = put_parts (mcu_put s.shape s.pads at.spot mcu)
-    (λ next. mcus_put s.shape s.pads next mcus) bytes end put in
+    let p = put_parts (mcu_put s.shape (bit_for s.pads) at.spot mcu)
+    (λ next. mcus_put s.shape (bit_for s.pads) next mcus) bytes end put in
     let read = mcu_read s at mcu (blocks_of mcus) each.0 have in
     let next : Progress = progress_after s at mcu p.at in
     let order : next.blocks ++ blocks_of mcus ≡ at.blocks ++ blocks_of (mcu ∷ mcus) =
@@ -76,8 +78,9 @@ puts (mcu ∷ mcus) s at bytes end have each put =
     ∙ ap (with_prefix p.before) later ∙ prefix_twice p.before p.more _
     ∙ ap₂ (λ (b : List ℕ) (a : Progress). with_prefix b (ending s a)) (sym p.joined)
     (progress _ _ end end _ _ order refl
-    (or_more at.padded (here s at mcu) (is_any_padded s.shape s.pads p.at mcus)
-    ∙ ap (λ (spot : Spot). at.padded || (here s at mcu || is_any_padded s.shape s.pads spot mcus))
+    (sums_more at.padded (here s at mcu) (mcus_sum s.shape s.pads p.at mcus)
+    ∙ ap (λ (spot : Spot).
+    pads_with at.padded (pads_with (here s at mcu) (mcus_sum s.shape s.pads spot mcus)))
     (sym (ap spot_in p.first))))
 
 pub mcus_are_put : McusArePut

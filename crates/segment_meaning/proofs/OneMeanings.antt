@@ -5,6 +5,7 @@ use Rattle.scan_text.specs.Scans.{Mcu}
 use Rattle.scan_text.proofs.FilesOnce.{one_file}
 use Rattle.box_format.specs.Parts.{BoxParts, box_bytes}
 use Rattle.box_format.specs.declared.refusal.BoxRefusal.{BoxRefusal}
+use Rattle.box_format.specs.declared.version.Version.{Version}
 use Rattle.box_format.proofs.BoxLawsProved.{one_box, one_box_refusal, never_both}
 use Rattle.segment_meaning.specs.Meanings.{NoBox, meaning_of}
 use Rattle.segment_meaning.specs.Files.{parts_of_file}
@@ -24,15 +25,15 @@ one_meaning bytes a b all (inr x) (inr y) =
     ∙ sym y.3
 
 -- a file's container, by what the file determines
-abbrev box_of : ℕ → List ℕ → PlanFields → List Mcu → Bool → List ℕ → List ℕ
-box_of most file plan mcus pad trailer =
-    box_bytes (parts_of_file plan mcus pad (take plan.header_length file) trailer most)
+abbrev box_of : Version → ℕ → List ℕ → PlanFields → List Mcu → List Bool → List ℕ → List ℕ
+box_of version most file plan mcus pads trailer =
+    box_bytes (parts_of_file version plan mcus pads (take plan.header_length file) trailer most)
 
 pub one_container : OneContainer
-one_container most made other file x y =
+one_container version most made other file x y =
     let same =
-    one_file file x.trailer y.trailer x.plan y.plan x.mcus y.mcus x.pad y.pad x.bytes x.is y.is in
+    one_file file x.trailer y.trailer x.plan y.plan x.mcus y.mcus x.pads y.pads x.bytes x.is y.is in
     x.spelled
-    ∙ ap₂ (λ plan mcus. box_of most file plan mcus x.pad x.trailer) same.0 same.1
-    ∙ ap₂ (λ pad trailer. box_of most file y.plan y.mcus pad trailer) same.2 same.3
+    ∙ ap₂ (λ plan mcus. box_of version most file plan mcus x.pads x.trailer) same.0 same.1
+    ∙ ap₂ (λ pads trailer. box_of version most file y.plan y.mcus pads trailer) same.2 same.3
     ∙ sym y.spelled

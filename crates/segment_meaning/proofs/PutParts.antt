@@ -2,12 +2,15 @@
 use Rattle.std.proofs.Common.{◌≡◌, ℕ, Bool, true, false, List, [], ◌∷◌, ◌++◌, Ok, Err, refl, sym, ap, ◌∙◌}
 use Rattle.std.specs.Prelude.{◌||◌}
 use Rattle.scan_text.specs.Blocks.{blocks_text}
-use Rattle.scan_text.specs.ScanCalls.{is_padded}
+use Rattle.scan_text.specs.Pads.{PadBits, bit_for}
+use Rattle.scan_text.specs.ScanCalls.{text_sum}
 use Rattle.scan_text.specs.Scans.{Mcu}
 use Rattle.scan_text.specs.Slots.{Shape}
 use Rattle.scan_text.specs.Spots.{Spot, Put, prefixed_put, then_put, mcu_put, mcus_put, spot_in}
+use Rattle.handover.specs.PadSums.{no_pads, pads_with}
+use Rattle.handover.specs.declared.pads.PadSum.{PadSum}
 use Rattle.segment_text.proofs.Slices.{InParts}
-use Rattle.segment_meaning.specs.SegmentLaws.{is_any_padded}
+use Rattle.segment_meaning.specs.SegmentLaws.{mcus_sum}
 
 abbrev pub bytes_in : Put → List ℕ
 bytes_in (Ok made) = made.0
@@ -38,21 +41,36 @@ pub or_none : (a : Bool) → a || false ≡ a
 or_none true = refl
 or_none false = refl
 
--- whether a bit was padded, in two parts
-pub padded_parts : (xs ys : List Mcu) (shape : Shape) (pads : ℕ → Bool) (spot end : Spot)
-    (bytes : List ℕ) → mcus_put shape pads spot xs ≡ Ok (bytes, end)
-    → is_any_padded shape pads spot (xs ++ ys)
-    ≡ is_any_padded shape pads spot xs || is_any_padded shape pads end ys
+-- what was padded, by its parts
+sum_of : (a b c d e f : Bool) → a ≡ d → b ≡ e → c ≡ f
+    → ◌≡◌ {A = PadSum} (record { zero = a; one = b; vain = c })
+    (record { zero = d; one = e; vain = f })
+sum_of a b c d e f g h k = rw (g, h, k) refl
+
+pub sums_more : (a b c : PadSum) → pads_with (pads_with a b) c ≡ pads_with a (pads_with b c)
+sums_more a b c =
+    sum_of _ _ _ _ _ _ (or_more a.zero b.zero c.zero) (or_more a.one b.one c.one)
+    (or_more a.vain b.vain c.vain)
+
+pub sums_none : (a : PadSum) → pads_with a no_pads ≡ a
+sums_none a = sum_of _ _ _ _ _ _ (or_none a.zero) (or_none a.one) (or_none a.vain)
+
+-- what was padded, in two parts
+pub sums_parts : (xs ys : List Mcu) (shape : Shape) (pads : PadBits) (spot end : Spot)
+    (bytes : List ℕ) → mcus_put shape (bit_for pads) spot xs ≡ Ok (bytes, end)
+    → mcus_sum shape pads spot (xs ++ ys)
+    ≡ pads_with (mcus_sum shape pads spot xs) (mcus_sum shape pads end ys)
 unfolding mcus_put
-padded_parts [] ys shape pads spot end bytes put =
-    ap (λ (s : Spot). is_any_padded shape pads s ys) (ap spot_in put)
-padded_parts (x ∷ xs) ys shape pads spot end bytes put =
+sums_parts [] ys shape pads spot end bytes put =
+    ap (λ (s : Spot). mcus_sum shape pads s ys) (ap spot_in put)
+sums_parts (x ∷ xs) ys shape pads spot end bytes put =
     let p =
-    put_parts (mcu_put shape pads spot x) (λ next. mcus_put shape pads next xs) bytes end put in
-    let here = is_padded shape spot (blocks_text shape.slots spot.before x) in
-    let next = spot_in (mcu_put shape pads spot x) in
+    put_parts (mcu_put shape (bit_for pads) spot x)
+    (λ next. mcus_put shape (bit_for pads) next xs) bytes end put in
+    let here = text_sum shape pads spot (blocks_text shape.slots spot.before x) in
+    let next = spot_in (mcu_put shape (bit_for pads) spot x) in
     let at : p.at ≡ next = sym (ap spot_in p.first) in
-    let then : mcus_put shape pads next xs ≡ Ok (p.more, end) =
-    ap (λ (s : Spot). mcus_put shape pads s xs) (sym at) ∙ p.then in
-    ap (λ (t : Bool). here || t) (padded_parts xs ys shape pads next end p.more then)
-    ∙ sym (or_more here (is_any_padded shape pads next xs) (is_any_padded shape pads end ys))
+    let then : mcus_put shape (bit_for pads) next xs ≡ Ok (p.more, end) =
+    ap (λ (s : Spot). mcus_put shape (bit_for pads) s xs) (sym at) ∙ p.then in
+    ap (pads_with here) (sums_parts xs ys shape pads next end p.more then)
+    ∙ sym (sums_more here (mcus_sum shape pads next xs) (mcus_sum shape pads end ys))

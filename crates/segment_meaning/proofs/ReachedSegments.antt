@@ -3,9 +3,12 @@ use Rattle.std.proofs.Common.{◌≡◌, ℕ, zero, suc, ◌+◌, ◌-◌, ◌^�
 use Rattle.std.specs.Prelude.{slice_get, IfSome}
 use Rattle.std.specs.List.{AllByRecursion}
 use Rattle.jpeg_marker.specs.Plans.{PlanFields}
+use Rattle.scan_text.specs.Pads.{PadBits, bit_for}
 use Rattle.scan_text.specs.Slots.{Shape, shape_of}
 use Rattle.scan_text.specs.Spots.{Spot}
 use Rattle.handover.specs.Handovers.{HandoverFields, IsHandover, start}
+use Rattle.handover.specs.PadSums.{no_pads}
+use Rattle.handover.specs.declared.pads.PadSum.{PadSum}
 use Rattle.handover.specs.declared.outcome.Outcome.{Outcome}
 use Rattle.handover.specs.declared.outcome.Outcome.TheVariants.{Good, Bad}
 use Rattle.handover.specs.declared.outcome.StreamCause.TheVariants.{StreamBad}
@@ -17,7 +20,7 @@ use Rattle.block_reading.specs.ReadingLaws.{HaveGiven}
 use Rattle.box_format.specs.Parts.{BoxParts}
 use Rattle.segment_meaning.specs.ScanStream.{grid_of, starts}
 use Rattle.segment_meaning.specs.Segments.{SegmentFields, Progress, Output, first_progress, stopped, mcus_output, segment_output}
-use Rattle.segment_meaning.specs.SegmentLaws.{Meets, IsGood, IsSpot, is_any_padded}
+use Rattle.segment_meaning.specs.SegmentLaws.{Meets, IsGood, IsSpot, mcus_sum}
 use Rattle.segment_meaning.specs.Meanings.{Joined, segment_in, joined_with}
 use Rattle.segment_meaning.proofs.CutsOfPlans.{AreCuts, starts_at}
 use Rattle.segment_meaning.proofs.GoodSegments.{good_has_its_stream}
@@ -28,7 +31,7 @@ use Rattle.segment_meaning.proofs.SpotsKept.{spot_kept}
 
 -- segments without a fault begin with one
 pub record FirstGood (output : Output) (more : Joined) : Type 0 where
-  pub padded : Bool
+  pub padded : PadSum
   pub outcome : output.1 ≡ Good padded
   pub rest : more.fault ≡ None
 
@@ -37,7 +40,7 @@ pub first_good : (bytes : List ℕ) (outcome : Outcome) (rest : Joined)
 first_good bytes (Good padded) rest none = record { padded = padded; outcome = refl; rest = none }
 first_good bytes (Bad fault) rest none = absurd (cc)
 
-started : (t : Bool) (s : SegmentFields) (output : Output) (bytes : List ℕ) (padded : Bool)
+started : (t : Bool) (s : SegmentFields) (output : Output) (bytes : List ℕ) (padded : PadSum)
     → (if t then output else stopped s StreamBad) ≡ (bytes, Good padded)
     → output ≡ (bytes, Good padded)
 started true s output bytes padded e = e
@@ -64,7 +67,7 @@ pub record Reached (plan : PlanFields) (b : BoxParts) (i count : ℕ) (spot : Sp
 
 -- before its first MCU
 abbrev pub at_spot : Spot → Progress
-at_spot spot = record { blocks = []; spot = spot; padded = false }
+at_spot spot = record { blocks = []; spot = spot; padded = no_pads }
 
 module _ (plan : PlanFields) (b : BoxParts) (few : (shape_of plan).mcus ≤ 2 ^ 32)
     (grid : IsGrid (grid_of plan)) (each : AllByRecursion IsHandover b.handovers)
@@ -73,8 +76,8 @@ module _ (plan : PlanFields) (b : BoxParts) (few : (shape_of plan).mcus ≤ 2 ^ 
   abbrev pub shape : Shape
   shape = shape_of plan
 
-  abbrev pub pads : ℕ → Bool
-  pads n = b.pad
+  abbrev pub pads : PadBits
+  pads = b.pads
 
   abbrev pub d : ℕ → ℕ
   d i = starts_at plan (length b.handovers) i
@@ -92,9 +95,9 @@ module _ (plan : PlanFields) (b : BoxParts) (few : (shape_of plan).mcus ≤ 2 ^ 
       ∙ handover_is_spot shape spot reached.is.few
 
   -- a segment that ends well
-  pub good_there : (i count : ℕ) (spot : Spot) (bytes : List ℕ) (padded : Bool)
+  pub good_there : (i count : ℕ) (spot : Spot) (bytes : List ℕ) (padded : PadSum)
       → Reached plan b i (suc count) spot → output i ≡ (bytes, Good padded)
-      → (good : Ends i spot bytes) × (padded ≡ is_any_padded shape pads spot good.mcus)
+      → (good : Ends i spot bytes) × (padded ≡ mcus_sum shape pads spot good.mcus)
   good_there i count spot bytes padded reached ends =
       let s : SegmentFields = segment_in plan b i in
       let run =
@@ -118,11 +121,11 @@ module _ (plan : PlanFields) (b : BoxParts) (few : (shape_of plan).mcus ≤ 2 ^ 
   reached_next i count spot bytes within reached good =
       let order = cuts.order i (omega (arith, within)) in
       let begun =
-      spots_are_begun shape pads good.mcus spot good.end bytes reached.is.few good.text in
+      spots_are_begun shape (bit_for pads) good.mcus spot good.end bytes reached.is.few good.text in
       let long = good.long in
       let counted = reached.counted in
       record {
-        is = spot_kept shape pads good.mcus spot good.end bytes good.each reached.is good.text;
+        is = spot_kept shape (bit_for pads) good.mcus spot good.end bytes good.each reached.is good.text;
         counted = omega (arith, begun.1, long, counted, order);
         at = λ more. next_start (handover_of shape good.end) (i + 1)
             (omega (arith, more, within)) good.seam;

@@ -4,6 +4,7 @@ use Rattle.std.specs.Prelude.{not, ◌&&◌, ◌||◌, ◌==◌}
 use Rattle.std.specs.List.{AllByRecursion, list_all}
 use Rattle.std.proofs.lemmas.Bool.{and_parts, eqb-true}
 use Rattle.jpeg_marker.specs.Plans.{PlanFields}
+use Rattle.scan_text.specs.Pads.{is_spelled}
 use Rattle.scan_text.specs.Slots.{Shape}
 use Rattle.handover.specs.Handovers.{HandoverFields, IsHandover, start}
 use Rattle.handover.specs.HandoverBytes.{is_handover}
@@ -64,13 +65,11 @@ first_start shape cut (h ∷ hs) some each none starts =
 pub record IsRestored (b : BoxParts) (all : Joined) (file : List ℕ) : Type 0 where
   pub none : all.fault ≡ None
   pub text : file ≡ (b.header ++ all.bytes) ++ b.trailer
-  pub told : all.padded ≡ false → b.pad ≡ true
+  pub told : is_spelled b.pads all.padded ≡ true
 
-pad_told : (pad padded : Bool) → Restored ≡ (if not pad && not padded then PadSpelled else Restored)
-    → padded ≡ false → pad ≡ true
-pad_told true padded e none = refl
-pad_told false true e none = absurd (let f : true ≡ false = none in cc)
-pad_told false false e none = absurd (let f : Restored ≡ PadSpelled = e in cc)
+pad_told : (t : Bool) → Restored ≡ (if t then Restored else PadSpelled) → t ≡ true
+pad_told true e = refl
+pad_told false e = absurd (let f : Restored ≡ PadSpelled = e in cc)
 
 restored_by : (b : BoxParts) (all : Joined) (file : List ℕ) (fault : Option StreamFault)
     → all.fault ≡ fault
@@ -81,7 +80,7 @@ restored_by b all file (Some fault) is e =
 restored_by b all file None is e = record {
   none = is;
   text = ap (λ (m : Meaning). m.bytes) e;
-  told = pad_told b.pad all.padded (ap (λ (m : Meaning). m.verdict) e);
+  told = pad_told (is_spelled b.pads all.padded) (ap (λ (m : Meaning). m.verdict) e);
 }
 
 pub is_restored : (plan : PlanFields) (b : BoxParts) (file : List ℕ)

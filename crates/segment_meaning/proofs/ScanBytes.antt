@@ -32,7 +32,7 @@ byte_by true begun bits bit seven next more = (whole_byte begun bit (seven refl)
 byte_by false begun bits bit seven next more = more
 
 -- the bytes that bits complete
-completed : (bits begun : List Bool) → AreBytes (bytes_after begun bits)
+pub completed : (bits begun : List Bool) → AreBytes (bytes_after begun bits)
 completed [] begun = tt
 completed (bit ∷ bits) begun =
     byte_by (length begun == 7) begun bits bit (eqb-true (length begun) 7) (completed bits [])

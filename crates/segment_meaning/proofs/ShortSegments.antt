@@ -8,6 +8,7 @@ use Rattle.jpeg_marker.proofs.HeadersTaken.{accepted_has_plan}
 use Rattle.jpeg_marker.proofs.PlanGrids.{few_mcus}
 use Rattle.scan_text.specs.BlockBits.{Text}
 use Rattle.scan_text.specs.Blocks.{blocks_text, dcs_after}
+use Rattle.scan_text.specs.Pads.{bit_for}
 use Rattle.scan_text.specs.Scans.{Mcu, IsMcu}
 use Rattle.scan_text.specs.ScanLaws.{IsShape}
 use Rattle.scan_text.specs.ShapeInside.{most_slots}
@@ -138,7 +139,8 @@ step_short : (left : ℕ) (s : SegmentFields) (at : Progress)
 step_short left s at (Err cause) small have begun again e = omega arith
 step_short left s at (Ok made) small have begun again e =
     let m = stepped s at made.0 made.1 have e in
-    let fits = mcu_fits s.shape s.pads at.spot m.mcu (made.0, m.spot) small m.is begun m.put in
+    let fits =
+    mcu_fits s.shape (bit_for s.pads) at.spot m.mcu (made.0, m.spot) small m.is begun m.put in
     let more = subst (λ (p : Progress). IsShort left (mcus_output left s p)) m.at_next
     (again (progress_after s at m.mcu m.spot) m.given fits.1) in
     let all = length-append made.0 (mcus_output left s made.1).0 in

@@ -6,6 +6,7 @@ use Rattle.std.proofs.lemmas.List.{length-take-le, length-drop}
 use Rattle.std.proofs.lemmas.Slice.Eq.{bytes_eq-Decides}
 use Rattle.coef_block.specs.Block.{IsBlock}
 use Rattle.huff_table.proofs.Pairs.{all-append}
+use Rattle.scan_text.specs.Pads.{PadBits, bit_for}
 use Rattle.scan_text.specs.Scans.{Mcu, IsMcu, AreMcus, scan_bytes}
 use Rattle.scan_text.specs.ScanLaws.{IsShape}
 use Rattle.scan_text.specs.Slots.{Shape}
@@ -14,6 +15,8 @@ use Rattle.scan_text.specs.declared.slot.Slot.{Slot}
 use Rattle.scan_text.proofs.DoneBytes.{done_in_parts}
 use Rattle.handover.specs.Handovers.{HandoverFields}
 use Rattle.handover.specs.HandoverBytes.{handover_bytes}
+use Rattle.handover.specs.PadSums.{no_pads, pads_with}
+use Rattle.handover.specs.declared.pads.PadSum.{PadSum}
 use Rattle.handover.specs.declared.outcome.Outcome.TheVariants.{Good}
 use Rattle.handover.specs.declared.outcome.StreamCause.TheVariants.{Seam, StreamBad}
 use Rattle.segment_text.specs.RowHandovers.{handover_of, handover_at, spot_of, segment_bytes, mcus_between}
@@ -22,7 +25,7 @@ use Rattle.segment_text.proofs.SpotsBegun.{handover_is_spot, spots_are_begun}
 use Rattle.block_events.specs.Grid.{Grid}
 use Rattle.segment_meaning.specs.ScanStream.{blocks_of, blocks_stream, starts}
 use Rattle.segment_meaning.specs.Segments.{SegmentFields, Progress, Output, first_progress, stopped, with_prefix, stream_ending, ending_by, ending, mcus_output, segment_output}
-use Rattle.segment_meaning.specs.SegmentLaws.{Suits, IsNextStart, SegmentIsItsSlice, segment_between, progress_through, is_any_padded}
+use Rattle.segment_meaning.specs.SegmentLaws.{Suits, IsNextStart, SegmentIsItsSlice, segment_between, progress_through, mcus_sum}
 use Rattle.segment_meaning.proofs.StreamsOfBlocks.{blocks_stream_starts, stream_gives}
 use Rattle.segment_meaning.proofs.McusPut.{mcus_are_put}
 
@@ -111,43 +114,52 @@ good_ending s at pads mcus to spot following is =
 
 -- ---- a segment
 
--- whether a segment pads a bit
-abbrev pub slice_padded : Shape → (ℕ → Bool) → List Mcu → ℕ → ℕ → Bool
-slice_padded shape pads mcus from to =
-    is_any_padded shape pads (spot_at shape pads mcus from) (mcus_between mcus from to)
+-- what a segment pads
+abbrev pub slice_sum : Shape → PadBits → List Mcu → ℕ → ℕ → PadSum
+slice_sum shape pads mcus from to =
+    mcus_sum shape pads (spot_at shape (bit_for pads) mcus from) (mcus_between mcus from to)
 
-pub slice_output : (shape : Shape) (grid : Grid) (pads : ℕ → Bool) (mcus : List Mcu)
+-- nothing was padded before
+none_before : (a : PadSum) → pads_with no_pads a ≡ a
+none_before a = refl
+
+pub slice_output : (shape : Shape) (grid : Grid) (pads : PadBits) (mcus : List Mcu)
     (scan : List ℕ) (number from to : ℕ) (next : Option HandoverFields) → Suits shape grid
-    → AreMcus shape mcus → scan_bytes shape pads mcus ≡ Ok scan → from ≤ to → to ≤ shape.mcus
-    → IsNextStart shape pads mcus to next
+    → AreMcus shape mcus → scan_bytes shape (bit_for pads) mcus ≡ Ok scan → from ≤ to
+    → to ≤ shape.mcus → IsNextStart shape (bit_for pads) mcus to next
     → segment_output (segment_between shape grid pads mcus number from to
-    (handover_at shape pads mcus from) next)
-    ≡ (segment_bytes shape pads mcus scan from to, Good (slice_padded shape pads mcus from to))
+    (handover_at shape (bit_for pads) mcus from) next)
+    ≡ (
+      segment_bytes shape (bit_for pads) mcus scan from to,
+      Good (slice_sum shape pads mcus from to),
+    )
 slice_output shape grid pads mcus scan number from to next suits are text order within following =
-    let start = handover_at shape pads mcus from in
+    let bits = bit_for pads in
+    let start = handover_at shape bits mcus from in
     let s : SegmentFields = segment_between shape grid pads mcus number from to start next in
     let between = mcus_between mcus from to in
-    let bytes = segment_bytes shape pads mcus scan from to in
-    let end = spot_at shape pads mcus to in
+    let bytes = segment_bytes shape bits mcus scan from to in
+    let end = spot_at shape bits mcus to in
     let long : to ≤ length mcus = (let m = are.count in omega (arith, m, within)) in
     let each = between_are shape.slots mcus from to are.each in
     let have =
     stream_gives grid (blocks_of between) suits.grid_is (blocks_are shape.slots between each) in
-    let put = each_slice shape pads mcus scan from to suits.shape_is are text order within in
+    let put = each_slice shape bits mcus scan from to suits.shape_is are text order within in
     let at : Progress = progress_through s (first_progress s) between end in
-    let first : spot_of start from ≡ spot_at shape pads mcus from =
-    spot_again shape pads mcus scan from suits.shape_is are text (omega (arith, order, within)) in
+    let first : spot_of start from ≡ spot_at shape bits mcus from =
+    spot_again shape bits mcus scan from suits.shape_is are text (omega (arith, order, within)) in
     opened (starts s.stream) (mcus_output (to - from) s (first_progress s)) (stopped s StreamBad)
     (blocks_stream_starts grid (blocks_of between))
     ∙ ap (λ n. mcus_output n s (first_progress s)) (sym (between_long mcus from to order long))
     ∙ mcus_are_put s (first_progress s) between bytes end have each put
-    ∙ ap (with_prefix bytes) (good_ending s at pads mcus to refl following refl)
-    ∙ ap₂ (λ (l : List ℕ) (p : Bool). let o : Output = (l, Good p) in o) (append-nil bytes)
-    (ap (λ spot. is_any_padded shape pads spot between) first)
+    ∙ ap (with_prefix bytes) (good_ending s at bits mcus to refl following refl)
+    ∙ ap₂ (λ (l : List ℕ) (p : PadSum). let o : Output = (l, Good p) in o) (append-nil bytes)
+    (none_before (mcus_sum shape pads (spot_of start from) between)
+    ∙ ap (λ spot. mcus_sum shape pads spot between) first)
 
 pub segment_is_its_slice : SegmentIsItsSlice
 segment_is_its_slice shape grid pads mcus scan number from to next suits are text order within
     next_is = (
-      slice_padded shape pads mcus from to,
+      slice_sum shape pads mcus from to,
       slice_output shape grid pads mcus scan number from to next suits are text order within next_is,
     )

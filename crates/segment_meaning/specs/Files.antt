@@ -1,16 +1,19 @@
 -- The container of a file, and where its segments start (own; docs/FORMAT.md).
-use Rattle.std.specs.Prelude.{ℕ, ◌≡◌, ◌+◌, ◌<◌, ◌^◌, Bool, List, length, take, map}
+use Rattle.std.specs.Prelude.{ℕ, ◌≡◌, ◌+◌, ◌<◌, ◌^◌, Bool, true, List, length, take, map}
 use Rattle.std.specs.List.{AllByRecursion}
 use Rattle.bit_list.specs.Bits.{IsByte}
 use Rattle.jpeg_marker.specs.Plans.{PlanFields}
 use Rattle.scan_text.specs.FileLaws.{IsFileOf}
 use Rattle.scan_text.specs.Slots.{shape_of}
-use Rattle.scan_text.specs.Scans.{Mcu}
+use Rattle.scan_text.specs.Scans.{Mcu, intervals_of, pad_counts, pad_at}
+use Rattle.scan_text.specs.Pads.{PadBits, bits_sum, spelling_of}
 use Rattle.scan_text.specs.Spots.{bytes_done}
 use Rattle.handover.specs.Handovers.{HandoverFields}
 use Rattle.segment_text.specs.Cuts.{Cut, cut_of, first_mcu, row_of}
 use Rattle.segment_text.specs.RowHandovers.{handover_at, mcus_between}
-use Rattle.box_format.specs.Parts.{BoxParts, box_bytes}
+use Rattle.box_format.specs.Parts.{BoxParts, box_bytes, can_pad}
+use Rattle.box_format.specs.Versions.{layout_of}
+use Rattle.box_format.specs.declared.version.Version.{Version}
 use Rattle.box_format.specs.Raws.{numbers}
 use Rattle.segment_meaning.specs.ScanStream.{stream_of}
 
@@ -24,55 +27,65 @@ segment_mcus plan mcus most i =
     let cut = plan_cut plan most in mcus_between mcus (first_mcu cut i) (first_mcu cut (i + 1))
 
 -- what segment i starts from
-abbrev pub segment_start : PlanFields → List Mcu → Bool → ℕ → ℕ → HandoverFields
-segment_start plan mcus pad most i =
-    handover_at (shape_of plan) (λ n. pad) mcus (first_mcu (plan_cut plan most) i)
+abbrev pub segment_start : PlanFields → List Mcu → List Bool → ℕ → ℕ → HandoverFields
+segment_start plan mcus pads most i =
+    handover_at (shape_of plan) (pad_at pads) mcus (first_mcu (plan_cut plan most) i)
 
--- the parts of a file's container with at most `most` segments
-abbrev pub parts_of_file : PlanFields → List Mcu → Bool → List ℕ → List ℕ → ℕ → BoxParts
-parts_of_file plan mcus pad header trailer most =
+-- how the pad bits of a file are told
+abbrev pub told_pads : PlanFields → List Mcu → List Bool → PadBits
+told_pads plan mcus pads =
+    let shape = shape_of plan in
+    spelling_of pads (bits_sum (pad_counts shape.slots (intervals_of shape mcus)) pads)
+
+-- the parts of a file's container in a version, with at most `most` segments
+abbrev pub parts_of_file : Version → PlanFields → List Mcu → List Bool → List ℕ → List ℕ → ℕ
+    → BoxParts
+parts_of_file version plan mcus pads header trailer most =
     let segments = numbers 0 (plan_cut plan most).segments in
     record {
-      pad = pad;
+      version = version;
+      pads = told_pads plan mcus pads;
       header = header;
       trailer = trailer;
-      handovers = map (segment_start plan mcus pad most) segments;
+      handovers = map (segment_start plan mcus pads most) segments;
       streams = map (λ i. stream_of plan (segment_mcus plan mcus most i)) segments;
     }
 
--- `made` is the container of a file with at most `most` segments, by the plan of the file's header, its MCUs, its pad
--- bit and its trailer; the lengths of header and trailer have fields of four bytes
-pub record IsContainerOf (most : ℕ) (made file : List ℕ) : Type 0 where
+-- `made` is the container of a file in a version, with at most `most` segments, by the plan of the file's header, its
+-- MCUs, the pad bit of each of its intervals and its trailer; the lengths of header and trailer have fields of four
+-- bytes, and the version can say the pad bits
+pub record IsContainerOf (version : Version) (most : ℕ) (made file : List ℕ) : Type 0 where
   pub bytes : AllByRecursion IsByte file
   pub plan : PlanFields
   pub mcus : List Mcu
-  pub pad : Bool
+  pub pads : List Bool
   pub trailer : List ℕ
-  pub is : IsFileOf file plan mcus pad trailer
+  pub is : IsFileOf file plan mcus pads trailer
   pub header_fits : plan.header_length < 2 ^ 32
   pub trailer_fits : length trailer < 2 ^ 32
+  pub can : can_pad (layout_of version).listed (shape_of plan) (told_pads plan mcus pads) ≡ true
   pub spelled : made
-      ≡ box_bytes (parts_of_file plan mcus pad (take plan.header_length file) trailer most)
+      ≡ box_bytes (parts_of_file version plan mcus pads (take plan.header_length file) trailer most)
 
 -- where segments start: of each its row, the place of its first byte that the MCUs before don't complete, and its
--- handover; the file's pad bit, and the place of its trailer
+-- handover; how the file's pad bits are told, and the place of its trailer
 pub record StartsFields : Type 0 where
   pub rows : List ℕ
   pub places : List ℕ
   pub handovers : List HandoverFields
-  pub pad : Bool
+  pub pads : PadBits
   pub trailer : ℕ
 
 -- the starts of a file's segments, of at most `most`, its trailer being at a place
-abbrev pub starts_of : PlanFields → List Mcu → Bool → ℕ → ℕ → StartsFields
-starts_of plan mcus pad trailer most =
+abbrev pub starts_of : PlanFields → List Mcu → List Bool → ℕ → ℕ → StartsFields
+starts_of plan mcus pads trailer most =
     let cut = plan_cut plan most in
     let segments = numbers 0 cut.segments in
     record {
       rows = map (row_of cut) segments;
       places = map (λ i. plan.header_length
-          + bytes_done (shape_of plan) (λ n. pad) mcus (first_mcu cut i)) segments;
-      handovers = map (segment_start plan mcus pad most) segments;
-      pad = pad;
+          + bytes_done (shape_of plan) (pad_at pads) mcus (first_mcu cut i)) segments;
+      handovers = map (segment_start plan mcus pads most) segments;
+      pads = told_pads plan mcus pads;
       trailer = trailer;
     }

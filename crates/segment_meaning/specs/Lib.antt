@@ -3,6 +3,7 @@ pub mod Segments
 pub mod Pieces
 pub mod Meanings
 pub mod Files
+pub mod Limits
 pub mod SegmentLaws
 pub mod MeaningLaws
 pub mod MeaningRows

@@ -1,8 +1,11 @@
 -- What bytes stand for as a container (own; docs/FORMAT.md).
-use Rattle.std.specs.Prelude.{ℕ, ◌≡◌, ◌⊎◌, ◌+◌, ◌-◌, Bool, false, not, ◌&&◌, ◌||◌, if◌then◌else◌, List, [], ◌∷◌, ◌++◌, length, map, get_or, slice_get, Option, Some, None}
+use Rattle.std.specs.Prelude.{ℕ, ◌≡◌, ◌⊎◌, ◌+◌, ◌-◌, if◌then◌else◌, List, [], ◌∷◌, ◌++◌, length, map, get_or, slice_get, Option, Some, None}
 use Rattle.jpeg_marker.specs.Plans.{PlanFields}
+use Rattle.scan_text.specs.Pads.{is_spelled}
 use Rattle.scan_text.specs.Slots.{shape_of}
 use Rattle.handover.specs.Handovers.{start}
+use Rattle.handover.specs.PadSums.{no_pads, pads_with}
+use Rattle.handover.specs.declared.pads.PadSum.{PadSum}
 use Rattle.handover.specs.declared.outcome.StreamFault.{StreamFault}
 use Rattle.handover.specs.declared.outcome.Outcome.{Outcome}
 use Rattle.handover.specs.declared.outcome.Outcome.TheVariants.{Good, Bad}
@@ -22,7 +25,7 @@ segment_in plan b i =
       number = i;
       shape = shape_of plan;
       grid = grid_of plan;
-      pads = λ n. b.pad;
+      pads = b.pads;
       stream = get_or b.streams i [];
       start = get_or b.handovers i start;
       from = first_mcu cut i;
@@ -35,29 +38,29 @@ abbrev pub outputs_of : PlanFields → BoxParts → List Output
 outputs_of plan b =
     map (λ i. segment_output (segment_in plan b i)) (numbers 0 (length b.handovers))
 
--- bytes through the first segment that is bad, its fault, and whether a bit was padded where there is none
+-- bytes through the first segment that is bad, its fault, and what was padded where there is none
 pub record Joined : Type 0 where
   pub bytes : List ℕ
   pub fault : Option StreamFault
-  pub padded : Bool
+  pub padded : PadSum
 
 -- a segment before others
 abbrev pub joined_with : List ℕ → Outcome → Joined → Joined
 joined_with bytes (Good padded) more = record {
   bytes = bytes ++ more.bytes;
   fault = more.fault;
-  padded = padded || more.padded;
+  padded = pads_with padded more.padded;
 }
 joined_with bytes (Bad fault) more =
-    record { bytes = bytes; fault = Some fault; padded = false }
+    record { bytes = bytes; fault = Some fault; padded = no_pads }
 
 -- segments, one after another
 abbrev pub joined : List Output → Joined
-joined [] = record { bytes = []; fault = None; padded = false }
+joined [] = record { bytes = []; fault = None; padded = no_pads }
 joined (output ∷ outputs) = joined_with output.0 output.1 (joined outputs)
 
--- how a container ends: the whole file; all its bytes, but with a pad bit of 0 that no bit needs; a segment's fault; or
--- the bytes are no container
+-- how a container ends: the whole file; all its bytes, but with pad bits that are told otherwise than a file's; a
+-- segment's fault; or the bytes are no container
 pub data Verdict : Type 0 where
   Restored : Verdict
   PadSpelled : Verdict
@@ -75,7 +78,7 @@ meaning_by b all (Some fault) =
     record { bytes = b.header ++ all.bytes; verdict = Faulty fault }
 meaning_by b all None = record {
   bytes = b.header ++ all.bytes ++ b.trailer;
-  verdict = if not b.pad && not all.padded then PadSpelled else Restored;
+  verdict = if is_spelled b.pads all.padded then Restored else PadSpelled;
 }
 
 -- what parts stand for

@@ -1,15 +1,18 @@
 -- What holds of each segment (own).
-use Rattle.std.specs.Prelude.{ℕ, ◌≡◌, ◌-◌, ◌^◌, ◌<◌, ◌≤◌, All, IfSome, Bool, false, ◌||◌, List, [], ◌∷◌, ◌++◌, length, Option, Some, None, Ok}
+use Rattle.std.specs.Prelude.{ℕ, ◌≡◌, ◌-◌, ◌^◌, ◌<◌, ◌≤◌, All, IfSome, Bool, List, [], ◌∷◌, ◌++◌, length, Option, Some, None, Ok}
 use Rattle.std.specs.List.{AllByRecursion}
 use Rattle.coef_block.specs.Block.{IsDc}
 use Rattle.coef_block.specs.TwoRows.{block_count}
 use Rattle.scan_text.specs.Blocks.{blocks_text}
 use Rattle.scan_text.specs.Slots.{Shape}
 use Rattle.scan_text.specs.Scans.{Mcu, IsMcu, AreMcus, scan_bytes}
-use Rattle.scan_text.specs.ScanCalls.{is_padded}
+use Rattle.scan_text.specs.Pads.{PadBits, bit_for}
+use Rattle.scan_text.specs.ScanCalls.{text_sum}
 use Rattle.scan_text.specs.Spots.{Spot, mcu_put, mcus_put, spot_in}
 use Rattle.scan_text.specs.ScanLaws.{IsShape}
 use Rattle.handover.specs.Handovers.{HandoverFields, IsHandover}
+use Rattle.handover.specs.PadSums.{no_pads, pads_with}
+use Rattle.handover.specs.declared.pads.PadSum.{PadSum}
 use Rattle.handover.specs.declared.outcome.Outcome.TheVariants.{Good}
 use Rattle.segment_text.specs.RowHandovers.{handover_of, handover_at, segment_bytes, mcus_between}
 use Rattle.block_events.specs.Grid.{Grid, IsGrid}
@@ -18,19 +21,19 @@ use Rattle.segment_meaning.specs.ScanStream.{blocks_of, blocks_stream}
 use Rattle.segment_meaning.specs.Segments.{SegmentFields, Progress, with_prefix, ending, mcus_output, rest_output, segment_output}
 use Rattle.segment_meaning.specs.Pieces.{SomeOf, piece, next_piece, output_after}
 
--- whether a bit is padded after one of the MCUs from a spot on
-abbrev pub is_any_padded : Shape → (ℕ → Bool) → Spot → List Mcu → Bool
-is_any_padded shape pads spot [] = false
-is_any_padded shape pads spot (mcu ∷ mcus) =
-    is_padded shape spot (blocks_text shape.slots spot.before mcu)
-    || is_any_padded shape pads (spot_in (mcu_put shape pads spot mcu)) mcus
+-- what the MCUs from a spot on pad
+abbrev pub mcus_sum : Shape → PadBits → Spot → List Mcu → PadSum
+mcus_sum shape pads spot [] = no_pads
+mcus_sum shape pads spot (mcu ∷ mcus) =
+    pads_with (text_sum shape pads spot (blocks_text shape.slots spot.before mcu))
+    (mcus_sum shape pads (spot_in (mcu_put shape (bit_for pads) spot mcu)) mcus)
 
 -- after these MCUs
 abbrev pub progress_through : SegmentFields → Progress → List Mcu → Spot → Progress
 progress_through s at mcus end = record {
   blocks = at.blocks ++ blocks_of mcus;
   spot = end;
-  padded = at.padded || is_any_padded s.shape s.pads at.spot mcus;
+  padded = pads_with at.padded (mcus_sum s.shape s.pads at.spot mcus);
 }
 
 -- MCUs whose blocks the stream gives, and that can be put, are read and put
@@ -39,7 +42,7 @@ McusArePut =
     (s : SegmentFields) (at : Progress) (mcus : List Mcu) (bytes : List ℕ) (end : Spot)
     → HaveGiven s.grid s.stream (at.blocks ++ blocks_of mcus)
     → AllByRecursion (IsMcu s.shape.slots) mcus
-    → mcus_put s.shape s.pads at.spot mcus ≡ Ok (bytes, end)
+    → mcus_put s.shape (bit_for s.pads) at.spot mcus ≡ Ok (bytes, end)
     → mcus_output (length mcus) s at
     ≡ with_prefix bytes (ending s (progress_through s at mcus end))
 
@@ -62,7 +65,7 @@ PieceHasAnMcu =
     → next_piece left s at ≡ SomeOf bytes more next → more < left
 
 -- a segment of these MCUs, from one to before another
-abbrev pub segment_between : Shape → Grid → (ℕ → Bool) → List Mcu → ℕ → ℕ → ℕ
+abbrev pub segment_between : Shape → Grid → PadBits → List Mcu → ℕ → ℕ → ℕ
     → HandoverFields → Option HandoverFields → SegmentFields
 segment_between shape grid pads mcus number from to start next = record {
   number = number;
@@ -90,14 +93,14 @@ pub record Suits (shape : Shape) (grid : Grid) : Type 0 where
 -- a segment of a scan stands for its slice of the scan, and ends well
 abbrev pub SegmentIsItsSlice : Type 0
 SegmentIsItsSlice =
-    (shape : Shape) (grid : Grid) (pads : ℕ → Bool) (mcus : List Mcu) (scan : List ℕ)
+    (shape : Shape) (grid : Grid) (pads : PadBits) (mcus : List Mcu) (scan : List ℕ)
     (number from to : ℕ) (next : Option HandoverFields) → Suits shape grid
-    → AreMcus shape mcus → scan_bytes shape pads mcus ≡ Ok scan → from ≤ to → to ≤ shape.mcus
-    → IsNextStart shape pads mcus to next
-    → (padded : Bool)
+    → AreMcus shape mcus → scan_bytes shape (bit_for pads) mcus ≡ Ok scan → from ≤ to
+    → to ≤ shape.mcus → IsNextStart shape (bit_for pads) mcus to next
+    → (padded : PadSum)
     × (segment_output (segment_between shape grid pads mcus number from to
-    (handover_at shape pads mcus from) next)
-    ≡ (segment_bytes shape pads mcus scan from to, Good padded))
+    (handover_at shape (bit_for pads) mcus from) next)
+    ≡ (segment_bytes shape (bit_for pads) mcus scan from to, Good padded))
 
 -- what is kept for the next segment is what was reached
 abbrev pub Meets : HandoverFields → Option HandoverFields → Type 0
@@ -110,7 +113,7 @@ pub record IsGood (s : SegmentFields) (at : Progress) (left : ℕ) (bytes : List
   pub end : Spot
   pub long : length mcus ≡ left
   pub each : AllByRecursion (IsMcu s.shape.slots) mcus
-  pub text : mcus_put s.shape s.pads at.spot mcus ≡ Ok (bytes, end)
+  pub text : mcus_put s.shape (bit_for s.pads) at.spot mcus ≡ Ok (bytes, end)
   pub stream : blocks_stream s.grid (at.blocks ++ blocks_of mcus) ≡ s.stream
   pub seam : Meets (handover_of s.shape end) s.next
 
@@ -126,12 +129,12 @@ pub record CanMeet (s : SegmentFields) : Type 0 where
   pub few : s.shape.mcus ≤ 2 ^ 32
   pub next : IfSome s.next IsHandover
 
--- a segment that ends well has MCUs that were read and put, whose blocks have the whole stream; a bit was padded where
--- one of them has pad bits
+-- a segment that ends well has MCUs that were read and put, whose blocks have the whole stream, and what was padded is
+-- what these pad
 abbrev pub GoodHasItsStream : Type 0
 GoodHasItsStream =
-    (s : SegmentFields) (at : Progress) (left : ℕ) (bytes : List ℕ) (padded : Bool)
+    (s : SegmentFields) (at : Progress) (left : ℕ) (bytes : List ℕ) (padded : PadSum)
     → CanMeet s → IsSpot at.spot → HaveGiven s.grid s.stream at.blocks
     → mcus_output left s at ≡ (bytes, Good padded)
     → (good : IsGood s at left bytes)
-    × (padded ≡ at.padded || is_any_padded s.shape s.pads at.spot good.mcus)
+    × (padded ≡ pads_with at.padded (mcus_sum s.shape s.pads at.spot good.mcus))

@@ -1,14 +1,16 @@
 -- What a segment's stream stands for: bytes of the scan, and how it ends (own; docs/FORMAT.md).
-use Rattle.std.specs.Prelude.{ℕ, zero, suc, Bool, false, ◌||◌, if◌then◌else◌, List, [], ◌++◌, length, ℤ, bytes_eq, Option, Some, None, Result, Ok, Err}
-use Rattle.scan_text.specs.Blocks.{blocks_text}
+use Rattle.std.specs.Prelude.{ℕ, zero, suc, if◌then◌else◌, List, [], ◌++◌, length, ℤ, bytes_eq, Option, Some, None, Result, Ok, Err}
 use Rattle.scan_text.specs.Slots.{Shape}
 use Rattle.scan_text.specs.Scans.{Mcu}
 use Rattle.scan_text.specs.Spots.{Spot, mcu_put}
-use Rattle.scan_text.specs.ScanCalls.{is_padded}
+use Rattle.scan_text.specs.Pads.{PadBits, bit_for}
+use Rattle.scan_text.specs.ScanCalls.{padded_after}
 use Rattle.scan_text.specs.declared.stop.WriteStop.{WriteStop}
 use Rattle.scan_text.specs.declared.stop.WriteStop.TheVariants as stops
 use Rattle.handover.specs.Handovers.{HandoverFields}
 use Rattle.handover.specs.HandoverBytes.{handover_bytes}
+use Rattle.handover.specs.PadSums.{no_pads}
+use Rattle.handover.specs.declared.pads.PadSum.{PadSum}
 use Rattle.handover.specs.declared.outcome.StreamCause.{StreamCause}
 use Rattle.handover.specs.declared.outcome.StreamCause.TheVariants.{BlockCount, DcRange, DiffRange, NoCode, Seam, StreamBad}
 use Rattle.handover.specs.declared.outcome.Outcome.{Outcome}
@@ -20,28 +22,28 @@ use Rattle.block_events.specs.declared.fault.BlockFault.TheVariants as faults
 use Rattle.block_reading.specs.BlockReading.{and_then, blocks_read}
 use Rattle.segment_meaning.specs.ScanStream.{blocks_stream, starts}
 
--- a segment: its number, the scan's shape and grid, each interval's pad bit, the stream, what it starts from, how many
--- MCUs come before it and how many it has, and what the next segment starts from, if there is one
+-- a segment: its number, the scan's shape and grid, the pad bits of the intervals, the stream, what it starts from, how
+-- many MCUs come before it and how many it has, and what the next segment starts from, if there is one
 pub record SegmentFields : Type 0 where
   pub number : ℕ
   pub shape : Shape
   pub grid : Grid
-  pub pads : ℕ → Bool
+  pub pads : PadBits
   pub stream : List ℕ
   pub start : HandoverFields
   pub from : ℕ
   pub count : ℕ
   pub next : Option HandoverFields
 
--- between two MCUs: the segment's blocks so far, where its bytes leave off, and whether a bit was padded
+-- between two MCUs: the segment's blocks so far, where its bytes leave off, and what was padded
 pub record Progress : Type 0 where
   pub blocks : List (List ℤ)
   pub spot : Spot
-  pub padded : Bool
+  pub padded : PadSum
 
 -- before the first MCU
 abbrev pub first_progress : SegmentFields → Progress
-first_progress s = record { blocks = []; spot = spot_of s.start s.from; padded = false }
+first_progress s = record { blocks = []; spot = spot_of s.start s.from; padded = no_pads }
 
 -- the cause of a fault in reading blocks
 abbrev pub fault_cause : {A : Type 0} → Result A BlockFault → Result A StreamCause
@@ -60,15 +62,14 @@ abbrev pub progress_after : SegmentFields → Progress → Mcu → Spot → Prog
 progress_after s at mcu spot = record {
   blocks = at.blocks ++ mcu;
   spot = spot;
-  padded =
-      at.padded || is_padded s.shape at.spot (blocks_text s.shape.slots at.spot.before mcu);
+  padded = padded_after s.shape s.pads at.spot mcu at.padded;
 }
 
 -- the next MCU's bytes: all its blocks are read, and then it is written; the first that fails is the cause
 unfoldable pub mcu_step : SegmentFields → Progress → Result (List ℕ × Progress) StreamCause
 mcu_step s at =
     and_then (fault_cause (blocks_read s.grid s.stream at.blocks (length s.shape.slots)))
-    (λ mcu. and_then (stop_cause (mcu_put s.shape s.pads at.spot mcu))
+    (λ mcu. and_then (stop_cause (mcu_put s.shape (bit_for s.pads) at.spot mcu))
     (λ put. Ok (put.0, progress_after s at mcu put.1)))
 
 -- bytes, and how the segment ends after them

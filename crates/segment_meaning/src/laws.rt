@@ -1,7 +1,7 @@
 // What holds of all segments, containers and files.
 ghost use Rattle.segment_meaning.specs.SegmentLaws.{PieceIsPrefix, NextPieceIsPrefix, PieceHasAnMcu, McusArePut, SegmentIsItsSlice, GoodHasItsStream};
-ghost use Rattle.segment_meaning.specs.MeaningLaws.{OneMeaning, ContainerIsRestored, RestoredIsContainer, OneContainer, ContainerIsShort, SegmentIsShort};
-ghost use Rattle.segment_meaning.specs.MeaningRows.{zeros_are_put, pieces_are_made, faults_are_told, containers_are_joined, pad_is_spelled};
+ghost use Rattle.segment_meaning.specs.MeaningLaws.{OneMeaning, ContainerIsRestored, RestoredIsContainer, OneContainer, FirstCanPad, SecondCanPad, ContainerIsShort, MigratedMeansTheSame, SegmentIsShort};
+ghost use Rattle.segment_meaning.specs.MeaningRows.{zeros_are_put, pieces_are_made, faults_are_told, containers_are_joined, pad_is_spelled, lists_are_spelled};
 
 /// However a segment is cut into pieces, they are its bytes, and fewer MCUs are left after each.
 pub fn segments_come_in_pieces()
@@ -21,13 +21,18 @@ pub fn good_segments_have_their_stream()
     ensures { GoodHasItsStream }
 {}
 
-/// Bytes stand for one thing. A file's container stands for that file, and what stands for a file is its container.
+/// Bytes stand for one thing. A file's container stands for that file, in each version that can say its pad bits; the
+/// second one always can, the first one if no two intervals are padded with different bits. What stands for a file is
+/// its container.
 pub fn containers_stand_for_files()
     ensures one_meaning { OneMeaning }
     ensures restored { ContainerIsRestored }
     ensures spelling { RestoredIsContainer }
     ensures one_container { OneContainer }
+    ensures first { FirstCanPad }
+    ensures second { SecondCanPad }
     ensures short { ContainerIsShort }
+    ensures migrated { MigratedMeansTheSame }
 {}
 
 /// Whatever its stream, a segment of a container has fewer bytes than 64 bits count.
@@ -42,4 +47,5 @@ pub fn rows_of_meanings()
     ensures faults { faults_are_told }
     ensures containers { containers_are_joined }
     ensures pads { pad_is_spelled }
+    ensures lists { lists_are_spelled }
 {}

@@ -1,4 +1,5 @@
-use Rattle.box_format.proofs.BoxLawsProved.{box_passes, passed_is_box, one_box, one_box_refusal, never_both}
+use Rattle.box_format.proofs.BoxLawsProved.{box_passes, passed_is_box, one_box, one_box_refusal, never_both, migrated_is}
+use Rattle.box_format.proofs.Migrated.{migrated_stays, relaid_is}
 use Rattle.box_format.proofs.laws.containers_have_one_spelling.Goals as goal
 
 pub returns-clause-passes : goal.returns-clause-passes
@@ -15,3 +16,12 @@ returns-clause-refusal c = one_box_refusal
 
 pub returns-clause-apart : goal.returns-clause-apart
 returns-clause-apart c = never_both
+
+pub returns-clause-migrated : goal.returns-clause-migrated
+returns-clause-migrated c = migrated_is
+
+pub returns-clause-relaid : goal.returns-clause-relaid
+returns-clause-relaid c = relaid_is
+
+pub returns-clause-stays : goal.returns-clause-stays
+returns-clause-stays c = migrated_stays

@@ -7,15 +7,33 @@ use Rattle.box_format.proofs.laws.rows_of_containers.Goals as goal
 
 pub returns-clause-laid_out : goal.returns-clause-laid_out
 unfolding handover_bytes handover_in box_bytes raw_of early_fault late_fault
-returns-clause-laid_out c = (refl, refl, refl, refl, refl, refl, refl, refl)
+returns-clause-laid_out c = (
+  refl,
+  refl,
+  refl,
+  refl,
+  refl,
+  refl,
+  refl,
+  refl,
+  refl,
+  refl,
+  refl,
+  refl,
+  refl,
+  refl,
+  refl,
+  refl,
+  refl,
+)
 
 pub returns-clause-early : goal.returns-clause-early
 unfolding early_fault
-returns-clause-early c = (refl, refl, refl, refl, refl, refl)
+returns-clause-early c = (refl, refl, refl, refl, refl, refl, refl, refl)
 
 pub returns-clause-late : goal.returns-clause-late
 unfolding handover_bytes handover_in box_bytes raw_of late_fault
-returns-clause-late c = (refl, refl, refl, refl, refl, refl)
+returns-clause-late c = (refl, refl, refl, refl, refl, refl, refl, refl, refl, refl, refl)
 
 pub returns-clause-prefixes : goal.returns-clause-prefixes
 unfolding early_fault

@@ -1,5 +1,7 @@
 use Rattle.segment_meaning.proofs.ContainerSizes.{container_is_short}
+use Rattle.segment_meaning.proofs.MigratedMeanings.{migrated_means_the_same}
 use Rattle.segment_meaning.proofs.OneMeanings.{one_meaning, one_container}
+use Rattle.segment_meaning.proofs.PadsTold.{first_can_pad, second_can_pad}
 use Rattle.segment_meaning.proofs.RestoredFiles.{container_is_restored}
 use Rattle.segment_meaning.proofs.FilesOfContainers.{restored_is_container}
 use Rattle.segment_meaning.proofs.laws.containers_stand_for_files.Goals as goal
@@ -18,3 +20,12 @@ returns-clause-one_container c = one_container
 
 pub returns-clause-short : goal.returns-clause-short
 returns-clause-short c = container_is_short
+
+pub returns-clause-first : goal.returns-clause-first
+returns-clause-first c = first_can_pad
+
+pub returns-clause-second : goal.returns-clause-second
+returns-clause-second c = second_can_pad
+
+pub returns-clause-migrated : goal.returns-clause-migrated
+returns-clause-migrated c = migrated_means_the_same

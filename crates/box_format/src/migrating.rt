@@ -1,0 +1,48 @@
+// From a container to the same one in version 2.
+ghost use Rattle.std.specs.Prelude.{◌≡◌, ◌≤◌, IfOk, IsErrOf, length};
+ghost use Rattle.jpeg_marker.specs.Plans.{PlanFields};
+ghost use Rattle.box_format.specs.BoxChecks.{IsRefusedBox};
+ghost use Rattle.box_format.specs.Parts.{BoxParts, IsBoxOf, box_bytes, migrated, relaid};
+ghost use Rattle.box_format.specs.declared.refusal.BoxRefusal.{BoxRefusal};
+
+use crate::reading::read_box;
+use crate::refusal::Migrate;
+use crate::version::Version;
+use crate::view::BoxView;
+use std::alloc::{AllocError, Global};
+
+/// The same container in version 2: of version 1, with the byte of the version changed and a pad list of no bytes; of
+/// version 2, itself. It stands for the same; what its streams stand for isn't looked at.
+pub fn migrate(alloc: Global, bytes: &[u8]) -> Result<Vec<u8>, Migrate>
+    ensures made { IfOk result (λ made. (plan : PlanFields) × (b : BoxParts)
+        × IsBoxOf plan b bytes.now × (made.items ≡ box_bytes (migrated b))) }
+    ensures refused { (refusal : BoxRefusal) → IsErrOf result (Migrate.Box refusal)
+        → IsRefusedBox bytes.now refusal }
+{
+    let view = read_box(bytes)?;
+    Ok(migrated(alloc, &view)?)
+}
+
+// The bytes of a container, in version 2.
+fn migrated(alloc: Global, view: &BoxView) -> Result<Vec<u8>, AllocError>
+    ensures { IfOk result (λ made. made.items ≡ box_bytes (migrated view.now.parts)) }
+{
+    match view.version() {
+        Version::First => relaid(alloc, view.bytes),
+        Version::Second => Vec::from_slice(alloc, view.bytes),
+    }
+}
+
+// Bytes of version 1 with the byte of version 2, and the length of a pad list of no bytes after the trailer's.
+fn relaid(alloc: Global, bytes: &[u8]) -> Result<Vec<u8>, AllocError>
+    requires { 15 ≤ length bytes.now }
+    ensures { IfOk result (λ made. made.items ≡ relaid bytes.now) }
+{
+    let mut made = Vec::with_capacity(alloc, bytes.len().saturating_add(4))?;
+    made.extend_from_slice(&bytes[..4])?;
+    made.push(Version::Second.byte())?;
+    made.extend_from_slice(&bytes[5..15])?;
+    made.extend_from_slice(&[0; 4])?;
+    made.extend_from_slice(&bytes[15..])?;
+    Ok(made)
+}

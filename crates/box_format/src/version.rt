@@ -1,0 +1,54 @@
+// The versions of a container.
+ghost use Rattle.std.specs.Prelude.{◌≡◌};
+ghost use Rattle.box_format.specs.Versions.{layout_of, version_byte};
+
+/// A version of the container.
+#[derive(Clone, Copy, Debug, PartialEq, Eq)]
+pub enum Version {
+    /// 1: one pad bit for all restart intervals.
+    First,
+    /// 2: a pad bit for each restart interval, in a list where two of them differ.
+    Second,
+}
+
+impl Version {
+    /// The byte that says it.
+    pub(crate) fn byte(self) -> u8
+        ensures { result ≡ version_byte self }
+    {
+        match self {
+            Version::First => 1,
+            Version::Second => 2,
+        }
+    }
+
+    /// The bytes of the fields before the records.
+    pub(crate) fn front(self) -> usize
+        ensures { result ≡ (layout_of self).front }
+    {
+        match self {
+            Version::First => 15,
+            Version::Second => 19,
+        }
+    }
+
+    /// Whether the length of a pad list stands among these fields.
+    pub(crate) fn is_listed(self) -> bool
+        ensures { result ≡ (layout_of self).listed }
+    {
+        match self {
+            Version::First => false,
+            Version::Second => true,
+        }
+    }
+
+    /// The most segments.
+    pub(crate) fn most_segments(self) -> u8
+        ensures { result ≡ (layout_of self).most }
+    {
+        match self {
+            Version::First => 16,
+            Version::Second => 64,
+        }
+    }
+}
