@@ -8,11 +8,11 @@ use Rattle.block_events.specs.Grid.{Grid, component_of, cell_in}
 use Rattle.block_events.specs.HeldRows.{FitsGrid}
 use Rattle.block_events.proofs.CellsOfBlocks.{stands}
 
-pub column_small : (g : Grid) (before index : ℕ) → before < g.across → index < block_count g.mcu → g.across < 2 ^ 24 → width g.mcu (component_of g.mcu index) ≤ 4 → (cell_in g 0 before index).column < 2 ^ 32
+pub column_small : (g : Grid) (before index : ℕ) → before < g.across → index < block_count g.mcu → g.across < 2 ^ 25 → width g.mcu (component_of g.mcu index) ≤ 4 → (cell_in g 0 before index).column < 2 ^ 32
 column_small g before index mcu below narrow wide =
     let inside = (stands g 0 before index mcu below).cell.in_width in
     let w = width g.mcu (component_of g.mcu index) in
-    let most : g.across * w ≤ 16777216 * w = mul-le-mul_right w (omega (arith, narrow)) in
+    let most : g.across * w ≤ 33554432 * w = mul-le-mul_right w (omega (arith, narrow)) in
     omega (arith, inside, most, wide)
 
 pub in_frame : (g : Grid) (before index : ℕ) → before < g.across → index < block_count g.mcu → component_of g.mcu index < 4
@@ -55,7 +55,7 @@ row_count e g fits =
     all : (a v0 h0 v1 h1 v2 h2 v3 h3 : ℕ) → 0 + a * v0 * h0 + a * v1 * h1 + a * v2 * h2 + a * v3 * h3 ≡ a * (0 + v0 * h0 + v1 * h1 + v2 * h2 + v3 * h3)
     all a v0 h0 v1 h1 v2 h2 v3 h3 = grind arith
 
-pub row_few : (e : Extents) (g : Grid) → FitsGrid e g → g.across < 2 ^ 24 → block_count g.mcu ≤ 10 → block_count e < 2 ^ 32
+pub row_few : (e : Extents) (g : Grid) → FitsGrid e g → g.across < 2 ^ 25 → block_count g.mcu ≤ 10 → block_count e < 2 ^ 32
 row_few e g fits narrow few =
     let most : block_count g.mcu * g.across ≤ 10 * g.across = mul-le-mul_right g.across few in
     let count = row_count e g fits in

@@ -20,4 +20,4 @@ pub record IsGridInside (g : Inside) : Type 0 where
   pub few : g.blocks ≤ 10
   pub some : 1 ≤ g.blocks
   pub across : 1 ≤ g.across
-  pub narrow : g.across < 2 ^ 24
+  pub narrow : g.across < 2 ^ 25

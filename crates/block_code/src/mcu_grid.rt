@@ -36,12 +36,12 @@ impl Model for McuGrid {
 }
 
 impl McuGrid {
-    /// The grid with `across` MCUs in a row, from 1 to 2^24 - 1. `widths` and `heights` are those of an MCU in blocks,
+    /// The grid with `across` MCUs in a row, from 1 to 2^25 - 1. `widths` and `heights` are those of an MCU in blocks,
     /// by component, 0 after the last: at most four by four of a component, and from one to ten blocks in all
     /// (T.81 B.2.3).
     pub fn new(across: u32, widths: [u32; 4], heights: [u32; 4]) -> McuGrid
         requires across { 1 ≤ across }
-        requires narrow { across < 2 ^ 24 }
+        requires narrow { across < 2 ^ 25 }
         requires wide { (c : ℕ) → c < 4 → slice_index widths c ≤ 4 }
         requires high { (c : ℕ) → c < 4 → slice_index heights c ≤ 4 }
         requires some { 1 ≤ block_count (record { widths = widths; heights = heights }) }
@@ -79,7 +79,7 @@ impl McuGrid {
     pub(crate) fn heights(&self) -> [u32; 4]
         ensures heights { result ≡ self.now.mcu.heights }
         ensures few { block_count self.now.mcu ≤ 10 }
-        ensures narrow { self.now.across < 2 ^ 24 }
+        ensures narrow { self.now.across < 2 ^ 25 }
     {
         self.heights
     }
@@ -96,7 +96,7 @@ impl McuGrid {
     #[inline]
     pub fn across(&self) -> u32
         ensures value { result ≡ self.now.across }
-        ensures narrow { result < 2 ^ 24 }
+        ensures narrow { result < 2 ^ 25 }
     {
         self.across
     }

@@ -103,7 +103,7 @@ blocks_of f = across_of f * down_of f * blocks_in_mcu f.parts
 
 -- the most blocks of a grid that is taken (own)
 abbrev pub most_blocks : ℕ
-most_blocks = 4194304
+most_blocks = 16777216
 
 -- The first check that the scan's components fail, with these in the frame and the segment's length at a
 -- place (B.2.3): a length that fits their number, and all of the frame's components in its order.

@@ -5,7 +5,7 @@ use crate::grid::{across, blocks_in_mcu, down};
 use std::marker::Model;
 
 // The most blocks of a scan (own).
-const MOST_BLOCKS: u32 = 4_194_304;
+const MOST_BLOCKS: u32 = 16_777_216;
 
 /// What a header says (ITU-T T.81, B.2): the components with their tables, the grid of MCUs, and the
 /// restart interval.

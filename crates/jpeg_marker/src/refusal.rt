@@ -32,7 +32,7 @@ pub enum HeaderRefusal {
     ScanParams,
     /// A table that the scan names isn't there.
     NoTable,
-    /// More than 4,194,304 blocks.
+    /// More than 16,777,216 blocks.
     TooManyBlocks,
 }
 
