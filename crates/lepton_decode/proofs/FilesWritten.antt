@@ -1,7 +1,9 @@
 -- A file written: its header, its segments, its trailer.
-use Rattle.std.proofs.Common.{◌≡◌, ℕ, ◌+◌, Bool, true, false, List, [], ◌++◌, length, length-append, refl, sym, ap, ap₂, subst, ◌∙◌, append_assoc, append-nil, Option, Some, None, true≢false, Err}
-use Rattle.std.specs.Prelude.{not, ◌&&◌, ◌||◌, if◌then◌else◌}
+use Rattle.std.proofs.Common.{◌≡◌, ℕ, ◌+◌, Bool, List, [], ◌++◌, length, length-append, sym, ap, ap₂, subst, ◌∙◌, append_assoc, append-nil, Option, Some, None, Err}
+use Rattle.std.specs.Prelude.{if◌then◌else◌}
 use Rattle.jpeg_marker.specs.Plans.{PlanFields}
+use Rattle.scan_text.specs.Pads.{is_spelled}
+use Rattle.handover.specs.declared.pads.PadSum.{PadSum}
 use Rattle.handover.specs.declared.outcome.StreamFault.{StreamFault}
 use Rattle.box_format.specs.Parts.{BoxParts}
 use Rattle.segment_meaning.specs.Meanings.{Joined, Meaning, Restored, PadSpelled, Faulty, joined, outputs_of, meaning_by, meaning_of}
@@ -37,31 +39,15 @@ pub unfaulty : (plan : PlanFields) (b : BoxParts) → (joined (outputs_of plan b
 unfolding meaning_of
 unfaulty plan b e = ap (meaning_by b (joined (outputs_of plan b))) e
 
-untold : (p q : Bool) → (p || q) ≡ false → (not p && not q) ≡ true
-untold false false e = refl
-untold false true e = absurd (true≢false e)
-untold true q e = absurd (true≢false e)
-
-told : (p q : Bool) → (p || q) ≡ true → (not p && not q) ≡ false
-told true q e = refl
-told false true e = refl
-told false false e = absurd (true≢false (sym e))
-
-pub pad_spelled : (plan : PlanFields) (b : BoxParts) (padded : Bool)
-    → (joined (outputs_of plan b)).fault ≡ None → padded ≡ (joined (outputs_of plan b)).padded
-    → (b.pad || padded) ≡ false → (meaning_of plan b).verdict ≡ PadSpelled
-pad_spelled plan b padded none e t =
+-- and then by how the pad bits are told
+pub pads_decide : (plan : PlanFields) (b : BoxParts) (sum : PadSum) (told : Bool)
+    → (joined (outputs_of plan b)).fault ≡ None → sum ≡ (joined (outputs_of plan b)).padded
+    → is_spelled b.pads sum ≡ told
+    → (meaning_of plan b).verdict ≡ (if told then Restored else PadSpelled)
+pads_decide plan b sum told none e t =
     ap (λ (m : Meaning). m.verdict) (unfaulty plan b none)
-    ∙ ap (λ (u : Bool). if u then PadSpelled else Restored)
-    (untold b.pad (joined (outputs_of plan b)).padded (ap (λ (q : Bool). b.pad || q) (sym e) ∙ t))
-
-pub restored : (plan : PlanFields) (b : BoxParts) (padded : Bool)
-    → (joined (outputs_of plan b)).fault ≡ None → padded ≡ (joined (outputs_of plan b)).padded
-    → (b.pad || padded) ≡ true → (meaning_of plan b).verdict ≡ Restored
-restored plan b padded none e t =
-    ap (λ (m : Meaning). m.verdict) (unfaulty plan b none)
-    ∙ ap (λ (u : Bool). if u then PadSpelled else Restored)
-    (told b.pad (joined (outputs_of plan b)).padded (ap (λ (q : Bool). b.pad || q) (sym e) ∙ t))
+    ∙ ap (λ (u : Bool). if u then Restored else PadSpelled)
+    (ap (is_spelled b.pads) (sym e) ∙ t)
 
 -- the bytes where no segment has a fault
 pub whole_bytes : (plan : PlanFields) (b : BoxParts) → (joined (outputs_of plan b)).fault ≡ None

@@ -1,7 +1,7 @@
 -- The emitter and the workers of a decode (own).
 use Rattle.std.specs.Prelude.{All, ℕ, ◌≡◌, ◌*◌, ◌≤◌, None, true, false, List, length, map, Option, Result, OnOk, OnErr}
 use Rattle.atomic_table.specs.Seated.{TableId}
-use Rattle.box_format.specs.Parts.{most_segments}
+use Rattle.box_format.specs.Versions.{most_segments}
 use Rattle.box_format.specs.Seen.{BoxSeen}
 use Rattle.output_board.specs.declared.view.WorkerView.{WorkerView}
 use Rattle.output_board.specs.Seats.{SeatValue}

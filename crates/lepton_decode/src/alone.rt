@@ -94,7 +94,7 @@ pub fn run_alone<K: Sink, G: Gate>(
     )
 }
 
-// Header, segments and trailer, and then whether the pad bit is spelled as it must be.
+// Header, segments and trailer, and then whether the pad bits are told as a file's are.
 fn restore_alone<'a, K: Sink, G: Gate>(
     view: &BoxView<'a>,
     decoder: &mut SegmentDecoder<'a>,

@@ -48,7 +48,7 @@ pub fn run<R: Threads + Wait + Sync, K: Sink + Send, G: Gate + Sync>(
     )
 }
 
-// Header, segments and trailer, and then whether the pad bit is spelled as it must be.
+// Header, segments and trailer, and then whether the pad bits are told as a file's are.
 fn restore<'a, R: Threads + Wait + Sync, K: Sink + Send, G: Gate + Sync>(
     rt: &R,
     view: &BoxView<'a>,

@@ -11,7 +11,8 @@ pub enum DecodeError {
     /// 40 to 45: the first fault in the order of the segments; the bytes before it are written.
     #[error("Fault")]
     Fault(StreamFault),
-    /// 46: the pad bit is 0, and no bit is padded; all bytes are written.
+    /// 46: the pad bits are told otherwise than a file's: as 0 where no bit of 0 is padded, by a list where the padded
+    /// bits are all the same, or where it has 0 for an interval that pads none. All bytes are written.
     #[error("PadSpelling")]
     PadSpelling,
 }

@@ -1,6 +1,6 @@
 // What a decode writes before its segments and after them.
 ghost use Rattle.std.specs.Prelude.{◌≡◌, ◌*◌, ◌^◌, ◌<◌, ◌≤◌, length, IfOk, IfErr};
-ghost use Rattle.box_format.specs.Parts.{most_segments};
+ghost use Rattle.box_format.specs.Versions.{most_segments};
 ghost use Rattle.segment_meaning.specs.Meanings.{meaning_of};
 ghost use Rattle.segment_worker.specs.Contents.{segment_room};
 ghost use Rattle.segment_worker.specs.Emitting.{Counts, Emits, joined_in};
@@ -30,7 +30,7 @@ pub(crate) fn put_header<K: Sink>(view: &BoxView, sink: &mut K) -> Result<u64, u
 }
 
 // After the header, which has `before` bytes, and the segments, which ended like this: writes the trailer if all ended
-// well, and then looks whether the pad bit is spelled as it must be.
+// well, and then looks whether the pad bits are told as a file's are.
 pub(crate) fn put_rest<K: Sink>(
     view: &BoxView,
     before: u64,
@@ -63,9 +63,7 @@ pub(crate) fn put_rest<K: Sink>(
             written: before + emitted.bytes + written,
         });
     }
-    // A pad bit is 1 where no bit is padded.
-    let told = view.pad() | emitted.padded;
-    if !told {
+    if !view.pad().is_spelled(&emitted.pads) {
         return Err(DecodeError::PadSpelling);
     }
     Ok(before + emitted.bytes + trailer.len() as u64)

@@ -6,7 +6,8 @@ ghost use Rattle.jpeg_marker.specs.declared.refusal.HeaderRefusal.{HeaderRefusal
 ghost use Rattle.scan_text.specs.Items.{Refuses as ScanRefuses};
 ghost use Rattle.scan_text.specs.Slots.{shape_of};
 ghost use Rattle.scan_text.specs.declared.refusal.ScanRefusal.{ScanRefusal};
-ghost use Rattle.box_format.specs.Parts.{most_segments};
+ghost use Rattle.box_format.specs.Versions.{layout_of};
+ghost use Rattle.box_format.specs.declared.version.Version.TheVariants.{Second};
 ghost use Rattle.segment_meaning.specs.Files.{IsContainerOf};
 
 use crate::error::EncodeError;
@@ -17,8 +18,8 @@ use segment_worker::encode_all;
 use std::alloc::Global;
 use std::thread::Threads;
 
-/// The container of a file in at most so many segments, and at most as many as rows of MCUs. A refusal is the header's,
-/// or else the scan's. The segments are made in threads of their own where they can be had.
+/// The container of a file, of version 2, in at most so many segments, and at most as many as rows of MCUs. A refusal
+/// is the header's, or else the scan's. The segments are made in threads of their own where they can be had.
 pub fn encode<R: Threads + Sync>(
     rt: &R,
     alloc: Global,
@@ -27,8 +28,8 @@ pub fn encode<R: Threads + Sync>(
 ) -> Result<Vec<u8>, EncodeError>
     requires length { length bytes.now < 2 ^ 32 }
     requires some { 0 < segments }
-    requires few { segments ≤ most_segments }
-    ensures made { IfOk result (λ made. IsContainerOf segments made.items bytes.now) }
+    requires few { segments ≤ (layout_of Second).most }
+    ensures made { IfOk result (λ made. IsContainerOf Second segments made.items bytes.now) }
     ensures header { (refusal : HeaderRefusal) → IsErrOf result (EncodeError.Header refusal)
         → HeaderRefuses bytes.now refusal }
     ensures scan { (refusal : ScanRefusal) → IsErrOf result (EncodeError.Scan refusal)

@@ -7,7 +7,7 @@ use coef_block::Block;
 use huff_table::PlanCodes;
 use jpeg_marker::Plan;
 use scan_decode::Reader;
-use scan_text::MOST_SLOTS;
+use scan_text::{MOST_SLOTS, Pads};
 use scan_write::{Writer, mcu_room};
 use std::alloc::Global;
 
@@ -18,20 +18,22 @@ pub(crate) struct Passed {
     pub(crate) mcus: u32,
 }
 
-/// The bit that a scan is padded with, ones where no bit is padded.
+/// The bit that the first interval of a scan that pads any is padded with, 1 if none does.
 pub(crate) fn pad_of(plan: &Plan, codes: &PlanCodes, bytes: &[u8]) -> Option<bool>
     requires { codes.now ≡ map tables_of plan.now.components }
 {
     let mut reader = Reader::start(plan, codes, bytes, plan.header_length());
     let mut blocks = [Block::zero(); MOST_SLOTS];
+    let mut pad = None;
     for _ in 0..plan.mcus() {
         if reader.at_end() {
             return None;
         }
         let count = reader.mcu_blocks();
         reader.next_mcu(&mut blocks[..count]).ok()?;
+        pad = pad.or(reader.pad());
     }
-    Some(reader.end().0.unwrap_or(true))
+    Some(pad.unwrap_or(true))
 }
 
 /// Reads the scan of these bytes, unless it is refused.
@@ -49,7 +51,7 @@ pub(crate) fn read(plan: &Plan, codes: &PlanCodes, bytes: &[u8]) -> Option<Passe
         reader.next_mcu(&mut blocks[..count]).ok()?;
     }
     Some(Passed {
-        bytes: reader.end().1.wrapping_sub(start),
+        bytes: reader.end().wrapping_sub(start),
         mcus: plan.mcus(),
     })
 }
@@ -66,7 +68,7 @@ pub(crate) fn both(
 {
     let start = plan.header_length();
     let mut reader = Reader::start(plan, codes, bytes, start);
-    let mut writer = Writer::start(plan, codes, pad);
+    let mut writer = Writer::start(plan, codes, Pads::All(pad));
     let mut piece = Piece::new(alloc).ok()?;
     let mut blocks = [Block::zero(); MOST_SLOTS];
     let mut rest = bytes.get(start..)?;
@@ -84,7 +86,7 @@ pub(crate) fn both(
     }
     rest = after(rest, &mut piece)?;
     let end = bytes.len().checked_sub(rest.len())?;
-    (end == reader.end().1).then_some(Passed {
+    (end == reader.end()).then_some(Passed {
         bytes: end.wrapping_sub(start),
         mcus: plan.mcus(),
     })

@@ -6,6 +6,7 @@ use Rattle.std.proofs.Math.Nat.{lt_of_mul-lt-mul_left}
 use Rattle.std.proofs.lemmas.Bool.{and_parts, eqb-true}
 use Rattle.jpeg_marker.specs.Plans.{PlanFields}
 use Rattle.jpeg_marker.proofs.HeadersTaken.{accepted_has_plan}
+use Rattle.scan_text.specs.Pads.{PadBits}
 use Rattle.scan_text.specs.Slots.{Shape, shape_of}
 use Rattle.scan_text.proofs.PlanShapes.{accepted_is_shape}
 use Rattle.handover.specs.Handovers.{HandoverFields, start}
@@ -138,17 +139,17 @@ module _ (plan : PlanFields) (b : BoxParts) (i row count : ℕ)
 
   -- its parts are those of the container
   pub same_segment : (stream : List ℕ) (h : HandoverFields) (next : Option HandoverFields)
-      (pad : Bool) → stream ≡ get_or b.streams i [] → h ≡ get_or b.handovers i start
-      → next ≡ slice_get b.handovers (i + 1) → pad ≡ b.pad
-      → segment_with plan i stream h row count next pad ≡ segment_in plan b i
-  same_segment stream h next pad stream_is h_is next_is pad_is =
+      (pads : PadBits) → stream ≡ get_or b.streams i [] → h ≡ get_or b.handovers i start
+      → next ≡ slice_get b.handovers (i + 1) → pads ≡ b.pads
+      → segment_with plan i stream h row count next pads ≡ segment_in plan b i
+  same_segment stream h next pads stream_is h_is next_is pads_is =
       let cut = cut_in plan (length b.handovers) in
       let counted = is.counted in
       let count_is : count ≡ first_mcu cut (i + 1) - first_mcu cut i = omega (arith, counted) in
-      ap₂ (λ (l : List ℕ) (g : HandoverFields). segment_with plan i l g row count next pad)
+      ap₂ (λ (l : List ℕ) (g : HandoverFields). segment_with plan i l g row count next pads)
       stream_is h_is
       ∙ ap₂ (λ (r c : ℕ). segment_with plan i (get_or b.streams i []) (get_or b.handovers i start)
-      r c next pad) is.is_row count_is
-      ∙ ap₂ (λ (n : Option HandoverFields) (p : Bool). segment_with plan i (get_or b.streams i [])
+      r c next pads) is.is_row count_is
+      ∙ ap₂ (λ (n : Option HandoverFields) (p : PadBits). segment_with plan i (get_or b.streams i [])
       (get_or b.handovers i start) (row_of cut i) (first_mcu cut (i + 1) - first_mcu cut i) n p)
-      next_is pad_is
+      next_is pads_is

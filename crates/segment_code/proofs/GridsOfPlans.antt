@@ -84,7 +84,7 @@ counted (c ∷ d ∷ e ∷ f ∷ g ∷ cs) some few = absurd (omega arith)
 
 -- what a plan's grid keeps
 pub record HasGrid (p : PlanFields) : Type 0 where
-  pub narrow : p.across < 2 ^ 24
+  pub narrow : p.across < 2 ^ 25
   pub wide : (c : ℕ) → c < 4 → slice_index (mcu_extents p.components).widths c ≤ 4
   pub high : (c : ℕ) → c < 4 → slice_index (mcu_extents p.components).heights c ≤ 4
   pub some : 1 ≤ block_count (mcu_extents p.components)

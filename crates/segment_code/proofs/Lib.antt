@@ -5,6 +5,8 @@ mod FirstBlocks
 mod GridsOfPlans
 mod McuMade
 mod McusCoded
+mod PadsOn
+mod PadsPacked
 mod PiecesFilled
 mod ReadOn
 mod ScansCoded

@@ -1,18 +1,19 @@
 -- The next MCU of a segment: its blocks are read, and its bytes are put, or there are none for a cause.
 use Rattle.std.proofs.Common.{◌≡◌, ℕ, ◌+◌, ◌-◌, ◌<◌, ◌≤◌, Bool, List, ◌++◌, length, ℤ, Result, Ok, Err, refl, sym, ap, ap₂, subst, ◌∙◌, arith, append_assoc}
-use Rattle.std.specs.Prelude.{⊤, ◌||◌, Option, Some, None}
+use Rattle.std.specs.Prelude.{⊤, Option, Some, None}
 use Rattle.coef_block.specs.TwoRows.{block_count}
 use Rattle.bool_coder.specs.BoolReading.{IsReading}
 use Rattle.adapt_bins.specs.Events.{bools_of}
 use Rattle.adapt_bins.specs.GotEvents.{HasGot, GetsEvents}
 use Rattle.adapt_bins.specs.declared.get.Get.{Get}
-use Rattle.scan_text.specs.Blocks.{blocks_text}
-use Rattle.scan_text.specs.ScanCalls.{ScanWriter, is_padded, McuIsPut, McuIsPutOn}
+use Rattle.scan_text.specs.Pads.{PadBits, bit_for}
+use Rattle.scan_text.specs.ScanCalls.{ScanWriter, McuIsPut, McuIsPutOn, padded_after}
 use Rattle.scan_text.specs.Scans.{Mcu}
 use Rattle.scan_text.specs.Slots.{Shape}
 use Rattle.scan_text.specs.Spots.{Spot, Put, mcu_put}
 use Rattle.scan_text.specs.declared.stop.WriteStop.{WriteStop}
 use Rattle.scan_text.specs.declared.stop.WriteStop.TheVariants as stops
+use Rattle.handover.specs.declared.pads.PadSum.{PadSum}
 use Rattle.handover.specs.declared.outcome.StreamCause.{StreamCause}
 use Rattle.block_events.specs.Grid.{Grid}
 use Rattle.block_events.specs.SegmentEvents.{segment_events}
@@ -83,7 +84,7 @@ abbrev step_by : SegmentFields → Progress → Result (List (List ℤ)) BlockFa
     → Result (List ℕ × Progress) StreamCause
 step_by s at read =
     and_then (fault_cause read)
-    (λ mcu. and_then (stop_cause (mcu_put s.shape s.pads at.spot mcu))
+    (λ mcu. and_then (stop_cause (mcu_put s.shape (bit_for s.pads) at.spot mcu))
     (λ put. Ok (put.0, progress_after s at mcu put.1)))
 
 step_is : (s : SegmentFields) (at : Progress) (read : Result (List (List ℤ)) BlockFault)
@@ -121,22 +122,20 @@ module _ (old : DecoderSeen) (s : SegmentFields) (at : Progress) (is : IsWithin 
   grid_here = let decoded = is.decoded in decoded.grid
 
   put_here : (mcu : Mcu)
-      → mcu_put old.writer.shape (λ n. old.writer.pad) old.writer.spot mcu
-      ≡ mcu_put s.shape s.pads at.spot mcu
+      → mcu_put old.writer.shape (bit_for old.writer.pads) old.writer.spot mcu
+      ≡ mcu_put s.shape (bit_for s.pads) at.spot mcu
   put_here mcu =
-      ap₂ (λ (shape : Shape) (spot : Spot). mcu_put shape (λ n. old.writer.pad) spot mcu)
+      ap₂ (λ (shape : Shape) (spot : Spot). mcu_put shape (bit_for old.writer.pads) spot mcu)
       is.shape is.spot
-      ∙ ap (λ (pads : ℕ → Bool). mcu_put s.shape pads at.spot mcu) (sym is.pads)
+      ∙ ap (λ (pads : PadBits). mcu_put s.shape (bit_for pads) at.spot mcu) is.pads
 
   padded_here : (mcu : Mcu)
-      → (old.writer.padded || is_padded old.writer.shape old.writer.spot
-      (blocks_text old.writer.shape.slots old.writer.spot.before mcu))
-      ≡ (at.padded || is_padded s.shape at.spot (blocks_text s.shape.slots at.spot.before mcu))
+      → padded_after old.writer.shape old.writer.pads old.writer.spot mcu old.writer.padded
+      ≡ padded_after s.shape s.pads at.spot mcu at.padded
   padded_here mcu =
-      ap (λ (t : Bool). t || is_padded old.writer.shape old.writer.spot
-      (blocks_text old.writer.shape.slots old.writer.spot.before mcu)) is.padded
-      ∙ ap₂ (λ (shape : Shape) (spot : Spot).
-      at.padded || is_padded shape spot (blocks_text shape.slots spot.before mcu))
+      ap₂ (λ (pads : PadBits) (padded : PadSum).
+      padded_after old.writer.shape pads old.writer.spot mcu padded) is.pads is.padded
+      ∙ ap₂ (λ (shape : Shape) (spot : Spot). padded_after shape s.pads spot mcu at.padded)
       is.shape is.spot
 
   -- a fault among its blocks
@@ -161,7 +160,7 @@ module _ (old : DecoderSeen) (s : SegmentFields) (at : Progress) (is : IsWithin 
 
     -- its step is what is put
     made_here : (put : Put)
-        → mcu_put old.writer.shape (λ n. old.writer.pad) old.writer.spot mcu ≡ put
+        → mcu_put old.writer.shape (bit_for old.writer.pads) old.writer.spot mcu ≡ put
         → mcu_step s at ≡ put_by s at mcu put
     made_here put e =
         step_is s at (Ok mcu)
@@ -172,7 +171,7 @@ module _ (old : DecoderSeen) (s : SegmentFields) (at : Progress) (is : IsWithin 
     -- it has no bytes
     pub stop_made : (stop : WriteStop) (cause : StreamCause) (out out_new : List ℕ)
         (new : DecoderSeen)
-        → mcu_put old.writer.shape (λ n. old.writer.pad) old.writer.spot mcu ≡ Err stop
+        → mcu_put old.writer.shape (bit_for old.writer.pads) old.writer.spot mcu ≡ Err stop
         → out_new ≡ out → stop_cause {A = ⊤} (Err stop) ≡ Err cause
         → McuIsMade {A = ⊤} s old.left at out (Err cause) new out_new
     stop_made stop cause out out_new new put same told =
@@ -188,7 +187,7 @@ module _ (old : DecoderSeen) (s : SegmentFields) (at : Progress) (is : IsWithin 
     mcu_made segment writer left out out_new grid held some less put =
         let more = more_here in
         let next = progress_after s at mcu writer.spot in
-        let counted = count_more s.shape s.pads at.spot writer.spot mcu put.0
+        let counted = count_more s.shape (bit_for s.pads) at.spot writer.spot mcu put.0
         (sym (put_here mcu) ∙ put.1) in
         let before = is.within in (
           put.0,
@@ -203,9 +202,7 @@ module _ (old : DecoderSeen) (s : SegmentFields) (at : Progress) (is : IsWithin 
             still = less;
             next = is.next;
             shape = ap (λ (w : ScanWriter). w.shape) put.3 ∙ is.shape;
-            pads =
-                is.pads
-                ∙ (let pads_of : ScanWriter → ℕ → Bool = λ w n. w.pad in ap pads_of (sym put.3));
+            pads = ap (λ (w : ScanWriter). w.pads) put.3 ∙ is.pads;
             spot = refl;
             padded = ap (λ (w : ScanWriter). w.padded) put.3
                 ∙ padded_here mcu;
@@ -236,7 +233,7 @@ pub put_keeps : (stop : Option WriteStop) (old new : ScanWriter) (mcu : Mcu)
     (out out_new : List ℕ) → McuIsPut {A = ⊤} stop old mcu out (Ok tt) new out_new
     → (new.shape ≡ old.shape) × (new.spot.count ≤ old.spot.count + 1)
 put_keeps None old new mcu out out_new put =
-    let more = count_more old.shape (λ n. old.pad) old.spot new.spot mcu put.0 put.1 in
+    let more = count_more old.shape (bit_for old.pads) old.spot new.spot mcu put.0 put.1 in
     (ap (λ (w : ScanWriter). w.shape) put.3, omega (arith, more))
 put_keeps (Some stop) old new mcu out out_new put =
     let same = ap (λ (w : ScanWriter). w.spot.count) put.2 in

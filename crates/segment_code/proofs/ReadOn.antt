@@ -34,10 +34,15 @@ closed_count shape bytes count padded next e =
 count_after : (shape : Shape) (bytes : List ℕ) (at next : Standing) (read : BlocksRead)
     → after_mcu shape bytes at read ≡ Ok next → next.count ≡ at.count + 1
 count_after shape bytes at next read e = elim (is_closed shape (at.count + 1)) as
-    (λ t. (if t then and_then (pads_at at.pad read.cursor) (after_pads shape bytes at.count)
-    else Ok (record at { cursor = read.cursor; before = read.before; count = at.count + 1 }))
+    (λ t. (if t then and_then (pads_at read.cursor) (after_pads shape bytes at.count)
+    else Ok (record {
+      cursor = read.cursor;
+      before = read.before;
+      count = at.count + 1;
+      pad = None;
+    }))
     ≡ Ok next → next.count ≡ at.count + 1) [
-      | true ↦ λ h. let p = then_fine (pads_at at.pad read.cursor) (after_pads shape bytes at.count)
+      | true ↦ λ h. let p = then_fine (pads_at read.cursor) (after_pads shape bytes at.count)
           next h in closed_count shape bytes at.count p.0 next p.2
       | false ↦ λ h. sym (ap (λ (s : Standing). s.count) (is_fine _ next h))
     ] e

@@ -1,9 +1,10 @@
 -- Where a decoder stands that begins a segment.
-use Rattle.std.proofs.Common.{◌≡◌, ℕ, ◌+◌, ◌*◌, ◌<◌, ◌≤◌, Bool, true, List, [], refl, sym, ap}
+use Rattle.std.proofs.Common.{◌≡◌, ℕ, ◌+◌, ◌*◌, ◌<◌, ◌≤◌, true, List, [], refl, ap}
 use Rattle.std.specs.Prelude.{Option}
 use Rattle.adapt_bins.specs.GotEvents.{HasGot}
 use Rattle.adapt_bins.specs.declared.get.Get.{Get}
 use Rattle.jpeg_marker.specs.Plans.{PlanFields}
+use Rattle.scan_text.specs.Pads.{PadBits}
 use Rattle.scan_text.specs.ScanCalls.{ScanWriter}
 use Rattle.scan_text.specs.Slots.{shape_of}
 use Rattle.handover.specs.Handovers.{HandoverFields}
@@ -28,7 +29,7 @@ unfolding segment_events
 nothing_got g coder stream got = got
 
 -- a decoder with a segment's parts, before its first MCU
-pub record IsBegun (d : DecoderSeen) (plan : PlanFields) (s : SegmentFields) (pad : Bool)
+pub record IsBegun (d : DecoderSeen) (plan : PlanFields) (s : SegmentFields) (pads : PadBits)
     : Type 0 where
   pub suits : Suits (shape_of plan) (grid_of plan)
   pub some : 0 < s.count
@@ -37,18 +38,18 @@ pub record IsBegun (d : DecoderSeen) (plan : PlanFields) (s : SegmentFields) (pa
   pub number : d.number ≡ s.number
   pub left : d.left ≡ s.count
   pub next : d.next ≡ s.next
-  pub writer : d.writer ≡ writer_from (shape_of plan) pad s.start s.from
+  pub writer : d.writer ≡ writer_from (shape_of plan) pads s.start s.from
   pub started : d.started ≡ starts s.stream
   pub got : d.started ≡ true → HasGot d.coder s.stream []
   pub grid : d.segment.grid ≡ grid_of plan
   pub held : HoldsUpTo d.segment []
 
 pub stands_first : (d : DecoderSeen) (plan : PlanFields) (number : ℕ) (stream : List ℕ)
-    (start : HandoverFields) (row count : ℕ) (next : Option HandoverFields) (pad : Bool)
-    → IsBegun d plan (segment_with plan number stream start row count next pad) pad
-    → (let s = segment_with plan number stream start row count next pad in
+    (start : HandoverFields) (row count : ℕ) (next : Option HandoverFields) (pads : PadBits)
+    → IsBegun d plan (segment_with plan number stream start row count next pads) pads
+    → (let s = segment_with plan number stream start row count next pads in
     StandsAt d s count (first_progress s))
-stands_first d plan number stream start row count next pad is = record {
+stands_first d plan number stream start row count next pads is = record {
   running = is.running;
   some = is.some;
   within = is.within;
@@ -57,7 +58,7 @@ stands_first d plan number stream start row count next pad is = record {
   still = is.left;
   next = is.next;
   shape = ap (λ (w : ScanWriter). w.shape) is.writer;
-  pads = (let pads_of : ScanWriter → ℕ → Bool = λ w n. w.pad in ap pads_of (sym is.writer));
+  pads = ap (λ (w : ScanWriter). w.pads) is.writer;
   spot = ap (λ (w : ScanWriter). w.spot) is.writer;
   padded = ap (λ (w : ScanWriter). w.padded) is.writer;
   unstopped = ap (λ (w : ScanWriter). w.stop) is.writer;

@@ -7,7 +7,7 @@ use Rattle.coef_block.specs.Block.{IsBlock}
 use Rattle.jpeg_marker.specs.Plans.{PlanFields, IsPlan}
 use Rattle.jpeg_marker.proofs.HeadersTaken.{accepted_has_plan}
 use Rattle.scan_text.specs.Slots.{Shape, shape_of}
-use Rattle.scan_text.specs.Scans.{Mcu, IsMcu}
+use Rattle.scan_text.specs.Scans.{Mcu, IsMcu, pad_at}
 use Rattle.scan_text.specs.Spots.{Spot, bytes_done, spot_at}
 use Rattle.scan_text.specs.ScanCalls.{ScanReader}
 use Rattle.scan_text.specs.ScanLaws.{IsShape, zigzag_of}
@@ -31,20 +31,20 @@ use Rattle.segment_code.proofs.ScansCoded.{mcus_once}
 use Rattle.segment_code.proofs.SegmentNumbers.{entry, length_numbers}
 
 -- what the starts of a file say of segment i
-pub record SaidOf (plan : PlanFields) (mcus : List Mcu) (pad : Bool) (most : ℕ)
+pub record SaidOf (plan : PlanFields) (mcus : List Mcu) (pads : List Bool) (most : ℕ)
     (starts : StartsFields) (i : ℕ) : Type 0 where
   pub count : length starts.rows ≡ min most plan.down
   pub under : i < min most plan.down
   pub row : get_or starts.rows i 0 ≡ row_of (plan_cut plan most) i
-  pub place : get_or starts.places i 0 ≡ plan.header_length + bytes_done (shape_of plan) (λ n. pad)
+  pub place : get_or starts.places i 0 ≡ plan.header_length + bytes_done (shape_of plan) (pad_at pads)
       mcus (first_mcu (plan_cut plan most) i)
   pub handover : get_or starts.handovers i start
-      ≡ handover_at (shape_of plan) (λ n. pad) mcus (first_mcu (plan_cut plan most) i)
+      ≡ handover_at (shape_of plan) (pad_at pads) mcus (first_mcu (plan_cut plan most) i)
 
-pub said_of : (plan : PlanFields) (mcus : List Mcu) (pad : Bool) (trailer most : ℕ)
-    (starts : StartsFields) (i : ℕ) → starts ≡ starts_of plan mcus pad trailer most
-    → i < length starts.rows → SaidOf plan mcus pad most starts i
-said_of plan mcus pad trailer most starts i are few =
+pub said_of : (plan : PlanFields) (mcus : List Mcu) (pads : List Bool) (trailer most : ℕ)
+    (starts : StartsFields) (i : ℕ) → starts ≡ starts_of plan mcus pads trailer most
+    → i < length starts.rows → SaidOf plan mcus pads most starts i
+said_of plan mcus pads trailer most starts i are few =
     let cut = plan_cut plan most in
     let count : length starts.rows ≡ min most plan.down =
     ap (λ (s : StartsFields). length s.rows) are ∙ length_numbers (row_of cut) cut.segments 0 in
@@ -55,10 +55,10 @@ said_of plan mcus pad trailer most starts i are few =
       row = ap (λ (s : StartsFields). get_or s.rows i 0) are
           ∙ entry (row_of cut) 0 cut.segments i under;
       place = ap (λ (s : StartsFields). get_or s.places i 0) are
-          ∙ entry (λ j. plan.header_length + bytes_done (shape_of plan) (λ n. pad) mcus
+          ∙ entry (λ j. plan.header_length + bytes_done (shape_of plan) (pad_at pads) mcus
           (first_mcu cut j)) 0 cut.segments i under;
       handover = ap (λ (s : StartsFields). get_or s.handovers i start) are
-          ∙ entry (segment_start plan mcus pad most) start cut.segments i under;
+          ∙ entry (segment_start plan mcus pads most) start cut.segments i under;
     }
 
 -- a segment has an MCU, and its MCUs are in the grid
@@ -91,9 +91,9 @@ pub record IsGood (bytes : List ℕ) (plan : PlanFields) : Type 0 where
   pub shape : IsShape (shape_of plan)
   pub is_plan : IsPlan plan
 
-pub good_of : (bytes : List ℕ) (plan : PlanFields) (mcus : List Mcu) (pad : Bool) (trailer : ℕ)
-    → AllByRecursion IsByte bytes → IsFileAt bytes plan mcus pad trailer → IsGood bytes plan
-good_of bytes plan mcus pad trailer are file =
+pub good_of : (bytes : List ℕ) (plan : PlanFields) (mcus : List Mcu) (pads : List Bool) (trailer : ℕ)
+    → AllByRecursion IsByte bytes → IsFileAt bytes plan mcus pads trailer → IsGood bytes plan
+good_of bytes plan mcus pads trailer are file =
     record {
       shape = (accepted_is_shape bytes plan are file.header).0;
       is_plan =
@@ -101,24 +101,24 @@ good_of bytes plan mcus pad trailer are file =
     }
 
 -- the restart markers before a segment, by its handover
-pub markers_are : (bytes : List ℕ) (plan : PlanFields) (mcus : List Mcu) (pad : Bool)
+pub markers_are : (bytes : List ℕ) (plan : PlanFields) (mcus : List Mcu) (pads : List Bool)
     (trailer most : ℕ) (starts : StartsFields) (i : ℕ) → AllByRecursion IsByte bytes
-    → IsFileAt bytes plan mcus pad trailer → SaidOf plan mcus pad most starts i
+    → IsFileAt bytes plan mcus pads trailer → SaidOf plan mcus pads most starts i
     → (get_or starts.handovers i start).restarts
     ≡ markers_before (shape_of plan) (plan.across * get_or starts.rows i 0)
-markers_are bytes plan mcus pad trailer most starts i are file said =
-    let good = good_of bytes plan mcus pad trailer are file in
+markers_are bytes plan mcus pads trailer most starts i are file said =
+    let good = good_of bytes plan mcus pads trailer are file in
     let has = has_mcus plan most i good.is_plan.wide said.under in
     let n = first_mcu (plan_cut plan most) i in
     let some = has.some in
     let within = has.within in
-    let first = first_are_read (shape_of plan) bytes plan.header_length trailer mcus pad n
+    let first = first_are_read (shape_of plan) bytes plan.header_length trailer mcus pads n
     good.shape file.scan (omega (arith, some, within)) in
     let counted : first.0.count ≡ 0 + n = all_counted n (shape_of plan) bytes
     (standing_at plan.header_length) first.0 _ first.1 in
-    let spot : first.0.count ≡ (spot_at (shape_of plan) (λ i. pad) mcus n).count =
+    let spot : first.0.count ≡ (spot_at (shape_of plan) (pad_at pads) mcus n).count =
     ap (λ (s : Spot). s.count) first.2.spot in
-    let count : (spot_at (shape_of plan) (λ i. pad) mcus n).count ≡ n =
+    let count : (spot_at (shape_of plan) (pad_at pads) mcus n).count ≡ n =
     omega (arith, counted, spot) in
     ap (λ (h : HandoverFields). h.restarts) said.handover
     ∙ ap (markers_before (shape_of plan))
@@ -130,24 +130,24 @@ pub from_same : (shape : Shape) (bytes : List ℕ) (h g : HandoverFields)
 from_same shape bytes h g count other place there e f d = rw (e, f, d) refl
 
 -- the segment's reader reads its MCUs
-pub segment_reads : (bytes : List ℕ) (plan : PlanFields) (mcus : List Mcu) (pad : Bool)
+pub segment_reads : (bytes : List ℕ) (plan : PlanFields) (mcus : List Mcu) (pads : List Bool)
     (trailer most : ℕ) (starts : StartsFields) (i n : ℕ) → AllByRecursion IsByte bytes
-    → IsFileAt bytes plan mcus pad trailer → SaidOf plan mcus pad most starts i
+    → IsFileAt bytes plan mcus pads trailer → SaidOf plan mcus pads most starts i
     → first_mcu (plan_cut plan most) i + n ≡ first_mcu (plan_cut plan most) (i + 1)
     → (reader : ScanReader)
     → reader ≡ reader_from (shape_of plan) bytes (get_or starts.handovers i start)
     (plan.across * get_or starts.rows i 0) (get_or starts.places i 0)
     → (at : Standing) × (next_of n reader ≡ Ok (zigzag_of (segment_mcus plan mcus most i), at))
-segment_reads bytes plan mcus pad trailer most starts i n are file said ends reader is =
-    let good = good_of bytes plan mcus pad trailer are file in
+segment_reads bytes plan mcus pads trailer most starts i n are file said ends reader is =
+    let good = good_of bytes plan mcus pads trailer are file in
     let has = has_mcus plan most i good.is_plan.wide said.under in
     let cut = plan_cut plan most in
-    let read = segment_is_read (shape_of plan) bytes plan.header_length trailer mcus pad
+    let read = segment_is_read (shape_of plan) bytes plan.header_length trailer mcus pads
     (first_mcu cut i) (first_mcu cut (i + 1)) good.shape file.scan has.some has.within in
     let count : n ≡ first_mcu cut (i + 1) - first_mcu cut i = omega (arith, ends) in
     let there : reader ≡ reader_from (shape_of plan) bytes
-    (handover_at (shape_of plan) (λ n. pad) mcus (first_mcu cut i)) (first_mcu cut i)
-    (plan.header_length + bytes_done (shape_of plan) (λ n. pad) mcus (first_mcu cut i)) =
+    (handover_at (shape_of plan) (pad_at pads) mcus (first_mcu cut i)) (first_mcu cut i)
+    (plan.header_length + bytes_done (shape_of plan) (pad_at pads) mcus (first_mcu cut i)) =
     is ∙ from_same (shape_of plan) bytes _ _ _ _ _ _ said.handover
     (ap (λ (r : ℕ). plan.across * r) said.row) said.place in
     (read.0, ap₂ next_of count there ∙ read.1)

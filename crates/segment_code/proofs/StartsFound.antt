@@ -1,18 +1,19 @@
 -- The starts that a reader finds are those of the file.
-use Rattle.std.proofs.Common.{◌≡◌, ℕ, ◌+◌, ◌*◌, ◌<◌, ◌≤◌, Bool, true, List, [], ◌∷◌, ◌++◌, map, refl, ap, ap₂, ◌∙◌, sym, arith}
-use Rattle.std.specs.Prelude.{ℤ, Ok, min, unwrap_or}
+use Rattle.std.proofs.Common.{◌≡◌, ℕ, ◌+◌, ◌*◌, ◌<◌, ◌≤◌, Bool, List, [], ◌∷◌, ◌++◌, map, refl, ap, ap₂, ◌∙◌, sym, arith}
+use Rattle.std.specs.Prelude.{ℤ, Ok, min}
 use Rattle.std.specs.List.{AllByRecursion}
 use Rattle.bit_list.specs.Bits.{IsByte}
 use Rattle.jpeg_marker.specs.Plans.{PlanFields}
 use Rattle.jpeg_marker.specs.HeaderPlan.{Accepts}
 use Rattle.jpeg_marker.proofs.HeadersTaken.{accepted_has_plan}
 use Rattle.scan_text.specs.Slots.{shape_of}
-use Rattle.scan_text.specs.Scans.{Mcu}
+use Rattle.scan_text.specs.Pads.{PadBits, spelling_of}
+use Rattle.scan_text.specs.Scans.{Mcu, pad_at}
 use Rattle.scan_text.specs.Spots.{Spot, bytes_done}
 use Rattle.scan_text.specs.ScanCalls.{ScanReader, reader_at, resume_place}
 use Rattle.scan_text.specs.ScanLaws.{Begins, IsShape}
-use Rattle.scan_text.specs.ScanReading.{Standing, scan_at}
-use Rattle.scan_text.proofs.ScanTaken.{spelled}
+use Rattle.scan_text.specs.ScanReading.{Standing, scan_at, scan_pads}
+use Rattle.scan_text.proofs.ScanTaken.{spelled, summed_again}
 use Rattle.scan_text.proofs.PlanShapes.{accepted_is_shape}
 use Rattle.handover.specs.Handovers.{HandoverFields}
 use Rattle.segment_text.specs.Cuts.{Cut, first_mcu, row_of}
@@ -20,8 +21,9 @@ use Rattle.segment_text.specs.HandedOver.{spot_in}
 use Rattle.segment_text.specs.RowHandovers.{handover_of, handover_at}
 use Rattle.segment_text.proofs.SegmentsRead.{first_are_read}
 use Rattle.box_format.specs.Raws.{numbers}
-use Rattle.segment_meaning.specs.Files.{StartsFields, plan_cut, segment_start, starts_of}
+use Rattle.segment_meaning.specs.Files.{StartsFields, plan_cut, segment_start, starts_of, told_pads}
 use Rattle.segment_code.specs.CodedMcus.{AreReadOn}
+use Rattle.segment_code.specs.FoundPads.{FoundPads, none_found, pads_through}
 use Rattle.segment_code.specs.FoundStarts.{found, handover_after, place_after, stands_after, standing_or}
 use Rattle.segment_code.specs.Starting.{AreStarts}
 use Rattle.segment_code.specs.StartsInside.{starts_more}
@@ -56,19 +58,19 @@ found_more first reader cut i row mcus so row_is s is place place_is handover ha
     rw (is, r, p, h) refl
 
 -- where the MCUs of a file are known, so are those that the reader stood after
-record FoundAt (plan : PlanFields) (mcus : List Mcu) (pad : Bool) (bytes : List ℕ) (n : ℕ) : Type 0
+record FoundAt (plan : PlanFields) (mcus : List Mcu) (pads : List Bool) (bytes : List ℕ) (n : ℕ) : Type 0
   where
     place : place_after (reader_at (shape_of plan) bytes plan.header_length) n
-        ≡ plan.header_length + bytes_done (shape_of plan) (λ i. pad) mcus n
+        ≡ plan.header_length + bytes_done (shape_of plan) (pad_at pads) mcus n
     handover : handover_after (reader_at (shape_of plan) bytes plan.header_length) n
-        ≡ handover_at (shape_of plan) (λ i. pad) mcus n
+        ≡ handover_at (shape_of plan) (pad_at pads) mcus n
 
-found_at : (plan : PlanFields) (mcus : List Mcu) (pad : Bool) (bytes : List ℕ) (after n : ℕ)
-    → IsShape (shape_of plan) → Begins (shape_of plan) mcus pad bytes plan.header_length after
+found_at : (plan : PlanFields) (mcus : List Mcu) (pads : List Bool) (bytes : List ℕ) (after n : ℕ)
+    → IsShape (shape_of plan) → Begins (shape_of plan) mcus pads bytes plan.header_length after
     → n ≤ plan.across * plan.down
-    → FoundAt plan mcus pad bytes n
-found_at plan mcus pad bytes after n is begins few =
-    let first = first_are_read (shape_of plan) bytes plan.header_length after mcus pad n is begins
+    → FoundAt plan mcus pads bytes n
+found_at plan mcus pads bytes after n is begins few =
+    let first = first_are_read (shape_of plan) bytes plan.header_length after mcus pads n is begins
     few in
     let there : stands_after (reader_at (shape_of plan) bytes plan.header_length) n ≡ first.0 =
     ap (standing_or (reader_at (shape_of plan) bytes plan.header_length).at) first.1 in
@@ -78,47 +80,59 @@ found_at plan mcus pad bytes after n is begins few =
           ∙ ap (λ (s : Spot). handover_of (shape_of plan) s) first.2.spot;
     }
 
-abbrev starts_with : List ℕ → List ℕ → List HandoverFields → Bool → ℕ → StartsFields
-starts_with rows places handovers pad trailer =
-    record { rows = rows; places = places; handovers = handovers; pad = pad; trailer = trailer }
+abbrev starts_with : List ℕ → List ℕ → List HandoverFields → PadBits → ℕ → StartsFields
+starts_with rows places handovers pads trailer =
+    record { rows = rows; places = places; handovers = handovers; pads = pads; trailer = trailer }
 
 -- with the scan's end, the starts found are the file's
-starts_are : (plan : PlanFields) (mcus : List Mcu) (pad : Bool) (bytes : List ℕ) (after most : ℕ)
-    → IsShape (shape_of plan) → Begins (shape_of plan) mcus pad bytes plan.header_length after
+starts_are : (plan : PlanFields) (mcus : List Mcu) (pads : List Bool) (bytes : List ℕ) (after most : ℕ)
+    → IsShape (shape_of plan) → Begins (shape_of plan) mcus pads bytes plan.header_length after
     → 0 < min most plan.down
     → record (found (reader_at (shape_of plan) bytes plan.header_length) (plan_cut plan most)
-    (plan_cut plan most).segments) { pad = pad; trailer = after }
-    ≡ starts_of plan mcus pad after most
-starts_are plan mcus pad bytes after most is begins some =
+    (plan_cut plan most).segments) { pads = told_pads plan mcus pads; trailer = after }
+    ≡ starts_of plan mcus pads after most
+starts_are plan mcus pads bytes after most is begins some =
     let cut = plan_cut plan most in
     let first = reader_at (shape_of plan) bytes plan.header_length in
-    let at = λ (i : ℕ) (under : i < cut.segments). found_at plan mcus pad bytes after
+    let at = λ (i : ℕ) (under : i < cut.segments). found_at plan mcus pads bytes after
     (first_mcu cut i) is begins (start_within cut i refl (omega (arith, under)) some) in
     let places : map (λ i. place_after first (first_mcu cut i)) (numbers 0 cut.segments)
-    ≡ map (λ i. plan.header_length + bytes_done (shape_of plan) (λ n. pad) mcus
+    ≡ map (λ i. plan.header_length + bytes_done (shape_of plan) (pad_at pads) mcus
     (first_mcu cut i)) (numbers 0 cut.segments) =
     map_alike _ _ cut.segments (λ i under. (at i under).place) in
     let handovers : map (λ i. handover_after first (first_mcu cut i)) (numbers 0 cut.segments)
-    ≡ map (segment_start plan mcus pad most) (numbers 0 cut.segments) =
+    ≡ map (segment_start plan mcus pads most) (numbers 0 cut.segments) =
     map_alike _ _ cut.segments (λ i under. (at i under).handover) in
     ap₂ (λ (ps : List ℕ) (hs : List HandoverFields). starts_with
-    (map (row_of cut) (numbers 0 cut.segments)) ps hs pad after) places handovers
+    (map (row_of cut) (numbers 0 cut.segments)) ps hs (told_pads plan mcus pads) after) places
+    handovers
 
 pub are_starts : (bytes : List ℕ) (plan : PlanFields) (most : ℕ) (read : List (List (List ℤ)))
     (end : Standing) → AllByRecursion IsByte bytes → Accepts bytes plan → 0 < most
     → scan_at (shape_of plan) bytes plan.header_length ≡ Ok (read, end)
+    → (pads : FoundPads) → pads
+    ≡ pads_through (shape_of plan).mcus (reader_at (shape_of plan) bytes plan.header_length)
+    none_found
     → AreStarts plan bytes most (record (found (reader_at (shape_of plan) bytes plan.header_length)
     (plan_cut plan most) (plan_cut plan most).segments)
-    { pad = unwrap_or end.pad true; trailer = end.cursor.next })
-are_starts bytes plan most read end are accepts some scan =
+    { pads = spelling_of pads.bits pads.sum; trailer = end.cursor.next })
+are_starts bytes plan most read end are accepts some scan found_pads pads_are =
     let shape = (accepted_is_shape bytes plan are accepts).0 in
     let has = accepted_has_plan bytes plan are accepts in
-    let told = spelled (shape_of plan) bytes plan.header_length read end shape are has.within
-    scan in
+    let place = plan.header_length in
+    let told = spelled (shape_of plan) bytes place read end shape are has.within scan in
+    let pads = scan_pads (shape_of plan) bytes place in
     let high = has.is_plan.high in
+    let sum = summed_again (shape_of plan) bytes place end.cursor.next told.0 pads shape told.2 in
+    let same : spelling_of found_pads.bits found_pads.sum ≡ told_pads plan told.0 pads =
+    ap (λ (f : FoundPads). spelling_of f.bits f.sum) pads_are ∙ ap (spelling_of pads) sum in
     record {
       mcus = told.0;
+      pads = pads;
       file = record { header = accepts; scan = told.2 };
-      are = starts_are plan told.0 (unwrap_or end.pad true) bytes end.cursor.next most shape told.2
+      are = ap (λ (p : PadBits). record (found (reader_at (shape_of plan) bytes place)
+          (plan_cut plan most) (plan_cut plan most).segments)
+          { pads = p; trailer = end.cursor.next }) same
+          ∙ starts_are plan told.0 pads bytes end.cursor.next most shape told.2
           (omega (arith, high, some));
     }

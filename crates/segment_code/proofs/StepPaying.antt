@@ -110,9 +110,9 @@ pays_by More (SomeOf b l a) s left out bytes outcome old new same less is step =
       },
     )
 pays_by More (AllOf output) s left out bytes outcome old new same less is step = absurd step
-pays_by (Done padded) (SomeOf b l a) s left out bytes outcome old new same less is step =
+pays_by (Done pads) (SomeOf b l a) s left out bytes outcome old new same less is step =
     absurd step
-pays_by (Done padded) (AllOf output) s left out bytes outcome old new same less is step =
+pays_by (Done pads) (AllOf output) s left out bytes outcome old new same less is step =
     let e = sym is ∙ step.0 in (
       ap (λ (o : Output). o.0) e,
       ap (λ (o : Output). o.1) e,

@@ -78,9 +78,9 @@ module _ (old : DecoderSeen) (s : SegmentFields) (left : ℕ) (at : Progress) (o
   ended : (step : Step) (output : Output) (new : DecoderSeen) → IsEnd step output
       → new.running ≡ false → IsStep step s (AllOf (with_prefix out output)) out new
   ended More output new end over = absurd end
-  ended (Done padded) output new end over = (
+  ended (Done pads) output new end over = (
     ap (with_prefix out) end
-        ∙ ap (λ (l : List ℕ). let p : Output = (l, Good padded) in p) (append-nil out),
+        ∙ ap (λ (l : List ℕ). let p : Output = (l, Good pads) in p) (append-nil out),
     over,
   )
   ended (Fault fault) output new end over = (

@@ -1,20 +1,21 @@
 -- A segment that a decoder begins, by its parts (own).
-use Rattle.std.specs.Prelude.{ℕ, ◌*◌, Bool, List, Option}
+use Rattle.std.specs.Prelude.{ℕ, ◌*◌, List, Option}
 use Rattle.jpeg_marker.specs.Plans.{PlanFields}
+use Rattle.scan_text.specs.Pads.{PadBits}
 use Rattle.scan_text.specs.Slots.{shape_of}
 use Rattle.handover.specs.Handovers.{HandoverFields}
 use Rattle.segment_meaning.specs.ScanStream.{grid_of}
 use Rattle.segment_meaning.specs.Segments.{SegmentFields}
 
 -- a segment of a plan's scan: its number, its stream, what it starts from, its first row of MCUs, how many MCUs it has,
--- what the next segment starts from, and the pad bit
+-- what the next segment starts from, and the pad bits
 abbrev pub segment_with : PlanFields → ℕ → List ℕ → HandoverFields → ℕ → ℕ
-    → Option HandoverFields → Bool → SegmentFields
-segment_with plan number stream start row count next pad = record {
+    → Option HandoverFields → PadBits → SegmentFields
+segment_with plan number stream start row count next pads = record {
   number = number;
   shape = shape_of plan;
   grid = grid_of plan;
-  pads = λ n. pad;
+  pads = pads;
   stream = stream;
   start = start;
   from = plan.across * row;

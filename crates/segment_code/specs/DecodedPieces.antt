@@ -25,7 +25,7 @@ pub record IsWithin (d : DecoderSeen) (s : SegmentFields) (left : ℕ) (at : Pro
   pub still : d.left ≡ left
   pub next : d.next ≡ s.next
   pub shape : d.writer.shape ≡ s.shape
-  pub pads : s.pads ≡ (λ n. d.writer.pad)
+  pub pads : d.writer.pads ≡ s.pads
   pub spot : d.writer.spot ≡ at.spot
   pub padded : d.writer.padded ≡ at.padded
   pub unstopped : d.writer.stop ≡ None
@@ -75,5 +75,5 @@ ended_by s at (Some cause) = stopped s cause
 -- after the last MCU a step gives no bytes more
 abbrev pub IsEnd : Step → Output → Type 0
 IsEnd More output = ⊥
-IsEnd (Done padded) output = output ≡ ([], Good padded)
+IsEnd (Done pads) output = output ≡ ([], Good pads)
 IsEnd (Fault fault) output = output ≡ ([], Bad fault)

@@ -50,7 +50,7 @@ pub record StandsAt (d : DecoderSeen) (s : SegmentFields) (left : ℕ) (at : Pro
   pub still : d.left ≡ left
   pub next : d.next ≡ s.next
   pub shape : d.writer.shape ≡ s.shape
-  pub pads : s.pads ≡ (λ n. d.writer.pad)
+  pub pads : d.writer.pads ≡ s.pads
   pub spot : d.writer.spot ≡ at.spot
   pub padded : d.writer.padded ≡ at.padded
   pub unstopped : d.writer.stop ≡ None
@@ -70,8 +70,8 @@ abbrev pub Pays : Step → List ℕ → Outcome → List ℕ → DecoderSeen →
 Pays More bytes outcome out old new =
     (more : List ℕ) × (bytes ≡ out ++ more) × (new.left < old.left) × (0 < new.left)
     × (new.running ≡ true) × Owes new more outcome
-Pays (Done padded) bytes outcome out old new =
-    (bytes ≡ out) × (outcome ≡ Good padded) × (new.running ≡ false)
+Pays (Done pads) bytes outcome out old new =
+    (bytes ≡ out) × (outcome ≡ Good pads) × (new.running ≡ false)
 Pays (Fault fault) bytes outcome out old new =
     (bytes ≡ out) × (outcome ≡ Bad fault) × (new.running ≡ false)
 
@@ -79,9 +79,9 @@ Pays (Fault fault) bytes outcome out old new =
 abbrev pub IsStep : Step → SegmentFields → Made → List ℕ → DecoderSeen → Type 0
 IsStep More s (SomeOf bytes left at) out new = (out ≡ bytes) × StandsAt new s left at
 IsStep More s (AllOf output) out new = ⊥
-IsStep (Done padded) s (SomeOf bytes left at) out new = ⊥
-IsStep (Done padded) s (AllOf output) out new =
-    (output ≡ (out, Good padded)) × (new.running ≡ false)
+IsStep (Done pads) s (SomeOf bytes left at) out new = ⊥
+IsStep (Done pads) s (AllOf output) out new =
+    (output ≡ (out, Good pads)) × (new.running ≡ false)
 IsStep (Fault fault) s (SomeOf bytes left at) out new = ⊥
 IsStep (Fault fault) s (AllOf output) out new =
     (output ≡ (out, Bad fault)) × (new.running ≡ false)

@@ -1,5 +1,6 @@
 -- The starts that a reader finds on its way through a scan (own).
 use Rattle.std.specs.Prelude.{ℕ, true, map, Ok, Err}
+use Rattle.scan_text.specs.Pads.{Same}
 use Rattle.scan_text.specs.ScanCalls.{ScanReader, resume_place}
 use Rattle.scan_text.specs.ScanReading.{Standing}
 use Rattle.handover.specs.Handovers.{HandoverFields}
@@ -36,6 +37,6 @@ found reader cut count =
       rows = map (row_of cut) segments;
       places = map (λ i. place_after reader (first_mcu cut i)) segments;
       handovers = map (λ i. handover_after reader (first_mcu cut i)) segments;
-      pad = true;
+      pads = Same true;
       trailer = 0;
     }

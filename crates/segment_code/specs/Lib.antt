@@ -1,7 +1,9 @@
 pub mod CodedMcus
+pub mod FoundPads
 pub mod FoundStarts
 pub mod Starting
 pub mod StartsInside
+pub mod PadsInside
 pub mod Decoding
 pub mod DecodedPieces
 pub mod BegunSegments

@@ -7,15 +7,16 @@ use Rattle.scan_text.specs.Scans.{Mcu}
 use Rattle.scan_text.specs.ScanLaws.{Begins}
 use Rattle.segment_meaning.specs.Files.{StartsFields, starts_of}
 
--- a file by its header's plan, its MCUs, its pad bit and the place of its trailer (T.81 B.2.1)
-pub record IsFileAt (bytes : List ℕ) (plan : PlanFields) (mcus : List Mcu) (pad : Bool)
+-- a file by its header's plan, its MCUs, its pad bits and the place of its trailer (T.81 B.2.1)
+pub record IsFileAt (bytes : List ℕ) (plan : PlanFields) (mcus : List Mcu) (pads : List Bool)
     (trailer : ℕ) : Type 0 where
   pub header : Accepts bytes plan
-  pub scan : Begins (shape_of plan) mcus pad bytes plan.header_length trailer
+  pub scan : Begins (shape_of plan) mcus pads bytes plan.header_length trailer
 
 -- the starts of a file's segments, of at most `most`
 pub record AreStarts (plan : PlanFields) (bytes : List ℕ) (most : ℕ) (starts : StartsFields)
     : Type 0 where
   pub mcus : List Mcu
-  pub file : IsFileAt bytes plan mcus starts.pad starts.trailer
-  pub are : starts ≡ starts_of plan mcus starts.pad starts.trailer most
+  pub pads : List Bool
+  pub file : IsFileAt bytes plan mcus pads starts.trailer
+  pub are : starts ≡ starts_of plan mcus pads starts.trailer most

@@ -1,5 +1,6 @@
 -- What starts stand for, and what always holds of them (own).
 use Rattle.std.specs.Prelude.{ℕ, ◌≤◌, ◌<◌, true, [], ◌∷◌, ◌++◌, length}
+use Rattle.scan_text.specs.Pads.{Same, told_by}
 use Rattle.handover.specs.Handovers.{HandoverFields}
 use Rattle.segment_meaning.specs.Files.{StartsFields}
 use Rattle.segment_code.specs.declared.starts.Starts.TheInside.{Inside}
@@ -10,7 +11,7 @@ starts_in s = record {
   rows = s.rows.items;
   places = s.places.items;
   handovers = s.handovers.items;
-  pad = s.pad;
+  pads = told_by s.list.items s.sum;
   trailer = s.trailer;
 }
 
@@ -22,7 +23,7 @@ pub record IsStarts (s : Inside) : Type 0 where
 
 -- the starts of no segment
 abbrev pub no_starts : StartsFields
-no_starts = record { rows = []; places = []; handovers = []; pad = true; trailer = 0 }
+no_starts = record { rows = []; places = []; handovers = []; pads = Same true; trailer = 0 }
 
 -- with those of a segment more
 abbrev pub starts_more : StartsFields → ℕ → ℕ → HandoverFields → StartsFields

@@ -7,6 +7,7 @@ ghost use Rattle.segment_meaning.specs.Meanings.{segment_in};
 ghost use Rattle.segment_meaning.specs.ScanStream.{grid_of, starts};
 ghost use Rattle.segment_meaning.specs.SegmentLaws.{Suits};
 ghost use Rattle.segment_meaning.specs.Segments.{Progress, SegmentFields, ending, first_progress, segment_output};
+ghost use Rattle.scan_text.specs.Pads.{is_long_for, pads_given};
 ghost use Rattle.scan_text.specs.Slots.{shape_of};
 ghost use Rattle.adapt_bins.specs.GotEvents.{HasGot};
 ghost use Rattle.segment_text.specs.RowHandovers.{handover_of, markers_before};
@@ -30,7 +31,7 @@ use coef_context::BINS;
 use handover::{Handover, StreamCause, StreamFault};
 use huff_table::PlanCodes;
 use jpeg_marker::Plan;
-use scan_text::MOST_SLOTS;
+use scan_text::{MOST_SLOTS, Pads};
 use scan_write::{Writer, mcu_room};
 use std::alloc::{AllocError, Global};
 use std::marker::Model;
@@ -50,7 +51,7 @@ pub struct SegmentDecoder<'a> {
     started: bool,
     coder: Get<'a>,
     segment: SegmentRows,
-    writer: Writer,
+    writer: Writer<'a>,
 }
 
 impl<'a> Model for SegmentDecoder<'a> {
@@ -78,7 +79,7 @@ impl<'a> SegmentDecoder<'a> {
         ensures begun { IfOk result (λ d. d.begun ≡ 0) }
     {
         let codes = PlanCodes::build(plan);
-        let writer = Writer::start(plan, &codes, false);
+        let writer = Writer::start(plan, &codes, Pads::All(false));
         let coder = Get::new(Bins::new(alloc, BINS)?, no_stream());
         let segment = SegmentRows::new(alloc, grid_of(plan))?;
         Ok(SegmentDecoder {
@@ -128,7 +129,7 @@ impl<'a> SegmentDecoder<'a> {
         row: u32,
         count: u32,
         next: Option<Handover>,
-        pad: bool,
+        pads: Pads<'a>,
     )
         requires suits { Suits (shape_of self.old.plan) (grid_of self.old.plan) }
         requires row { row < self.old.plan.down }
@@ -138,14 +139,15 @@ impl<'a> SegmentDecoder<'a> {
         requires within { self.old.plan.across * row + count
             ≤ self.old.plan.across * self.old.plan.down }
         requires begun { self.old.begun < 2 ^ 32 - 1 }
-        ensures stands { let s = segment_with self.old.plan number stream.now handover row count next pad in
-            StandsAt self.new s count (first_progress s) }
+        requires pads { is_long_for (shape_of self.old.plan) (pads_given pads) ≡ true }
+        ensures stands { let s = segment_with self.old.plan number stream.now handover row count next
+            (pads_given pads.entry) in StandsAt self.new s count (first_progress s) }
         ensures few { self.new.left < 2 ^ 32 }
         ensures begun { self.new.begun ≡ self.old.begun + 1 }
         ensures plan { self.new.plan ≡ self.old.plan }
     {
         let codes = PlanCodes::build(&self.plan);
-        self.writer = Writer::at(&self.plan, &codes, handover, row, pad);
+        self.writer = Writer::at(&self.plan, &codes, handover, row, pads);
         self.segment.restart();
         self.started = open(&mut self.coder, stream);
         self.number = number;
@@ -257,7 +259,7 @@ impl<'a> SegmentDecoder<'a> {
             None => {
                 self.running = false;
                 Step::Done {
-                    padded: self.writer.padded(),
+                    pads: self.writer.padded(),
                 }
             }
         }

@@ -1,15 +1,17 @@
 // Where the segments of a file start, in one pass over its scan.
-ghost use Rattle.std.specs.Prelude.{◌≡◌, ◌+◌, ◌<◌, ◌≤◌, ℤ, List, length, None, Err, IfOk, OnOk, IfErr, IsErrOf};
+ghost use Rattle.std.specs.Prelude.{◌≡◌, ◌+◌, ◌<◌, ◌≤◌, ℤ, List, length, None, Err, IfOk, OnOk, IsErrOf};
 ghost use Rattle.jpeg_marker.specs.HeaderPlan.{Accepts};
 ghost use Rattle.scan_text.specs.Items.{Refuses};
 ghost use Rattle.scan_text.specs.Slots.{shape_of};
 ghost use Rattle.scan_text.specs.declared.refusal.ScanRefusal.{ScanRefusal};
 ghost use Rattle.segment_meaning.specs.Files.{plan_cut};
 ghost use Rattle.segment_code.specs.CodedMcus.{AreReadOn, next_of};
+ghost use Rattle.segment_code.specs.FoundPads.{pads_through};
 ghost use Rattle.segment_code.specs.FoundStarts.{found};
 ghost use Rattle.segment_code.specs.Starting.{AreStarts};
 ghost use Rattle.segment_code.specs.StartsInside.{no_starts};
 
+use crate::pads::PadsFound;
 use crate::rows::{mcus_in, row_of, segment_count};
 use crate::starts::Starts;
 use coef_block::Block;
@@ -66,9 +68,9 @@ pub fn find_starts(
     let codes = PlanCodes::build(plan);
     let mut reader = Reader::start(plan, &codes, bytes, plan.header_length());
     let mut starts = Starts::none(alloc);
-    find_each(plan, &mut reader, &mut starts, segments)?;
-    let (pad, trailer) = reader.end();
-    starts.end(pad.unwrap_or(true), trailer);
+    let mut pads = PadsFound::none(alloc);
+    find_each(plan, &mut reader, &mut starts, &mut pads, segments)?;
+    starts.end(pads, reader.end())?;
     Ok(starts)
 }
 
@@ -77,6 +79,7 @@ fn find_each(
     plan: &Plan,
     reader: &mut Reader,
     starts: &mut Starts,
+    pads: &mut PadsFound,
     segments: u8,
 ) -> Result<(), FindError>
     requires start { reader.old.stop ≡ None }
@@ -89,6 +92,8 @@ fn find_each(
         ≡ found reader.old (plan_cut plan.now segments) (plan_cut plan.now segments).segments) }
     ensures read { OnOk result ((mcus : List (List (List ℤ)))
         × AreReadOn reader.old.shape.mcus reader.old reader.new mcus) }
+    ensures pads { OnOk result (pads.new
+        ≡ pads_through reader.old.shape.mcus reader.old pads.old) }
     ensures refused { (refusal : ScanRefusal) → IsErrOf result (FindError.Scan refusal)
         → next_of reader.old.shape.mcus reader.old ≡ Err refusal }
 {
@@ -100,22 +105,32 @@ fn find_each(
         let row = row_of(plan, count, segment);
         starts.push(row, reader.place(), reader.handover())?;
         let mcus = mcus_in(plan, count, segment);
-        read_mcus(reader, blocks, mcus)?;
+        read_mcus(reader, blocks, pads, mcus)?;
     }
     Ok(())
 }
 
-// Reads the next `mcus` MCUs into one array of blocks.
-fn read_mcus(reader: &mut Reader, blocks: &mut [Block], mcus: u32) -> Result<(), ScanRefusal>
+// Reads the next `mcus` MCUs into one array of blocks, and keeps the pad bit of each interval that ends.
+fn read_mcus(
+    reader: &mut Reader,
+    blocks: &mut [Block],
+    pads: &mut PadsFound,
+    mcus: u32,
+) -> Result<(), FindError>
     requires start { reader.old.stop ≡ None }
     requires count { reader.old.at.count + mcus ≤ reader.old.shape.mcus }
     requires room { length blocks.old ≡ length reader.old.shape.slots }
     ensures read { OnOk result ((read : List (List (List ℤ)))
         × AreReadOn mcus reader.old reader.new read) }
-    ensures refused { IfErr result (λ refusal. next_of mcus reader.old ≡ Err refusal) }
+    ensures pads { OnOk result (pads.new ≡ pads_through mcus reader.old pads.old) }
+    ensures refused { (refusal : ScanRefusal) → IsErrOf result (FindError.Scan refusal)
+        → next_of mcus reader.old ≡ Err refusal }
 {
     for _ in 0..mcus {
         reader.next_mcu(blocks)?;
+        if reader.ends_interval() {
+            pads.push(reader.pad())?;
+        }
     }
     Ok(())
 }

@@ -15,6 +15,7 @@ mod decoder;
 mod encode;
 mod find;
 mod grid;
+mod pads;
 mod rows;
 mod starts;
 mod step;

@@ -1,14 +1,17 @@
 // Where a file's segments start.
 ghost use Rattle.std.specs.Prelude.{◌≡◌, ◌+◌, ◌<◌, ◌++◌, List, [], ◌∷◌, true, length, get_or, OnOk};
 ghost use Rattle.handover.specs.Handovers.{start};
+ghost use Rattle.scan_text.specs.Pads.{pads_given, spelling_of};
 ghost use Rattle.segment_code.specs.StartsInside.{no_starts, starts_more};
 
-use handover::Handover;
+use crate::pads::PadsFound;
+use handover::{Handover, PadSum};
+use scan_text::Pads;
 use std::alloc::{AllocError, Global};
 use std::marker::Model;
 
 /// Where a file's segments start: of each its row of MCUs, the place of its first byte that the MCUs before don't
-/// complete, and its handover; and the file's pad bit and the place of its trailer.
+/// complete, and its handover; and the file's pad bits and the place of its trailer.
 ///
 /// Clauses see `StartsFields`.
 #[derive(Drop)]
@@ -16,7 +19,10 @@ pub struct Starts {
     rows: Vec<u32>,
     places: Vec<usize>,
     handovers: Vec<Handover>,
-    pad: bool,
+    // The pad list, if the intervals come to both bits.
+    list: Vec<u8>,
+    // What the intervals come to.
+    sum: PadSum,
     trailer: usize,
 }
 
@@ -40,7 +46,8 @@ impl Starts {
             rows: Vec::new(alloc),
             places: Vec::new(alloc),
             handovers: Vec::new(alloc),
-            pad: true,
+            list: Vec::new(alloc),
+            sum: PadSum::none(),
             trailer: 0,
         }
     }
@@ -61,12 +68,15 @@ impl Starts {
         Ok(())
     }
 
-    /// Sets the pad bit, and the place of the trailer.
-    pub(crate) fn end(&mut self, pad: bool, trailer: usize)
-        ensures { self.new ≡ record self.old { pad = pad; trailer = trailer } }
+    /// Sets the pad bits, and the place of the trailer. The one error is want of memory.
+    pub(crate) fn end(&mut self, pads: PadsFound, trailer: usize) -> Result<(), AllocError>
+        ensures { OnOk result (self.new
+            ≡ record self.old { pads = spelling_of pads.bits pads.sum; trailer = trailer }) }
     {
-        self.pad = pad;
+        self.sum = pads.sum();
+        self.list = pads.list()?;
         self.trailer = trailer;
+        Ok(())
     }
 
     /// How many segments there are.
@@ -107,11 +117,12 @@ impl Starts {
         &self.handovers
     }
 
-    /// The bit that fills up the last byte of each interval of the scan; 1 where no bit is padded.
-    pub fn pad(&self) -> bool
-        ensures { result ≡ self.now.pad }
+    /// The bits that fill up the last byte of each interval of the scan: a list if two intervals pad with different
+    /// bits, else the one bit; 1 if no bit is padded.
+    pub fn pad(&self) -> Pads<'_>
+        ensures { pads_given result ≡ self.now.pads }
     {
-        self.pad
+        Pads::told(&self.list, &self.sum)
     }
 
     /// The place after the scan, where the file's trailer starts.

@@ -1,5 +1,5 @@
 // The stream of one segment of a file.
-ghost use Rattle.std.specs.Prelude.{◌≡◌, ◌<◌, ℕ, List, length, IfOk};
+ghost use Rattle.std.specs.Prelude.{◌≡◌, ◌<◌, ℕ, Bool, List, length, IfOk};
 ghost use Rattle.scan_text.specs.Scans.{Mcu};
 ghost use Rattle.segment_meaning.specs.Files.{segment_mcus, starts_of};
 ghost use Rattle.segment_meaning.specs.ScanStream.{stream_of};
@@ -24,9 +24,9 @@ pub fn encode_segment(
 ) -> Result<Vec<u8>, AllocError>
     requires starts { (most : ℕ) × AreStarts plan.now bytes.now most starts.now }
     requires segment { segment < length starts.now.rows }
-    ensures { (mcus : List Mcu) (most : ℕ)
-        → IsFileAt bytes.now plan.now mcus starts.now.pad starts.now.trailer
-        → starts.now ≡ starts_of plan.now mcus starts.now.pad starts.now.trailer most
+    ensures { (mcus : List Mcu) (pads : List Bool) (most : ℕ)
+        → IsFileAt bytes.now plan.now mcus pads starts.now.trailer
+        → starts.now ≡ starts_of plan.now mcus pads starts.now.trailer most
         → IfOk result (λ stream. stream.items
         ≡ stream_of plan.now (segment_mcus plan.now mcus most segment)) }
 {

@@ -1,7 +1,8 @@
 -- The bytes and the outcomes that a container's board is for.
-use Rattle.std.proofs.Common.{◌≡◌, ℕ, ◌<◌, ◌≤◌, false, List, [], length, get_or, sym, ap, subst, ◌∙◌, arith, Some, None, ⊎_elim, zero-add}
+use Rattle.std.proofs.Common.{◌≡◌, ℕ, ◌<◌, ◌≤◌, List, [], length, get_or, sym, ap, subst, ◌∙◌, arith, Some, None, ⊎_elim, zero-add}
 use Rattle.std.specs.Prelude.{slice_get}
 use Rattle.std.proofs.lemmas.Bool.{cases_lt}
+use Rattle.handover.specs.PadSums.{no_pads}
 use Rattle.handover.specs.declared.outcome.Outcome.{Outcome}
 use Rattle.handover.specs.declared.outcome.Outcome.TheVariants.{Good}
 use Rattle.board_core.specs.BoardInvariants.{bytes_at}
@@ -42,11 +43,11 @@ pub outcome_of : (v : BoxSeen) (i : ℕ) → i < length v.parts.handovers
     → slice_get (segments_outcomes v) i ≡ Some (output_of v i).1
 outcome_of v i within =
     let long = outcomes_long v in
-    got_at (segments_outcomes v) i (Good false) (omega (arith, long, within))
+    got_at (segments_outcomes v) i (Good no_pads) (omega (arith, long, within))
     ∙ ap (λ (o : Outcome). Some o)
-    (ap (λ (xs : List Outcome). get_or xs i (Good false))
+    (ap (λ (xs : List Outcome). get_or xs i (Good no_pads))
     (mapped_twice (λ (o : Output). o.1) (output_of v) 0 (length v.parts.handovers))
-    ∙ mapped_at (λ i. (output_of v i).1) 0 (length v.parts.handovers) i (Good false) within
+    ∙ mapped_at (λ i. (output_of v i).1) 0 (length v.parts.handovers) i (Good no_pads) within
     ∙ ap (λ (n : ℕ). (output_of v n).1) (zero-add i))
 
 -- an outcome is a segment's

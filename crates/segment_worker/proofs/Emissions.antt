@@ -1,9 +1,11 @@
 -- What an emitter has written, call by call.
-use Rattle.std.proofs.Common.{◌≡◌, ℕ, zero, suc, ◌+◌, ◌-◌, ◌*◌, ◌<◌, ◌≤◌, Bool, true, false, List, [], ◌++◌, length, map, take, drop, refl, sym, ap, subst, ◌∙◌, arith, append_assoc, append-nil, length-append, Option, Some, Ok, Err}
-use Rattle.std.specs.Prelude.{◌||◌, slice_get}
+use Rattle.std.proofs.Common.{◌≡◌, ℕ, zero, suc, ◌+◌, ◌-◌, ◌*◌, ◌<◌, ◌≤◌, List, [], ◌++◌, length, map, take, drop, refl, sym, ap, subst, ◌∙◌, arith, append_assoc, append-nil, length-append, Option, Some, Ok, Err}
+use Rattle.std.specs.Prelude.{slice_get}
 use lib.Seq.{length-take-le, take_all, take-add}
 use lib.ListN.{take-append-drop, length-drop}
 use Rattle.atomic_table.specs.Seated.{TableId}
+use Rattle.handover.specs.PadSums.{no_pads, pads_with}
+use Rattle.handover.specs.declared.pads.PadSum.{PadSum}
 use Rattle.handover.specs.declared.outcome.Outcome.{Outcome}
 use Rattle.handover.specs.declared.outcome.Outcome.TheVariants.{Good, Bad}
 use Rattle.handover.specs.declared.outcome.StreamFault.{StreamFault}
@@ -12,6 +14,7 @@ use Rattle.box_format.specs.Raws.{numbers}
 use Rattle.box_format.specs.Seen.{BoxSeen}
 use Rattle.segment_meaning.specs.Segments.{Output, segment_output}
 use Rattle.segment_meaning.specs.Meanings.{Joined, joined, joined_with, segment_in}
+use Rattle.segment_meaning.proofs.PutParts.{sums_none}
 use Rattle.segment_code.specs.Decoding.{DecoderSeen}
 use Rattle.output_board.specs.declared.view.EmitterView.{EmitterView}
 use Rattle.output_board.specs.declared.answers.Take.{Take}
@@ -29,17 +32,13 @@ use Rattle.segment_worker.proofs.ContentsTold.{output_of, bytes_of, bytes_long, 
 use Rattle.segment_worker.proofs.SegmentsJoined.{good_next, bad_next, bytes_next}
 use Rattle.segment_worker.proofs.Writing.{written_none, written_later, failed_first, failed_later}
 
-or_false : (p : Bool) → p || false ≡ p
-or_false true = refl
-or_false false = refl
-
 some_same : {A : Type 0} (a b : A) → ◌≡◌ {A = Option A} (Some a) (Some b) → a ≡ b
 some_same a b e = cc
 
 module _ {Sink : Type 0} (held : Sink → Option (List ℕ)) (faults : Sink → ℕ)
     (full : Sink → Type 0) (v : BoxSeen) where
   -- by equal counts
-  pub moved : (cur now taken more : ℕ) (old new : Sink) (written : ℕ) (padded : Bool)
+  pub moved : (cur now taken more : ℕ) (old new : Sink) (written : ℕ) (padded : PadSum)
       → now ≡ cur → more ≡ taken → IsWrittenTo held faults v cur taken old new written padded
       → IsWrittenTo held faults v now more old new written padded
   moved cur now taken more old new written padded e f w =
@@ -47,7 +46,7 @@ module _ {Sink : Type 0} (held : Sink → Option (List ℕ)) (faults : Sink → 
       (λ i. (sym e i, sym f i)) w
 
   -- nothing yet
-  pub none_emitted : (sink : Sink) → IsWrittenTo held faults v 0 0 sink sink 0 false
+  pub none_emitted : (sink : Sink) → IsWrittenTo held faults v 0 0 sink sink 0 no_pads
   none_emitted sink = record {
     bytes = [];
     all =
@@ -61,7 +60,7 @@ module _ {Sink : Type 0} (held : Sink → Option (List ℕ)) (faults : Sink → 
   }
 
   -- the next bytes of the segment
-  pub more_emitted : (cur taken n : ℕ) (old mid new : Sink) (written : ℕ) (padded : Bool)
+  pub more_emitted : (cur taken n : ℕ) (old mid new : Sink) (written : ℕ) (padded : PadSum)
       → IsWrittenTo held faults v cur taken old mid written padded
       → taken + n ≤ length (bytes_at (segments_bytes v) cur)
       → HasWritten held faults mid new (take n (drop taken (bytes_at (segments_bytes v) cur)))
@@ -81,11 +80,11 @@ module _ {Sink : Type 0} (held : Sink → Option (List ℕ)) (faults : Sink → 
       }
 
   -- the segment ended well
-  pub good_emitted : AreShort v → (cur taken : ℕ) (old new : Sink) (written : ℕ) (padded more : Bool)
+  pub good_emitted : AreShort v → (cur taken : ℕ) (old new : Sink) (written : ℕ) (padded more : PadSum)
       → IsWrittenTo held faults v cur taken old new written padded
       → taken ≡ length (bytes_at (segments_bytes v) cur)
       → slice_get (segments_outcomes v) cur ≡ Some (Good more)
-      → IsWrittenTo held faults v (cur + 1) 0 old new written (padded || more)
+      → IsWrittenTo held faults v (cur + 1) 0 old new written (pads_with padded more)
   good_emitted short cur taken old new written padded more w whole good =
       let s = bytes_at (segments_bytes v) cur in
       let under = outcome_within v cur (Good more) good in
@@ -95,7 +94,7 @@ module _ {Sink : Type 0} (held : Sink → Option (List ℕ)) (faults : Sink → 
       let all : take taken s ≡ s = take_all taken s (omega (arith, whole)) in record {
         bytes = w.bytes ++ s;
         all = good_next v.plan v.parts cur w.bytes padded more under w.all end
-            ∙ ap (λ (l : List ℕ). joined_onto (w.bytes ++ l) (padded || more)
+            ∙ ap (λ (l : List ℕ). joined_onto (w.bytes ++ l) (pads_with padded more)
             (joined_from v.plan v.parts (cur + 1))) (sym is);
         has = subst (HasWritten held faults old new)
             (ap (λ (l : List ℕ). w.bytes ++ l) all ∙ sym (append-nil (w.bytes ++ s))) w.has;
@@ -109,7 +108,7 @@ module _ {Sink : Type 0} (held : Sink → Option (List ℕ)) (faults : Sink → 
       }
 
   -- the segment ended badly
-  pub bad_emitted : (cur taken : ℕ) (old new : Sink) (written : ℕ) (padded : Bool) (fault : StreamFault)
+  pub bad_emitted : (cur taken : ℕ) (old new : Sink) (written : ℕ) (padded : PadSum) (fault : StreamFault)
       → IsWrittenTo held faults v cur taken old new written padded
       → taken ≡ length (bytes_at (segments_bytes v) cur)
       → slice_get (segments_outcomes v) cur ≡ Some (Bad fault)
@@ -127,7 +126,7 @@ module _ {Sink : Type 0} (held : Sink → Option (List ℕ)) (faults : Sink → 
       )
 
   -- a write failed in the segment's next bytes
-  pub cut_short : (cur taken : ℕ) (old mid new : Sink) (written more : ℕ) (padded : Bool)
+  pub cut_short : (cur taken : ℕ) (old mid new : Sink) (written more : ℕ) (padded : PadSum)
       → IsWrittenTo held faults v cur taken old mid written padded
       → HasFailed held faults full mid new (drop taken (bytes_at (segments_bytes v) cur)) more
       → HasFailed held faults full old new (joined_in v).bytes (written + more)
@@ -147,10 +146,10 @@ module _ {Sink : Type 0} (held : Sink → Option (List ℕ)) (faults : Sink → 
       (joined_in v).bytes written more w.has failed whole (omega (arith, count, long, first))
 
   -- all are emitted
-  pub all_emitted : (cur taken : ℕ) (old new : Sink) (written : ℕ) (padded : Bool)
+  pub all_emitted : (cur taken : ℕ) (old new : Sink) (written : ℕ) (padded : PadSum)
       → IsWrittenTo held faults v cur taken old new written padded
       → cur ≡ length v.parts.handovers
-      → Emits held faults full old new (joined_in v) (Ok (record { bytes = written; padded = padded }))
+      → Emits held faults full old new (joined_in v) (Ok (record { bytes = written; pads = padded }))
   all_emitted cur taken old new written padded w over =
       let s = bytes_at (segments_bytes v) cur in
       let long = bytes_long v in
@@ -165,7 +164,7 @@ module _ {Sink : Type 0} (held : Sink → Option (List ℕ)) (faults : Sink → 
       let whole = ap length (ap (λ (j : Joined). j.bytes) last) ∙ length-append w.bytes [] in (
         ap (λ (j : Joined). j.fault) last,
         omega (arith, count, within, empty, whole),
-        sym (ap (λ (j : Joined). j.padded) last ∙ or_false padded),
+        sym (ap (λ (j : Joined). j.padded) last ∙ sums_none padded),
         subst (HasWritten held faults old new)
             (ap (λ (l : List ℕ). w.bytes ++ l)
             (ap (take taken) none ∙ take_all taken [] (omega arith))
@@ -176,7 +175,7 @@ module _ {Sink : Type 0} (held : Sink → Option (List ℕ)) (faults : Sink → 
     (full : Sink → Type 0) (table : TableId) (v : BoxSeen) where
   -- before the first call
   pub starts_emitting : (s : SeatValue BoxSeen EmitterView) (d : DecoderSeen) (sink : Sink)
-      → IsNewEmitter table v s d → IsEmitting held faults table v s d sink sink 0 false
+      → IsNewEmitter table v s d → IsEmitting held faults table v s d sink sink 0 no_pads
   starts_emitting s d sink n = record {
     used = record {
       own = n.own;
@@ -186,7 +185,7 @@ module _ {Sink : Type 0} (held : Sink → Option (List ℕ)) (faults : Sink → 
     };
     free = n.free;
     going = n.going;
-    so_far = moved held faults full v 0 s.view.cur 0 s.view.taken sink sink 0 false n.cur n.taken
+    so_far = moved held faults full v 0 s.view.cur 0 s.view.taken sink sink 0 no_pads n.cur n.taken
         (none_emitted held faults full v sink);
   }
 
@@ -211,7 +210,7 @@ module _ {Sink : Type 0} (held : Sink → Option (List ℕ)) (faults : Sink → 
 
   -- bytes were taken and written
   pub bytes_taken : (s t : SeatValue BoxSeen EmitterView) (d : DecoderSeen) (old mid new : Sink)
-      (written n : ℕ) (padded : Bool) (before now : List ℕ)
+      (written n : ℕ) (padded : PadSum) (before now : List ℕ)
       → IsEmitting held faults table v s d old mid written padded → HasHeldOnce s t
       → TakeGives (segments_bytes s.content) (segments_outcomes s.content) s t before now (Bytes n)
       → length now ≡ length before → HasWritten held faults mid new (take n now)
@@ -239,7 +238,7 @@ module _ {Sink : Type 0} (held : Sink → Option (List ℕ)) (faults : Sink → 
 
   -- a write of bytes that were taken failed
   pub taken_failed : (s t : SeatValue BoxSeen EmitterView) (d : DecoderSeen) (old mid new : Sink)
-      (written n more : ℕ) (padded : Bool) (before now : List ℕ)
+      (written n more : ℕ) (padded : PadSum) (before now : List ℕ)
       → IsEmitting held faults table v s d old mid written padded
       → TakeGives (segments_bytes s.content) (segments_outcomes s.content) s t before now (Bytes n)
       → length now ≡ length before → HasFailed held faults full mid new (take n now) more
@@ -256,12 +255,12 @@ module _ {Sink : Type 0} (held : Sink → Option (List ℕ)) (faults : Sink → 
 
   -- the segment that is emitted ended well
   pub good_taken : AreShort v → (s t : SeatValue BoxSeen EmitterView) (d : DecoderSeen)
-      (old new : Sink) (written : ℕ) (padded more : Bool) (outcome : Outcome)
+      (old new : Sink) (written : ℕ) (padded more both : PadSum) (outcome : Outcome)
       (before now : List ℕ) → IsEmitting held faults table v s d old new written padded
-      → HasHeldOnce s t → outcome ≡ Good more
+      → HasHeldOnce s t → outcome ≡ Good more → both ≡ pads_with padded more
       → TakeGives (segments_bytes s.content) (segments_outcomes s.content) s t before now (Ended outcome)
-      → IsEmitting held faults table v t d old new written (padded || more)
-  good_taken short s t d old new written padded more outcome before now e h is give =
+      → IsEmitting held faults table v t d old new written both
+  good_taken short s t d old new written padded more both outcome before now e h is sum give =
       let g = subst (λ (o : Outcome). TakeGives (segments_bytes v) (segments_outcomes v) s t before now (Ended o))
       is (gives_in s t before now (Ended outcome) e.used.content give) in
       let view : t.view ≡ record s.view { cur = s.view.cur + 1; taken = 0 } = g.1.0.view in
@@ -270,15 +269,16 @@ module _ {Sink : Type 0} (held : Sink → Option (List ℕ)) (faults : Sink → 
         free = ap (λ (w : EmitterView). w.owns) view ∙ e.free;
         going = ap (λ (w : EmitterView). w.stopped) view ∙ e.going;
         so_far = moved held faults full v (s.view.cur + 1) t.view.cur 0 t.view.taken
-            old new written (padded || more) (ap (λ (w : EmitterView). w.cur) view)
+            old new written both (ap (λ (w : EmitterView). w.cur) view)
             (ap (λ (w : EmitterView). w.taken) view)
+            (subst (IsWrittenTo held faults v (s.view.cur + 1) 0 old new written) (sym sum)
             (good_emitted held faults full v short s.view.cur s.view.taken old new written padded more
-            e.so_far g.6 g.5);
+            e.so_far g.6 g.5));
       }
 
   -- and badly
   pub bad_taken : (s t : SeatValue BoxSeen EmitterView) (d : DecoderSeen) (old new : Sink)
-      (written : ℕ) (padded : Bool) (fault : StreamFault) (outcome : Outcome)
+      (written : ℕ) (padded : PadSum) (fault : StreamFault) (outcome : Outcome)
       (before now : List ℕ) → IsEmitting held faults table v s d old new written padded
       → outcome ≡ Bad fault
       → TakeGives (segments_bytes s.content) (segments_outcomes s.content) s t before now (Ended outcome)
@@ -290,7 +290,7 @@ module _ {Sink : Type 0} (held : Sink → Option (List ℕ)) (faults : Sink → 
 
   -- a take that gave nothing
   pub same_emitted : (s t : SeatValue BoxSeen EmitterView) (d : DecoderSeen) (old new : Sink)
-      (written : ℕ) (padded : Bool) → IsEmitting held faults table v s d old new written padded
+      (written : ℕ) (padded : PadSum) → IsEmitting held faults table v s d old new written padded
       → HasHeldOnce s t → t.claims ≡ s.claims → t.view ≡ s.view
       → IsEmitting held faults table v t d old new written padded
   same_emitted s t d old new written padded e h claims view = record {
@@ -303,7 +303,7 @@ module _ {Sink : Type 0} (held : Sink → Option (List ℕ)) (faults : Sink → 
 
   -- a segment of the emitter's own
   pub own_emitted : (s t : SeatValue BoxSeen EmitterView) (d later : DecoderSeen) (old mid new : Sink)
-      (written count : ℕ) (padded : Bool)
+      (written count : ℕ) (padded : PadSum)
       → IsEmitting held faults table v s d old mid written padded
       → OwnEnds held faults full s t mid new (Ok count)
       → t.table ≡ s.table → t.content ≡ s.content → later.begun ≡ t.claims → later.plan ≡ d.plan
@@ -333,7 +333,7 @@ module _ {Sink : Type 0} (held : Sink → Option (List ℕ)) (faults : Sink → 
 
   -- in which a write failed
   pub own_failed : (s t : SeatValue BoxSeen EmitterView) (d : DecoderSeen) (old mid new : Sink)
-      (written more : ℕ) (padded : Bool)
+      (written more : ℕ) (padded : PadSum)
       → IsEmitting held faults table v s d old mid written padded
       → OwnEnds held faults full s t mid new (Err more)
       → HasFailed held faults full old new (joined_in v).bytes (written + more)
@@ -343,7 +343,7 @@ module _ {Sink : Type 0} (held : Sink → Option (List ℕ)) (faults : Sink → 
       (drop s.view.taken (bytes_at (segments_bytes c) s.view.cur)) more) e.used.content own.0)
 
   -- the next segment is emitted after a good one
-  pub good_cur : (s t : SeatValue BoxSeen EmitterView) (more : Bool) (outcome : Outcome)
+  pub good_cur : (s t : SeatValue BoxSeen EmitterView) (more : PadSum) (outcome : Outcome)
       (before now : List ℕ) → outcome ≡ Good more
       → TakeGives (segments_bytes s.content) (segments_outcomes s.content) s t before now (Ended outcome)
       → t.view.cur ≡ s.view.cur + 1
@@ -353,7 +353,7 @@ module _ {Sink : Type 0} (held : Sink → Option (List ℕ)) (faults : Sink → 
       ap (λ (w : EmitterView). w.cur) g.1.0.view
 
   -- which is a segment of the container
-  pub good_within : (s t : SeatValue BoxSeen EmitterView) (more : Bool) (outcome : Outcome)
+  pub good_within : (s t : SeatValue BoxSeen EmitterView) (more : PadSum) (outcome : Outcome)
       (before now : List ℕ) → s.content ≡ v → outcome ≡ Good more
       → TakeGives (segments_bytes s.content) (segments_outcomes s.content) s t before now (Ended outcome)
       → s.view.cur < length v.parts.handovers
@@ -364,7 +364,7 @@ module _ {Sink : Type 0} (held : Sink → Option (List ℕ)) (faults : Sink → 
 
 joined_after : (bytes : List ℕ) (outcome : Outcome) (more : Joined)
     → length (joined_with bytes outcome more).bytes ≤ length bytes + length more.bytes
-joined_after bytes (Good padded) more =
+joined_after bytes (Good pads) more =
     let long = length-append bytes more.bytes in omega (arith, long)
 joined_after bytes (Bad fault) more = omega arith
 

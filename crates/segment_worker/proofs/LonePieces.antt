@@ -1,9 +1,10 @@
 -- Pieces of a segment that one thread decodes, written one after another.
-use Rattle.std.proofs.Common.{◌≡◌, ℕ, ◌+◌, ◌*◌, ◌^◌, ◌<◌, ◌≤◌, Bool, true, List, [], ◌++◌, length, take, refl, sym, ap, ap₂, subst, ◌∙◌, arith, append_assoc, append-nil, length-append, Option, ◌⊎◌}
+use Rattle.std.proofs.Common.{◌≡◌, ℕ, ◌+◌, ◌*◌, ◌^◌, ◌<◌, ◌≤◌, true, List, [], ◌++◌, length, take, refl, sym, ap, ap₂, subst, ◌∙◌, arith, append_assoc, append-nil, length-append, Option, ◌⊎◌}
 use Rattle.std.specs.Io.KnownBytes.{Appends}
 use Rattle.std.proofs.KnownBytes.{Appends-trans, Appends-nil}
 use Rattle.outside_core.specs.Faults.{Rose}
 use Rattle.bit_list.specs.Pieces.{piece_room}
+use Rattle.handover.specs.declared.pads.PadSum.{PadSum}
 use Rattle.handover.specs.declared.outcome.Outcome.{Outcome}
 use Rattle.handover.specs.declared.outcome.Outcome.TheVariants.{Good, Bad}
 use Rattle.handover.specs.declared.outcome.StreamFault.{StreamFault}
@@ -18,7 +19,7 @@ use Rattle.segment_worker.proofs.Writing.{take_into}
 paid_first : (step : Step) (bytes out : List ℕ) (outcome : Outcome) (old new : DecoderSeen)
     → Pays step bytes outcome out old new → (more : List ℕ) × (bytes ≡ out ++ more)
 paid_first More bytes out outcome old new p = (p.0, p.1)
-paid_first (Done padded) bytes out outcome old new p = ([], p.0 ∙ sym (append-nil out))
+paid_first (Done pads) bytes out outcome old new p = ([], p.0 ∙ sym (append-nil out))
 paid_first (Fault fault) bytes out outcome old new p = ([], p.0 ∙ sym (append-nil out))
 
 -- whoever owes pays
@@ -102,10 +103,10 @@ module _ {Sink : Type 0} (held : Sink → Option (List ℕ)) (faults : Sink → 
         },
       )
 
-  pub done_last : (padded : Bool) (out : List ℕ) (now new : DecoderSeen) (bytes : List ℕ)
-      (outcome : Outcome) → Pays (Done padded) bytes outcome out now new
-      → (bytes ≡ out) × (outcome ≡ Good padded)
-  done_last padded out now new bytes outcome p = (p.0, p.1)
+  pub done_last : (pads : PadSum) (out : List ℕ) (now new : DecoderSeen) (bytes : List ℕ)
+      (outcome : Outcome) → Pays (Done pads) bytes outcome out now new
+      → (bytes ≡ out) × (outcome ≡ Good pads)
+  done_last pads out now new bytes outcome p = (p.0, p.1)
 
   pub fault_last : (fault : StreamFault) (out : List ℕ) (now new : DecoderSeen) (bytes : List ℕ)
       (outcome : Outcome) → Pays (Fault fault) bytes outcome out now new

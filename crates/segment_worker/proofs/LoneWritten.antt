@@ -1,7 +1,8 @@
 -- A container's segments that one thread decodes, written one after another.
-use Rattle.std.proofs.Common.{◌≡◌, ℕ, ◌+◌, ◌<◌, ◌≤◌, Bool, ◌++◌, List, length, sym, ap, ap₂, subst, ◌∙◌, arith, length-append, Option, Some}
-use Rattle.std.specs.Prelude.{◌||◌}
+use Rattle.std.proofs.Common.{◌≡◌, ℕ, ◌+◌, ◌<◌, ◌≤◌, ◌++◌, List, length, sym, ap, ap₂, subst, ◌∙◌, arith, length-append, Option, Some}
 use Rattle.jpeg_marker.specs.Plans.{PlanFields}
+use Rattle.handover.specs.PadSums.{pads_with}
+use Rattle.handover.specs.declared.pads.PadSum.{PadSum}
 use Rattle.handover.specs.declared.outcome.Outcome.TheVariants.{Good, Bad}
 use Rattle.handover.specs.declared.outcome.StreamFault.{StreamFault}
 use Rattle.box_format.specs.Parts.{BoxParts}
@@ -17,17 +18,17 @@ module _ {Sink : Type 0} (held : Sink → Option (List ℕ)) (faults : Sink → 
     (full : Sink → Type 0) where
   -- a segment that ended well
   pub segment_written : (plan : PlanFields) (b : BoxParts) (i : ℕ) (now next : DecoderSeen)
-      (old mid sink : Sink) (written count : ℕ) (padded more both : Bool)
+      (old mid sink : Sink) (written count : ℕ) (padded more both : PadSum)
       → SegmentsWritten held faults plan b i now old mid written padded → i < length b.handovers
       → count ≡ length (output_at plan b i).0 → Good more ≡ (output_at plan b i).1
       → HasWritten held faults mid sink (output_at plan b i).0 → count ≤ pieces_room
-      → next.plan ≡ now.plan → next.begun ≡ now.begun + 1 → both ≡ (padded || more)
+      → next.plan ≡ now.plan → next.begun ≡ now.begun + 1 → both ≡ pads_with padded more
       → SegmentsWritten held faults plan b (i + 1) next old sink (written + count) both
-  segment_written plan b i now next old mid sink written count padded more both s under e good has room same begun or =
+  segment_written plan b i now next old mid sink written count padded more both s under e good has room same begun sum =
       record {
         bytes = s.bytes ++ (output_at plan b i).0;
         all = good_next plan b i s.bytes padded more under s.all good
-            ∙ ap (λ (p : Bool). joined_onto (s.bytes ++ (output_at plan b i).0) p (joined_from plan b (i + 1))) (sym or);
+            ∙ ap (λ (p : PadSum). joined_onto (s.bytes ++ (output_at plan b i).0) p (joined_from plan b (i + 1))) (sym sum);
         has = written_later held faults full old mid sink s.bytes (output_at plan b i).0 s.has has;
         count = ap₂ (λ (m n : ℕ). m + n) s.count e ∙ sym (length-append s.bytes (output_at plan b i).0);
         few = let f = s.few in omega (arith, f, room);
@@ -37,7 +38,7 @@ module _ {Sink : Type 0} (held : Sink → Option (List ℕ)) (faults : Sink → 
 
   -- the first one with a fault
   pub segment_bad : (plan : PlanFields) (b : BoxParts) (i : ℕ) (now : DecoderSeen)
-      (old mid sink : Sink) (written : ℕ) (padded : Bool) (fault : StreamFault)
+      (old mid sink : Sink) (written : ℕ) (padded : PadSum) (fault : StreamFault)
       → SegmentsWritten held faults plan b i now old mid written padded → i < length b.handovers
       → Bad fault ≡ (output_at plan b i).1 → HasWritten held faults mid sink (output_at plan b i).0
       → ((joined (outputs_of plan b)).fault ≡ Some fault)
@@ -51,7 +52,7 @@ module _ {Sink : Type 0} (held : Sink → Option (List ℕ)) (faults : Sink → 
 
   -- one in which the sink failed
   pub segment_failed : (plan : PlanFields) (b : BoxParts) (i : ℕ) (now : DecoderSeen)
-      (old mid sink : Sink) (written more : ℕ) (padded : Bool)
+      (old mid sink : Sink) (written more : ℕ) (padded : PadSum)
       → SegmentsWritten held faults plan b i now old mid written padded → i < length b.handovers
       → HasFailed held faults full mid sink (output_at plan b i).0 more
       → HasFailed held faults full old sink (joined (outputs_of plan b)).bytes (written + more)

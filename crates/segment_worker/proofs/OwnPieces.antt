@@ -1,8 +1,9 @@
 -- A segment of the emitter's own, piece by piece.
-use Rattle.std.proofs.Common.{◌≡◌, ℕ, ◌+◌, ◌<◌, ◌≤◌, Bool, true, false, List, [], ◌++◌, length, take, drop, refl, sym, ap, subst, ◌∙◌, arith, append-nil, Option, Some, Result, Ok, Err}
+use Rattle.std.proofs.Common.{◌≡◌, ℕ, ◌+◌, ◌<◌, ◌≤◌, true, false, List, [], ◌++◌, length, take, drop, refl, sym, ap, subst, ◌∙◌, arith, append-nil, Option, Some, Result, Ok, Err}
 use Rattle.std.specs.Prelude.{slice_get}
 use lib.Seq.{take-add, drop-drop, length-take-le}
 use lib.ListN.{length-drop, take-append-drop}
+use Rattle.handover.specs.declared.pads.PadSum.{PadSum}
 use Rattle.handover.specs.declared.outcome.Outcome.{Outcome}
 use Rattle.handover.specs.declared.outcome.Outcome.TheVariants.{Good, Bad}
 use Rattle.handover.specs.declared.outcome.StreamFault.{StreamFault}
@@ -46,7 +47,7 @@ owes_all v i from d within zero_is owes =
 pub paid_first : (step : Step) (bytes out : List ℕ) (outcome : Outcome) (old new : DecoderSeen)
     → Pays step bytes outcome out old new → (more : List ℕ) × (bytes ≡ out ++ more)
 paid_first More bytes out outcome old new p = (p.0, p.1)
-paid_first (Done padded) bytes out outcome old new p = ([], p.0 ∙ sym (append-nil out))
+paid_first (Done pads) bytes out outcome old new p = ([], p.0 ∙ sym (append-nil out))
 paid_first (Fault fault) bytes out outcome old new p = ([], p.0 ∙ sym (append-nil out))
 
 -- the next bytes of a segment that is owed, and what follows them
@@ -78,11 +79,11 @@ owed_later v i from out old new owes pays =
     )
 
 -- at the last piece: all is given, and this is the outcome
-pub owed_done : (v : BoxSeen) (i from : ℕ) (padded : Bool) (out : List ℕ) (old new : DecoderSeen)
-    → OwesRest v i from old → PaysAll (Done padded) out old new
+pub owed_done : (v : BoxSeen) (i from : ℕ) (pads : PadSum) (out : List ℕ) (old new : DecoderSeen)
+    → OwesRest v i from old → PaysAll (Done pads) out old new
     → (from + length out ≡ length (bytes_at (segments_bytes v) i))
-    × (slice_get (segments_outcomes v) i ≡ Some (Good padded))
-owed_done v i from padded out old new owes pays =
+    × (slice_get (segments_outcomes v) i ≡ Some (Good pads))
+owed_done v i from pads out old new owes pays =
     let p = pays owes.bytes owes.outcome owes.owes in (
       rest_ends (bytes_at (segments_bytes v) i) out from owes.within (owes.rest ∙ p.0),
       owes.end ∙ ap (λ (o : Outcome). Some o) p.1,

@@ -1,7 +1,8 @@
 -- An emitter at work, and how it ends (own).
-use Rattle.std.specs.Prelude.{ℕ, ◌≡◌, ◌+◌, ◌*◌, ◌<◌, ◌≤◌, Bool, false, List, ◌++◌, length, take, Option, Some, None, Result, Ok, Err}
+use Rattle.std.specs.Prelude.{ℕ, ◌≡◌, ◌+◌, ◌*◌, ◌<◌, ◌≤◌, false, List, ◌++◌, length, take, Option, Some, None, Result, Ok, Err}
 use Rattle.atomic_table.specs.Seated.{TableId}
 use Rattle.board_core.specs.BoardInvariants.{bytes_at}
+use Rattle.handover.specs.declared.pads.PadSum.{PadSum}
 use Rattle.box_format.specs.Seen.{BoxSeen}
 use Rattle.segment_meaning.specs.Meanings.{Joined, joined, outputs_of}
 use Rattle.segment_code.specs.Decoding.{DecoderSeen}
@@ -55,7 +56,7 @@ module _ {Sink : Type 0} (held : Sink → Option (List ℕ)) (faults : Sink → 
   -- how it ends: all segments, or all through the first bad one, or their first bytes
   abbrev pub Emits : Sink → Sink → Joined → Result Emitted EmitStop → Type 0
   Emits old new all (Ok emitted) =
-      (all.fault ≡ None) × (emitted.bytes ≡ length all.bytes) × (emitted.padded ≡ all.padded)
+      (all.fault ≡ None) × (emitted.bytes ≡ length all.bytes) × (emitted.pads ≡ all.padded)
       × HasWritten held faults old new all.bytes
   Emits old new all (Err (Fault fault)) =
       (all.fault ≡ Some fault) × HasWritten held faults old new all.bytes
@@ -63,7 +64,7 @@ module _ {Sink : Type 0} (held : Sink → Option (List ℕ)) (faults : Sink → 
 
 -- the segments before one ended well, and they and the first `taken` bytes of that one are written
 pub record IsWrittenTo {Sink : Type 0} (held : Sink → Option (List ℕ)) (faults : Sink → ℕ)
-    (v : BoxSeen) (cur taken : ℕ) (old new : Sink) (written : ℕ) (padded : Bool) : Type 0 where
+    (v : BoxSeen) (cur taken : ℕ) (old new : Sink) (written : ℕ) (padded : PadSum) : Type 0 where
   pub bytes : List ℕ
   pub all : joined_in v ≡ joined_onto bytes padded (joined_from v.plan v.parts cur)
   pub has : HasWritten held faults old new (bytes ++ take taken (bytes_at (segments_bytes v) cur))
@@ -75,7 +76,7 @@ pub record IsWrittenTo {Sink : Type 0} (held : Sink → Option (List ℕ)) (faul
 -- between two calls
 pub record IsEmitting {Sink : Type 0} (held : Sink → Option (List ℕ)) (faults : Sink → ℕ)
     (table : TableId) (v : BoxSeen) (seat : SeatValue BoxSeen EmitterView)
-    (decoder : DecoderSeen) (old new : Sink) (written : ℕ) (padded : Bool) : Type 0 where
+    (decoder : DecoderSeen) (old new : Sink) (written : ℕ) (padded : PadSum) : Type 0 where
   pub used : IsUsedEmitter table v seat decoder
   pub free : seat.view.owns ≡ false
   pub going : seat.view.stopped ≡ false

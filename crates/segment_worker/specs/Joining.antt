@@ -1,6 +1,8 @@
 -- A container's segments joined, from one of them on (own).
-use Rattle.std.specs.Prelude.{ℕ, ◌-◌, Bool, ◌||◌, List, ◌++◌, length, map}
+use Rattle.std.specs.Prelude.{ℕ, ◌-◌, List, ◌++◌, length, map}
 use Rattle.jpeg_marker.specs.Plans.{PlanFields}
+use Rattle.handover.specs.PadSums.{pads_with}
+use Rattle.handover.specs.declared.pads.PadSum.{PadSum}
 use Rattle.box_format.specs.Parts.{BoxParts}
 use Rattle.box_format.specs.Raws.{numbers}
 use Rattle.segment_meaning.specs.Segments.{segment_output}
@@ -12,10 +14,10 @@ joined_from plan b i =
     joined (map (λ n. segment_output (segment_in plan b n))
     (numbers i (length b.handovers - i)))
 
--- good segments with these bytes before others, of which one padded a bit or none
-abbrev pub joined_onto : List ℕ → Bool → Joined → Joined
+-- good segments with these bytes before others, and what they padded
+abbrev pub joined_onto : List ℕ → PadSum → Joined → Joined
 joined_onto bytes padded more = record {
   bytes = bytes ++ more.bytes;
   fault = more.fault;
-  padded = padded || more.padded;
+  padded = pads_with padded more.padded;
 }

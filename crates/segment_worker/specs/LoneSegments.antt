@@ -1,9 +1,10 @@
 -- Segments that one thread decodes into a sink (this project's own).
-use Rattle.std.specs.Prelude.{ℕ, ◌≡◌, ◌+◌, ◌*◌, ◌^◌, ◌≤◌, Bool, true, List, ◌++◌, length, Option, Result, Ok, Err}
+use Rattle.std.specs.Prelude.{ℕ, ◌≡◌, ◌+◌, ◌*◌, ◌^◌, ◌≤◌, true, List, ◌++◌, length, Option, Result, Ok, Err}
 use Rattle.std.specs.Io.KnownBytes.{Appends}
 use Rattle.bit_list.specs.Pieces.{piece_room}
 use Rattle.jpeg_marker.specs.Plans.{PlanFields}
 use Rattle.handover.specs.declared.outcome.Outcome.{Outcome}
+use Rattle.handover.specs.declared.pads.PadSum.{PadSum}
 use Rattle.box_format.specs.Parts.{BoxParts}
 use Rattle.segment_meaning.specs.Meanings.{joined, outputs_of}
 use Rattle.segment_code.specs.Decoding.{DecoderSeen, Owes}
@@ -53,7 +54,7 @@ SegmentEnds held faults full old new bytes outcome (Err written) =
 -- before the segment with a number, if the segments before it ended well
 pub record SegmentsWritten {Sink : Type 0} (held : Sink → Option (List ℕ)) (faults : Sink → ℕ)
     (plan : PlanFields) (b : BoxParts) (i : ℕ) (now : DecoderSeen) (old new : Sink)
-    (written : ℕ) (padded : Bool) : Type 0 where
+    (written : ℕ) (padded : PadSum) : Type 0 where
   pub bytes : List ℕ
   pub all : joined (outputs_of plan b) ≡ joined_onto bytes padded (joined_from plan b i)
   pub has : HasWritten held faults old new bytes

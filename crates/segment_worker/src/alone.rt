@@ -1,7 +1,7 @@
 // A container's segments decoded on one thread, with no board.
 ghost use Rattle.std.specs.Prelude.{◌≡◌, ◌*◌, ◌≤◌, ◌<◌, ◌^◌, ℕ, List, length, IfOk, IfErr, true};
 ghost use Rattle.handover.specs.declared.outcome.Outcome.{Outcome};
-ghost use Rattle.box_format.specs.Parts.{most_segments};
+ghost use Rattle.box_format.specs.Versions.{most_segments};
 ghost use Rattle.segment_code.specs.Decoding.{Owes};
 ghost use Rattle.segment_worker.specs.Contents.{segment_room};
 ghost use Rattle.segment_worker.specs.Emitting.{Emits, joined_in};
@@ -11,7 +11,7 @@ use crate::ending::{EmitStop, Emitted};
 use crate::lengths::segments_are_short;
 use bit_list::Piece;
 use box_format::BoxView;
-use handover::Outcome;
+use handover::{Outcome, PadSum};
 use outside_core::{Gate, Sink, WriteFault, write_all};
 use segment_code::{SegmentDecoder, Step};
 
@@ -53,14 +53,14 @@ fn emit_segments<'a, K: Sink, G: Gate>(
     ensures lasting { K.faults sink.old ≤ K.faults sink.new }
 {
     let mut written = 0;
-    let mut padded = false;
+    let mut pads = PadSum::none();
     for segment in 0..view.segments() {
         gate.before_own(segment);
         decoder.begin(view, segment);
         match emit_segment(decoder, piece, sink) {
-            Ok((count, Outcome::Good { padded: more })) => {
+            Ok((count, Outcome::Good { pads: more })) => {
                 written += count;
-                padded |= more;
+                pads = pads.with(&more);
             }
             Ok((_, Outcome::Bad(fault))) => return Err(EmitStop::Fault(fault)),
             Err(count) => {
@@ -72,7 +72,7 @@ fn emit_segments<'a, K: Sink, G: Gate>(
     }
     Ok(Emitted {
         bytes: written,
-        padded,
+        pads,
     })
 }
 
@@ -103,7 +103,7 @@ fn emit_segment<K: Sink>(
         written += piece.len() as u64;
         match step {
             Step::More => {}
-            Step::Done { padded } => return Ok((written, Outcome::Good { padded })),
+            Step::Done { pads } => return Ok((written, Outcome::Good { pads })),
             Step::Fault(fault) => return Ok((written, Outcome::Bad(fault))),
         }
     }

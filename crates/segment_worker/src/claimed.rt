@@ -42,7 +42,7 @@ pub(crate) fn put_segment<'a, R: Wait, G: Gate>(
         }
         match step {
             Step::More => {}
-            Step::Done { padded } => return end(rt, seat, board, Outcome::Good { padded }),
+            Step::Done { pads } => return end(rt, seat, board, Outcome::Good { pads }),
             Step::Fault(fault) => return end(rt, seat, board, Outcome::Bad(fault)),
         }
     }

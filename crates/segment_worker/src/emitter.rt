@@ -1,6 +1,6 @@
 // The emitter.
 ghost use Rattle.std.specs.Prelude.{◌≡◌, ◌*◌, ◌≤◌, length, OnOk, OnErr, true};
-ghost use Rattle.box_format.specs.Parts.{most_segments};
+ghost use Rattle.box_format.specs.Versions.{most_segments};
 ghost use Rattle.segment_worker.specs.Contents.{AreShort, segment_room};
 ghost use Rattle.segment_worker.specs.Emitting.{Emits, IsNewEmitter, IsThrough, IsUsedEmitter, joined_in};
 
@@ -10,7 +10,7 @@ use crate::own::emit_unclaimed;
 use crate::told::Told;
 use bit_list::Piece;
 use box_format::BoxView;
-use handover::Outcome;
+use handover::{Outcome, PadSum};
 use output_board::{Board, EmitterSeat, Take};
 use outside_core::{Gate, Sink, WriteFault, write_all};
 use segment_code::SegmentDecoder;
@@ -81,7 +81,7 @@ fn emit_through<'a, R: Wait, K: Sink, G: Gate>(
     ensures lasting { K.faults sink.old ≤ K.faults sink.new }
 {
     let mut written = 0;
-    let mut padded = false;
+    let mut pads = PadSum::none();
     let mut current = 0;
     for _ in rt.forever() {
         match board.take(rt, seat, buffer) {
@@ -94,8 +94,8 @@ fn emit_through<'a, R: Wait, K: Sink, G: Gate>(
                 }
                 written += count as u64;
             }
-            Take::Ended(Outcome::Good { padded: more }) => {
-                padded |= more;
+            Take::Ended(Outcome::Good { pads: more }) => {
+                pads = pads.with(&more);
                 current += 1;
             }
             Take::Ended(Outcome::Bad(fault)) => {
@@ -117,7 +117,7 @@ fn emit_through<'a, R: Wait, K: Sink, G: Gate>(
             Take::Over => {
                 return Ok(Emitted {
                     bytes: written,
-                    padded,
+                    pads,
                 });
             }
         }

@@ -1,13 +1,13 @@
 // How an emitter ends.
-use handover::StreamFault;
+use handover::{PadSum, StreamFault};
 
 /// All segments were written, each of which ended well.
 #[derive(Clone, Copy, Debug, PartialEq, Eq)]
 pub struct Emitted {
     /// How many bytes they have.
     pub bytes: u64,
-    /// Whether any of them padded a bit.
-    pub padded: bool,
+    /// What their intervals were padded with.
+    pub pads: PadSum,
 }
 
 /// Why not all segments were written. The board is stopped then.

@@ -83,8 +83,8 @@ fn emit_own<'a, R: Wait, K: Sink>(
         written += piece.len() as u64;
         match step {
             Step::More => {}
-            Step::Done { padded } => {
-                board.finish_own(rt, seat, Outcome::Good { padded });
+            Step::Done { pads } => {
+                board.finish_own(rt, seat, Outcome::Good { pads });
                 return Ok(written);
             }
             Step::Fault(fault) => {

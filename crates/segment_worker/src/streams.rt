@@ -1,5 +1,5 @@
 // The streams of a file's segments, side by side.
-ghost use Rattle.std.specs.Prelude.{◌≡◌, ◌<◌, ℕ, List, length, map, Ok, IfOk};
+ghost use Rattle.std.specs.Prelude.{◌≡◌, ◌<◌, ℕ, Bool, List, length, map, Ok, IfOk};
 ghost use Rattle.scan_text.specs.Scans.{Mcu};
 ghost use Rattle.box_format.specs.Raws.{numbers};
 ghost use Rattle.segment_meaning.specs.Files.{plan_cut, segment_mcus, starts_of};
@@ -22,9 +22,9 @@ pub fn encode_all<R: Threads + Sync>(
     starts: &Starts,
 ) -> Result<Vec<Vec<u8>>, AllocError>
     requires { (most : ℕ) × AreStarts plan.now bytes.now most starts.now }
-    ensures { (mcus : List Mcu) (most : ℕ)
-        → IsFileAt bytes.now plan.now mcus starts.now.pad starts.now.trailer
-        → starts.now ≡ starts_of plan.now mcus starts.now.pad starts.now.trailer most
+    ensures { (mcus : List Mcu) (pads : List Bool) (most : ℕ)
+        → IsFileAt bytes.now plan.now mcus pads starts.now.trailer
+        → starts.now ≡ starts_of plan.now mcus pads starts.now.trailer most
         → IfOk result (λ streams. map (λ v. v.items) streams.items
         ≡ map (λ i. stream_of plan.now (segment_mcus plan.now mcus most i))
         (numbers 0 (plan_cut plan.now most).segments)) }
@@ -49,9 +49,9 @@ fn encode_one(
 ) -> Result<Vec<u8>, AllocError>
     requires starts { (most : ℕ) × AreStarts plan.now bytes.now most starts.now }
     requires segment { segment < length starts.now.rows }
-    ensures { (mcus : List Mcu) (most : ℕ)
-        → IsFileAt bytes.now plan.now mcus starts.now.pad starts.now.trailer
-        → starts.now ≡ starts_of plan.now mcus starts.now.pad starts.now.trailer most
+    ensures { (mcus : List Mcu) (pads : List Bool) (most : ℕ)
+        → IsFileAt bytes.now plan.now mcus pads starts.now.trailer
+        → starts.now ≡ starts_of plan.now mcus pads starts.now.trailer most
         → IfOk result (λ stream. stream.items
         ≡ stream_of plan.now (segment_mcus plan.now mcus most segment)) }
 {

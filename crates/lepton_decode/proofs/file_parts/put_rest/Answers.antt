@@ -1,8 +1,9 @@
-use Rattle.std.proofs.Common.{◌≡◌, ◌<◌, ◌+◌, ◌∙◌, ◌||◌, arith, sym, ap, subst, List, ℕ, Bool, true, false, length, Err}
+use Rattle.std.proofs.Common.{◌≡◌, ◌<◌, ◌+◌, ◌∙◌, arith, sym, ap, subst, List, ℕ, true, false, length, Err}
+use Rattle.scan_text.specs.Pads.{PadBits, is_spelled}
 use Rattle.segment_worker.specs.Emitting.{Counts, Emits, joined_in}
 use Rattle.segment_worker.specs.Written.{HasWritten, HasFailed}
 use Rattle.segment_worker.specs.declared.ending.EmitStop.{EmitStop}
-use Rattle.lepton_decode.proofs.FilesWritten.{pad_spelled, restored, whole_length, ends_at_fault, all_bytes, failed_in_segments, failed_in_trailer}
+use Rattle.lepton_decode.proofs.FilesWritten.{pads_decide, whole_length, ends_at_fault, all_bytes, failed_in_segments, failed_in_trailer}
 use Rattle.lepton_decode.proofs.file_parts.put_rest.Goals as goal
 
 pub overflow_add-result : goal.overflow_add-result
@@ -58,15 +59,16 @@ returns-in-Err-clause-ends g c = λ first mid has emits.
     failed_in_trailer g.K.Sink.held g.K.Sink.faults g.K.Sink.full view.plan view.parts first mid c.args.sink.now c.write_all.new.sink
     c.args.before c.in-Ok.emitted.bytes c.in-Err.field-0.written all.0 has all.3 failed c.requires.before all.1
 
-pub returns-then-not-told-clause-ends : goal.returns-then-not-told-clause-ends
-returns-then-not-told-clause-ends g c = λ first mid has emits.
+pub returns-then-not-is_spelled-clause-ends : goal.returns-then-not-is_spelled-clause-ends
+returns-then-not-is_spelled-clause-ends g c = λ first mid has emits.
     let view = c.args.view.now in
     let all = subst (Emits g.K.Sink.held g.K.Sink.faults g.K.Sink.full mid c.args.sink.now (joined_in view)) c.in-Ok.is emits in
     let last : HasWritten g.K.Sink.held g.K.Sink.faults c.args.sink.now c.write_all.new.sink view.parts.trailer =
     subst (HasWritten g.K.Sink.held g.K.Sink.faults c.args.sink.now c.write_all.new.sink) c.trailer-trailer.ensures.bytes
     (record { appended = c.in_default.ensures.whole; unfailed = c.in_default.ensures.unfailed }) in
-    let told : (c.pad.result || c.in-Ok.emitted.padded) ≡ false = c.if-not-told.true in (
-      pad_spelled view.plan view.parts c.in-Ok.emitted.padded all.0 all.2 (sym (ap (λ (p : Bool). p || c.in-Ok.emitted.padded) c.pad.ensures) ∙ told),
+    let told = ap (λ (pads : PadBits). is_spelled pads c.in-Ok.emitted.pads) (sym c.pad.ensures.value)
+    ∙ sym c.is_spelled.ensures in (
+      pads_decide view.plan view.parts c.in-Ok.emitted.pads false all.0 all.2 (told ∙ c.if-not-is_spelled.true),
       all_bytes g.K.Sink.held g.K.Sink.faults g.K.Sink.full view.plan view.parts first mid c.args.sink.now c.write_all.new.sink all.0 has all.3 last,
     )
 
@@ -94,8 +96,9 @@ returns-clause-ends g c = λ first mid has emits.
     let last : HasWritten g.K.Sink.held g.K.Sink.faults c.args.sink.now c.write_all.new.sink view.parts.trailer =
     subst (HasWritten g.K.Sink.held g.K.Sink.faults c.args.sink.now c.write_all.new.sink) c.trailer-trailer.ensures.bytes
     (record { appended = c.in_default.ensures.whole; unfailed = c.in_default.ensures.unfailed }) in
-    let told : (c.pad.result || c.in-Ok.emitted.padded) ≡ true = c.if-not-told.false in (
-      restored view.plan view.parts c.in-Ok.emitted.padded all.0 all.2 (sym (ap (λ (p : Bool). p || c.in-Ok.emitted.padded) c.pad.ensures) ∙ told),
+    let told = ap (λ (pads : PadBits). is_spelled pads c.in-Ok.emitted.pads) (sym c.pad.ensures.value)
+    ∙ sym c.is_spelled.ensures in (
+      pads_decide view.plan view.parts c.in-Ok.emitted.pads true all.0 all.2 (told ∙ c.if-not-is_spelled.false),
       ap (λ (k : ℕ). c.args.before + c.in-Ok.emitted.bytes + k) (ap length c.trailer-trailer.ensures.bytes)
           ∙ whole_length view.plan view.parts c.args.before c.in-Ok.emitted.bytes all.0 c.requires.before all.1,
       all_bytes g.K.Sink.held g.K.Sink.faults g.K.Sink.full view.plan view.parts first mid c.args.sink.now c.write_all.new.sink all.0 has all.3 last,

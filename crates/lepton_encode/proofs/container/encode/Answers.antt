@@ -4,6 +4,7 @@ use Rattle.std.specs.List.{AllByRecursion}
 use Rattle.std.proofs.lemmas.Result.{err_from_is_err_and}
 use Rattle.bit_list.specs.Bits.{IsByte}
 use Rattle.box_format.specs.Parts.{IsBox, box_bytes}
+use Rattle.box_format.specs.declared.version.Version.TheVariants.{Second}
 use Rattle.segment_meaning.specs.Files.{IsContainerOf}
 use Rattle.lepton_encode.specs.declared.error.EncodeError.TheVariants.{Scan}
 use Rattle.lepton_encode.specs.Errors.{error_of}
@@ -29,7 +30,7 @@ write_box-requires g c =
     let are : AllByRecursion IsByte bytes =
     are_bytes bytes (λ i. let h = c.type_inv.bytes i in search rules) in
     let streams = ap (map (λ v. v.items)) c.as_slice.ensures.value
-    ∙ c.in_ok-streams.ensures have.mcus c.args.segments have.file have.are in
+    ∙ c.in_ok-streams.ensures have.mcus have.pads c.args.segments have.file have.are in
     let same = found plan bytes c.args.segments starts have c.pad.ensures c.header_length.ensures
     c.split_at.ensures.front c.trailer.ensures c.split_at-2.ensures.back c.handovers.ensures streams in
     let is = is_box plan bytes c.args.segments starts have are c.requires.length c.requires.some
@@ -45,9 +46,9 @@ returns-clause-made g c =
     let are : AllByRecursion IsByte bytes =
     are_bytes bytes (λ i. let h = c.type_inv.bytes i in search rules) in
     let streams = ap (map (λ v. v.items)) c.as_slice.ensures.value
-    ∙ c.in_ok-streams.ensures have.mcus c.args.segments have.file have.are in
+    ∙ c.in_ok-streams.ensures have.mcus have.pads c.args.segments have.file have.are in
     let same = found plan bytes c.args.segments starts have c.pad.ensures c.header_length.ensures
     c.split_at.ensures.front c.trailer.ensures c.split_at-2.ensures.back c.handovers.ensures streams in
     let made = has_container plan bytes c.args.segments starts have are c.requires.length in
-    subst (λ (m : List ℕ). IsContainerOf c.args.segments m bytes)
+    subst (λ (m : List ℕ). IsContainerOf Second c.args.segments m bytes)
     (sym (c.in_ok-made.ensures ∙ ap box_bytes same)) made

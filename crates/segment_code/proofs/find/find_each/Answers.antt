@@ -7,8 +7,11 @@ use Rattle.segment_text.specs.Cuts.{Cut, first_mcu, row_of}
 use Rattle.segment_text.specs.HandedOver.{spot_in}
 use Rattle.segment_text.specs.RowHandovers.{handover_of}
 use Rattle.segment_meaning.specs.Files.{StartsFields, plan_cut}
-use Rattle.segment_code.specs.CodedMcus.{AreReadOn, next_of}
+use Rattle.segment_code.specs.CodedMcus.{AreReadOn}
+use Rattle.segment_code.specs.FoundPads.{FoundPads, pads_through}
+use Rattle.segment_code.specs.declared.find.FindError.TheVariants.{Scan}
 use Rattle.segment_code.proofs.CutsOfPlans.{cut_is, end_of_all, ends_there, ends_within, first_of_all}
+use Rattle.segment_code.proofs.PadsOn.{more_through, none_through}
 use Rattle.segment_code.proofs.ReadOn.{count_on, keeps, none_read, read_more, refused_in}
 use Rattle.segment_code.proofs.SegmentNumbers.{length_numbers}
 use Rattle.segment_code.proofs.StartsFound.{found_more}
@@ -25,6 +28,9 @@ loop-segment-init c = record {
         (sym (first_of_all (plan_cut c.args.plan.now c.args.segments) refl))
         (none_read c.args.reader.now),
   );
+  pads = sym (none_through c.args.reader.now c.args.pads.now)
+      ∙ ap (λ (n : ℕ). pads_through n c.args.reader.now c.args.pads.now)
+      (sym (first_of_all (plan_cut c.args.plan.now c.args.segments) refl));
 }
 
 pub push-requires : goal.push-requires
@@ -85,6 +91,10 @@ loop-segment-preserved c =
             (read_more n c.mcus_in-mcus.result first reader c.read_mcus.new.reader so.0 more.0 so.1
             more.1),
       );
+      pads = c.in_ok-read_mcus.ensures.pads
+          ∙ ap (λ (p : FoundPads). pads_through c.mcus_in-mcus.result reader p) i.pads
+          ∙ more_through n c.mcus_in-mcus.result first reader so.0 c.args.pads.now so.1
+          ∙ ap (λ (k : ℕ). pads_through k first c.args.pads.now) sum;
     }
 
 pub returns-in_err-read_mcus-clause-refused : goal.returns-in_err-read_mcus-clause-refused
@@ -97,11 +107,11 @@ returns-in_err-read_mcus-clause-refused c =
     let within = ends_within c.args.plan.now c.args.segments c.segment_count-count.result
     c.loop-segment.segment c.mcus_in-mcus.result c.segment_count-count.ensures
     c.mcus_in-mcus.ensures.within in
-    let all = refused_in n c.mcus_in-mcus.result c.args.reader.now.shape.mcus c.args.reader.now
-    c.loop-segment.reader so.0 c.in_err-read_mcus.field-0.0 so.1 (omega (arith, total, within))
-    c.in_err-read_mcus.ensures.refused in
-    rw (p.1, p.2) (λ refusal is. let cause : c.in_err-read_mcus.field-0.0 ≡ refusal = cc in
-    subst (λ r. next_of c.args.reader.now.shape.mcus c.args.reader.now ≡ Err r) cause all)
+    rw (p.1, p.2) (λ refusal is.
+    let cause : c.in_err-read_mcus.field-0.0 ≡ Scan refusal = cc in
+    refused_in n c.mcus_in-mcus.result c.args.reader.now.shape.mcus c.args.reader.now
+    c.loop-segment.reader so.0 refusal so.1 (omega (arith, total, within))
+    (c.in_err-read_mcus.ensures.refused refusal (ap (λ error. Err error) cause)))
 
 pub returns-clause-read : goal.returns-clause-read
 returns-clause-read c =
@@ -118,3 +128,19 @@ returns-clause-read c =
     let total = ap (first_mcu cut) last ∙ end_of_all cut refl some
     ∙ sym (ap (λ (s : Shape). s.mcus) c.requires.shape) in
     (so.0, subst (λ (k : ℕ). AreReadOn k c.args.reader.now c.loop-segment.reader so.0) total so.1)
+
+pub returns-clause-pads : goal.returns-clause-pads
+returns-clause-pads c =
+    let cut = plan_cut c.args.plan.now c.args.segments in
+    let last : c.loop-segment.segment ≡ cut.segments =
+    omega (
+      arith,
+      c.loop-segment-test.false,
+      c.loop-segment.auto.segment-end,
+      c.segment_count-count.ensures,
+    ) in
+    let some : 0 < cut.segments = omega (arith, c.requires.some, c.requires.rows) in
+    let total = ap (first_mcu cut) last ∙ end_of_all cut refl some
+    ∙ sym (ap (λ (s : Shape). s.mcus) c.requires.shape) in
+    c.loop-segment.invariant.pads
+    ∙ ap (λ (k : ℕ). pads_through k c.args.reader.now c.args.pads.now) total

@@ -4,6 +4,9 @@ use Rattle.std.specs.List.{AllByRecursion}
 use Rattle.std.proofs.lemmas.Result.{err_from_is_err_and}
 use Rattle.bit_list.specs.Bits.{IsByte}
 use Rattle.jpeg_marker.proofs.HeadersTaken.{accepted_has_plan}
+use Rattle.scan_text.specs.ScanCalls.{reader_at}
+use Rattle.scan_text.specs.Slots.{shape_of}
+use Rattle.segment_code.specs.FoundPads.{none_found, pads_through}
 use Rattle.segment_code.specs.declared.find.FindError.TheVariants.{Scan}
 use Rattle.segment_code.proofs.ScansCoded.{bytes_all, scan_refused}
 use Rattle.segment_code.proofs.StartsFound.{are_starts}
@@ -23,13 +26,16 @@ returns-clause-starts c =
     bytes_all c.args.bytes.now (λ i. let h = c.type_inv.bytes i in search rules) in
     let so = c.in_ok-find_each.ensures.read in
     let read = rw (c.start-reader.ensures, c.header_length.ensures) at so.1.read in
+    let pads : c.find_each.new.pads
+    ≡ pads_through (shape_of c.args.plan.now).mcus (reader_at (shape_of c.args.plan.now)
+    c.args.bytes.now c.args.plan.now.header_length) none_found =
+    rw (c.start-reader.ensures, c.header_length.ensures, c.none-pads.ensures) at
+    c.in_ok-find_each.ensures.pads in
     let starts = are_starts c.args.bytes.now c.args.plan.now c.args.segments so.0
-    c.find_each.new.reader.at are c.requires.plan c.requires.some read in
+    c.find_each.new.reader.at are c.requires.plan c.requires.some read c.find_each.new.pads pads in
     rw (
+      c.in_ok-end.ensures,
       c.end.ensures,
-      c.unwrap_or.ensures,
-      c.end-pad.ensures.pad,
-      c.end-pad.ensures.place,
       c.in_ok-find_each.ensures.starts,
       c.start-reader.ensures,
       c.header_length.ensures,

@@ -1,9 +1,15 @@
-use Rattle.std.proofs.Common.{rules, ◌≡◌, ◌≤◌, ◌+◌, [], ◌∷◌, ◌++◌, length, map, ap, ◌∙◌, sym, arith}
-use Rattle.std.specs.Prelude.{Ok, Err, None}
+use Rattle.std.proofs.Common.{rules, ◌≡◌, ◌≤◌, ◌+◌, [], ◌∷◌, ◌++◌, length, map, ap, ◌∙◌, sym, subst, arith}
+use Rattle.std.specs.Prelude.{Bool, true, Option, Ok, Err, None, unwrap_or}
 use Rattle.std.proofs.lemmas.Result.{err_from_is_err_and}
-use Rattle.scan_text.specs.ScanReading.{in_zigzag}
+use Rattle.handover.specs.PadSums.{pads_with}
+use Rattle.scan_text.specs.ScanReading.{in_zigzag, pad_sum}
 use Rattle.scan_text.specs.Slots.{Shape}
+use Rattle.scan_text.specs.Spots.{is_closed}
+use Rattle.segment_code.specs.FoundPads.{pads_through}
+use Rattle.segment_code.specs.CodedMcus.{next_of}
+use Rattle.segment_code.proofs.PadsOn.{ending_through, more_through, none_through, within_through}
 use Rattle.segment_code.proofs.ReadOn.{count_on, keeps, none_read, one_more, reads_on, refused_on}
+use Rattle.segment_code.proofs.find.read_mcus.Goals.{then-ends_interval+in_ok-push, else-ends_interval}
 use Rattle.segment_code.proofs.find.read_mcus.Goals as goal
 
 pub next_mcu-requires-clause-more : goal.next_mcu-requires-clause-more
@@ -15,7 +21,11 @@ next_mcu-requires-clause-more c =
     omega (arith, count, total, c.requires.count, c.loop-test.true)
 
 pub loop-init : goal.loop-init
-loop-init c = record { long = c.requires.room; read = ([], none_read c.args.reader.now) }
+loop-init c = record {
+  long = c.requires.room;
+  read = ([], none_read c.args.reader.now);
+  pads = sym (none_through c.args.reader.now c.args.pads.now);
+}
 
 pub loop-preserved : goal.loop-preserved
 loop-preserved c =
@@ -25,21 +35,42 @@ loop-preserved c =
     let read = reads_on c.loop.reader c.next_mcu.new.self (Ok c.in_ok-next_mcu.field-0)
     c.next_mcu.new.out stop c.in_ok-next_mcu.ensures in
     let same : length c.next_mcu.new.out ≡ length c.loop.blocks = search rules in
+    let mcu = map in_zigzag c.next_mcu.new.out in
+    let now = c.next_mcu.new.self.at in
+    let closes : is_closed c.loop.reader.shape now.count ≡ c.ends_interval.result =
+    sym (ap (λ (s : Shape). is_closed s now.count)
+    (keeps c.loop.reader c.next_mcu.new.self read.1).shape)
+    ∙ sym c.ends_interval.ensures in
     record {
       long = same ∙ c.loop.invariant.long ∙ sym
           (ap (λ (s : Shape). length s.slots)
           (keeps c.loop.reader c.next_mcu.new.self read.1).shape);
       read = (
-        so.0 ++ map in_zigzag c.next_mcu.new.out ∷ [],
+        so.0 ++ mcu ∷ [],
         one_more c.loop.counter c.args.reader.now c.loop.reader c.next_mcu.new.self so.0
-            (map in_zigzag c.next_mcu.new.out) so.1 read.0 read.1,
+            mcu so.1 read.0 read.1,
       );
+      pads = elim c.if-ends_interval.branch [
+        | then-ends_interval+in_ok-push w ↦ w.pads-is
+            ∙ ending_through c.loop.reader now mcu c.loop.pads w.push.new.self read.0
+            (closes ∙ w.if-ends_interval.true)
+            (w.in_ok-push.ensures.bits ∙ ap (λ (p : Option Bool). c.loop.pads.bits
+            ++ unwrap_or p true ∷ []) w.pad.ensures)
+            (w.in_ok-push.ensures.sum ∙ ap (λ (p : Option Bool). pads_with c.loop.pads.sum
+            (pad_sum p)) w.pad.ensures)
+        | else-ends_interval w ↦ w.pads-is
+            ∙ within_through c.loop.reader now mcu c.loop.pads read.0
+            (closes ∙ w.if-ends_interval.false)
+      ]
+          ∙ ap (pads_through 1 c.loop.reader) c.loop.invariant.pads
+          ∙ more_through c.loop.counter 1 c.args.reader.now c.loop.reader so.0 c.args.pads.now so.1;
     }
 
 pub returns-in_err-next_mcu-clause-refused : goal.returns-in_err-next_mcu-clause-refused
 returns-in_err-next_mcu-clause-refused c =
     let so = c.loop.invariant.read in
-    let p = err_from_is_err_and c.from_residual.result c.from_residual.ensures.1 in
+    let p = err_from_is_err_and c.from_residual.result
+    c.from_residual.ensures.1 in
     let stop : c.loop.reader.stop ≡ None = (keeps c.args.reader.now c.loop.reader so.1.same).stop
     ∙ c.requires.start in
     let read = reads_on c.loop.reader c.next_mcu.new.self (Err c.in_err-next_mcu.field-0.0)
@@ -47,4 +78,5 @@ returns-in_err-next_mcu-clause-refused c =
     let more : c.loop.counter + 1 ≤ c.args.mcus = omega (arith, c.loop-test.true) in
     let all = refused_on c.loop.counter c.args.mcus c.args.reader.now c.loop.reader so.0
     c.in_err-next_mcu.field-0.0 so.1 more read.0 in
-    rw (p.1, p.2) all
+    rw (p.1, p.2) (λ refusal is. let cause : c.in_err-next_mcu.field-0.0 ≡ refusal = cc in
+    subst (λ r. next_of c.args.mcus c.args.reader.now ≡ Err r) cause all)

@@ -15,7 +15,7 @@ use Rattle.segment_code.proofs.stream.encode_segment.Goals as goal
 pub at-reader-requires-clause-row : goal.at-reader-requires-clause-row
 at-reader-requires-clause-row c =
     let have = c.requires.starts.1 in
-    let said = said_of c.args.plan.now have.mcus c.args.starts.now.pad c.args.starts.now.trailer
+    let said = said_of c.args.plan.now have.mcus have.pads c.args.starts.now.trailer
     c.requires.starts.0 c.args.starts.now c.args.segment have.are c.requires.segment in
     rw (c.row.ensures ∙ said.row) (row_within c.args.plan.now c.requires.starts.0 c.args.segment
     said.under)
@@ -25,9 +25,9 @@ at-reader-requires-clause-restarts c =
     let are : AllByRecursion IsByte c.args.bytes.now =
     bytes_all c.args.bytes.now (λ i. let h = c.type_inv.bytes i in search rules) in
     let have = c.requires.starts.1 in
-    let said = said_of c.args.plan.now have.mcus c.args.starts.now.pad c.args.starts.now.trailer
+    let said = said_of c.args.plan.now have.mcus have.pads c.args.starts.now.trailer
     c.requires.starts.0 c.args.starts.now c.args.segment have.are c.requires.segment in
-    let markers = markers_are c.args.bytes.now c.args.plan.now have.mcus c.args.starts.now.pad
+    let markers = markers_are c.args.bytes.now c.args.plan.now have.mcus have.pads
     c.args.starts.now.trailer c.requires.starts.0 c.args.starts.now c.args.segment are have.file
     said in
     ap (λ (h : HandoverFields). h.restarts) c.handover-handover.ensures ∙ markers
@@ -37,7 +37,7 @@ at-reader-requires-clause-restarts c =
 pub code_segment-requires-clause-count : goal.code_segment-requires-clause-count
 code_segment-requires-clause-count c =
     let have = c.requires.starts.1 in
-    let said = said_of c.args.plan.now have.mcus c.args.starts.now.pad c.args.starts.now.trailer
+    let said = said_of c.args.plan.now have.mcus have.pads c.args.starts.now.trailer
     c.requires.starts.0 c.args.starts.now c.args.segment have.are c.requires.segment in
     let within = ends_within c.args.plan.now c.requires.starts.0 c.segments.result c.args.segment
     c.mcus_in-mcus.result (c.segments.ensures ∙ said.count) c.mcus_in-mcus.ensures.within in
@@ -51,14 +51,14 @@ unreachable-requires c =
     let are : AllByRecursion IsByte c.args.bytes.now =
     bytes_all c.args.bytes.now (λ i. let h = c.type_inv.bytes i in search rules) in
     let have = c.requires.starts.1 in
-    let said = said_of c.args.plan.now have.mcus c.args.starts.now.pad c.args.starts.now.trailer
+    let said = said_of c.args.plan.now have.mcus have.pads c.args.starts.now.trailer
     c.requires.starts.0 c.args.starts.now c.args.segment have.are c.requires.segment in
     let ends = ends_there c.args.plan.now c.requires.starts.0 c.segments.result c.args.segment
     c.mcus_in-mcus.result (c.segments.ensures ∙ said.count) c.mcus_in-mcus.ensures.value in
     let reader = c.at-reader.ensures ∙ from_same (shape_of c.args.plan.now) c.args.bytes.now _ _ _ _
     _ _ c.handover-handover.ensures (ap (λ (r : ℕ). c.args.plan.now.across * r) c.row.ensures)
     c.place-place.ensures in
-    let read = segment_reads c.args.bytes.now c.args.plan.now have.mcus c.args.starts.now.pad
+    let read = segment_reads c.args.bytes.now c.args.plan.now have.mcus have.pads
     c.args.starts.now.trailer c.requires.starts.0 c.args.starts.now c.args.segment
     c.mcus_in-mcus.result are have.file said ends c.at-reader.result reader in
     let refused = c.in-Err-Scan.ensures.refused c.in-Err-Scan.field-0-0
@@ -67,17 +67,17 @@ unreachable-requires c =
     refused
 
 pub returns-in-Ok : goal.returns-in-Ok
-returns-in-Ok c = λ mcus most file starts.
+returns-in-Ok c = λ mcus pads most file starts.
     let are : AllByRecursion IsByte c.args.bytes.now =
     bytes_all c.args.bytes.now (λ i. let h = c.type_inv.bytes i in search rules) in
-    let said = said_of c.args.plan.now mcus c.args.starts.now.pad c.args.starts.now.trailer most
+    let said = said_of c.args.plan.now mcus pads c.args.starts.now.trailer most
     c.args.starts.now c.args.segment starts c.requires.segment in
     let ends = ends_there c.args.plan.now most c.segments.result c.args.segment
     c.mcus_in-mcus.result (c.segments.ensures ∙ said.count) c.mcus_in-mcus.ensures.value in
     let reader = c.at-reader.ensures ∙ from_same (shape_of c.args.plan.now) c.args.bytes.now _ _ _ _
     _ _ c.handover-handover.ensures (ap (λ (r : ℕ). c.args.plan.now.across * r) c.row.ensures)
     c.place-place.ensures in
-    let read = segment_reads c.args.bytes.now c.args.plan.now mcus c.args.starts.now.pad
+    let read = segment_reads c.args.bytes.now c.args.plan.now mcus pads
     c.args.starts.now.trailer most c.args.starts.now c.args.segment c.mcus_in-mcus.result are
     file said ends c.at-reader.result reader in
     let so = c.in-Ok.ensures.coded in

@@ -1,5 +1,5 @@
 use Rattle.std.proofs.Common.{arith}
-use Rattle.box_format.specs.Parts.{most_segments}
+use Rattle.box_format.specs.Versions.{most_segments}
 use Rattle.segment_worker.proofs.Emissions.{few_joined}
 use Rattle.segment_worker.proofs.alone.emit_alone.Goals as goal
 

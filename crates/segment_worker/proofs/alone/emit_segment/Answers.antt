@@ -38,10 +38,10 @@ pub returns-in-Done-clause-ends : goal.returns-in-Done-clause-ends
 returns-in-Done-clause-ends g c =
     let whole = subst (λ (l : List ℕ). Appends (g.K.Sink.held c.loop-more.sink) (g.K.Sink.held c.write_all.new.sink) l)
     c.bytes.ensures.bytes c.in_default.ensures.whole in
-    all_written g.K.Sink.held g.K.Sink.faults g.K.Sink.full (Done c.in-Done.padded) c.args.decoder.now
+    all_written g.K.Sink.held g.K.Sink.faults g.K.Sink.full (Done c.in-Done.pads) c.args.decoder.now
     c.loop-more.decoder c.step-step.new.self c.args.sink.now c.loop-more.sink c.write_all.new.sink
     c.loop-more.written c.step-step.new.out c.len.result _ c.loop-more.invariant c.in-Done.ensures.pays
-    (done_last g.K.Sink.held g.K.Sink.faults g.K.Sink.full c.in-Done.padded c.step-step.new.out c.loop-more.decoder c.step-step.new.self)
+    (done_last g.K.Sink.held g.K.Sink.faults g.K.Sink.full c.in-Done.pads c.step-step.new.out c.loop-more.decoder c.step-step.new.self)
     whole c.in_default.ensures.unfailed c.len.ensures.count
 
 pub returns-in-Fault-clause-ends : goal.returns-in-Fault-clause-ends

@@ -1,4 +1,4 @@
-use Rattle.std.proofs.Common.{◌≡◌, ◌<◌, ◌∙◌, sym, subst, refl, ℕ}
+use Rattle.std.proofs.Common.{◌≡◌, ◌<◌, ◌∙◌, sym, subst, ℕ}
 use Rattle.segment_meaning.specs.Segments.{segment_output}
 use Rattle.segment_meaning.specs.Meanings.{segment_in}
 use Rattle.segment_code.specs.Decoding.{DecoderSeen, Owes}
@@ -22,7 +22,7 @@ returns-in-Ok-default-Bad-clause-ends g c =
     let ended = c.in-Ok-default-Bad.ensures.ends _ _ owes in
     segment_bad g.K.Sink.held g.K.Sink.faults g.K.Sink.full c.args.view.now.plan c.args.view.now.parts
     c.loop-segment.segment c.loop-segment.decoder c.args.sink.now c.loop-segment.sink c.emit_segment.new.sink
-    c.loop-segment.written c.loop-segment.padded c.in-Ok-default-Bad.fault loop
+    c.loop-segment.written c.loop-segment.pads c.in-Ok-default-Bad.fault loop
     (subst (λ (n : ℕ). c.loop-segment.segment < n) c.segments-segment-end.ensures.count c.loop-segment-test.true)
     (sym c.in-Ok-default-Bad.field-0-1-is ∙ ended.1) ended.2
 
@@ -34,11 +34,11 @@ loop-segment-preserved g c =
     let ended = c.in-Ok-default-Good.ensures.ends _ _ owes in
     segment_written g.K.Sink.held g.K.Sink.faults g.K.Sink.full c.args.view.now.plan c.args.view.now.parts
     c.loop-segment.segment c.loop-segment.decoder c.emit_segment.new.decoder c.args.sink.now c.loop-segment.sink c.emit_segment.new.sink
-    c.loop-segment.written c.in-Ok-default-Good.count c.loop-segment.padded c.in-Ok-default-Good.more _ loop
+    c.loop-segment.written c.in-Ok-default-Good.count c.loop-segment.pads c.in-Ok-default-Good.more _ loop
     (subst (λ (n : ℕ). c.loop-segment.segment < n) c.segments-segment-end.ensures.count c.loop-segment-test.true)
     ended.0 (sym c.in-Ok-default-Good.field-0-1-is ∙ ended.1) ended.2 c.in-Ok-default-Good.ensures.few
     (c.in-Ok-default-Good.ensures.plan ∙ c.begin.ensures.plan)
-    (c.in-Ok-default-Good.ensures.begun ∙ c.begin.ensures.begun) refl
+    (c.in-Ok-default-Good.ensures.begun ∙ c.begin.ensures.begun) c.with-pads.ensures
 
 pub returns-in-Err-clause-ends : goal.returns-in-Err-clause-ends
 returns-in-Err-clause-ends g c =
@@ -47,6 +47,6 @@ returns-in-Err-clause-ends g c =
     c.loop-segment.segment loop.plan_is c.begin.ensures.owes in
     segment_failed g.K.Sink.held g.K.Sink.faults g.K.Sink.full c.args.view.now.plan c.args.view.now.parts
     c.loop-segment.segment c.loop-segment.decoder c.args.sink.now c.loop-segment.sink c.emit_segment.new.sink
-    c.loop-segment.written c.in-Err.count c.loop-segment.padded loop
+    c.loop-segment.written c.in-Err.count c.loop-segment.pads loop
     (subst (λ (n : ℕ). c.loop-segment.segment < n) c.segments-segment-end.ensures.count c.loop-segment-test.true)
     (c.in-Err.ensures.ends _ _ owes)

@@ -51,9 +51,9 @@ end-requires-clause-end g c =
     let count : c.put_bytes.new.seat.view.put ≡ c.loop-step.seat.view.put + length c.step-step.new.out =
     ap (λ (w : WorkerView). w.put) view ∙ ap (λ (l : List ℕ). c.loop-step.seat.view.put + length l) c.bytes.ensures.bytes in
     at_end c.args.seat.now.content c.args.segment c.loop-step.seat.view.put c.put_bytes.new.seat.view
-    (Good c.in-Done.padded) c.step-step.new.out c.put_bytes.new.seat.content
+    (Good c.in-Done.pads) c.step-step.new.out c.put_bytes.new.seat.content
     (ap (λ (w : WorkerView). w.segment) view ∙ i.segment) count (c.put_bytes.ensures.same.content ∙ i.same.content)
-    (owed_done c.args.seat.now.content c.args.segment c.loop-step.seat.view.put c.in-Done.padded c.step-step.new.out
+    (owed_done c.args.seat.now.content c.args.segment c.loop-step.seat.view.put c.in-Done.pads c.step-step.new.out
     c.loop-step.decoder c.step-step.new.self i.owes c.in-Done.ensures.pays)
 
 pub end-requires-in-Fault-clause-end : goal.end-requires-in-Fault-clause-end

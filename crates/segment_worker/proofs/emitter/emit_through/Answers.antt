@@ -7,8 +7,9 @@ use Rattle.segment_worker.proofs.emitter.emit_through.Goals as goal
 
 pub loop-init : goal.loop-init
 loop-init g c = record {
-  emitting = starts_emitting g.K.Sink.held g.K.Sink.faults g.K.Sink.full c.args.board.now c.args.view.now
-      c.args.seat.now c.args.decoder.now c.args.sink.now c.requires.new;
+  emitting = rw (c.none-pads.ensures)
+      (starts_emitting g.K.Sink.held g.K.Sink.faults g.K.Sink.full c.args.board.now c.args.view.now
+      c.args.seat.now c.args.decoder.now c.args.sink.now c.requires.new);
   current = sym c.requires.new.cur;
   some = c.requires.some;
 }
@@ -18,7 +19,7 @@ returns-in-Err-clause-ends g c =
     let same : length c.take.new.buf ≡ length c.loop.buffer = search rules in
     taken_failed g.K.Sink.held g.K.Sink.faults g.K.Sink.full c.args.board.now c.args.view.now c.loop.seat c.take.new.seat
     c.loop.decoder c.args.sink.now c.loop.sink c.write_all.new.sink c.loop.written c.in-Bytes.count c.in-Err.field-0.written
-    c.loop.padded c.loop.buffer c.take.new.buf c.loop.invariant.emitting c.in-Bytes.ensures.answer same
+    c.loop.pads c.loop.buffer c.take.new.buf c.loop.invariant.emitting c.in-Bytes.ensures.answer same
     (record { rose = c.in-Err.ensures.failed; short = c.in-Err.ensures.short; appended = c.in-Err.ensures.part })
 
 pub loop-preserved-in-Bytes : goal.loop-preserved-in-Bytes
@@ -27,7 +28,7 @@ loop-preserved-in-Bytes g c =
     record {
       emitting = bytes_taken g.K.Sink.held g.K.Sink.faults g.K.Sink.full c.args.board.now c.args.view.now c.loop.seat
           c.take.new.seat c.loop.decoder c.args.sink.now c.loop.sink c.write_all.new.sink c.loop.written c.in-Bytes.count
-          c.loop.padded c.loop.buffer c.take.new.buf c.loop.invariant.emitting c.take.ensures.hold c.in-Bytes.ensures.answer same
+          c.loop.pads c.loop.buffer c.take.new.buf c.loop.invariant.emitting c.take.ensures.hold c.in-Bytes.ensures.answer same
           (record { appended = c.in_default.ensures.whole; unfailed = c.in_default.ensures.unfailed });
       current = c.loop.invariant.current ∙ sym (ap (λ (w : EmitterView). w.cur) c.in-Bytes.ensures.answer.1.0.view);
       some = let some = c.loop.invariant.some in omega (arith, some, same);
@@ -38,9 +39,9 @@ loop-preserved-in-Ended-Good g c =
     let same : length c.take.new.buf ≡ length c.loop.buffer = search rules in
     record {
       emitting = good_taken g.K.Sink.held g.K.Sink.faults g.K.Sink.full c.args.board.now c.args.view.now c.requires.short
-          c.loop.seat c.take.new.seat c.loop.decoder c.args.sink.now c.loop.sink c.loop.written c.loop.padded
-          c.in-Ended-Good.more _ c.loop.buffer c.take.new.buf c.loop.invariant.emitting c.take.ensures.hold
-          c.in-Ended-Good.field-0-is c.in-Ended-Good.ensures.answer;
+          c.loop.seat c.take.new.seat c.loop.decoder c.args.sink.now c.loop.sink c.loop.written c.loop.pads
+          c.in-Ended-Good.more _ _ c.loop.buffer c.take.new.buf c.loop.invariant.emitting c.take.ensures.hold
+          c.in-Ended-Good.field-0-is c.with-pads.ensures c.in-Ended-Good.ensures.answer;
       current = ap (λ (n : ℕ). n + 1) c.loop.invariant.current
           ∙ sym (good_cur g.K.Sink.held g.K.Sink.faults g.K.Sink.full c.args.board.now c.args.view.now c.loop.seat
           c.take.new.seat c.in-Ended-Good.more _ c.loop.buffer c.take.new.buf c.in-Ended-Good.field-0-is
@@ -51,7 +52,7 @@ loop-preserved-in-Ended-Good g c =
 pub returns-in-Ended-Bad-clause-ends : goal.returns-in-Ended-Bad-clause-ends
 returns-in-Ended-Bad-clause-ends g c =
     bad_taken g.K.Sink.held g.K.Sink.faults g.K.Sink.full c.args.board.now c.args.view.now c.loop.seat c.take.new.seat
-    c.loop.decoder c.args.sink.now c.loop.sink c.loop.written c.loop.padded c.in-Ended-Bad.fault _ c.loop.buffer
+    c.loop.decoder c.args.sink.now c.loop.sink c.loop.written c.loop.pads c.in-Ended-Bad.fault _ c.loop.buffer
     c.take.new.buf c.loop.invariant.emitting c.in-Ended-Bad.field-0-is c.in-Ended-Bad.ensures.answer
 
 pub loop-preserved-in-Ok : goal.loop-preserved-in-Ok
@@ -59,12 +60,12 @@ loop-preserved-in-Ok g c =
     let same : length c.take.new.buf ≡ length c.loop.buffer = search rules in
     let a = c.in-Unclaimed.ensures.answer in
     let took = same_emitted g.K.Sink.held g.K.Sink.faults g.K.Sink.full c.args.board.now c.args.view.now c.loop.seat
-    c.take.new.seat c.loop.decoder c.args.sink.now c.loop.sink c.loop.written c.loop.padded c.loop.invariant.emitting
+    c.take.new.seat c.loop.decoder c.args.sink.now c.loop.sink c.loop.written c.loop.pads c.loop.invariant.emitting
     c.take.ensures.hold a.1.0.claims a.1.0.view in
     record {
       emitting = own_emitted g.K.Sink.held g.K.Sink.faults g.K.Sink.full c.args.board.now c.args.view.now c.take.new.seat
           c.emit_unclaimed.new.seat c.loop.decoder c.emit_unclaimed.new.decoder c.args.sink.now c.loop.sink
-          c.emit_unclaimed.new.sink c.loop.written c.in-Ok.count c.loop.padded took c.in-Ok.ensures.ends
+          c.emit_unclaimed.new.sink c.loop.written c.in-Ok.count c.loop.pads took c.in-Ok.ensures.ends
           c.in-Ok.ensures.own c.in-Ok.ensures.content c.in-Ok.ensures.begun c.in-Ok.ensures.plan;
       current = c.loop.invariant.current ∙ sym (ap (λ (w : EmitterView). w.cur) a.1.0.view)
           ∙ sym (ap (λ (w : EmitterView). w.cur) c.in-Ok.ensures.ends.2);
@@ -75,11 +76,11 @@ pub returns-in-Err-emit_unclaimed-clause-ends : goal.returns-in-Err-emit_unclaim
 returns-in-Err-emit_unclaimed-clause-ends g c =
     let a = c.in-Unclaimed.ensures.answer in
     let took = same_emitted g.K.Sink.held g.K.Sink.faults g.K.Sink.full c.args.board.now c.args.view.now c.loop.seat
-    c.take.new.seat c.loop.decoder c.args.sink.now c.loop.sink c.loop.written c.loop.padded c.loop.invariant.emitting
+    c.take.new.seat c.loop.decoder c.args.sink.now c.loop.sink c.loop.written c.loop.pads c.loop.invariant.emitting
     c.take.ensures.hold a.1.0.claims a.1.0.view in
     own_failed g.K.Sink.held g.K.Sink.faults g.K.Sink.full c.args.board.now c.args.view.now c.take.new.seat
     c.emit_unclaimed.new.seat c.loop.decoder c.args.sink.now c.loop.sink c.emit_unclaimed.new.sink c.loop.written _
-    c.loop.padded took c.in-Err-emit_unclaimed.ensures.ends
+    c.loop.pads took c.in-Err-emit_unclaimed.ensures.ends
 
 pub returns-in-Over-clause-ends : goal.returns-in-Over-clause-ends
 returns-in-Over-clause-ends g c =
@@ -88,7 +89,7 @@ returns-in-Over-clause-ends g c =
     let over = sym a.1.1 ∙ a.2 ∙ bytes_long c.loop.seat.content
     ∙ ap (λ (v : BoxSeen). length v.parts.handovers) e.used.content in
     all_emitted g.K.Sink.held g.K.Sink.faults g.K.Sink.full c.args.view.now c.loop.seat.view.cur c.loop.seat.view.taken
-    c.args.sink.now c.loop.sink c.loop.written c.loop.padded e.so_far over
+    c.args.sink.now c.loop.sink c.loop.written c.loop.pads e.so_far over
 
 pub returns-in-Over-clause-through : goal.returns-in-Over-clause-through
 returns-in-Over-clause-through g c =

@@ -46,17 +46,17 @@ loop-more-preserved g c =
 pub finish_own-requires-clause-all : goal.finish_own-requires-clause-all
 finish_own-requires-clause-all g c =
     let p = c.loop-more.invariant in
-    (ends_there c.args.seat.now c.loop-more.seat c.pass.new.seat c.loop-more.written (length c.step-step.new.out) (Good c.in-Done.padded)
+    (ends_there c.args.seat.now c.loop-more.seat c.pass.new.seat c.loop-more.written (length c.step-step.new.out) (Good c.in-Done.pads)
     p.same p.view c.pass.ensures.same c.pass.ensures.view
-    (owed_done c.args.seat.now.content c.args.seat.now.view.cur (c.args.seat.now.view.taken + c.loop-more.written) c.in-Done.padded
+    (owed_done c.args.seat.now.content c.args.seat.now.view.cur (c.args.seat.now.view.taken + c.loop-more.written) c.in-Done.pads
     c.step-step.new.out c.loop-more.decoder c.step-step.new.self p.owes c.in-Done.ensures.pays)).0
 
 pub finish_own-requires-clause-outcome : goal.finish_own-requires-clause-outcome
 finish_own-requires-clause-outcome g c =
     let p = c.loop-more.invariant in
-    (ends_there c.args.seat.now c.loop-more.seat c.pass.new.seat c.loop-more.written (length c.step-step.new.out) (Good c.in-Done.padded)
+    (ends_there c.args.seat.now c.loop-more.seat c.pass.new.seat c.loop-more.written (length c.step-step.new.out) (Good c.in-Done.pads)
     p.same p.view c.pass.ensures.same c.pass.ensures.view
-    (owed_done c.args.seat.now.content c.args.seat.now.view.cur (c.args.seat.now.view.taken + c.loop-more.written) c.in-Done.padded
+    (owed_done c.args.seat.now.content c.args.seat.now.view.cur (c.args.seat.now.view.taken + c.loop-more.written) c.in-Done.pads
     c.step-step.new.out c.loop-more.decoder c.step-step.new.self p.owes c.in-Done.ensures.pays)).1
 
 pub returns-in-Done-clause-ends : goal.returns-in-Done-clause-ends
@@ -66,7 +66,7 @@ returns-in-Done-clause-ends g c =
     rw c.len.ensures.count
     (all_passed g.K.Sink.held g.K.Sink.faults g.K.Sink.full c.args.seat.now c.loop-more.seat c.pass.new.seat c.finish_own.new.seat
     c.args.decoder.now c.loop-more.decoder c.step-step.new.self c.args.sink.now c.loop-more.sink c.write_all.new.sink
-    c.loop-more.written (Done c.in-Done.padded) c.step-step.new.out c.loop-more.invariant c.in-Done.ensures.pays has
+    c.loop-more.written (Done c.in-Done.pads) c.step-step.new.out c.loop-more.invariant c.in-Done.ensures.pays has
     c.pass.ensures.view c.finish_own.ensures.told.1.0.view)
 
 pub finish_own-requires-in-Fault-clause-all : goal.finish_own-requires-in-Fault-clause-all

@@ -7,7 +7,7 @@ use Rattle.segment_worker.proofs.StreamsMade.{all_streams}
 use Rattle.segment_worker.proofs.streams.encode_all.Goals as goal
 
 pub returns : goal.returns
-returns g c = λ mcus most file starts.
+returns g c = λ mcus pads most file starts.
     let plan = c.args.plan.now in
     let cut = plan_cut plan most in
     let stream : ℕ → List ℕ = λ i. stream_of plan (segment_mcus plan mcus most i) in

@@ -1,4 +1,7 @@
-use Rattle.std.proofs.Common.{refl, ap, subst, ◌∙◌}
+use Rattle.std.proofs.Common.{◌≡◌, true, refl, ap, subst, ◌∙◌}
+use Rattle.scan_text.specs.Pads.{is_long_for, pads_given}
+use Rattle.scan_text.specs.Slots.{shape_of}
+use Rattle.jpeg_marker.specs.Plans.{PlanFields}
 use Rattle.handover.specs.Handovers.{HandoverFields}
 use Rattle.segment_meaning.specs.Meanings.{segment_in}
 use Rattle.segment_meaning.specs.Segments.{SegmentFields, first_progress}
@@ -35,6 +38,11 @@ begin_at-requires-clause-some c =
     some_mcus c.args.self.now.plan c.args.view.now.parts c.args.segment c.row_of-row.result
     c.mcus_in-count.result (is_counted c)
 
+pub begin_at-requires-clause-pads : goal.begin_at-requires-clause-pads
+begin_at-requires-clause-pads c =
+    subst (λ (plan : PlanFields). is_long_for (shape_of plan) (pads_given c.pad.result) ≡ true)
+    c.requires.plan c.pad.ensures.long
+
 pub returns-clause-stands : goal.returns-clause-stands
 returns-clause-stands c =
     let is =
@@ -46,8 +54,8 @@ returns-clause-stands c =
     subst (λ (s : SegmentFields). StandsAt c.begin_at.new.self s s.count (first_progress s))
     (same_segment c.args.self.now.plan c.args.view.now.parts c.args.segment c.row_of-row.result
     c.mcus_in-count.result is c.stream-stream.result.now c.handover-handover.result
-    c.start_after-next.result c.pad.result c.stream-stream.ensures c.handover-handover.ensures
-    c.start_after-next.ensures c.pad.ensures) c.begin_at.ensures.stands
+    c.start_after-next.result (pads_given c.pad.result) c.stream-stream.ensures c.handover-handover.ensures
+    c.start_after-next.ensures c.pad.ensures.value) c.begin_at.ensures.stands
 
 pub returns-clause-owes : goal.returns-clause-owes
 returns-clause-owes c =

@@ -1,5 +1,6 @@
 use Rattle.std.proofs.Common.{◌≡◌, ◌+◌, ◌*◌, true, refl, ap, subst, ◌∙◌}
 use Rattle.jpeg_marker.specs.Plans.{PlanFields}
+use Rattle.scan_text.specs.Pads.{pads_given}
 use Rattle.scan_text.specs.Slots.{shape_of}
 use Rattle.segment_text.specs.HandedOver.{writer_from}
 use Rattle.segment_meaning.specs.ScanStream.{grid_of}
@@ -23,7 +24,7 @@ returns-clause-stands c =
       writer = c.at-self-inside.result;
     } in
     stands_first new c.args.self.now.plan c.args.number c.args.stream.now c.args.handover c.args.row
-    c.args.count c.args.next c.args.pad (record {
+    c.args.count c.args.next (pads_given c.args.pads) (record {
       suits = c.requires.suits;
       some = c.requires.some;
       within = c.requires.within;
@@ -33,7 +34,7 @@ returns-clause-stands c =
       next = refl;
       writer =
           subst (λ (plan : PlanFields). c.at-self-inside.result
-          ≡ writer_from (shape_of plan) c.args.pad c.args.handover (plan.across * c.args.row)) same c.at-self-inside.ensures;
+          ≡ writer_from (shape_of plan) (pads_given c.args.pads) c.args.handover (plan.across * c.args.row)) same c.at-self-inside.ensures;
       started = c.open-self-inside.ensures.started;
       got = c.open-self-inside.ensures.got;
       grid = c.restart.ensures.grid ∙ (let inside = c.self.invariant in inside.grid)
