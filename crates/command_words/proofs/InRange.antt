@@ -28,7 +28,7 @@ use Rattle.clap.proofs.ValueTestLemmas.{accepts-Accepts}
 use Rattle.command_words.specs.LeptonApp.{faults, given, lepton_app}
 use Rattle.command_words.specs.Meaning.{Asks, IsInRange, Means, Reads, ReadsAs}
 use Rattle.command_words.specs.declared.command.Command.{Command}
-use Rattle.command_words.specs.declared.command.Command.TheVariants.{Decode, Encode, Sample}
+use Rattle.command_words.specs.declared.command.Command.TheVariants.{Decode, Encode, Migrate, Sample}
 use Rattle.command_words.proofs.Reading.{name_in, other_name, rows_in}
 use Rattle.command_words.proofs.RowsKept.{no_else, settled_keeps, walk_keeps}
 
@@ -249,7 +249,7 @@ other_command : {P : Type 0} (name : Text) (s : Shape) (words : List Text) (rows
 other_command name s words rows called named is apart = other_name name called (sym named ∙ ap name_in is) apart
 
 abbrev encode_rules : List Rule
-encode_rules = option_built (codes "segments") (Signed (pos 1) (pos 16)) (codes "8" ∷ []) false ∷ help_built ∷ []
+encode_rules = option_built (codes "segments") (Signed (pos 1) (pos 64)) (codes "8" ∷ []) false ∷ help_built ∷ []
 
 abbrev decode_rules : List Rule
 decode_rules = option_built (codes "workers") (Signed (pos 0) (pos 16)) (codes "4" ∷ []) false ∷ help_built ∷ []
@@ -262,14 +262,15 @@ sample_rules = option_built (codes "seed") (Signed (pos 0) (pos 4294967295)) [] 
 encode_fine : (s : Shape) → s.name ≡ codes "encode" → s.rules ≡ encode_rules → IsFine s
 encode_fine s named rules = record { fine = go }
   where
-    segments : AllByRecursion (Keeps (codes "segments") 1 16) s.rules
-    segments = subst (AllByRecursion (Keeps (codes "segments") 1 16)) (sym rules) (own_keeps _ _ _ _ _, (help_keeps _ _ _, tt))
+    segments : AllByRecursion (Keeps (codes "segments") 1 64) s.rules
+    segments = subst (AllByRecursion (Keeps (codes "segments") 1 64)) (sym rules) (own_keeps _ _ _ _ _, (help_keeps _ _ _, tt))
 
     go : (words : List Text) (command : Command) → level_fault s [] nothing_held words false [] ≡ []
         → Asks (Some (rows_at s words)) command → IsInRange command
     go words (Encode n) none asks =
-        number_fine (codes "segments") 1 16 8 (omega arith) s segments words none _ asks.rows asks.is n asks.reads
+        number_fine (codes "segments") 1 64 8 (omega arith) s segments words none _ asks.rows asks.is n asks.reads
     go words (Decode n) none asks = other_command _ s words _ _ named asks.is refl
+    go words Migrate none asks = other_command _ s words _ _ named asks.1 refl
     go words (Sample k c r) none asks = other_command _ s words _ _ named asks.is refl
 
 decode_fine : (s : Shape) → s.name ≡ codes "decode" → s.rules ≡ decode_rules → IsFine s
@@ -283,6 +284,7 @@ decode_fine s named rules = record { fine = go }
     go words (Decode n) none asks =
         (number_fine (codes "workers") 0 16 8 (omega arith) s workers words none _ asks.rows asks.is n asks.reads).1
     go words (Encode n) none asks = other_command _ s words _ _ named asks.is refl
+    go words Migrate none asks = other_command _ s words _ _ named asks.1 refl
     go words (Sample k c r) none asks = other_command _ s words _ _ named asks.is refl
 
 sample_fine : (s : Shape) → s.name ≡ codes "sample" → s.rules ≡ sample_rules → IsFine s
@@ -309,6 +311,17 @@ sample_fine s named rules = record { fine = go }
         (omega arith, wide.0, wide.1, high.0, high.1)
     go words (Encode n) none asks = other_command _ s words _ _ named asks.is refl
     go words (Decode n) none asks = other_command _ s words _ _ named asks.is refl
+    go words Migrate none asks = other_command _ s words _ _ named asks.1 refl
+
+migrate_fine : (s : Shape) → s.name ≡ codes "migrate" → IsFine s
+migrate_fine s named = record { fine = go }
+  where
+    go : (words : List Text) (command : Command) → level_fault s [] nothing_held words false [] ≡ []
+        → Asks (Some (rows_at s words)) command → IsInRange command
+    go words Migrate none asks = tt
+    go words (Encode n) none asks = other_command _ s words _ _ named asks.is refl
+    go words (Decode n) none asks = other_command _ s words _ _ named asks.is refl
+    go words (Sample k c r) none asks = other_command _ s words _ _ named asks.is refl
 
 help_fine : (s : Shape) → s.name ≡ codes "help" → IsFine s
 help_fine s named = record { fine = go }
@@ -317,14 +330,16 @@ help_fine s named = record { fine = go }
         → Asks (Some (rows_at s words)) command → IsInRange command
     go words (Encode n) none asks = other_command _ s words _ _ named asks.is refl
     go words (Decode n) none asks = other_command _ s words _ _ named asks.is refl
+    go words Migrate none asks = other_command _ s words _ _ named asks.1 refl
     go words (Sample k c r) none asks = other_command _ s words _ _ named asks.is refl
 
 subs_fine : AllByRecursion IsFine (built lepton_app).subs
-subs_fine = (encode_fine _ refl refl, (decode_fine _ refl refl, (sample_fine _ refl refl, (help_fine _ refl, tt))))
+subs_fine = (encode_fine _ refl refl, (decode_fine _ refl refl, (migrate_fine _ refl, (sample_fine _ refl refl, (help_fine _ refl, tt)))))
 
 asked_nothing : (command : Command) → Asks None command → IsInRange command
 asked_nothing (Encode n) asks = let bad : true ≡ false = ap (λ o. is_some o) (sym asks.is) in absurd cc
 asked_nothing (Decode n) asks = let bad : true ≡ false = ap (λ o. is_some o) (sym asks.is) in absurd cc
+asked_nothing Migrate asks = let bad : true ≡ false = ap (λ o. is_some o) (sym asks.1) in absurd cc
 asked_nothing (Sample k c r) asks = let bad : true ≡ false = ap (λ o. is_some o) (sym asks.is) in absurd cc
 
 module _ (subs : List Shape) (all : AllByRecursion IsFine subs) (command : Command) where

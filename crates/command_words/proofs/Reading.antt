@@ -12,7 +12,7 @@ use Rattle.clap.specs.declared.parser.matches.SubCommand.{SubCommand}
 use Rattle.clap.proofs.WalkLemmas.{one_text-rows}
 use Rattle.command_words.specs.Meaning.{Asks, Reads}
 use Rattle.command_words.specs.declared.command.Command.{Command}
-use Rattle.command_words.specs.declared.command.Command.TheVariants.{Decode, Encode, Sample}
+use Rattle.command_words.specs.declared.command.Command.TheVariants.{Decode, Encode, Migrate, Sample}
 
 abbrev pub rows_in : Option (Text × List Row) → List Row
 rows_in None = []
@@ -73,6 +73,7 @@ pub encode_unread : (met : Option (Text × List Row)) (rows : List Row) → met 
 encode_unread met rows is none (Encode n) asks =
     none n (subst (λ rs. Reads 8 rs (codes "segments") n) (same_rows _ _ _ _ _ is asks.is) asks.reads)
 encode_unread met rows is none (Decode n) asks = other_met _ _ _ _ _ is asks.is refl
+encode_unread met rows is none Migrate asks = other_met _ _ _ _ _ is asks.1 refl
 encode_unread met rows is none (Sample s c r) asks = other_met _ _ _ _ _ is asks.is refl
 
 pub decode_unread : (met : Option (Text × List Row)) (rows : List Row) → met ≡ Some (codes "decode", rows)
@@ -80,6 +81,7 @@ pub decode_unread : (met : Option (Text × List Row)) (rows : List Row) → met 
 decode_unread met rows is none (Decode n) asks =
     none n (subst (λ rs. Reads 8 rs (codes "workers") n) (same_rows _ _ _ _ _ is asks.is) asks.reads)
 decode_unread met rows is none (Encode n) asks = other_met _ _ _ _ _ is asks.is refl
+decode_unread met rows is none Migrate asks = other_met _ _ _ _ _ is asks.1 refl
 decode_unread met rows is none (Sample s c r) asks = other_met _ _ _ _ _ is asks.is refl
 
 pub sample_unread : (met : Option (Text × List Row)) (options : List Row) → met ≡ Some (codes "sample", options)
@@ -93,6 +95,7 @@ sample_unread met options is none (Sample s c r) asks =
     (subst (λ rs. Reads 16 rs (codes "rows") r) same asks.rows_is)
 sample_unread met options is none (Encode n) asks = other_met _ _ _ _ _ is asks.is refl
 sample_unread met options is none (Decode n) asks = other_met _ _ _ _ _ is asks.is refl
+sample_unread met options is none Migrate asks = other_met _ _ _ _ _ is asks.1 refl
 
 pub if_none : {X : Type 0} (r : Option X) (P : Type 0) → P → IfNone r P
 if_none None P p = p

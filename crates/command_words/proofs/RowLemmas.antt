@@ -30,6 +30,16 @@ numbered (Some p) name option text number is reads = record {
   reads = record { text = text; first = ap value_shown is; number_is = reads };
 }
 
+-- what a subcommand without options has
+named : (met : Option (Text × List Row)) (name : Text) → option_map (λ p. p.0) met ≡ Some name
+    → (options : List Row) × (met ≡ Some (name, options))
+named None name is = let bad : false ≡ true = ap (λ o. is_some o) is in absurd cc
+named (Some p) name is = (p.1, ap (λ n. Some (name_of n, p.1)) is)
+  where
+    name_of : Option Text → Text
+    name_of None = []
+    name_of (Some n) = n
+
 -- what the options of `sample` have
 abbrev three : Option (Text × List Row) → Option (Text × Option Text × Option Text × Option Text)
 three = option_map (λ p. (p.0, one_of (codes "seed") p.1, one_of (codes "columns") p.1, one_of (codes "rows") p.1))
@@ -62,7 +72,7 @@ means_rows = (
     (
       record { taken = refl; asks = numbered _ (codes "encode") (codes "segments") (codes "3") 3 refl (search rules) },
       (
-        record { taken = refl; asks = numbered _ (codes "encode") (codes "segments") (codes "16") 16 refl (search rules) },
+        record { taken = refl; asks = numbered _ (codes "encode") (codes "segments") (codes "64") 64 refl (search rules) },
         (
           record { taken = refl; asks = numbered _ (codes "encode") (codes "segments") (codes "08") 8 refl (search rules) },
           (
@@ -70,10 +80,16 @@ means_rows = (
             (
               record { taken = refl; asks = numbered _ (codes "decode") (codes "workers") (codes "16") 16 refl (search rules) },
               (
-                record { taken = refl; asks = sampled _ (codes "2") (codes "256") (codes "256") 2 256 256 refl (search rules) (search rules) (search rules) },
+                record { taken = refl; asks = named _ (codes "migrate") refl },
                 (
-                  record { taken = refl; asks = sampled _ (codes "0") (codes "4") (codes "3") 0 4 3 refl (search rules) (search rules) (search rules) },
-                  (record { taken = refl; asks = sampled _ (codes "4294967295") (codes "1") (codes "1") 4294967295 1 1 refl (search rules) (search rules) (search rules) }, tt),
+                  record { taken = refl; asks = sampled _ (codes "2") (codes "256") (codes "256") 2 256 256 refl (search rules) (search rules) (search rules) },
+                  (
+                    record { taken = refl; asks = sampled _ (codes "0") (codes "4") (codes "3") 0 4 3 refl (search rules) (search rules) (search rules) },
+                    (
+                      record { taken = refl; asks = sampled _ (codes "4294967295") (codes "1") (codes "1") 4294967295 1 1 refl (search rules) (search rules) (search rules) },
+                      tt,
+                    ),
+                  ),
                 ),
               ),
             ),
@@ -86,4 +102,4 @@ means_rows = (
 
 pub meaningless_rows : AllByRecursion (λ words. (command : Command) → ¬ Means (line words) command) meaningless
 unfolding clap_on_literals faults
-meaningless_rows = (not_meant _ refl, (not_meant _ refl, (not_meant _ refl, (not_meant _ refl, (not_meant _ refl, (not_meant _ refl, (not_meant _ refl, (not_meant _ refl, (not_meant _ refl, (not_meant _ refl, (not_meant _ refl, (not_meant _ refl, (not_meant _ refl, (not_meant _ refl, (not_meant _ refl, (not_meant _ refl, (not_meant _ refl, (not_meant _ refl, (not_meant _ refl, (not_meant _ refl, (not_meant _ refl, (not_meant _ refl, (not_meant _ refl, (not_meant _ refl, (not_meant _ refl, (not_meant _ refl, (not_meant _ refl, tt)))))))))))))))))))))))))))
+meaningless_rows = (not_meant _ refl, (not_meant _ refl, (not_meant _ refl, (not_meant _ refl, (not_meant _ refl, (not_meant _ refl, (not_meant _ refl, (not_meant _ refl, (not_meant _ refl, (not_meant _ refl, (not_meant _ refl, (not_meant _ refl, (not_meant _ refl, (not_meant _ refl, (not_meant _ refl, (not_meant _ refl, (not_meant _ refl, (not_meant _ refl, (not_meant _ refl, (not_meant _ refl, (not_meant _ refl, (not_meant _ refl, (not_meant _ refl, (not_meant _ refl, (not_meant _ refl, (not_meant _ refl, (not_meant _ refl, (not_meant _ refl, (not_meant _ refl, tt)))))))))))))))))))))))))))))

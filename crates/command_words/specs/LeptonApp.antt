@@ -23,15 +23,19 @@ required_rule name numbers = record (new_rule name) {
   required = true;
 }
 
--- `encode`, with `--segments` from 1 to 16, 8 where it is left out
+-- `encode`, with `--segments` from 1 to 64, 8 where it is left out
 abbrev pub encode_app : App
 encode_app = with_rule (new_app (codes "encode"))
-    (number_rule (codes "segments") (Signed (pos 1) (pos 16)) (codes "8"))
+    (number_rule (codes "segments") (Signed (pos 1) (pos 64)) (codes "8"))
 
 -- `decode`, with `--workers` from 0 to 16, 4 where it is left out
 abbrev pub decode_app : App
 decode_app = with_rule (new_app (codes "decode"))
     (number_rule (codes "workers") (Signed (pos 0) (pos 16)) (codes "4"))
+
+-- `migrate`, without options
+abbrev pub migrate_app : App
+migrate_app = new_app (codes "migrate")
 
 -- `sample`, with `--seed` from 0 to 4294967295, and `--columns` and `--rows` from 1 to 256 each;
 -- all three have to be given
@@ -45,11 +49,11 @@ sample_app = with_rule (with_rule (with_rule (new_app (codes "sample"))
 abbrev pub requiring_subcommand : App → App
 requiring_subcommand = on_top (λ s. record s { subcommand_required = true })
 
--- the program with the three
+-- the program with the four
 abbrev pub lepton_app : App
-lepton_app = with_subcommand (with_subcommand
+lepton_app = with_subcommand (with_subcommand (with_subcommand
     (with_subcommand (requiring_subcommand (new_app (codes "lepton"))) encode_app.top)
-    decode_app.top) sample_app.top
+    decode_app.top) migrate_app.top) sample_app.top
 
 -- the kinds of error that clap may give at the words: none where it takes them
 unfoldable pub faults : List Text → Kinds

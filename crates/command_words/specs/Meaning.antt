@@ -5,7 +5,7 @@ use Rattle.std.specs.declared.num.ParseIntError.{ParseIntError}
 use Rattle.clap.specs.Words.{Row, Text, one_of}
 use Rattle.command_words.specs.LeptonApp.{faults, given}
 use Rattle.command_words.specs.declared.command.Command.{Command}
-use Rattle.command_words.specs.declared.command.Command.TheVariants.{Encode, Decode, Sample}
+use Rattle.command_words.specs.declared.command.Command.TheVariants.{Encode, Decode, Migrate, Sample}
 
 -- the text reads as this number of so many bits: of 8, `text.parse::<u8>()`
 abbrev pub ReadsAs : ℕ → Text → ℕ → Type 0
@@ -36,6 +36,7 @@ pub record IsSampled (met : Option (Text × List Row)) (seed columns rows : ℕ)
 abbrev pub Asks : Option (Text × List Row) → Command → Type 0
 Asks met (Encode segments) = IsNumbered met (codes "encode") (codes "segments") segments
 Asks met (Decode workers) = IsNumbered met (codes "decode") (codes "workers") workers
+Asks met Migrate = (options : List Row) × (met ≡ Some (codes "migrate", options))
 Asks met (Sample seed columns rows) = IsSampled met seed columns rows
 
 -- clap takes the words, and they name the command's subcommand with its numbers
@@ -43,9 +44,10 @@ pub record Means (words : List Text) (command : Command) : Type 0 where
   pub taken : faults words ≡ []
   pub asks : Asks (given words) command
 
--- from 1 to 16 segments, from 0 to 16 workers; a seed of 32 bits, from 1 to 256 columns and rows
+-- from 1 to 64 segments, from 0 to 16 workers; a seed of 32 bits, from 1 to 256 columns and rows
 abbrev pub IsInRange : Command → Type 0
-IsInRange (Encode segments) = (1 ≤ segments) × (segments ≤ 16)
+IsInRange (Encode segments) = (1 ≤ segments) × (segments ≤ 64)
 IsInRange (Decode workers) = workers ≤ 16
+IsInRange Migrate = Unit {0}
 IsInRange (Sample seed columns rows) =
     (seed < 2 ^ 32) × (1 ≤ columns) × (columns ≤ 256) × (1 ≤ rows) × (rows ≤ 256)

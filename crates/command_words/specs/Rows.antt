@@ -2,7 +2,7 @@
 use Rattle.std.specs.Prelude.{List, [], ◌∷◌, codes}
 use Rattle.clap.specs.Words.{Text}
 use Rattle.command_words.specs.declared.command.Command.{Command}
-use Rattle.command_words.specs.declared.command.Command.TheVariants.{Decode, Encode, Sample}
+use Rattle.command_words.specs.declared.command.Command.TheVariants.{Decode, Encode, Migrate, Sample}
 
 -- a line of words begins with the program's name
 abbrev pub line : List Text → List Text
@@ -28,10 +28,11 @@ abbrev pub meant : List (List Text × Command)
 meant = (encode_with [], Encode 8)
     ∷ (decode_with [], Decode 4)
     ∷ (encode_with (codes "--segments" ∷ codes "3" ∷ []), Encode 3)
-    ∷ (encode_with (codes "--segments=16" ∷ []), Encode 16)
+    ∷ (encode_with (codes "--segments=64" ∷ []), Encode 64)
     ∷ (encode_with (codes "--segments" ∷ codes "08" ∷ []), Encode 8)
     ∷ (decode_with (codes "--workers" ∷ codes "0" ∷ []), Decode 0)
     ∷ (decode_with (codes "--workers=16" ∷ []), Decode 16)
+    ∷ (codes "migrate" ∷ [], Migrate)
     ∷ (sample_of (codes "2") (codes "256") (codes "256"), Sample 2 256 256)
     ∷ (
       sample_with (codes "--rows=3" ∷ codes "--seed=0" ∷ codes "--columns" ∷ codes "4" ∷ []),
@@ -53,11 +54,13 @@ meaningless = []
     ∷ encode_with (codes "--segments" ∷ [])
     ∷ encode_with (codes "--segments" ∷ [] ∷ [])
     ∷ encode_with (codes "--segments" ∷ codes "0" ∷ [])
-    ∷ encode_with (codes "--segments" ∷ codes "17" ∷ [])
+    ∷ encode_with (codes "--segments" ∷ codes "65" ∷ [])
     ∷ encode_with (codes "--segments" ∷ codes "-1" ∷ [])
     ∷ encode_with (codes "--segments" ∷ codes "8" ∷ codes "--segments" ∷ codes "9" ∷ [])
     ∷ decode_with (codes "--workers" ∷ codes "17" ∷ [])
     ∷ decode_with (codes "--segments" ∷ codes "8" ∷ [])
+    ∷ (codes "migrate" ∷ codes "--segments" ∷ codes "8" ∷ [])
+    ∷ (codes "migrate" ∷ codes "x" ∷ [])
     ∷ sample_with []
     ∷ sample_with (codes "--seed" ∷ codes "1" ∷ codes "--columns" ∷ codes "1" ∷ [])
     ∷ sample_with (codes "--seed" ∷ codes "1" ∷ codes "--rows" ∷ codes "1" ∷ [])

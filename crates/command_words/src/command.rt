@@ -12,10 +12,12 @@ use std::alloc::Global;
 /// What the words ask for.
 #[derive(Clone, Copy, Debug, PartialEq, Eq)]
 pub enum Command {
-    /// Make a container in at most this many segments, 1 to 16.
+    /// Make a container in at most this many segments, 1 to 64.
     Encode { segments: u8 },
     /// Give the file back with at most this many workers, 0 to 16.
     Decode { workers: u8 },
+    /// Make the same container in the newest version.
+    Migrate,
     /// Make a sample from this seed, 0 to 4294967295, with so many columns and rows, 1 to 256 each.
     Sample { seed: u32, columns: u16, rows: u16 },
 }
@@ -75,6 +77,7 @@ fn asked(matches: &ArgMatches) -> Option<Command>
             let workers = u8_of(options, "workers")?;
             Some(Command::Decode { workers })
         }
+        ("migrate", _) => Some(Command::Migrate),
         ("sample", options) => {
             let seed = u32_of(options, "seed")?;
             let columns = u16_of(options, "columns")?;

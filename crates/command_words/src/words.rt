@@ -1,19 +1,20 @@
 // The words that are known, as clap is told of them.
 ghost use Rattle.std.specs.Prelude.{◌≡◌, false, IfOk, Some, [], ◌∷◌};
 ghost use Rattle.clap.specs.Words.{app_of, rule_of, with_subcommand};
-ghost use Rattle.command_words.specs.LeptonApp.{decode_app, encode_app, lepton_app, number_rule, required_rule, sample_app};
+ghost use Rattle.command_words.specs.LeptonApp.{decode_app, encode_app, lepton_app, migrate_app, number_rule, required_rule, sample_app};
 
 use clap::builder::ValueParser;
 use clap::{Arg, value_parser};
 use std::alloc::{AllocError, Global};
 
-/// The program with its three subcommands, of which one has to be named.
+/// The program with its four subcommands, of which one has to be named.
 pub(crate) fn known_words<'a>(alloc: Global) -> Result<clap::Command<'a>, AllocError>
     ensures { IfOk result (λ known. app_of known ≡ lepton_app) }
 {
     let known = clap::Command::new(alloc, "lepton").subcommand_required(true);
     let known = with_encode(alloc, known)?;
     let known = with_decode(alloc, known)?;
+    let known = with_migrate(alloc, known)?;
     with_sample(alloc, known)
 }
 
@@ -22,7 +23,7 @@ fn with_encode<'a>(alloc: Global, known: clap::Command<'a>) -> Result<clap::Comm
     ensures { IfOk result (λ more. app_of more
         ≡ with_subcommand (app_of known.entry) encode_app.top) }
 {
-    let segments = number_option(alloc, "segments", value_parser!(u8).range(1..=16), "8");
+    let segments = number_option(alloc, "segments", value_parser!(u8).range(1..=64), "8");
     let encode = clap::Command::new(alloc, "encode").arg(segments)?;
     known.subcommand(encode)
 }
@@ -34,6 +35,16 @@ fn with_decode<'a>(alloc: Global, known: clap::Command<'a>) -> Result<clap::Comm
     let workers = number_option(alloc, "workers", value_parser!(u8).range(0..=16), "4");
     let decode = clap::Command::new(alloc, "decode").arg(workers)?;
     known.subcommand(decode)
+}
+
+fn with_migrate<'a>(
+    alloc: Global,
+    known: clap::Command<'a>,
+) -> Result<clap::Command<'a>, AllocError>
+    ensures { IfOk result (λ more. app_of more
+        ≡ with_subcommand (app_of known.entry) migrate_app.top) }
+{
+    known.subcommand(clap::Command::new(alloc, "migrate"))
 }
 
 fn with_sample<'a>(alloc: Global, known: clap::Command<'a>) -> Result<clap::Command<'a>, AllocError>

@@ -1,48 +1,83 @@
 -- Encode and decode undo each other.
-use Rattle.std.proofs.Common.{◌≡◌, ℕ, ◌<◌, ◌≤◌, inl, inr, List, length, take, refl, sym, subst}
+use Rattle.std.proofs.Common.{◌≡◌, ℕ, ◌<◌, ◌≤◌, inl, inr, List, length, take, refl, sym, subst, arith}
 use Rattle.std.specs.List.{AllByRecursion}
 use Rattle.bit_list.specs.Bits.{IsByte}
-use Rattle.box_format.specs.Parts.{most_segments}
+use Rattle.box_format.specs.Parts.{migrated}
+use Rattle.box_format.specs.Versions.{layout_of, version_in}
+use Rattle.box_format.specs.declared.version.Version.{Version}
+use Rattle.box_format.specs.declared.version.Version.TheVariants.{Second}
+use Rattle.box_format.proofs.BoxLawsProved.{migrated_is}
 use Rattle.segment_meaning.specs.Meanings.{Meaning, Verdict, Restored, PadSpelled, Faulty, NoBox, IsMeaning}
 use Rattle.segment_meaning.specs.Files.{IsContainerOf, parts_of_file}
 use Rattle.segment_meaning.proofs.ContainerSizes.{container_is_short}
 use Rattle.segment_meaning.proofs.FileParts.{box_is}
 use Rattle.segment_meaning.proofs.FilesOfContainers.{restored_is_container}
+use Rattle.segment_meaning.proofs.MigratedMeanings.{migrated_means_the_same}
 use Rattle.segment_meaning.proofs.RestoredFiles.{container_is_restored}
-use Rattle.command_words.specs.declared.command.Command.TheVariants.{Encode, Decode}
-use Rattle.lepton_run.specs.Answers.{Answers, Made, answer_by, limit_of}
+use Rattle.command_words.specs.declared.command.Command.TheVariants.{Encode, Decode, Migrate}
+use Rattle.lepton_run.specs.Answers.{Answer, Answers, AnswersWithin, Made, answer_by, limit_of}
 use Rattle.lepton_run.proofs.BoxesOfBytes.{box_are}
 
 -- a container's bytes are bytes
-pub container_are : (most : ℕ) (made file : List ℕ) → 0 < most → most ≤ most_segments
-    → IsContainerOf most made file → AllByRecursion IsByte made
-container_are most made file some few is =
+pub container_are : (version : Version) (most : ℕ) (made file : List ℕ) → 0 < most
+    → most ≤ (layout_of version).most → IsContainerOf version most made file
+    → AllByRecursion IsByte made
+container_are version most made file some few is =
     subst (AllByRecursion IsByte) (sym is.spelled)
     (box_are is.plan
-    (parts_of_file is.plan is.mcus is.pad (take is.plan.header_length file) is.trailer most)
-    (box_is most made file some is few))
+    (parts_of_file version is.plan is.mcus is.pads (take is.plan.header_length file) is.trailer
+    most)
+    (box_is version most made file some is few))
 
 -- of the container of a file that encode takes, decode makes that file
-pub file_back : (most workers : ℕ) (made file : List ℕ) → 0 < most → most ≤ most_segments
-    → length file ≤ limit_of (Encode most) → IsContainerOf most made file
-    → Answers (Decode workers) made (Made file)
-file_back most workers made file some few short is = inr (record {
-  short = container_is_short most made file some few is short;
-  are = container_are most made file some few is;
+pub file_back : (version : Version) (most workers : ℕ) (made file : List ℕ) → 0 < most
+    → most ≤ (layout_of version).most → length file ≤ limit_of (Encode most)
+    → IsContainerOf version most made file → Answers (Decode workers) made (Made file)
+file_back version most workers made file some few short is = inr (record {
+  short = container_is_short version most made file some few is short;
+  are = container_are version most made file some few is;
   makes = (
     record { bytes = file; verdict = Restored },
-    container_is_restored most made file some few is,
+    container_is_restored version most made file some few is,
     refl,
   );
 })
 
 pub undone : (segments workers : ℕ) (file made : List ℕ) → 0 < segments
-    → segments ≤ most_segments → Answers (Encode segments) file (Made made)
+    → segments ≤ (layout_of Second).most → Answers (Encode segments) file (Made made)
     → Answers (Decode workers) made (Made file)
 undone segments workers file made some few (inl long) =
     absurd (let e = long.1 in cc)
 undone segments workers file made some few (inr is) =
-    file_back segments workers made file some few is.short is.makes
+    file_back Second segments workers made file some few is.short is.makes
+
+-- what is migrated stands for the same
+migrated_same : (workers : ℕ) (bytes made : List ℕ) (answer : Answer)
+    → AnswersWithin Migrate bytes (Made made) → length made ≤ limit_of (Decode workers)
+    → AnswersWithin (Decode workers) bytes answer → Answers (Decode workers) made answer
+migrated_same workers bytes made answer moved short is =
+    let m = moved.makes in
+    let box = m.2.box in
+    inr (record {
+      short = short;
+      are = subst (AllByRecursion IsByte) (sym m.3)
+          (box_are m.0 (migrated m.1) (migrated_is m.0 m.1 box));
+      makes = (
+        is.makes.0,
+        subst (λ (l : List ℕ). IsMeaning l is.makes.0) (sym m.3)
+            (migrated_means_the_same m.0 m.1 bytes is.makes.0 is.are m.2 is.makes.1),
+        is.makes.2,
+      );
+    })
+
+pub migrated_back : (workers : ℕ) (bytes made : List ℕ) (answer : Answer)
+    → Answers Migrate bytes (Made made) → length made ≤ limit_of (Decode workers)
+    → Answers (Decode workers) bytes answer → Answers (Decode workers) made answer
+migrated_back workers bytes made answer (inl long) short is = absurd (let e = long.1 in cc)
+migrated_back workers bytes made answer (inr moved) short (inl long) =
+    absurd (let h = moved.short in let l = long.0 in omega (arith, h, l))
+migrated_back workers bytes made answer (inr moved) short (inr is) =
+    migrated_same workers bytes made answer moved short is
 
 -- what ends as a file stands for it
 restored_by : (meaning bytes : List ℕ) (verdict : Verdict)
@@ -57,8 +92,8 @@ same_meaning : (m : Meaning) (bytes : List ℕ) → m.bytes ≡ bytes → m.verd
 same_meaning m bytes e f = rw (← e, ← f) refl
 
 pub spelled_so : (workers : ℕ) (made file : List ℕ) → Answers (Decode workers) made (Made file)
-    → (segments : ℕ) × (0 < segments) × (segments ≤ most_segments)
-    × IsContainerOf segments made file
+    → (segments : ℕ) × (0 < segments) × (segments ≤ (layout_of (version_in made)).most)
+    × IsContainerOf (version_in made) segments made file
 spelled_so workers made file (inl long) = absurd (let e = long.1 in cc)
 spelled_so workers made file (inr is) =
     let m = is.makes in

@@ -8,7 +8,12 @@ use Rattle.bit_list.specs.Bits.{IsByte}
 use Rattle.jpeg_marker.specs.Plans.{PlanFields}
 use Rattle.handover.specs.Handovers.{HandoverFields, IsHandover}
 use Rattle.handover.specs.HandoverBytes.{handover_bytes}
-use Rattle.box_format.specs.Parts.{BoxParts, IsBox, box_bytes, magic, most_segments, pad_byte, records, version}
+use Rattle.scan_text.specs.Pads.{PadBits, Same, Listed}
+use Rattle.box_format.specs.Parts.{BoxParts, IsBox, bit_byte, box_bytes, list_bytes, list_length, magic, pad_byte, records}
+use Rattle.box_format.specs.Versions.{layout_of, version_byte}
+use Rattle.box_format.specs.declared.version.Version.{Version}
+use Rattle.box_format.specs.declared.version.Version.TheVariants.{First, Second}
+use Rattle.box_format.proofs.Fronts.{most_few}
 
 -- the bytes of a number
 byte_small : (k n : ℕ) → IsByte (byte_at k n)
@@ -55,22 +60,27 @@ records_are (h ∷ hs) (s ∷ ss) each =
     (number_are 8 (length s)))
     (records_are hs ss each.1)
 
-pad_is : (pad : Bool) → IsByte (pad_byte pad)
-pad_is true = omega arith
-pad_is false = omega arith
+bit_is : (pad : Bool) → IsByte (bit_byte pad)
+bit_is true = omega arith
+bit_is false = omega arith
 
--- the fields before the records
+pad_is : (pads : PadBits) → IsByte (pad_byte pads)
+pad_is (Same pad) = bit_is pad
+pad_is (Listed bytes) = omega arith
+
+version_is : (version : Version) → IsByte (version_byte version)
+version_is First = omega arith
+version_is Second = omega arith
+
+-- the fields before the lengths
 abbrev fields : BoxParts → List ℕ
-fields b =
-    magic ++ version ∷ pad_byte b.pad ∷ length b.handovers
-    ∷ big_bytes 4 (length b.header) ++ big_bytes 4 (length b.trailer)
+fields b = magic ++ version_byte b.version ∷ pad_byte b.pads ∷ length b.handovers ∷ []
 
-fields_are : (b : BoxParts) → length b.handovers ≤ most_segments → AllByRecursion IsByte (fields b)
+fields_are : (b : BoxParts) → length b.handovers ≤ (layout_of b.version).most
+    → AllByRecursion IsByte (fields b)
 fields_are b few =
-    let lengths =
-    all-append IsByte (big_bytes 4 (length b.header)) (big_bytes 4 (length b.trailer))
-    (number_are 4 (length b.header)) (number_are 4 (length b.trailer)) in
-    let number : IsByte (length b.handovers) = omega (arith, few) in
+    let most = most_few b.version in
+    let number : IsByte (length b.handovers) = omega (arith, few, most) in
     let letter : (n : ℕ) → n < 128 → IsByte n = λ n small. omega (arith, small) in (
       letter 0x4c (omega arith),
       (
@@ -79,24 +89,42 @@ fields_are b few =
           letter 0x53 (omega arith),
           (
             letter 0x47 (omega arith),
-            (letter 1 (omega arith), (pad_is b.pad, (number, lengths))),
+            (version_is b.version, (pad_is b.pads, (number, tt))),
           ),
         ),
       ),
     )
 
+named_are : (listed : Bool) (list : List ℕ) → AllByRecursion IsByte (list_length listed list)
+named_are true list = number_are 4 (length list)
+named_are false list = tt
+
+-- two lists of bytes
+both_are : (xs ys : List ℕ) → AllByRecursion IsByte xs → AllByRecursion IsByte ys
+    → AllByRecursion IsByte (xs ++ ys)
+both_are xs ys a b = all-append IsByte xs ys a b
+
 pub box_are : (plan : PlanFields) (b : BoxParts) → IsBox plan b
     → AllByRecursion IsByte (box_bytes b)
 unfolding box_bytes
 box_are plan b is =
-    let front = fields b in
-    let recorded = front ++ records b.handovers b.streams in
+    let header = big_bytes 4 (length b.header) in
+    let trailer = big_bytes 4 (length b.trailer) in
+    let named = list_length (layout_of b.version).listed (list_bytes b.pads) in
+    let recorded = records b.handovers b.streams in
     let streams = flat_map (λ (stream : List ℕ). stream) b.streams in
-    all-append IsByte ((recorded ++ b.header) ++ b.trailer) streams
-    (all-append IsByte (recorded ++ b.header) b.trailer
-    (all-append IsByte recorded b.header
-    (all-append IsByte front (records b.handovers b.streams) (fields_are b is.few)
-    (records_are b.handovers b.streams is.each))
-    is.header_bytes)
-    is.trailer_bytes)
+    let first = both_are (fields b) header (fields_are b is.few) (number_are 4 (length b.header)) in
+    let lengths = both_are (fields b ++ header) trailer first (number_are 4 (length b.trailer)) in
+    let front = both_are ((fields b ++ header) ++ trailer) named lengths
+    (named_are (layout_of b.version).listed (list_bytes b.pads)) in
+    let entries = both_are (((fields b ++ header) ++ trailer) ++ named) recorded front
+    (records_are b.handovers b.streams is.each) in
+    let listed = both_are ((((fields b ++ header) ++ trailer) ++ named) ++ recorded)
+    (list_bytes b.pads) entries is.list_bytes_are in
+    let headed = both_are (((((fields b ++ header) ++ trailer) ++ named) ++ recorded)
+    ++ list_bytes b.pads) b.header listed is.header_bytes in
+    let ended = both_are ((((((fields b ++ header) ++ trailer) ++ named) ++ recorded)
+    ++ list_bytes b.pads) ++ b.header) b.trailer headed is.trailer_bytes in
+    both_are (((((((fields b ++ header) ++ trailer) ++ named) ++ recorded)
+    ++ list_bytes b.pads) ++ b.header) ++ b.trailer) streams ended
     (streams_are b.streams is.stream_bytes)

@@ -3,7 +3,7 @@ use Rattle.std.proofs.Common.{◌≡◌, ℕ, ◌<◌, ◌≤◌, inl, inr, true
 use Rattle.std.specs.Io.KnownBytes.{Consumes, IsAtEnd}
 use Rattle.std.proofs.lemmas.Bool.{false≢true}
 use Rattle.command_words.specs.declared.command.Command.{Command}
-use Rattle.command_words.specs.declared.command.Command.TheVariants.{Encode, Decode, Sample}
+use Rattle.command_words.specs.declared.command.Command.TheVariants.{Encode, Decode, Migrate, Sample}
 use Rattle.lepton_run.specs.Answers.{Answer, Answers, GaveUpTo, IsInput, Took, limit_of, reads}
 
 -- what a source gave to its end is what it had
@@ -48,6 +48,9 @@ answer_had (Encode n) had bytes left new answer input took is =
 answer_had (Decode n) had bytes left new answer input took is =
     answer_given (Decode n) had bytes new answer
     (subst (λ (l : Option (List ℕ)). GaveUpTo (limit_of (Decode n)) l new bytes) input took) is
+answer_had Migrate had bytes left new answer input took is =
+    answer_given Migrate had bytes new answer
+    (subst (λ (l : Option (List ℕ)). GaveUpTo (limit_of Migrate) l new bytes) input took) is
 answer_had (Sample s c r) had bytes left new answer input took is =
     subst (λ (l : List ℕ). Answers (Sample s c r) l answer) (took.1 ∙ sym input) is
 
@@ -56,6 +59,7 @@ pub took_of : (command : Command) (old new : Option (List ℕ)) (bytes : List �
     → reads command ≡ true → GaveUpTo (limit_of command) old new bytes → Took command old new bytes
 took_of (Encode n) old new bytes is gave = gave
 took_of (Decode n) old new bytes is gave = gave
+took_of Migrate old new bytes is gave = gave
 took_of (Sample s c r) old new bytes is gave = absurd (false≢true is)
 
 -- and one that takes none
@@ -63,6 +67,7 @@ pub took_none : (command : Command) (old : Option (List ℕ)) → reads command 
     → Took command old old []
 took_none (Encode n) old is = absurd (false≢true (sym is))
 took_none (Decode n) old is = absurd (false≢true (sym is))
+took_none Migrate old is = absurd (false≢true (sym is))
 took_none (Sample s c r) old is = (refl, refl)
 
 -- `sample` is one of these

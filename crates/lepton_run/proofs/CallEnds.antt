@@ -2,16 +2,24 @@
 use Rattle.std.proofs.Common.{◌≡◌, ℕ, ◌<◌, ◌≤◌, ◌⊎◌, inl, inr, List, length, Option, Some, refl, sym, ap, subst, ◌∙◌, arith}
 use Rattle.std.specs.Io.KnownBytes.{Appends}
 use Rattle.outside_core.specs.Faults.{Rose}
-use Rattle.box_format.specs.Parts.{most_segments}
+use Rattle.std.specs.List.{AllByRecursion}
+use Rattle.bit_list.specs.Bits.{IsByte}
+use Rattle.jpeg_marker.specs.Plans.{PlanFields}
+use Rattle.box_format.specs.Parts.{BoxParts, IsBoxOf, box_bytes, migrated}
+use Rattle.box_format.specs.Versions.{layout_of}
+use Rattle.box_format.specs.declared.version.Version.{Version}
 use Rattle.segment_meaning.specs.Files.{IsContainerOf}
+use Rattle.segment_meaning.specs.Meanings.{Meaning, IsMeaning}
+use Rattle.segment_meaning.proofs.MigratedMeanings.{migrated_means_the_same}
 use Rattle.command_words.specs.Meaning.{Means}
 use Rattle.command_words.specs.declared.command.Command.{Command}
-use Rattle.command_words.specs.declared.command.Command.TheVariants.{Encode, Decode}
+use Rattle.command_words.specs.declared.command.Command.TheVariants.{Encode, Decode, Migrate}
 use Rattle.lepton_run.specs.Answers.{Answer, Answers, AppendsPart, Early, IsInput, Late, Made, Took, Writes, bytes_of, limit_of, line_of, status_of}
 use Rattle.lepton_run.specs.Endings.{Answered, Given, SampleEnds, ending_line, ending_of, status_at}
 use Rattle.lepton_run.specs.declared.ending.Ending.{Ending}
 use Rattle.lepton_run.specs.declared.ending.Ending.TheVariants.{Done, Refused, WordsRefused, ReadFailed, WriteFailed, NoMemory}
 use Rattle.lepton_run.proofs.BothWays.{file_back}
+use Rattle.lepton_run.proofs.BoxesOfBytes.{box_are}
 use Rattle.lepton_run.proofs.BytesTaken.{answer_had}
 use Rattle.lepton_run.proofs.OneAnswers.{one_answer}
 use Rattle.lepton_run.proofs.SameCommand.{same_command}
@@ -144,17 +152,41 @@ module _ {Sink Source : Type 0} (held : Sink → Option (List ℕ)) (faults : Si
     complete_of NoMemory status is ends said calm still = inr is
 
   pub back_of : (ending : Ending) (status : ℕ) → status ≡ status_at ending → Ends ending
-      → Said (ending_line ending) → (workers most : ℕ) (bytes file : List ℕ)
+      → Said (ending_line ending) → (version : Version) (workers most : ℕ) (bytes file : List ℕ)
       → Means words (Decode workers) → ¬ Rose failures lost source rest
       → ¬ Rose faults full old new → left source ≡ Some bytes
-      → length file ≤ limit_of (Encode most) → 0 < most → most ≤ most_segments
-      → IsContainerOf most bytes file
+      → length file ≤ limit_of (Encode most) → 0 < most → most ≤ (layout_of version).most
+      → IsContainerOf version most bytes file
       → ((status ≡ 0) × Appends (held old) (held new) file) ⊎ (status ≡ 5)
-  back_of ending status is ends said workers most bytes file means calm still had short some few of =
+  back_of ending status is ends said version workers most bytes file means calm still had short
+      some few of =
       elim (complete_of (Decode workers) bytes (Made file) means had
-      (file_back most workers bytes file some few short of) ending status is ends said calm
+      (file_back version most workers bytes file some few short of) ending status is ends said calm
       (λ _. still)) [
         | inl given ↦ inl (given.0, given.1)
+        | inr five ↦ inr five
+      ]
+
+  pub migrated_of : (ending : Ending) (status : ℕ) → status ≡ status_at ending → Ends ending
+      → Said (ending_line ending) → (bytes : List ℕ) (plan : PlanFields) (b : BoxParts)
+      (meaning : Meaning) → Means words Migrate
+      → ¬ Rose failures lost source rest → ¬ Rose faults full old new
+      → left source ≡ Some bytes → length bytes ≤ limit_of Migrate → IsBoxOf plan b bytes
+      → IsMeaning bytes meaning
+      → ((status ≡ 0) × IsMeaning (box_bytes (migrated b)) meaning
+      × Appends (held old) (held new) (box_bytes (migrated b))) ⊎ (status ≡ 5)
+  migrated_of ending status is ends said bytes plan b meaning means calm still had short of
+      stands =
+      let are = subst (AllByRecursion IsByte) (sym of.text) (box_are plan b of.box) in
+      let made = box_bytes (migrated b) in
+      elim (complete_of Migrate bytes (Made made) means had
+      (inr (record { short = short; are = are; makes = (plan, b, of, refl) })) ending status is
+      ends said calm (λ _. still)) [
+        | inl given ↦ inl (
+          given.0,
+          migrated_means_the_same plan b bytes meaning are of stands,
+          given.1,
+        )
         | inr five ↦ inr five
       ]
 

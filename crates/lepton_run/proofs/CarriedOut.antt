@@ -10,11 +10,10 @@ use Rattle.handover.specs.declared.outcome.StreamFault.{StreamFault}
 use Rattle.box_format.specs.Parts.{BoxParts, IsBoxOf}
 use Rattle.box_format.specs.BoxChecks.{IsRefusedBox}
 use Rattle.box_format.specs.declared.refusal.BoxRefusal.{BoxRefusal}
-use Rattle.segment_meaning.specs.Files.{IsContainerOf}
 use Rattle.segment_meaning.specs.Meanings.{Joined, Meaning, Restored, PadSpelled, Faulty, NoBox, joined, meaning_by, meaning_of, outputs_of}
 use Rattle.segment_worker.specs.Written.{HasFailed, HasWritten}
 use Rattle.command_words.specs.declared.command.Command.{Command}
-use Rattle.command_words.specs.declared.command.Command.TheVariants.{Encode, Decode}
+use Rattle.command_words.specs.declared.command.Command.TheVariants.{Decode}
 use Rattle.lepton_run.specs.Answers.{Answer, Answers, Early, Late, Made, Makes, Writes, answer_by, bytes_of, limit_of}
 use Rattle.lepton_decode.specs.Ends.{Ends}
 use Rattle.lepton_decode.specs.declared.error.DecodeError.{DecodeError}
@@ -29,8 +28,8 @@ use Rattle.lepton_run.specs.declared.refusal.Refusal.TheVariants.{Box, Fault, Pa
 abbrev Written : Meaning → Type 0
 Written m = Writes (answer_by m.bytes m.verdict) × (bytes_of (answer_by m.bytes m.verdict) ≡ m.bytes)
 
-written_by_pad : (bytes : List ℕ) (loose : Bool)
-    → Written (record { bytes = bytes; verdict = if loose then PadSpelled else Restored })
+written_by_pad : (bytes : List ℕ) (spelled : Bool)
+    → Written (record { bytes = bytes; verdict = if spelled then Restored else PadSpelled })
 written_by_pad bytes true = (tt, refl)
 written_by_pad bytes false = (tt, refl)
 
@@ -59,8 +58,33 @@ module _ {Sink : Type 0} (held : Sink → Option (List ℕ)) (faults : Sink → 
     refl,
   )
 
+  -- what was made was written
+  pub made_whole : (command : Command) (bytes made : List ℕ) → Answers command bytes (Made made)
+      → Appends (held old) (held new) made → faults new ≡ faults old
+      → CarriedOut held faults full command bytes old new Done
+  made_whole command bytes made answers appended unfailed = (
+    Made made,
+    record {
+      answers = answers;
+      appended = appended;
+      unfailed = unfailed;
+      kept = λ none. absurd (none tt);
+    },
+    refl,
+  )
+
+  -- a proper prefix of it was
+  pub made_part : (command : Command) (bytes made : List ℕ) (n : ℕ)
+      → Answers command bytes (Made made) → Rose faults full old new → n < length made
+      → Appends (held old) (held new) (take n made)
+      → CarriedOut held faults full command bytes old new WriteFailed
+  made_part command bytes made n answers rose few part = (
+    Made made,
+    record { answers = answers; writes = tt; rose = rose; part = (n, few, part) },
+  )
+
   module _ (bytes : List ℕ) (are : AllByRecursion IsByte bytes) where
-    answers_so : (command : Command) (answer : Answer) → length bytes ≤ limit_of command
+    pub answers_so : (command : Command) (answer : Answer) → length bytes ≤ limit_of command
         → Makes command bytes answer → Answers command bytes answer
     answers_so command answer short makes =
         inr (record { short = short; are = are; makes = makes })
@@ -78,38 +102,6 @@ module _ {Sink : Type 0} (held : Sink → Option (List ℕ)) (faults : Sink → 
         kept = λ _. refl;
       },
       refl,
-    )
-
-    -- the container was written
-    pub encoded : (segments : ℕ) (made : List ℕ) → length bytes ≤ limit_of (Encode segments)
-        → IsContainerOf segments made bytes → Appends (held old) (held new) made
-        → faults new ≡ faults old
-        → CarriedOut held faults full (Encode segments) bytes old new Done
-    encoded segments made short makes appended unfailed = (
-      Made made,
-      record {
-        answers = answers_so (Encode segments) (Made made) short makes;
-        appended = appended;
-        unfailed = unfailed;
-        kept = λ none. absurd (none tt);
-      },
-      refl,
-    )
-
-    -- a proper prefix of it was
-    pub encoded_part : (segments : ℕ) (made : List ℕ) (n : ℕ)
-        → length bytes ≤ limit_of (Encode segments) → IsContainerOf segments made bytes
-        → Rose faults full old new → n < length made
-        → Appends (held old) (held new) (take n made)
-        → CarriedOut held faults full (Encode segments) bytes old new WriteFailed
-    encoded_part segments made n short makes rose few part = (
-      Made made,
-      record {
-        answers = answers_so (Encode segments) (Made made) short makes;
-        writes = tt;
-        rose = rose;
-        part = (n, few, part);
-      },
     )
 
     -- the bytes are no container

@@ -1,5 +1,5 @@
 -- Bytes have one answer.
-use Rattle.std.proofs.Common.{◌≡◌, ℕ, ◌+◌, inl, inr, Bool, List, ◌++◌, length, drop, None, refl, sym, ap, ◌∙◌, subst, length-append, length-drop, drop-drop, arith}
+use Rattle.std.proofs.Common.{◌≡◌, ℕ, ◌+◌, inl, inr, Bool, List, [], ◌++◌, length, drop, refl, sym, ap, ◌∙◌, subst, length-append, length-drop, drop-drop, arith}
 use Rattle.std.specs.List.{AllByRecursion}
 use Rattle.std.proofs.lemmas.List.{drop_at}
 use Rattle.bit_list.specs.Bits.{IsByte}
@@ -17,10 +17,13 @@ use Rattle.scan_text.proofs.ItemsRead.{ends_so}
 use Rattle.scan_text.proofs.PlanShapes.{accepted_is_shape}
 use Rattle.scan_text.proofs.ScanTaken.{read_again}
 use Rattle.segment_text.specs.Cuts.{cut_of}
+use Rattle.box_format.specs.Parts.{BoxParts, box_bytes, migrated}
+use Rattle.box_format.specs.declared.version.Version.TheVariants.{Second}
+use Rattle.box_format.proofs.BoxLawsProved.{one_box, one_box_refusal, never_both as box_or_refused}
 use Rattle.segment_meaning.specs.Meanings.{Meaning}
 use Rattle.segment_meaning.proofs.OneMeanings.{one_container, one_meaning}
 use Rattle.command_words.specs.declared.command.Command.{Command}
-use Rattle.command_words.specs.declared.command.Command.TheVariants.{Encode, Decode, Sample}
+use Rattle.command_words.specs.declared.command.Command.TheVariants.{Encode, Decode, Migrate, Sample}
 use Rattle.sample_jpeg.specs.SampleFile.{sample_file}
 use Rattle.lepton_run.specs.Summaries.{IsSummary, sample_segments, summary_of}
 use Rattle.lepton_run.specs.Answers.{Answer, Answers, Early, Late, Made, Makes, ScanRefuses, answer_by}
@@ -28,11 +31,11 @@ use Rattle.lepton_run.specs.declared.refusal.Refusal.{Refusal}
 use Rattle.lepton_run.specs.declared.refusal.Refusal.TheVariants.{Header, Scan, Box, Fault, PadSpelling, TooLong}
 
 -- the scan of a file begins at its place
-begins : (bytes : List ℕ) (plan : PlanFields) (mcus : List Mcu) (pad : Bool) (trailer : List ℕ)
-    → AllByRecursion IsByte bytes → (is : IsFileOf bytes plan mcus pad trailer)
-    → Begins (shape_of plan) mcus pad bytes plan.header_length
+begins : (bytes : List ℕ) (plan : PlanFields) (mcus : List Mcu) (pads : List Bool) (trailer : List ℕ)
+    → AllByRecursion IsByte bytes → (is : IsFileOf bytes plan mcus pads trailer)
+    → Begins (shape_of plan) mcus pads bytes plan.header_length
     (plan.header_length + length is.scan)
-begins bytes plan mcus pad trailer all is =
+begins bytes plan mcus pads trailer all is =
     let place = plan.header_length in
     let within = (accepted_has_plan bytes plan all is.header).within in
     let rest : trailer ≡ drop (place + length is.scan) bytes =
@@ -54,14 +57,14 @@ begins bytes plan mcus pad trailer all is =
     }
 
 -- a file's scan isn't refused
-pub scan_apart : (bytes : List ℕ) (plan : PlanFields) (mcus : List Mcu) (pad : Bool)
+pub scan_apart : (bytes : List ℕ) (plan : PlanFields) (mcus : List Mcu) (pads : List Bool)
     (trailer : List ℕ) (refusal : ScanRefusal) → AllByRecursion IsByte bytes
-    → IsFileOf bytes plan mcus pad trailer → ScanRefuses bytes refusal → ⊥
-scan_apart bytes plan mcus pad trailer refusal all is why =
+    → IsFileOf bytes plan mcus pads trailer → ScanRefuses bytes refusal → ⊥
+scan_apart bytes plan mcus pads trailer refusal all is why =
     let shape : IsShape (shape_of plan) = (accepted_is_shape bytes plan all is.header).0 in
     let place = plan.header_length in
-    let read = read_again (shape_of plan) bytes place (place + length is.scan) mcus pad shape
-    (begins bytes plan mcus pad trailer all is) in
+    let read = read_again (shape_of plan) bytes place (place + length is.scan) mcus pads shape
+    (begins bytes plan mcus pads trailer all is) in
     let ends = ends_so (shape_of plan) bytes place _ read.0 shape read.1 in
     let same = one_plan bytes why.0 plan why.1 is.header in
     let refuses = subst (λ (p : PlanFields). Refuses (shape_of p) bytes p.header_length refusal)
@@ -75,16 +78,16 @@ one_scan_refusal bytes refusal other all p q =
     let same = one_plan bytes q.0 p.0 q.1 p.1 in
     let refuses = subst (λ (f : PlanFields). Refuses (shape_of f) bytes f.header_length other)
     same q.2 in
-    (one_outcome (shape_of p.0) bytes p.0.header_length 0 None refusal other shape p.2).0 refuses
+    (one_outcome (shape_of p.0) bytes p.0.header_length 0 [] refusal other shape p.2).0 refuses
 
 -- what encode makes of bytes is one thing
 one_encoded : (segments : ℕ) (bytes : List ℕ) (a b : Answer) → AllByRecursion IsByte bytes
     → Makes (Encode segments) bytes a → Makes (Encode segments) bytes b → a ≡ b
-one_encoded n bytes (Made a) (Made b) all p q = ap Made (one_container n a b bytes p q)
+one_encoded n bytes (Made a) (Made b) all p q = ap Made (one_container Second n a b bytes p q)
 one_encoded n bytes (Made a) (Early (Header r)) all p q =
     absurd (never_both bytes p.plan r p.is.header q)
 one_encoded n bytes (Made a) (Early (Scan r)) all p q =
-    absurd (scan_apart bytes p.plan p.mcus p.pad p.trailer r all p.is q)
+    absurd (scan_apart bytes p.plan p.mcus p.pads p.trailer r all p.is q)
 one_encoded n bytes (Made a) (Early (Box r)) all p q = absurd q
 one_encoded n bytes (Made a) (Early (Fault r)) all p q = absurd q
 one_encoded n bytes (Made a) (Early PadSpelling) all p q = absurd q
@@ -102,7 +105,7 @@ one_encoded n bytes (Early (Header r)) (Early PadSpelling) all p q = absurd q
 one_encoded n bytes (Early (Header r)) (Early TooLong) all p q = absurd q
 one_encoded n bytes (Early (Header r)) (Late w s) all p q = absurd q
 one_encoded n bytes (Early (Scan r)) (Made b) all p q =
-    absurd (scan_apart bytes q.plan q.mcus q.pad q.trailer r all q.is p)
+    absurd (scan_apart bytes q.plan q.mcus q.pads q.trailer r all q.is p)
 one_encoded n bytes (Early (Scan r)) (Early (Header s)) all p q =
     absurd (never_both bytes p.0 s p.1 q)
 one_encoded n bytes (Early (Scan r)) (Early (Scan s)) all p q =
@@ -118,12 +121,43 @@ one_encoded n bytes (Early PadSpelling) b all p q = absurd p
 one_encoded n bytes (Early TooLong) b all p q = absurd p
 one_encoded n bytes (Late w r) b all p q = absurd p
 
+-- what migrate makes of bytes is one thing
+one_migrated : (bytes : List ℕ) (a b : Answer) → AllByRecursion IsByte bytes
+    → Makes Migrate bytes a → Makes Migrate bytes b → a ≡ b
+one_migrated bytes (Made a) (Made b) all p q =
+    let same = (one_box p.0 q.0 p.1 q.1 bytes p.2 q.2).1 in
+    ap Made (p.3 ∙ ap (λ (x : BoxParts). box_bytes (migrated x)) same ∙ sym q.3)
+one_migrated bytes (Made a) (Early (Header r)) all p q = absurd q
+one_migrated bytes (Made a) (Early (Scan r)) all p q = absurd q
+one_migrated bytes (Made a) (Early (Box r)) all p q =
+    absurd (box_or_refused bytes p.0 p.1 r p.2 q)
+one_migrated bytes (Made a) (Early (Fault r)) all p q = absurd q
+one_migrated bytes (Made a) (Early PadSpelling) all p q = absurd q
+one_migrated bytes (Made a) (Early TooLong) all p q = absurd q
+one_migrated bytes (Made a) (Late w r) all p q = absurd q
+one_migrated bytes (Early (Header r)) b all p q = absurd p
+one_migrated bytes (Early (Scan r)) b all p q = absurd p
+one_migrated bytes (Early (Box r)) (Made b) all p q =
+    absurd (box_or_refused bytes q.0 q.1 r q.2 p)
+one_migrated bytes (Early (Box r)) (Early (Header s)) all p q = absurd q
+one_migrated bytes (Early (Box r)) (Early (Scan s)) all p q = absurd q
+one_migrated bytes (Early (Box r)) (Early (Box s)) all p q =
+    ap (λ (x : Refusal). Early x) (ap Box (one_box_refusal bytes r s all p q))
+one_migrated bytes (Early (Box r)) (Early (Fault s)) all p q = absurd q
+one_migrated bytes (Early (Box r)) (Early PadSpelling) all p q = absurd q
+one_migrated bytes (Early (Box r)) (Early TooLong) all p q = absurd q
+one_migrated bytes (Early (Box r)) (Late w s) all p q = absurd q
+one_migrated bytes (Early (Fault r)) b all p q = absurd p
+one_migrated bytes (Early PadSpelling) b all p q = absurd p
+one_migrated bytes (Early TooLong) b all p q = absurd p
+one_migrated bytes (Late w r) b all p q = absurd p
+
 -- what `sample` says is one thing
 one_summary : (seed columns rows : ℕ) (a b : List ℕ) → IsSummary seed columns rows a
     → IsSummary seed columns rows b → a ≡ b
 one_summary seed columns rows a b p q =
     let file = sample_file seed columns rows in
-    let same = one_container sample_segments p.0 q.0 file p.1 q.1 in
+    let same = one_container Second sample_segments p.0 q.0 file p.1 q.1 in
     p.2
     ∙ ap (λ (made : List ℕ). summary_of (length file) (length made)
     (cut_of columns rows sample_segments).segments (length file)) same
@@ -143,6 +177,7 @@ one_made (Encode segments) bytes a b all p q = one_encoded segments bytes a b al
 one_made (Decode workers) bytes a b all p q =
     p.2 ∙ ap (λ (m : Meaning). answer_by m.bytes m.verdict)
     (one_meaning bytes p.0 q.0 all p.1 q.1) ∙ sym q.2
+one_made Migrate bytes a b all p q = one_migrated bytes a b all p q
 one_made (Sample seed columns rows) bytes a b all p q =
     one_sampled seed columns rows bytes a b p q
 

@@ -3,7 +3,7 @@ use Rattle.std.proofs.Common.{◌≡◌, ℕ, List, Option, Some, get_or, refl, 
 use Rattle.command_words.specs.LeptonApp.{given}
 use Rattle.command_words.specs.Meaning.{IsNumbered, IsSampled, Means, ReadsAs}
 use Rattle.command_words.specs.declared.command.Command.{Command}
-use Rattle.command_words.specs.declared.command.Command.TheVariants.{Encode, Decode, Sample}
+use Rattle.command_words.specs.declared.command.Command.TheVariants.{Encode, Decode, Migrate, Sample}
 
 -- the parts of equal pairs
 first_same : {A B : Type 0} (a c : A) (x y : B)
@@ -68,14 +68,27 @@ same_command words (Encode m) (Decode n) p q =
     apart (given words) _ _ p.asks.rows q.asks.rows (λ e. omega (arith, e)) p.asks.is q.asks.is
 same_command words (Encode m) (Sample s c r) p q =
     apart (given words) _ _ p.asks.rows q.asks.options (λ e. omega (arith, e)) p.asks.is q.asks.is
+same_command words (Encode m) Migrate p q =
+    apart (given words) _ _ p.asks.rows q.asks.0 (λ e. omega (arith, e)) p.asks.is q.asks.1
 same_command words (Decode m) (Encode n) p q =
     apart (given words) _ _ p.asks.rows q.asks.rows (λ e. omega (arith, e)) p.asks.is q.asks.is
 same_command words (Decode m) (Decode n) p q =
     ap Decode (numbers_same words _ _ m n p.asks q.asks)
 same_command words (Decode m) (Sample s c r) p q =
     apart (given words) _ _ p.asks.rows q.asks.options (λ e. omega (arith, e)) p.asks.is q.asks.is
+same_command words (Decode m) Migrate p q =
+    apart (given words) _ _ p.asks.rows q.asks.0 (λ e. omega (arith, e)) p.asks.is q.asks.1
+same_command words Migrate (Encode n) p q =
+    apart (given words) _ _ p.asks.0 q.asks.rows (λ e. omega (arith, e)) p.asks.1 q.asks.is
+same_command words Migrate (Decode n) p q =
+    apart (given words) _ _ p.asks.0 q.asks.rows (λ e. omega (arith, e)) p.asks.1 q.asks.is
+same_command words Migrate Migrate p q = refl
+same_command words Migrate (Sample s c r) p q =
+    apart (given words) _ _ p.asks.0 q.asks.options (λ e. omega (arith, e)) p.asks.1 q.asks.is
 same_command words (Sample s c r) (Encode n) p q =
     apart (given words) _ _ p.asks.options q.asks.rows (λ e. omega (arith, e)) p.asks.is q.asks.is
 same_command words (Sample s c r) (Decode n) p q =
     apart (given words) _ _ p.asks.options q.asks.rows (λ e. omega (arith, e)) p.asks.is q.asks.is
+same_command words (Sample s c r) Migrate p q =
+    apart (given words) _ _ p.asks.options q.asks.0 (λ e. omega (arith, e)) p.asks.is q.asks.1
 same_command words (Sample s c r) (Sample t d u) p q = samples_same words s c r t d u p.asks q.asks

@@ -1,6 +1,5 @@
 -- A sample is encoded and decoded, and never refused.
-use Rattle.std.proofs.Common.{◌≡◌, ℕ, ◌<◌, ◌≤◌, inl, inr, true, List, [], length, take, Option, Result, Ok, Err, refl, sym, ap, subst, ◌∙◌, arith}
-use Rattle.std.specs.Io.KnownBytes.{Appends}
+use Rattle.std.proofs.Common.{◌≡◌, ℕ, ◌≤◌, inl, inr, List, [], length, Option, Result, Ok, Err, refl, sym, ap, subst, ◌∙◌, arith}
 use Rattle.outside_core.specs.Faults.{Never, Rose, no_faults}
 use Rattle.jpeg_marker.specs.HeaderPlan.{Refuses as HeaderRefuses}
 use Rattle.jpeg_marker.specs.Plans.{PlanFields}
@@ -10,6 +9,7 @@ use Rattle.scan_text.specs.declared.refusal.ScanRefusal.{ScanRefusal}
 use Rattle.box_format.specs.Parts.{BoxParts, IsBoxOf}
 use Rattle.box_format.specs.BoxChecks.{IsRefusedBox}
 use Rattle.box_format.specs.declared.refusal.BoxRefusal.{BoxRefusal}
+use Rattle.box_format.specs.declared.version.Version.TheVariants.{Second}
 use Rattle.segment_meaning.specs.Files.{IsContainerOf}
 use Rattle.segment_meaning.specs.Meanings.{IsMeaning, Meaning, NoBox, Restored, meaning_of}
 use Rattle.segment_meaning.proofs.OneMeanings.{one_meaning}
@@ -17,7 +17,7 @@ use Rattle.segment_meaning.proofs.RestoredFiles.{container_is_restored}
 use Rattle.lepton_decode.specs.Ends.{Ends}
 use Rattle.lepton_decode.specs.declared.error.DecodeError.{DecodeError}
 use Rattle.lepton_decode.specs.declared.error.DecodeError.TheVariants.{WriteFault, Fault, PadSpelling}
-use Rattle.sample_jpeg.specs.SampleFile.{IsSample, sample_mcus, end_of_image}
+use Rattle.sample_jpeg.specs.SampleFile.{IsSample, sample_mcus, sample_pads, end_of_image}
 use Rattle.sample_jpeg.specs.SampleHeader.{extent_of, sample_plan}
 use Rattle.sample_jpeg.proofs.SampleLaws.{samples}
 use Rattle.command_words.specs.declared.command.Command.TheVariants.{Sample}
@@ -48,7 +48,8 @@ pub scan_is_taken : (file : List ℕ) (refusal : ScanRefusal) → IsSampleFile f
 scan_is_taken file refusal is why =
     let law = law_of file is in
     scan_apart file (sample_plan (extent_of is.seed is.columns is.rows))
-    (sample_mcus is.seed (extent_of is.seed is.columns is.rows)) true end_of_image refusal law.bytes
+    (sample_mcus is.seed (extent_of is.seed is.columns is.rows))
+    (sample_pads (extent_of is.seed is.columns is.rows)) end_of_image refusal law.bytes
     law.is why
 
 pub sample_fits : (file : List ℕ) → IsSampleFile file → length file ≤ 40000000
@@ -57,15 +58,15 @@ sample_fits file is = (law_of file is).short
 -- ---- decoding
 
 -- a container's meaning is its file
-meaning_restored : (made file : List ℕ) (m : Meaning) → IsContainerOf sample_segments made file
+meaning_restored : (made file : List ℕ) (m : Meaning) → IsContainerOf Second sample_segments made file
     → IsMeaning made m → m ≡ record { bytes = file; verdict = Restored }
 meaning_restored made file m of is =
     one_meaning made m (record { bytes = file; verdict = Restored })
-    (container_are sample_segments made file (omega arith) (omega arith) of) is
-    (container_is_restored sample_segments made file (omega arith) (omega arith) of)
+    (container_are Second sample_segments made file (omega arith) (omega arith) of) is
+    (container_is_restored Second sample_segments made file (omega arith) (omega arith) of)
 
 pub box_is_taken : (made file : List ℕ) (refusal : BoxRefusal)
-    → IsContainerOf sample_segments made file → IsRefusedBox made refusal → ⊥
+    → IsContainerOf Second sample_segments made file → IsRefusedBox made refusal → ⊥
 box_is_taken made file refusal of why =
     let e = meaning_restored made file (record { bytes = []; verdict = NoBox refusal }) of
     (inl (refusal, why, refl)) in
@@ -74,7 +75,7 @@ box_is_taken made file refusal of why =
 
 module _ {Sink : Type 0} (held : Sink → Option (List ℕ)) (faults : Sink → ℕ)
     (full : Sink → Type 0) (old new : Sink) (made file : List ℕ) (plan : PlanFields)
-    (parts : BoxParts) (of : IsContainerOf sample_segments made file)
+    (parts : BoxParts) (of : IsContainerOf Second sample_segments made file)
     (is : IsBoxOf plan parts made) where
   abbrev meaning : Meaning
   meaning = meaning_of plan parts
@@ -103,7 +104,7 @@ module _ {Sink : Type 0} (held : Sink → Option (List ℕ)) (faults : Sink → 
 -- the same of what the decoder answered
 pub decoded_whole : {Sink : Type 0} (held : Sink → Option (List ℕ)) (faults : Sink → ℕ)
     (full : Sink → Type 0) (old new : Sink) (made file : List ℕ) (plan : PlanFields)
-    (parts : BoxParts) → IsContainerOf sample_segments made file → IsBoxOf plan parts made
+    (parts : BoxParts) → IsContainerOf Second sample_segments made file → IsBoxOf plan parts made
     → (result : Result ℕ DecodeError) (written : ℕ) → result ≡ Ok written
     → Ends held faults full old new (meaning_of plan parts) result → written ≡ length file
 decoded_whole held faults full old new made file plan parts of is result written ok ends =
@@ -112,7 +113,7 @@ decoded_whole held faults full old new made file plan parts of is result written
     ok ends)
 
 pub never_fails : {Sink : Type 0} (held : Sink → Option (List ℕ)) (old new : Sink) (made file : List ℕ) (plan : PlanFields) (parts : BoxParts)
-    → IsContainerOf sample_segments made file → IsBoxOf plan parts made
+    → IsContainerOf Second sample_segments made file → IsBoxOf plan parts made
     → (result : Result ℕ DecodeError) (error : DecodeError) → result ≡ Err error
     → Ends held no_faults Never old new (meaning_of plan parts) result → ⊥
 never_fails held old new made file plan parts of is result error err ends =
@@ -125,34 +126,9 @@ never_fails held old new made file plan parts of is result error err ends =
 
 module _ {Sink : Type 0} (held : Sink → Option (List ℕ)) (faults : Sink → ℕ)
     (full : Sink → Type 0) (old new : Sink) (seed columns rows : ℕ) where
-  answer_so : (summary : List ℕ) → IsSummary seed columns rows summary
+  pub answer_so : (summary : List ℕ) → IsSummary seed columns rows summary
       → Answers (Sample seed columns rows) [] (Made summary)
   answer_so summary is = inr (record { short = omega arith; are = tt; makes = is })
-
-  -- the summary was written
-  pub shown : (summary : List ℕ) → IsSummary seed columns rows summary
-      → Appends (held old) (held new) summary → faults new ≡ faults old
-      → CarriedOut held faults full (Sample seed columns rows) [] old new Done
-  shown summary is appended unfailed = (
-    Made summary,
-    record {
-      answers = answer_so summary is;
-      appended = appended;
-      unfailed = unfailed;
-      kept = λ none. absurd (none tt);
-    },
-    refl,
-  )
-
-  -- a proper prefix of it was
-  pub shown_part : (summary : List ℕ) (n : ℕ) → IsSummary seed columns rows summary
-      → Rose faults full old new → n < length summary
-      → Appends (held old) (held new) (take n summary)
-      → CarriedOut held faults full (Sample seed columns rows) [] old new WriteFailed
-  shown_part summary n is rose few part = (
-    Made summary,
-    record { answers = answer_so summary is; writes = tt; rose = rose; part = (n, few, part) },
-  )
 
   -- `sample` ends in no other way
   pub sample_ends : (ending : Ending)

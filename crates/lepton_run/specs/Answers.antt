@@ -9,10 +9,14 @@ use Rattle.jpeg_marker.specs.HeaderPlan.{Accepts, Refuses as HeaderRefuses}
 use Rattle.scan_text.specs.Items.{Refuses as ItemsRefuse}
 use Rattle.scan_text.specs.Slots.{shape_of}
 use Rattle.scan_text.specs.declared.refusal.ScanRefusal.{ScanRefusal}
+use Rattle.box_format.specs.BoxChecks.{IsRefusedBox}
+use Rattle.box_format.specs.Parts.{BoxParts, IsBoxOf, box_bytes, migrated}
+use Rattle.box_format.specs.declared.version.Version.TheVariants.{Second}
 use Rattle.segment_meaning.specs.Files.{IsContainerOf}
+use Rattle.segment_meaning.specs.Limits.{most_of_a_container, most_of_a_file}
 use Rattle.segment_meaning.specs.Meanings.{Meaning, Verdict, Restored, PadSpelled, Faulty, NoBox, IsMeaning}
 use Rattle.command_words.specs.declared.command.Command.{Command}
-use Rattle.command_words.specs.declared.command.Command.TheVariants.{Encode, Decode, Sample}
+use Rattle.command_words.specs.declared.command.Command.TheVariants.{Encode, Decode, Migrate, Sample}
 use Rattle.lepton_run.specs.Lines.{refusal_line}
 use Rattle.lepton_run.specs.Summaries.{IsSummary}
 use Rattle.lepton_run.specs.declared.refusal.Refusal.{Refusal}
@@ -49,10 +53,11 @@ line_of (Made bytes) = []
 line_of (Early refusal) = refusal_line refusal
 line_of (Late bytes refusal) = refusal_line refusal
 
--- the most bytes that a command takes: 64 MiB of a file, 8 GiB of a container; `sample` takes none
+-- the most bytes that a command takes: 64 MiB of a file, 32 GiB of a container; `sample` takes none
 abbrev pub limit_of : Command → ℕ
-limit_of (Encode segments) = 67108864
-limit_of (Decode workers) = 8589934592
+limit_of (Encode segments) = most_of_a_file
+limit_of (Decode workers) = most_of_a_container
+limit_of Migrate = most_of_a_container
 limit_of (Sample seed columns rows) = 0
 
 -- the answer that a container's meaning is
@@ -69,10 +74,11 @@ ScanRefuses bytes refusal =
     × ItemsRefuse (shape_of plan) bytes plan.header_length refusal
 
 -- what a command makes of bytes: encode the container of a file in at most so many segments, or it refuses the header
--- or else the scan; decode what the bytes stand for as a container, whatever the number of workers; sample, of no
--- bytes, the summary of what it makes
+-- or else the scan; decode what the bytes stand for as a container, whatever the number of workers; migrate the same
+-- container in the second version, whatever its streams stand for, or it refuses it; sample, of no bytes, the summary
+-- of what it makes
 abbrev pub Makes : Command → List ℕ → Answer → Type 0
-Makes (Encode segments) bytes (Made made) = IsContainerOf segments made bytes
+Makes (Encode segments) bytes (Made made) = IsContainerOf Second segments made bytes
 Makes (Encode segments) bytes (Early (Header refusal)) = HeaderRefuses bytes refusal
 Makes (Encode segments) bytes (Early (Scan refusal)) = ScanRefuses bytes refusal
 Makes (Encode segments) bytes (Early (Box refusal)) = ⊥
@@ -83,6 +89,15 @@ Makes (Encode segments) bytes (Late written refusal) = ⊥
 Makes (Decode workers) bytes answer =
     (meaning : Meaning) × IsMeaning bytes meaning
     × (answer ≡ answer_by meaning.bytes meaning.verdict)
+Makes Migrate bytes (Made made) =
+    (plan : PlanFields) × (b : BoxParts) × IsBoxOf plan b bytes × (made ≡ box_bytes (migrated b))
+Makes Migrate bytes (Early (Box refusal)) = IsRefusedBox bytes refusal
+Makes Migrate bytes (Early (Header refusal)) = ⊥
+Makes Migrate bytes (Early (Scan refusal)) = ⊥
+Makes Migrate bytes (Early (Fault fault)) = ⊥
+Makes Migrate bytes (Early PadSpelling) = ⊥
+Makes Migrate bytes (Early TooLong) = ⊥
+Makes Migrate bytes (Late written refusal) = ⊥
 Makes (Sample seed columns rows) bytes (Made made) = IsSummary seed columns rows made
 Makes (Sample seed columns rows) bytes (Early refusal) = ⊥
 Makes (Sample seed columns rows) bytes (Late written refusal) = ⊥
@@ -103,6 +118,7 @@ Answers command bytes answer =
 abbrev pub reads : Command → Bool
 reads (Encode segments) = true
 reads (Decode workers) = true
+reads Migrate = true
 reads (Sample seed columns rows) = false
 
 -- a source gave these bytes: all that it had, or the limit and one more
@@ -113,12 +129,14 @@ GaveUpTo limit old new bytes = Consumes old new bytes × (IsAtEnd new ⊎ (lengt
 abbrev pub Took : Command → Option (List ℕ) → Option (List ℕ) → List ℕ → Type 0
 Took (Encode segments) old new bytes = GaveUpTo (limit_of (Encode segments)) old new bytes
 Took (Decode workers) old new bytes = GaveUpTo (limit_of (Decode workers)) old new bytes
+Took Migrate old new bytes = GaveUpTo (limit_of Migrate) old new bytes
 Took (Sample seed columns rows) old new bytes = (new ≡ old) × (bytes ≡ [])
 
 -- the bytes that a command answers to, of a source that has these left: all of them, and for `sample` none
 abbrev pub IsInput : Command → Option (List ℕ) → List ℕ → Type 0
 IsInput (Encode segments) left bytes = left ≡ Some bytes
 IsInput (Decode workers) left bytes = left ≡ Some bytes
+IsInput Migrate left bytes = left ≡ Some bytes
 IsInput (Sample seed columns rows) left bytes = bytes ≡ []
 
 -- a proper prefix of these bytes was appended

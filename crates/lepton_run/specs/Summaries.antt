@@ -1,6 +1,7 @@
 -- What `sample` says of the file that it made (this project's own; docs/SAMPLE.md).
 use Rattle.std.specs.Prelude.{ℕ, ◌≡◌, List, [], ◌∷◌, ◌++◌, codes, decimal, length}
 use Rattle.segment_text.specs.Cuts.{cut_of}
+use Rattle.box_format.specs.declared.version.Version.TheVariants.{Second}
 use Rattle.segment_meaning.specs.Files.{IsContainerOf}
 use Rattle.sample_jpeg.specs.SampleFile.{sample_file}
 
@@ -28,7 +29,7 @@ summary_of file made segments restored =
 abbrev pub IsSummary : ℕ → ℕ → ℕ → List ℕ → Type 0
 IsSummary seed columns rows summary =
     let file = sample_file seed columns rows in
-    (made : List ℕ) × IsContainerOf sample_segments made file
+    (made : List ℕ) × IsContainerOf Second sample_segments made file
     × (summary
     ≡ summary_of (length file) (length made) (cut_of columns rows sample_segments).segments
     (length file))

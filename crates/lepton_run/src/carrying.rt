@@ -1,7 +1,7 @@
 // The commands, on the bytes that they took.
 ghost use Rattle.std.specs.Prelude.{◌≡◌, ◌≤◌, length};
 ghost use Rattle.command_words.specs.Meaning.{IsInRange};
-ghost use Rattle.command_words.specs.declared.command.Command.TheVariants.{Encode, Decode};
+ghost use Rattle.command_words.specs.declared.command.Command.TheVariants.{Encode, Decode, Migrate};
 ghost use Rattle.lepton_run.specs.Answers.{limit_of, reads};
 ghost use Rattle.lepton_run.specs.DecodeEndings.{decode_ending};
 ghost use Rattle.lepton_run.specs.Endings.{CarriedOut};
@@ -9,10 +9,11 @@ ghost use Rattle.lepton_run.specs.Endings.{CarriedOut};
 use crate::ending::Ending;
 use crate::refusal::Refusal;
 use crate::sampling::show_sample;
+use crate::writing::write_made;
 use command_words::Command;
 use lepton_decode::{DecodeError, PrepareError, ample_ring, prepare, prepare_alone, run_alone};
 use lepton_encode::EncodeError;
-use outside_core::{Gate, Sink, write_all};
+use outside_core::{Gate, Sink};
 use std::alloc::Global;
 use std::sync::Wait;
 use std::thread::Threads;
@@ -20,8 +21,8 @@ use std::thread::Threads;
 /// The most bytes of a file that is encoded: 64 MiB.
 const MOST_OF_A_FILE: u64 = 67_108_864;
 
-/// The most bytes of a container that is decoded: 8 GiB.
-const MOST_OF_A_CONTAINER: u64 = 8_589_934_592;
+/// The most bytes of a container that is decoded or migrated: 32 GiB.
+const MOST_OF_A_CONTAINER: u64 = 34_359_738_368;
 
 /// The most bytes that a command takes.
 pub(crate) fn limit(command: Command) -> u64
@@ -29,7 +30,7 @@ pub(crate) fn limit(command: Command) -> u64
 {
     match command {
         Command::Encode { .. } => MOST_OF_A_FILE,
-        Command::Decode { .. } => MOST_OF_A_CONTAINER,
+        Command::Decode { .. } | Command::Migrate => MOST_OF_A_CONTAINER,
         Command::Sample { .. } => 0,
     }
 }
@@ -39,7 +40,7 @@ pub(crate) fn reads(command: Command) -> bool
     ensures { result ≡ reads command }
 {
     match command {
-        Command::Encode { .. } | Command::Decode { .. } => true,
+        Command::Encode { .. } | Command::Decode { .. } | Command::Migrate => true,
         Command::Sample { .. } => false,
     }
 }
@@ -62,6 +63,7 @@ pub(crate) fn carry_out<R: Threads + Wait + Sync, K: Sink + Send, G: Gate + Sync
         Command::Encode { segments } => encode(rt, alloc, segments, bytes, sink),
         Command::Decode { workers: 0 } => decode_alone(alloc, bytes, sink, gate),
         Command::Decode { workers } => decode(rt, alloc, workers, bytes, sink, gate),
+        Command::Migrate => migrate(alloc, bytes, sink),
         Command::Sample {
             seed,
             columns,
@@ -90,10 +92,7 @@ fn encode<R: Threads + Sync, K: Sink>(
         Err(EncodeError::Scan(refusal)) => return Ending::Refused(Refusal::Scan(refusal)),
         Err(EncodeError::NoMemory) => return Ending::NoMemory,
     };
-    match write_all(sink, made.as_slice()) {
-        Ok(()) => Ending::Done,
-        Err(_) => Ending::WriteFailed,
-    }
+    write_made(made.as_slice(), sink)
 }
 
 // The file of a container, decoded by `workers` threads beside this one.
@@ -133,6 +132,20 @@ fn decode_alone<K: Sink, G: Gate>(alloc: Global, bytes: &[u8], sink: &mut K, gat
     };
     let ended = run_alone(&mut ready, sink, gate);
     ending_by(ended)
+}
+
+// The same container in version 2, written once it is whole. It has no `Wait`, so it returns.
+fn migrate<K: Sink>(alloc: Global, bytes: &[u8], sink: &mut K) -> Ending
+    requires { length bytes.now ≤ limit_of Migrate }
+    ensures ending { CarriedOut K.held K.faults K.full Migrate bytes.now sink.old sink.new result }
+    ensures lasting { K.faults sink.old ≤ K.faults sink.new }
+{
+    let made = match box_format::migrate(alloc, bytes) {
+        Ok(made) => made,
+        Err(box_format::Migrate::Box(refusal)) => return Ending::Refused(Refusal::Box(refusal)),
+        Err(box_format::Migrate::NoMemory) => return Ending::NoMemory,
+    };
+    write_made(made.as_slice(), sink)
 }
 
 // How the command ends by what a decode answers.

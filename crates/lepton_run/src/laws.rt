@@ -1,24 +1,34 @@
 // What holds of every file and every container.
-ghost use Rattle.std.specs.Prelude.{◌≡◌, ◌<◌, ◌≤◌, ℕ, List};
-ghost use Rattle.box_format.specs.Parts.{most_segments};
+ghost use Rattle.std.specs.Prelude.{◌≡◌, ◌<◌, ◌≤◌, ℕ, List, length};
+ghost use Rattle.box_format.specs.Versions.{layout_of, version_in};
+ghost use Rattle.box_format.specs.declared.version.Version.TheVariants.{Second};
 ghost use Rattle.segment_meaning.specs.Files.{IsContainerOf};
 ghost use Rattle.command_words.specs.declared.command.Command.{Command};
-ghost use Rattle.command_words.specs.declared.command.Command.TheVariants.{Encode, Decode};
-ghost use Rattle.lepton_run.specs.Answers.{Answer, Answers, Made};
+ghost use Rattle.command_words.specs.declared.command.Command.TheVariants.{Encode, Decode, Migrate};
+ghost use Rattle.lepton_run.specs.Answers.{Answer, Answers, Made, limit_of};
 
 /// What was encoded is decoded: of the container that encode makes of a file, in any number of segments, decode makes
 /// that file, with any number of workers.
 pub fn decode_undoes_encode()
-    ensures { (segments workers : ℕ) (file made : List ℕ) → 0 < segments → segments ≤ most_segments
-        → Answers (Encode segments) file (Made made) → Answers (Decode workers) made (Made file) }
+    ensures { (segments workers : ℕ) (file made : List ℕ) → 0 < segments
+        → segments ≤ (layout_of Second).most → Answers (Encode segments) file (Made made)
+        → Answers (Decode workers) made (Made file) }
 {}
 
-/// A container has one spelling: what decode takes is what encode makes of the file that decode makes of it, in some
-/// number of segments.
+/// A container has one spelling: what decode takes is the container of the file that decode makes of it, in the version
+/// that it names and some number of segments.
 pub fn one_spelling_a_file()
     ensures { (workers : ℕ) (made file : List ℕ) → Answers (Decode workers) made (Made file)
-        → (segments : ℕ) × (0 < segments) × (segments ≤ most_segments)
-        × IsContainerOf segments made file }
+        → (segments : ℕ) × (0 < segments) × (segments ≤ (layout_of (version_in made)).most)
+        × IsContainerOf (version_in made) segments made file }
+{}
+
+/// A container is migrated to one that stands for the same: decode answers to both the same, bytes and refusal, with
+/// any number of workers, if the four bytes that are added stay within what decode takes.
+pub fn migrated_stands_for_the_same()
+    ensures { (workers : ℕ) (bytes made : List ℕ) (answer : Answer)
+        → Answers Migrate bytes (Made made) → length made ≤ limit_of (Decode workers)
+        → Answers (Decode workers) bytes answer → Answers (Decode workers) made answer }
 {}
 
 /// Bytes have one answer: one container, or one file, or one cause of their refusal with the bytes that are written

@@ -2,6 +2,7 @@
 //!
 //!     words --> command --> encode:  source --> bytes --> container --> sink
 //!                           decode:  source --> bytes --> file, segment by segment --> sink
+//!                           migrate: source --> bytes --> container of version 2 --> sink
 //!                           sample:  number --> file --> container --> file again --> five lines --> sink
 //!                                                                        ending --> note, status
 //!
@@ -17,8 +18,11 @@ mod note;
 mod refusal;
 mod sampling;
 mod top;
+mod writing;
 
 pub use command_words::Command;
-pub use laws::{decode_undoes_encode, one_answer, one_spelling_a_file};
+pub use laws::{
+    decode_undoes_encode, migrated_stands_for_the_same, one_answer, one_spelling_a_file,
+};
 pub use refusal::Refusal;
 pub use top::{no_memory_for_words, run};

@@ -20,7 +20,7 @@ pub enum Refusal {
     Box(BoxRefusal),
     /// 40 to 45: a segment's stream has a fault; the file's bytes before it are written.
     Fault(StreamFault),
-    /// 46: the container's pad bit is 0, and no bit is padded; all bytes of the file are written.
+    /// 46: the container's pad bits are told otherwise than a file's; all bytes of the file are written.
     PadSpelling,
     /// 50: there are more bytes than the limit.
     TooLong,

@@ -1,5 +1,6 @@
 // A file made from a number, encoded, decoded, and what is said of it.
 ghost use Rattle.std.specs.Prelude.{◌≡◌, ◌+◌, ◌≤◌, ◌++◌, [], IfOk, length};
+ghost use Rattle.box_format.specs.declared.version.Version.TheVariants.{Second};
 ghost use Rattle.segment_meaning.specs.Files.{IsContainerOf};
 ghost use Rattle.command_words.specs.Meaning.{IsInRange};
 ghost use Rattle.command_words.specs.declared.command.Command.TheVariants.{Sample};
@@ -10,9 +11,10 @@ ghost use Rattle.lepton_run.specs.Summaries.{IsSummary, entry, sample_segments, 
 
 use crate::ending::Ending;
 use crate::note::Line;
+use crate::writing::write_made;
 use lepton_decode::{PrepareError, ample_ring, prepare};
 use lepton_encode::EncodeError;
-use outside_core::{Compare, Gate, Sink, write_all};
+use outside_core::{Compare, Gate, Sink};
 use sample_jpeg::sample;
 use std::alloc::{AllocError, Global};
 use std::sync::Wait;
@@ -43,10 +45,7 @@ pub(crate) fn show_sample<R: Threads + Wait + Sync, K: Sink + Send, G: Gate + Sy
         Ok(summary) => summary,
         Err(_) => return Ending::NoMemory,
     };
-    match write_all(sink, summary.bytes()) {
-        Ok(()) => Ending::Done,
-        Err(_) => Ending::WriteFailed,
-    }
+    write_made(summary.bytes(), sink)
 }
 
 // The summary of a sample that was encoded and decoded; the one error is want of memory.
@@ -71,7 +70,7 @@ fn recoded<R: Threads + Wait + Sync, G: Gate + Sync>(
 // The container of a sample, which every header and scan check lets pass.
 fn encoded<R: Threads + Sync>(rt: &R, alloc: Global, file: &[u8]) -> Result<Vec<u8>, AllocError>
     requires { IsSampleFile file.now }
-    ensures { IfOk result (λ made. IsContainerOf sample_segments made.items file.now) }
+    ensures { IfOk result (λ made. IsContainerOf Second sample_segments made.items file.now) }
 {
     match lepton_encode::encode(rt, alloc, file, SEGMENTS) {
         Ok(made) => Ok(made),
@@ -90,7 +89,7 @@ fn restored<R: Threads + Wait + Sync, G: Gate + Sync>(
     file: &[u8],
     gate: &G,
 ) -> Result<u64, AllocError>
-    requires container { IsContainerOf sample_segments made.now file.now }
+    requires container { IsContainerOf Second sample_segments made.now file.now }
     ensures { IfOk result (λ restored. restored ≡ length file.now) }
 {
     let mut ready = match prepare(alloc, made, WORKERS, ample_ring(made)) {

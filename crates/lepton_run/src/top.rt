@@ -2,11 +2,15 @@
 ghost use Rattle.std.specs.Prelude.{◌≡◌, ◌≢◌, ◌⊎◌, ◌+◌, ◌<◌, ◌≤◌, ℕ, List, Some, String, string_bytes, map, length};
 ghost use Rattle.std.specs.Io.KnownBytes.{Appends};
 ghost use Rattle.outside_core.specs.Faults.{Rose};
+ghost use Rattle.jpeg_marker.specs.Plans.{PlanFields};
 ghost use Rattle.segment_meaning.specs.Files.{IsContainerOf};
-ghost use Rattle.box_format.specs.Parts.{most_segments};
+ghost use Rattle.segment_meaning.specs.Meanings.{Meaning, IsMeaning};
+ghost use Rattle.box_format.specs.Parts.{BoxParts, IsBoxOf, box_bytes, migrated};
+ghost use Rattle.box_format.specs.Versions.{layout_of};
+ghost use Rattle.box_format.specs.declared.version.Version.{Version};
 ghost use Rattle.command_words.specs.Meaning.{IsInRange, Means};
 ghost use Rattle.command_words.specs.declared.command.Command.{Command};
-ghost use Rattle.command_words.specs.declared.command.Command.TheVariants.{Encode, Decode, Sample};
+ghost use Rattle.command_words.specs.declared.command.Command.TheVariants.{Encode, Decode, Migrate, Sample};
 ghost use Rattle.lepton_run.specs.Answers.{Answer, Answers, AppendsPart, IsInput, Made, TakenWithin, Took, Writes, bytes_of, limit_of, line_of, status_of};
 ghost use Rattle.lepton_run.specs.Endings.{Answered, Notes, SampleEnds, Transferred, ending_line, line_at};
 
@@ -23,17 +27,17 @@ use std::thread::Threads;
 ///
 /// | status | comes | note |
 /// |---|---|---|
-/// | 0 | the container, the file, or the five lines of a sample were written | nothing |
+/// | 0 | the container, the file, the container in version 2, or a sample's five lines were written | nothing |
 /// | 1 | the bytes are refused, before a byte is written, or behind the file's bytes up to where a segment's stream has a fault | `lepton: refused `, the refusal's number and name, and the code, the place or the segment that it holds |
 /// | 2 | the words are refused | `lepton: words refused` |
 /// | 3 | the source failed | `lepton: read failed` |
 /// | 4 | the sink failed | `lepton: write failed` |
 /// | 5 | there was no memory | `lepton: no memory` |
 ///
-/// The words are `encode` with `--segments`, `decode` with `--workers`, or `sample` with `--seed`, `--columns` and
-/// `--rows`, as `command_words` has them. The whole source is read before anything is written, and no allocator is
-/// asked for memory after; `sample` reads nothing. The segments of a file are made, and those of a container decoded, in threads of
-/// their own where these can be had. A fault of the note changes no status.
+/// The words are `encode` with `--segments`, `decode` with `--workers`, `migrate`, or `sample` with `--seed`,
+/// `--columns` and `--rows`, as `command_words` has them. The whole source is read before anything is written, and no
+/// allocator is asked for memory after; `sample` reads nothing. The segments of a file are made, and those of a
+/// container decoded, in threads of their own where these can be had. A fault of the note changes no status.
 pub fn run<R: Threads + Wait + Sync, S: Source, K: Sink + Send, N: Sink + Send, G: Gate + Sync>(
     rt: &R,
     alloc: Global,
@@ -103,13 +107,23 @@ pub fn run<R: Threads + Wait + Sync, S: Source, K: Sink + Send, N: Sink + Send, 
         → ((made : List ℕ) → ¬ Answers command bytes (Made made))
         → (result ≡ 1) ⊎ (result ≡ 5) }
 
-    // What was encoded is decoded: of the container of a file within the limit, exactly that file is appended.
-    ensures back { (workers most : ℕ) (bytes file : List ℕ)
+    // What was encoded is decoded: of the container of a file within the limit, in a version that can say its pad bits,
+    // exactly that file is appended.
+    ensures back { (version : Version) (workers most : ℕ) (bytes file : List ℕ)
         → Means (map string_bytes words.now) (Decode workers)
         → ¬ Rose S.faults S.full source.old source.new → ¬ Rose K.faults K.full sink.old sink.new
         → S.left source.old ≡ Some bytes → length file ≤ limit_of (Encode most)
-        → 0 < most → most ≤ most_segments → IsContainerOf most bytes file
+        → 0 < most → most ≤ (layout_of version).most → IsContainerOf version most bytes file
         → ((result ≡ 0) × Appends (K.held sink.old) (K.held sink.new) file) ⊎ (result ≡ 5) }
+
+    // A container is migrated to the same one in version 2, whatever its streams are, and that stands for the same.
+    ensures migrated { (bytes : List ℕ) (plan : PlanFields) (b : BoxParts) (meaning : Meaning)
+        → Means (map string_bytes words.now) Migrate
+        → ¬ Rose S.faults S.full source.old source.new → ¬ Rose K.faults K.full sink.old sink.new
+        → S.left source.old ≡ Some bytes → length bytes ≤ limit_of Migrate
+        → IsBoxOf plan b bytes → IsMeaning bytes meaning
+        → ((result ≡ 0) × IsMeaning (box_bytes (migrated b)) meaning
+        × Appends (K.held sink.old) (K.held sink.new) (box_bytes (migrated b))) ⊎ (result ≡ 5) }
 
     // `sample` reads nothing and refuses nothing: 0, or 4 where the sink failed, or want of memory.
     ensures sampled { (seed columns rows : ℕ)

@@ -7,7 +7,7 @@ use Rattle.command_words.proofs.words.with_encode.Goals as goal
 
 pub returns : goal.returns
 returns c =
-    let segments : rule_of c.number_option-segments.result ≡ number_rule (codes "segments") (Signed (pos 1) (pos 16)) (codes "8") = search rules in
+    let segments : rule_of c.number_option-segments.result ≡ number_rule (codes "segments") (Signed (pos 1) (pos 64)) (codes "8") = search rules in
     let encode : app_of c.in_ok-encode.encode ≡ encode_app =
     c.in_ok-encode.ensures.shape c.number_option-segments.ensures.local ∙ ap₂ with_rule c.new-2.ensures.app segments in
     let local = c.in_ok-encode.ensures.globals ∙ ap₂ (λ a b. a || b) c.new-2.ensures.local c.number_option-segments.ensures.local in

@@ -1,7 +1,7 @@
 use Rattle.std.proofs.Common.{List, ℕ, map}
 use Rattle.std.specs.Prelude.{string_bytes}
 use Rattle.lepton_run.specs.Endings.{Notes}
-use Rattle.lepton_run.proofs.CallEnds.{answered_of, back_of, complete_of, cut_of, sampled_of}
+use Rattle.lepton_run.proofs.CallEnds.{answered_of, back_of, complete_of, cut_of, migrated_of, sampled_of}
 use Rattle.lepton_run.proofs.top.run.Goals as goal
 
 pub returns-clause-answered : goal.returns-clause-answered
@@ -39,6 +39,17 @@ returns-clause-back g c =
     (λ (line : List ℕ). Notes g.N.Sink.held g.N.Sink.faults g.N.Sink.full c.args.note.now
     c.tell.new.note line) c.answer-ending.result c.status.result c.status.ensures
     c.answer-ending.ensures.ending c.tell.ensures.notes
+
+pub returns-clause-migrated : goal.returns-clause-migrated
+returns-clause-migrated g c =
+    λ bytes plan b meaning means calm still had short of stands.
+    migrated_of g.K.Sink.held g.K.Sink.faults g.K.Sink.full g.S.Source.left g.S.Source.faults
+    g.S.Source.full (map string_bytes c.args.words.now) c.args.source.now
+    c.answer-ending.new.source c.args.sink.now c.answer-ending.new.sink
+    (λ (line : List ℕ). Notes g.N.Sink.held g.N.Sink.faults g.N.Sink.full c.args.note.now
+    c.tell.new.note line) c.answer-ending.result c.status.result c.status.ensures
+    c.answer-ending.ensures.ending c.tell.ensures.notes bytes plan b meaning means calm still had
+    short of stands
 
 pub returns-clause-sampled : goal.returns-clause-sampled
 returns-clause-sampled g c = λ seed columns rows means.
