@@ -16,8 +16,8 @@ const COMMANDS: &[(&[&str], Command)] = &[
         Command::Encode { segments: 3 },
     ),
     (
-        &["encode", "--segments=16"],
-        Command::Encode { segments: 16 },
+        &["encode", "--segments=64"],
+        Command::Encode { segments: 64 },
     ),
     (
         &["encode", "--segments", "08"],
@@ -34,6 +34,8 @@ const COMMANDS: &[(&[&str], Command)] = &[
     ),
     (&["decode", "--workers=-0"], Command::Decode { workers: 0 }),
     (&["decode", "--workers=16"], Command::Decode { workers: 16 }),
+    (&["migrate"], Command::Migrate),
+    (&["migrate", "--"], Command::Migrate),
 ];
 
 // The same for a sample: the seed, the columns and the rows that they mean.
@@ -76,7 +78,7 @@ const REFUSED: &[&[&str]] = &[
     &["encode", "--segments"],
     &["encode", "--segments", ""],
     &["encode", "--segments", "0"],
-    &["encode", "--segments", "17"],
+    &["encode", "--segments", "65"],
     &["encode", "--segments", "264"],
     &["encode", "--segments", "-1"],
     &["encode", "--segments", "8", "--segments", "9"],
@@ -84,6 +86,12 @@ const REFUSED: &[&[&str]] = &[
     &["decode", "--workers", "17"],
     &["decode", "--segments", "8"],
     &["encode", "--seed", "1"],
+    &["Migrate"],
+    &["migrate", "x"],
+    &["migrate", "migrate"],
+    &["migrate", "--segments", "8"],
+    &["migrate", "--workers", "1"],
+    &["migrate", "-h"],
 ];
 
 const REFUSED_SAMPLES: &[&[&str]] = &[

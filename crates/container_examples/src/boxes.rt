@@ -1,22 +1,41 @@
 // Worked containers. Bytes that are none are in `tests/rows`.
 ghost use Rattle.std.specs.Prelude.{◌≡◌, map, IfOk};
 ghost use Rattle.box_format.specs.Parts.{box_bytes};
+ghost use Rattle.box_format.specs.declared.version.Version.TheVariants.{Second};
 
-use box_format::{BoxView, Parts, read_box, write_box};
+use crate::pads::are_told;
+use box_format::{BoxRefusal, BoxView, Migrate, Parts, Version, migrate, read_box, write_box};
 use handover::Handover;
+use jpeg_marker::HeaderRefusal;
 use std::alloc::{AllocError, Global};
-use std::test::Fail;
+use std::process::Abort;
 
-// The parts of a container, its pad bit, how many segments it has, how many bytes its header has, and its last stream.
-type Taken<'a> = (&'a [&'a [u8]], bool, u8, usize, &'a [u8]);
+// The fields of a container in version 1, if it can say it, and in version 2, and what follows them; the byte of pad
+// bits with the list's only one, how many segments it has, how many bytes its header has, and its last stream.
+type Taken<'a> = (
+    &'a [u8],
+    &'a [u8],
+    &'a [&'a [u8]],
+    (u8, u8),
+    u8,
+    usize,
+    &'a [u8],
+);
 
 // A header of 69 bytes and a trailer of two, in one segment and in two.
 const FRONT: &[u8] = b"LPSG\x01\x01\x01\0\0\0\x45\0\0\0\x02";
 
 const FRONT_OF_TWO: &[u8] = b"LPSG\x01\x01\x02\0\0\0\x45\0\0\0\x02";
 
+const SECOND: &[u8] = b"LPSG\x02\x01\x01\0\0\0\x45\0\0\0\x02\0\0\0\0";
+
+const SECOND_OF_TWO: &[u8] = b"LPSG\x02\x01\x02\0\0\0\x45\0\0\0\x02\0\0\0\0";
+
 // A record: nothing is begun, and three bytes follow as the stream.
 const RECORD: &[u8] = b"\0\0\0\0\0\0\0\0\0\0\0\0\0\0\0\0\0\0\0\0\0\x03";
+
+// One restart marker comes before.
+const ONE_MARKER: &[u8] = b"\0\0\0\0\0\0\0\0\0\0\0\0\0\x01\0\0\0\0\0\0\0\x03";
 
 // Two bits are begun.
 const TWO_BITS: &[u8] = b"\0\x02\0\0\0\0\0\0\0\0\0\0\0\0\0\0\0\0\0\0\0\x03";
@@ -25,6 +44,9 @@ const TWO_BITS: &[u8] = b"\0\x02\0\0\0\0\0\0\0\0\0\0\0\0\0\0\0\0\0\0\0\x03";
 const EIGHT_HIGH: &[u8] = b"\xff\xd8\xff\xc0\0\x0b\x08\0\x08\0\x08\x01\x01\x11\0";
 
 const SIXTEEN_HIGH: &[u8] = b"\xff\xd8\xff\xc0\0\x0b\x08\0\x10\0\x08\x01\x01\x11\0";
+
+// A restart after each MCU.
+const RESTARTS: &[u8] = b"\xff\xdd\0\x04\0\x01";
 
 // Its tables and its scan.
 const REST: &[u8] = &[
@@ -40,91 +62,164 @@ const ZEROS: &[u8] = b"\0\0\0";
 const TAIL: &[u8] = b"\xff\xd9\0\0\0";
 
 const TAKEN: &[Taken] = &[
-    (&[FRONT, RECORD, EIGHT_HIGH, REST, TAIL], true, 1, 69, ZEROS),
     (
-        &[
-            FRONT_OF_TWO,
-            RECORD,
-            TWO_BITS,
-            SIXTEEN_HIGH,
-            REST,
-            TAIL,
-            b"\0\0\x07",
-        ],
-        true,
+        FRONT,
+        SECOND,
+        &[RECORD, EIGHT_HIGH, REST, TAIL],
+        (1, 0),
+        1,
+        69,
+        ZEROS,
+    ),
+    (
+        FRONT_OF_TWO,
+        SECOND_OF_TWO,
+        &[RECORD, TWO_BITS, SIXTEEN_HIGH, REST, TAIL, b"\0\0\x07"],
+        (1, 0),
         2,
         69,
         b"\0\0\x07",
     ),
     // The pad bit 0, no trailer and an empty stream.
     (
+        b"LPSG\x01\0\x02\0\0\0\x45\0\0\0\0",
+        b"LPSG\x02\0\x02\0\0\0\x45\0\0\0\0\0\0\0\0",
         &[
-            b"LPSG\x01\0\x02\0\0\0\x45\0\0\0\0",
             RECORD,
             b"\x40\x02\x7f\xff\0\0\0\0\0\0\0\0\0\0\0\0\0\0\0\0\0\0",
             SIXTEEN_HIGH,
             REST,
             ZEROS,
         ],
-        false,
+        (0, 0),
         2,
         69,
         b"",
     ),
+    // A list of two pad bits.
+    (
+        b"",
+        b"LPSG\x02\x02\x02\0\0\0\x4b\0\0\0\x02\0\0\0\x01",
+        &[
+            RECORD,
+            ONE_MARKER,
+            b"\x80",
+            SIXTEEN_HIGH,
+            RESTARTS,
+            REST,
+            TAIL,
+            ZEROS,
+        ],
+        (2, 0x80),
+        2,
+        75,
+        ZEROS,
+    ),
 ];
 
 #[test]
-fn containers_are_read(rt: HostRuntime) -> Result<(), Fail> {
-    for (parts, pad, segments, header, stream) in TAKEN {
-        let bytes = joined(rt.alloc(), parts)?;
-        assert!(rt;
-            is_read(&bytes, *pad, *segments, *header, stream),
-            "{bytes:?}"
-        );
+fn containers_are_read(rt: HostRuntime) {
+    for (first, second, rest, pads, segments, header, stream) in TAKEN {
+        let said = (*pads, *segments, *header, *stream);
+        let bytes = joined(&rt, rt.alloc(), second, rest);
+        assert!(rt; is_read(&bytes, Version::Second, said), "{bytes:?}");
+        if !first.is_empty() {
+            let bytes = joined(&rt, rt.alloc(), first, rest);
+            assert!(rt; is_read(&bytes, Version::First, said), "{bytes:?}");
+        }
     }
-    Ok(())
 }
 
-fn is_read(bytes: &[u8], pad: bool, segments: u8, header: usize, stream: &[u8]) -> bool {
+fn is_read(bytes: &[u8], version: Version, said: ((u8, u8), u8, usize, &[u8])) -> bool {
+    let (pads, segments, header, stream) = said;
     let Ok(view) = read_box(bytes) else {
         return false;
     };
     if segments == 0 || view.segments() != segments {
         return false;
     }
-    view.pad() == pad
+    view.version() == version
+        && are_told(&view.pad(), pads)
         && view.header().len() == header
         && view.plan().header_length() == header
         && view.stream(segments - 1) == stream
 }
 
 #[test]
-fn containers_are_written(rt: HostRuntime) -> Result<(), Fail> {
-    for (parts, _, _, _, _) in TAKEN {
-        let bytes = joined(rt.alloc(), parts)?;
-        assert!(rt; is_written(rt.alloc(), &bytes)?, "{bytes:?}");
+fn containers_are_written(rt: HostRuntime) {
+    for (_, second, rest, _, _, _, _) in TAKEN {
+        let bytes = joined(&rt, rt.alloc(), second, rest);
+        assert!(rt; is_written(&rt, rt.alloc(), &bytes), "{bytes:?}");
     }
-    Ok(())
 }
 
 // Whether the container of what is read from the bytes has these bytes.
-fn is_written(alloc: Global, bytes: &[u8]) -> Result<bool, AllocError> {
-    match read_box(bytes) {
-        Ok(view) => Ok(again(alloc, &view)?.as_slice() == bytes),
-        Err(_) => Ok(false),
+fn is_written(rt: &impl Abort, alloc: Global, bytes: &[u8]) -> bool {
+    let Ok(view) = read_box(bytes) else {
+        return false;
+    };
+    match view.version() {
+        Version::Second => again(alloc, &view).expect(rt, "memory").as_slice() == bytes,
+        Version::First => false,
     }
 }
 
-fn joined(alloc: Global, parts: &[&[u8]]) -> Result<Vec<u8>, AllocError> {
-    let mut bytes = Vec::new(alloc);
-    for part in parts {
-        bytes.extend_from_slice(part)?;
+#[test]
+fn containers_are_migrated(rt: HostRuntime) {
+    for (first, second, rest, _, _, _, _) in TAKEN {
+        let wanted = joined(&rt, rt.alloc(), second, rest);
+        assert!(rt; is_migrated(rt.alloc(), &wanted, &wanted), "{wanted:?}");
+        if !first.is_empty() {
+            let bytes = joined(&rt, rt.alloc(), first, rest);
+            assert!(rt; is_migrated(rt.alloc(), &bytes, &wanted), "{bytes:?}");
+        }
     }
-    Ok(bytes)
+}
+
+fn is_migrated(alloc: Global, bytes: &[u8], wanted: &[u8]) -> bool {
+    match migrate(alloc, bytes) {
+        Ok(made) => made.as_slice() == wanted,
+        Err(_) => false,
+    }
+}
+
+// Bytes that are no container, and their refusal.
+const REFUSED: &[(&[u8], BoxRefusal)] = &[
+    (b"", BoxRefusal::BoxMagic),
+    (b"LPSG\x03", BoxRefusal::BoxVersion),
+    (FRONT, BoxRefusal::BoxCut),
+    (SECOND, BoxRefusal::BoxCut),
+    (
+        b"LPSG\x02\x01\0\0\0\0\0\0\0\0\0\0\0\0\0",
+        BoxRefusal::BoxHeader(HeaderRefusal::NotJpeg),
+    ),
+];
+
+#[test]
+fn other_bytes_are_not_migrated(rt: HostRuntime) {
+    for (bytes, refusal) in REFUSED {
+        assert!(rt; is_refused(rt.alloc(), bytes, *refusal), "{bytes:?}");
+    }
+}
+
+fn is_refused(alloc: Global, bytes: &[u8], wanted: BoxRefusal) -> bool {
+    match migrate(alloc, bytes) {
+        Err(refusal) => refusal == Migrate::Box(wanted),
+        Ok(_) => false,
+    }
+}
+
+fn joined(rt: &impl Abort, alloc: Global, front: &[u8], rest: &[&[u8]]) -> Vec<u8> {
+    let mut bytes = Vec::from_slice(alloc, front).expect(rt, "memory");
+    for part in rest {
+        bytes.extend_from_slice(part).expect(rt, "memory");
+    }
+    bytes
 }
 
 // The container of what was read.
 fn again(alloc: Global, view: &BoxView) -> Result<Vec<u8>, AllocError>
+    requires { view.now.parts.version ≡ Second }
     ensures { IfOk result (λ bytes. bytes.items ≡ box_bytes view.now.parts) }
 {
     let _ = view.plan();

@@ -26,9 +26,19 @@ const FRONT_OF_TWO: &[u8] = b"LPSG\x01\x01\x02\0\0\0\x45\0\0\0\x02";
 
 const FRONT_OF_THREE: &[u8] = b"LPSG\x01\x01\x03\0\0\0\x4b\0\0\0\x02";
 
-// A record: nothing begun, two or three bits, one restart marker or two before; and a stream of three bytes, or of the
-// five that four blocks take.
+// The same in version 2: a list of pad bits of one byte, with a header of 75 bytes and two segments, or with one of 76
+// and one segment; and one pad bit, with a header of 69 bytes and sixty-four segments.
+const FRONT_OF_TWO_PADS: &[u8] = b"LPSG\x02\x02\x02\0\0\0\x4b\0\0\0\x02\0\0\0\x01";
+
+const FRONT_OF_LISTED: &[u8] = b"LPSG\x02\x02\x01\0\0\0\x4c\0\0\0\x02\0\0\0\x01";
+
+const FRONT_OF_SIXTY_FOUR: &[u8] = b"LPSG\x02\x01\x40\0\0\0\x45\0\0\0\x02\0\0\0\0";
+
+// A record: nothing begun, two, three, four or six bits, one restart marker or two before; and a stream of three bytes, or of the
+// five that four blocks take, or of eight.
 const START: &[u8] = b"\0\0\0\0\0\0\0\0\0\0\0\0\0\0\0\0\0\0\0\0\0\x03";
+
+const START_OF_EIGHT: &[u8] = b"\0\0\0\0\0\0\0\0\0\0\0\0\0\0\0\0\0\0\0\0\0\x08";
 
 const START_OF_FIVE: &[u8] = b"\0\0\0\0\0\0\0\0\0\0\0\0\0\0\0\0\0\0\0\0\0\x05";
 
@@ -36,12 +46,16 @@ const TWO_BITS: &[u8] = b"\0\x02\0\0\0\0\0\0\0\0\0\0\0\0\0\0\0\0\0\0\0\x03";
 
 const THREE_BITS: &[u8] = b"\0\x03\0\0\0\0\0\0\0\0\0\0\0\0\0\0\0\0\0\0\0\x03";
 
+const FOUR_BITS: &[u8] = b"\0\x04\0\0\0\0\0\0\0\0\0\0\0\0\0\0\0\0\0\0\0\x03";
+
+const SIX_BITS: &[u8] = b"\0\x06\0\0\0\0\0\0\0\0\0\0\0\0\0\0\0\0\0\0\0\x03";
+
 const ONE_MARKER: &[u8] = b"\0\0\0\0\0\0\0\0\0\0\0\0\0\x01\0\0\0\0\0\0\0\x03";
 
 const TWO_MARKERS: &[u8] = b"\0\0\0\0\0\0\0\0\0\0\0\0\0\x02\0\0\0\0\0\0\0\x03";
 
 // Headers of one component, 8 by 8, 8 by 16 and 8 by 32 samples, with one code word in each table; and of one of 8 by
-// 24, with a restart after each MCU.
+// 24, or 8 by 16, with a restart after each MCU.
 const HEADER: &[u8] = b"\xff\xd8\xff\xc0\0\x0b\x08\0\x08\0\x08\x01\x01\x11\0\
     \xff\xc4\0\x14\0\x01\0\0\0\0\0\0\0\0\0\0\0\0\0\0\0\0\
     \xff\xc4\0\x14\x10\x01\0\0\0\0\0\0\0\0\0\0\0\0\0\0\0\0\
@@ -62,11 +76,35 @@ const WITH_RESTARTS: &[u8] = b"\xff\xd8\xff\xc0\0\x0b\x08\0\x18\0\x08\x01\x01\x1
     \xff\xc4\0\x14\x10\x01\0\0\0\0\0\0\0\0\0\0\0\0\0\0\0\0\
     \xff\xdd\0\x04\0\x01\xff\xda\0\x08\x01\x01\0\0\x3f\0";
 
+const TWO_INTERVALS: &[u8] = b"\xff\xd8\xff\xc0\0\x0b\x08\0\x10\0\x08\x01\x01\x11\0\
+    \xff\xc4\0\x14\0\x01\0\0\0\0\0\0\0\0\0\0\0\0\0\0\0\0\
+    \xff\xc4\0\x14\x10\x01\0\0\0\0\0\0\0\0\0\0\0\0\0\0\0\0\
+    \xff\xdd\0\x04\0\x01\xff\xda\0\x08\x01\x01\0\0\x3f\0";
+
+// 8 by 96 samples, a restart after four MCUs, and differences of 0 and of 1.
+const THREE_INTERVALS: &[u8] = b"\xff\xd8\xff\xc0\0\x0b\x08\0\x60\0\x08\x01\x01\x11\0\
+    \xff\xc4\0\x15\0\x02\0\0\0\0\0\0\0\0\0\0\0\0\0\0\0\0\x01\
+    \xff\xc4\0\x14\x10\x01\0\0\0\0\0\0\0\0\0\0\0\0\0\0\0\0\
+    \xff\xdd\0\x04\0\x04\xff\xda\0\x08\x01\x01\0\0\x3f\0";
+
+// 8 by 512 samples.
+const SIXTY_FOUR_HIGH: &[u8] = b"\xff\xd8\xff\xc0\0\x0b\x08\x02\0\0\x08\x01\x01\x11\0\
+    \xff\xc4\0\x14\0\x01\0\0\0\0\0\0\0\0\0\0\0\0\0\0\0\0\
+    \xff\xc4\0\x14\x10\x01\0\0\0\0\0\0\0\0\0\0\0\0\0\0\0\0\
+    \xff\xda\0\x08\x01\x01\0\0\x3f\0";
+
 const TRAILER: &[u8] = b"\xff\xd9";
 
 const ZEROS: &[u8] = b"\0\0\0";
 
 const FIVE_ZEROS: &[u8] = b"\0\0\0\0\0";
+
+const SIXTEEN_ZEROS: &[u8] = b"\0\0\0\0\0\0\0\0\0\0\0\0\0\0\0\0";
+
+// The stream of the three intervals, and their bytes.
+const STREAM_OF_STEPS: &[u8] = b"\0\0\0\0\x43\x80\0\0";
+
+const ONES_AND_ZEROS: &[u8] = b"\0\xff\xd0\xc0\x7f\xff\xd1\xc0\0";
 
 // A stream that is not the one of the bits that are read from it.
 const OTHER_END: &[u8] = b"\0\0\x01";
@@ -87,7 +125,7 @@ const THREE: &[&[u8]] = &[
 const FILE_OF_THREE: &[&[u8]] = &[WITH_RESTARTS, b"\x3f\xff\xd0\x3f\xff\xd1\x3f", TRAILER];
 
 // How a decode ends: with so many bytes, with a fault of the sink after so many, with a fault of a segment's stream,
-// with a pad bit that has to be 1, or before it begins.
+// with pad bits that have to be told otherwise, or before it begins.
 #[derive(Clone, Copy, PartialEq)]
 enum End {
     Whole(u64),
@@ -120,6 +158,53 @@ const FILES: &[Row] = &[
         &[HIGHER, b"\x0f", TRAILER],
     ),
     (THREE, 84, &[], End::Whole(84), FILE_OF_THREE),
+    // Intervals that pad ones and zeros, in both orders, and one that pads no bit before them.
+    (
+        &[
+            FRONT_OF_TWO_PADS,
+            START,
+            ONE_MARKER,
+            b"\x80",
+            TWO_INTERVALS,
+            TRAILER,
+            ZEROS,
+            ZEROS,
+        ],
+        100,
+        &[],
+        End::Whole(81),
+        &[TWO_INTERVALS, b"\x3f\xff\xd0\0", TRAILER],
+    ),
+    (
+        &[
+            FRONT_OF_TWO_PADS,
+            START,
+            ONE_MARKER,
+            b"\x40",
+            TWO_INTERVALS,
+            TRAILER,
+            ZEROS,
+            ZEROS,
+        ],
+        100,
+        &[],
+        End::Whole(81),
+        &[TWO_INTERVALS, b"\0\xff\xd0\x3f", TRAILER],
+    ),
+    (
+        &[
+            FRONT_OF_LISTED,
+            START_OF_EIGHT,
+            b"\xc0",
+            THREE_INTERVALS,
+            TRAILER,
+            STREAM_OF_STEPS,
+        ],
+        100,
+        &[],
+        End::Whole(87),
+        &[THREE_INTERVALS, ONES_AND_ZEROS, TRAILER],
+    ),
 ];
 
 const FAULTS: &[Row] = &[
@@ -166,19 +251,70 @@ const FAULTS: &[Row] = &[
     ),
 ];
 
-const PADS: &[Row] = &[(
-    &[
-        FRONT_PADDED_WITH_ZEROS,
-        START_OF_FIVE,
-        HIGHEST,
-        TRAILER,
-        FIVE_ZEROS,
-    ],
-    100,
-    &[],
-    End::PadSpelling,
-    &[HIGHEST, b"\0", TRAILER],
-)];
+const PADS: &[Row] = &[
+    // A pad bit of 0 where no bit is padded.
+    (
+        &[
+            FRONT_PADDED_WITH_ZEROS,
+            START_OF_FIVE,
+            HIGHEST,
+            TRAILER,
+            FIVE_ZEROS,
+        ],
+        100,
+        &[],
+        End::PadSpelling,
+        &[HIGHEST, b"\0", TRAILER],
+    ),
+    // A list of ones alone, and of zeros alone.
+    (
+        &[
+            FRONT_OF_TWO_PADS,
+            START,
+            ONE_MARKER,
+            b"\xc0",
+            TWO_INTERVALS,
+            TRAILER,
+            ZEROS,
+            ZEROS,
+        ],
+        100,
+        &[],
+        End::PadSpelling,
+        &[TWO_INTERVALS, b"\x3f\xff\xd0\x3f", TRAILER],
+    ),
+    (
+        &[
+            FRONT_OF_TWO_PADS,
+            START,
+            ONE_MARKER,
+            b"\0",
+            TWO_INTERVALS,
+            TRAILER,
+            ZEROS,
+            ZEROS,
+        ],
+        100,
+        &[],
+        End::PadSpelling,
+        &[TWO_INTERVALS, b"\0\xff\xd0\0", TRAILER],
+    ),
+    // A 0 in the list for the interval that pads no bit.
+    (
+        &[
+            FRONT_OF_LISTED,
+            START_OF_EIGHT,
+            b"\x40",
+            THREE_INTERVALS,
+            TRAILER,
+            STREAM_OF_STEPS,
+        ],
+        100,
+        &[],
+        End::PadSpelling,
+        &[THREE_INTERVALS, ONES_AND_ZEROS, TRAILER],
+    ),
+];
 
 // The header is the first call of the sink, the segment's byte the second, and the trailer the third.
 const FAILED_WRITES: &[Row] = &[
@@ -322,7 +458,7 @@ fn bytes_before_a_fault_are_written(rt: HostRuntime) -> Result<(), Fail> {
 }
 
 #[test]
-fn a_pad_bit_that_is_not_needed_is_1(rt: HostRuntime) -> Result<(), Fail> {
+fn pad_bits_have_one_spelling(rt: HostRuntime) -> Result<(), Fail> {
     come_out(&rt, rt.alloc(), PADS)?;
     Ok(())
 }
@@ -331,6 +467,39 @@ fn a_pad_bit_that_is_not_needed_is_1(rt: HostRuntime) -> Result<(), Fail> {
 fn a_failed_write_leaves_what_was_written(rt: HostRuntime) -> Result<(), Fail> {
     come_out(&rt, rt.alloc(), FAILED_WRITES)?;
     Ok(())
+}
+
+// Sixty-four rows, four of which share a byte.
+#[test]
+fn sixty_four_segments_come_back(rt: HostRuntime) {
+    let container = sixty_four(&rt, rt.alloc());
+    let parts = [SIXTY_FOUR_HIGH, SIXTEEN_ZEROS, TRAILER];
+    let file = joined(rt.alloc(), &parts).expect(&rt, "memory");
+    assert!(rt; container.len() == 1690 && file.len() == 87);
+    comes_out(
+        &rt,
+        rt.alloc(),
+        &container,
+        (100, &[]),
+        (End::Whole(87), &file),
+    )
+    .expect(&rt, "memory");
+}
+
+// The container.
+fn sixty_four(rt: &impl Abort, alloc: Global) -> Vec<u8> {
+    let mut all = Vec::from_slice(alloc, FRONT_OF_SIXTY_FOUR).expect(rt, "memory");
+    for _ in 0..16 {
+        for record in [START, TWO_BITS, FOUR_BITS, SIX_BITS] {
+            all.extend_from_slice(record).expect(rt, "memory");
+        }
+    }
+    all.extend_from_slice(SIXTY_FOUR_HIGH).expect(rt, "memory");
+    all.extend_from_slice(TRAILER).expect(rt, "memory");
+    for _ in 0..64 {
+        all.extend_from_slice(ZEROS).expect(rt, "memory");
+    }
+    all
 }
 
 // One byte a call, and each of the 84 calls fails in turn.

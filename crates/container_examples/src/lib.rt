@@ -6,6 +6,8 @@ mod boxes;
 #[cfg(test)]
 mod decoded;
 #[cfg(test)]
+mod pads;
+#[cfg(test)]
 mod starts;
 #[cfg(test)]
 mod steps;

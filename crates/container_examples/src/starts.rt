@@ -1,6 +1,7 @@
 // Where the segments of small files start, and their streams.
 ghost use Rattle.std.specs.Prelude.{◌<◌, length};
 
+use crate::pads::are_told;
 use handover::Handover;
 use jpeg_marker::read_header;
 use scan_text::ScanRefusal;
@@ -12,23 +13,28 @@ use std::test::Fail;
 // DC is 0.
 type Start = (u32, usize, u8, u8, u32);
 
-// The parts of a header, the bytes after it, how many segments are asked for; their starts and the trailer's place.
-type Row<'a> = (&'a [&'a [u8]], &'a [u8], u8, &'a [Start], usize);
+// The parts of a header, the bytes after it, how many segments are asked for; their starts, the trailer's place, and the
+// byte of pad bits with the list's only one, which is 0 where there is no list.
+type Row<'a> = (&'a [&'a [u8]], &'a [u8], u8, &'a [Start], usize, (u8, u8));
 
 // What each header here begins and ends with.
 const START: &[u8] = b"\xff\xd8";
 
 const GREY_SCAN: &[u8] = b"\xff\xda\0\x08\x01\x01\0\0\x3f\0";
 
-// Grey, 8 samples wide, and 16, 32 or 40 high.
+// Grey, 8 samples wide, and 16, 32, 40 or 512 high.
 const TWO_HIGH: &[u8] = b"\xff\xc0\0\x0b\x08\0\x10\0\x08\x01\x01\x11\0";
 
 const FOUR_HIGH: &[u8] = b"\xff\xc0\0\x0b\x08\0\x20\0\x08\x01\x01\x11\0";
 
 const FIVE_HIGH: &[u8] = b"\xff\xc0\0\x0b\x08\0\x28\0\x08\x01\x01\x11\0";
 
-// A restart after each MCU.
+const SIXTY_FOUR_HIGH: &[u8] = b"\xff\xc0\0\x0b\x08\x02\0\0\x08\x01\x01\x11\0";
+
+// A restart after each MCU, or after four.
 const RESTARTS: &[u8] = b"\xff\xdd\0\x04\0\x01";
+
+const RESTARTS_OF_FOUR: &[u8] = b"\xff\xdd\0\x04\0\x04";
 
 // `0` for DC category 0, and `0` for the end of a block: a block of zeros is `00`.
 const LEVEL: &[u8] = b"\xff\xc4\0\x14\0\x01\0\0\0\0\0\0\0\0\0\0\0\0\0\0\0\0";
@@ -51,6 +57,7 @@ const FILES: &[Row<'static>] = &[
         2,
         &[(0, 69, 0, 0, 0), (1, 69, 0, 2, 0)],
         70,
+        (1, 0),
     ),
     // One byte across four segments, and the zero that is stuffed after it.
     (
@@ -64,6 +71,7 @@ const FILES: &[Row<'static>] = &[
             (3, 71, 0xfc, 6, 0),
         ],
         73,
+        (1, 0),
     ),
     // A restart marker on the seam.
     (
@@ -72,6 +80,7 @@ const FILES: &[Row<'static>] = &[
         2,
         &[(0, 75, 0, 0, 0), (1, 78, 0, 0, 1)],
         79,
+        (1, 0),
     ),
     // No more segments than rows.
     (
@@ -80,15 +89,63 @@ const FILES: &[Row<'static>] = &[
         16,
         &[(0, 69, 0, 0, 0), (1, 69, 0, 2, 0)],
         70,
+        (1, 0),
+    ),
+    // Both pad bits, and zeros alone.
+    (
+        &[START, TWO_HIGH, LEVEL, END, RESTARTS, GREY_SCAN],
+        b"\x3f\xff\xd0\0\xff\xd9",
+        2,
+        &[(0, 75, 0, 0, 0), (1, 78, 0, 0, 1)],
+        79,
+        (2, 0x80),
+    ),
+    (
+        &[START, TWO_HIGH, LEVEL, END, RESTARTS, GREY_SCAN],
+        b"\0\xff\xd0\x3f\xff\xd9",
+        2,
+        &[(0, 75, 0, 0, 0), (1, 78, 0, 0, 1)],
+        79,
+        (2, 0x40),
+    ),
+    (
+        &[START, TWO_HIGH, LEVEL, END, RESTARTS, GREY_SCAN],
+        b"\0\xff\xd0\0\xff\xd9",
+        2,
+        &[(0, 75, 0, 0, 0), (1, 78, 0, 0, 1)],
+        79,
+        (0, 0),
+    ),
+    // The first interval pads no bit, and the second zeros.
+    (
+        &[
+            START,
+            FIVE_HIGH,
+            ONES,
+            ONES_AND_END,
+            RESTARTS_OF_FOUR,
+            GREY_SCAN,
+        ],
+        b"\xff\0\xff\xd0\xc0\xff\xd9",
+        5,
+        &[
+            (0, 77, 0, 0, 0),
+            (1, 77, 0xc0, 2, 0),
+            (2, 77, 0xf0, 4, 0),
+            (3, 77, 0xfc, 6, 0),
+            (4, 81, 0, 0, 1),
+        ],
+        82,
+        (0, 0),
     ),
 ];
 
 #[test]
 fn segments_start(rt: HostRuntime) -> Result<(), Fail> {
-    for (header, scan, segments, starts, trailer) in FILES {
+    for (header, scan, segments, starts, trailer, pads) in FILES {
         let bytes = joined(rt.alloc(), header, scan)?;
         assert!(rt;
-            are_found(rt.alloc(), &bytes, *segments, starts, *trailer)?,
+            are_found(rt.alloc(), &bytes, *segments, starts, *trailer, *pads)?,
             "{bytes:?}"
         );
     }
@@ -111,6 +168,7 @@ fn are_found(
     segments: u8,
     wanted: &[Start],
     trailer: usize,
+    pads: (u8, u8),
 ) -> Result<bool, AllocError> {
     let Ok(plan) = read_header(bytes) else {
         return Ok(false);
@@ -121,7 +179,10 @@ fn are_found(
     let Ok(starts) = find_starts(alloc, &plan, bytes, segments) else {
         return Ok(false);
     };
-    if !(are_starts(&starts, wanted) && starts.pad() && starts.trailer() == trailer) {
+    if !(are_starts(&starts, wanted) && starts.trailer() == trailer) {
+        return Ok(false);
+    }
+    if !are_told(&starts.pad(), pads) {
         return Ok(false);
     }
     for segment in 0..starts.segments() {
@@ -160,6 +221,40 @@ fn has_fields(handover: &Handover, partial: u8, bits: u8, restarts: u32) -> bool
         && handover.bits() == bits
         && handover.preds() == [0; 4]
         && handover.restarts() == restarts
+}
+
+// Sixty-four rows in sixty-four segments, four of which share a byte.
+#[test]
+fn sixty_four_segments_start(rt: HostRuntime) {
+    let header = [START, SIXTY_FOUR_HIGH, LEVEL, END, GREY_SCAN];
+    let bytes = joined(rt.alloc(), &header, &[0; 16]).expect(&rt, "memory");
+    assert!(rt; are_sixty_four(rt.alloc(), &bytes, 64));
+    assert!(rt; are_sixty_four(rt.alloc(), &bytes, 255));
+}
+
+fn are_sixty_four(alloc: Global, bytes: &[u8], segments: u8) -> bool
+    requires { 0 < segments }
+{
+    let Ok(plan) = read_header(bytes) else {
+        return false;
+    };
+    let Ok(starts) = find_starts(alloc, &plan, bytes, segments) else {
+        return false;
+    };
+    if starts.segments() != 64 {
+        return false;
+    }
+    for segment in 0..starts.segments() {
+        let (places, bits) = (usize::from(segment) / 4, segment % 4 * 2);
+        if !is_start(
+            &starts,
+            segment,
+            (u32::from(segment), 69 + places, 0, bits, 0),
+        ) {
+            return false;
+        }
+    }
+    true
 }
 
 // A scan without its last MCU.

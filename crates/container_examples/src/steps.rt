@@ -3,6 +3,7 @@ ghost use Rattle.std.specs.Prelude.{◌≡◌, ◌<◌, ◌≤◌, ◌+◌, true
 ghost use Rattle.handover.specs.declared.outcome.Outcome.{Outcome};
 ghost use Rattle.segment_code.specs.Decoding.{Owes};
 
+use crate::pads::number_of;
 use bit_list::Piece;
 use box_format::{BoxView, read_box};
 use handover::StreamCause;
@@ -10,8 +11,8 @@ use segment_code::{SegmentDecoder, Step};
 use std::alloc::{AllocError, Global};
 use std::test::Fail;
 
-// A segment's number, its bytes, and its end: 0 where it is complete, 1 where a bit was padded too, or the number of
-// the refusal.
+// A segment's number, its bytes, and its end: the number of what was padded where it is complete, or the number of the
+// refusal.
 type Segment<'a> = (u8, &'a [u8], u8);
 
 // A container by its parts, and two of its segments that are decoded one after the other.
@@ -25,6 +26,11 @@ const FRONT: &[u8] = b"LPSG\x01\x01\x01\0\0\0\x45\0\0\0\0";
 
 const FRONT_OF_TWO: &[u8] = b"LPSG\x01\x01\x02\0\0\0\x45\0\0\0\0";
 
+// The same in version 2, with a header of 75 bytes, and with one of 71, with a list of one byte of pad bits.
+const FRONT_WITH_LIST: &[u8] = b"LPSG\x02\x02\x02\0\0\0\x4b\0\0\0\0\0\0\0\x01";
+
+const FRONT_OF_ONES: &[u8] = b"LPSG\x02\x02\x01\0\0\0\x47\0\0\0\0\0\0\0\x01";
+
 // A header of 75 bytes.
 const LONGER_FRONT: &[u8] = b"LPSG\x01\x01\x01\0\0\0\x4b\0\0\0\0";
 
@@ -35,6 +41,9 @@ const TWO_BITS: &[u8] = b"\0\x02\0\0\0\0\0\0\0\0\0\0\0\0";
 
 const THREE_BITS: &[u8] = b"\0\x03\0\0\0\0\0\0\0\0\0\0\0\0";
 
+// One restart marker comes before.
+const ONE_MARKER: &[u8] = b"\0\0\0\0\0\0\0\0\0\0\0\0\0\x01";
+
 // The length of a stream.
 const NONE: &[u8] = b"\0\0\0\0\0\0\0\0";
 
@@ -42,20 +51,29 @@ const ONE: &[u8] = b"\0\0\0\0\0\0\0\x01";
 
 const THREE: &[u8] = b"\0\0\0\0\0\0\0\x03";
 
+const FIVE: &[u8] = b"\0\0\0\0\0\0\0\x05";
+
 const SIX: &[u8] = b"\0\0\0\0\0\0\0\x06";
 
 const SEVEN: &[u8] = b"\0\0\0\0\0\0\0\x07";
 
-// One component, 8, 16 or 16,000 by 8 samples, with one code word in each table: a block of zeros is `00`.
+// One component, 8, 16, 32 or 16,000 by 8 samples, with one code word in each table: a block of zeros is `00`.
 const EIGHT_HIGH: &[u8] = b"\xff\xd8\xff\xc0\0\x0b\x08\0\x08\0\x08\x01\x01\x11\0";
 
 const SIXTEEN_HIGH: &[u8] = b"\xff\xd8\xff\xc0\0\x0b\x08\0\x10\0\x08\x01\x01\x11\0";
+
+const FOUR_HIGH: &[u8] = b"\xff\xd8\xff\xc0\0\x0b\x08\0\x20\0\x08\x01\x01\x11\0";
 
 const TALL: &[u8] = b"\xff\xd8\xff\xc0\0\x0b\x08\x3e\x80\0\x08\x01\x01\x11\0";
 
 const DC: &[u8] = b"\xff\xc4\0\x14\0\x01\0\0\0\0\0\0\0\0\0\0\0\0\0\0\0\0";
 
 const AC: &[u8] = b"\xff\xc4\0\x14\x10\x01\0\0\0\0\0\0\0\0\0\0\0\0\0\0\0\0";
+
+// Two code words in each: a block of zeros is `11`.
+const DC_OF_ONES: &[u8] = b"\xff\xc4\0\x15\0\x02\0\0\0\0\0\0\0\0\0\0\0\0\0\0\0\x01\0";
+
+const AC_OF_ONES: &[u8] = b"\xff\xc4\0\x15\x10\x02\0\0\0\0\0\0\0\0\0\0\0\0\0\0\0\x01\0";
 
 // A restart interval of one MCU.
 const INTERVAL: &[u8] = b"\xff\xdd\0\x04\0\x01";
@@ -200,6 +218,78 @@ const ROWS: &[Row] = &[
         (0, b"", 40),
         (1, b"\x0f", 1),
     ),
+    (
+        "an interval of ones and one of zeros",
+        &[
+            FRONT_WITH_LIST,
+            START,
+            THREE,
+            ONE_MARKER,
+            THREE,
+            b"\x80",
+            SIXTEEN_HIGH,
+            DC,
+            AC,
+            INTERVAL,
+            SCAN,
+            ZEROS,
+            ZEROS,
+        ],
+        (0, b"\x3f\xff\xd0", 1),
+        (1, b"\0", 2),
+    ),
+    (
+        "an interval of zeros and one of ones",
+        &[
+            FRONT_WITH_LIST,
+            START,
+            THREE,
+            ONE_MARKER,
+            THREE,
+            b"\x40",
+            SIXTEEN_HIGH,
+            DC,
+            AC,
+            INTERVAL,
+            SCAN,
+            ZEROS,
+            ZEROS,
+        ],
+        (0, b"\0\xff\xd0", 2),
+        (1, b"\x3f", 1),
+    ),
+    (
+        "a 0 in the list for an interval that pads no bit",
+        &[
+            FRONT_OF_ONES,
+            START,
+            FIVE,
+            b"\0",
+            FOUR_HIGH,
+            DC_OF_ONES,
+            AC_OF_ONES,
+            SCAN,
+            b"\0\0\0\0\0",
+        ],
+        (0, b"\xff\0", 4),
+        (0, b"\xff\0", 4),
+    ),
+    (
+        "a 1 in the list for an interval that pads no bit",
+        &[
+            FRONT_OF_ONES,
+            START,
+            FIVE,
+            b"\x80",
+            FOUR_HIGH,
+            DC_OF_ONES,
+            AC_OF_ONES,
+            SCAN,
+            b"\0\0\0\0\0",
+        ],
+        (0, b"\xff\0", 0),
+        (0, b"\xff\0", 0),
+    ),
 ];
 
 // The number of a cause.
@@ -237,7 +327,7 @@ fn decoded(decoder: &mut SegmentDecoder, alloc: Global) -> Result<(Vec<u8>, u8, 
         all.extend_from_slice(piece.bytes())?;
         match step {
             Step::More => {}
-            Step::Done { padded } => return Ok((all, u8::from(padded), taken + 1)),
+            Step::Done { pads } => return Ok((all, number_of(&pads), taken + 1)),
             Step::Fault(fault) => return Ok((all, number(fault.cause), taken + 1)),
         }
     }

@@ -98,8 +98,8 @@ const ACCEPTED: &[(&[usize], &[u8], Said)] = &[
     // The most blocks.
     (
         &[START, OWN, DC, AC, SCAN],
-        b"\xff\xc0\0\x0b\x08\x40\0\x40\0\x01\x01\x11\0",
-        (69, 2048, 2048, 4194304, 0, 1),
+        b"\xff\xc0\0\x0b\x08\x80\0\x80\0\x01\x01\x11\0",
+        (69, 4096, 4096, 16777216, 0, 1),
     ),
     // The standard's tables.
     (

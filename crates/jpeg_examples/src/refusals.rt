@@ -299,7 +299,7 @@ const REFUSED: &[(&[usize], &[u8], HeaderRefusal, u8)] = &[
     // One block row too many.
     (
         &[START, OWN, DC, AC, SCAN],
-        b"\xff\xc0\0\x0b\x08\x40\x01\x40\0\x01\x01\x11\0",
+        b"\xff\xc0\0\x0b\x08\x80\x01\x80\0\x01\x01\x11\0",
         TooManyBlocks,
         15,
     ),

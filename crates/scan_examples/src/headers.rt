@@ -52,13 +52,19 @@ fn ac_table(rt: &impl Abort, table: usize) -> &'static [u8] {
     AC_TABLES[table]
 }
 
-// A restart after each MCU, or after two.
+// A restart after so many MCUs.
 fn restarts(rt: &impl Abort, interval: usize) -> &'static [u8] {
     assert!(rt; interval < RESTARTS.len());
     RESTARTS[interval]
 }
 
-const RESTARTS: [&[u8]; 3] = [b"", b"\xff\xdd\0\x04\0\x01", b"\xff\xdd\0\x04\0\x02"];
+const RESTARTS: [&[u8]; 5] = [
+    b"",
+    b"\xff\xdd\0\x04\0\x01",
+    b"\xff\xdd\0\x04\0\x02",
+    b"\xff\xdd\0\x04\0\x03",
+    b"\xff\xdd\0\x04\0\x04",
+];
 
 // The scan of all components.
 fn scan_of(frame: usize) -> &'static [u8] {

@@ -6,6 +6,8 @@ mod handed_over;
 #[cfg(test)]
 mod headers;
 #[cfg(test)]
+mod pads;
+#[cfg(test)]
 mod samples;
 #[cfg(test)]
 mod scans_read;

@@ -1,8 +1,8 @@
 // Worked scans that are read, and scans that are refused, with places.
 use crate::headers::{
     COLOUR, ELEVEN, END, FIFTEEN_ZEROS, FIVE_HIGH, FOUR_HIGH, GREY, Header, LEVEL, MOST_BLOCKS,
-    ONES, ONES_AND_END, RUN_OF_NOTHING, SEVENTEEN_HIGH, STEPS, TEN_HIGH, THREE_ZEROS, TOO_LARGE,
-    TWELVE, TWO_HIGH, ZEROS_AND_END, append, header_of, planned,
+    ONES, ONES_AND_END, RUN_OF_NOTHING, SEVENTEEN_HIGH, STEPS, TEN_HIGH, THREE_HIGH, THREE_ZEROS,
+    TOO_LARGE, TWELVE, TWO_HIGH, ZEROS_AND_END, append, header_of, planned,
 };
 use crate::values::{Value, mcu_of};
 use coef_block::Block;
@@ -12,69 +12,84 @@ use scan_decode::Reader;
 use scan_text::{MOST_SLOTS, ScanRefusal};
 use std::process::Abort;
 
-// The coefficients that aren't 0, how many blocks there are, the pad bit, and how many bytes the scan has.
-type Read<'a> = (&'a [Value], usize, Option<bool>, usize);
+// The coefficients that aren't 0, how many blocks there are, what is told after each MCU, and how many bytes the scan
+// has. Told is `.` if the MCU ends no interval, `-` if it ends one that pads no bit, and else the pad bit.
+type Read<'a> = (&'a [Value], usize, &'a [u8], usize);
 
 // The segments of a header, the bytes after it, and what is read.
 const READ: &[(Header, &[u8], Read<'static>)] = &[
     // The least scan, and what follows it.
-    (
-        [GREY, LEVEL, END, 0],
-        b"\x3f\xff\xd9",
-        (&[], 1, Some(true), 1),
-    ),
-    ([GREY, LEVEL, END, 0], b"\x3f", (&[], 1, Some(true), 1)),
-    (
-        [GREY, LEVEL, END, 0],
-        b"\0\xff\xd9",
-        (&[], 1, Some(false), 1),
-    ),
+    ([GREY, LEVEL, END, 0], b"\x3f\xff\xd9", (&[], 1, b"1", 1)),
+    ([GREY, LEVEL, END, 0], b"\x3f", (&[], 1, b"1", 1)),
+    ([GREY, LEVEL, END, 0], b"\0\xff\xd9", (&[], 1, b"0", 1)),
     // Restart markers, their numbers round again after the eighth.
     (
         [TWO_HIGH, LEVEL, END, 1],
         b"\x3f\xff\xd0\x3f\xff\xd9",
-        (&[], 2, Some(true), 4),
+        (&[], 2, b"11", 4),
     ),
     (
         [TEN_HIGH, LEVEL, END, 1],
         b"\x3f\xff\xd0\x3f\xff\xd1\x3f\xff\xd2\x3f\xff\xd3\x3f\xff\xd4\x3f\xff\xd5\x3f\xff\xd6\x3f\xff\xd7\x3f\xff\xd0\x3f",
-        (&[], 10, Some(true), 28),
+        (&[], 10, b"1111111111", 28),
+    ),
+    // Each interval has a pad bit of its own, or pads none.
+    (
+        [TWO_HIGH, LEVEL, END, 1],
+        b"\x3f\xff\xd0\0\xff\xd9",
+        (&[], 2, b"10", 4),
+    ),
+    (
+        [THREE_HIGH, LEVEL, END, 2],
+        b"\0\xff\xd0\x3f",
+        (&[], 3, b".01", 4),
+    ),
+    (
+        [FIVE_HIGH, ONES, ONES_AND_END, 4],
+        b"\xff\0\xff\xd0\xc0",
+        (&[], 5, b"...-0", 5),
+    ),
+    (
+        [TEN_HIGH, ONES, ONES_AND_END, 3],
+        b"\xff\0\xff\xd0\xfc\xff\xd1\xff\0\xff\xd2\xc0",
+        (&[], 10, b"..1..0..10", 12),
+    ),
+    (
+        [TEN_HIGH, ONES, ONES_AND_END, 4],
+        b"\xff\0\xff\xd0\xff\0\xff\xd1\xf0",
+        (&[], 10, b"...-...-.0", 9),
     ),
     // The predictor begins at 0 again after a restart.
     (
         [TWO_HIGH, STEPS, END, 1],
         b"\xdf\xff\xd0\xdf",
-        (&[(0, 0, 1), (1, 0, 1)], 2, Some(true), 4),
+        (&[(0, 0, 1), (1, 0, 1)], 2, b"11", 4),
     ),
     // No bit is padded; padding makes 0xff.
     (
         [FOUR_HIGH, ONES, ONES_AND_END, 0],
         b"\xff\0\xff\xd9",
-        (&[], 4, None, 2),
+        (&[], 4, b"...-", 2),
     ),
     (
         [GREY, ONES, ONES_AND_END, 0],
         b"\xff\0\xff\xd9",
-        (&[], 1, Some(true), 2),
+        (&[], 1, b"1", 2),
     ),
     // Differences of the DC, and a coefficient of the inside.
-    (
-        [GREY, STEPS, END, 0],
-        b"\xdf",
-        (&[(0, 0, 1)], 1, Some(true), 1),
-    ),
+    ([GREY, STEPS, END, 0], b"\xdf", (&[(0, 0, 1)], 1, b"1", 1)),
     (
         [TWO_HIGH, STEPS, END, 0],
         b"\xc7",
-        (&[(0, 0, 1), (1, 0, 1)], 2, Some(true), 1),
+        (&[(0, 0, 1), (1, 0, 1)], 2, b".1", 1),
     ),
     (
         [GREY, LEVEL, THREE_ZEROS, 0],
         b"\x1f",
-        (&[(0, 4, -1)], 1, Some(true), 1),
+        (&[(0, 4, -1)], 1, b"1", 1),
     ),
     // Six blocks in an MCU.
-    ([COLOUR, LEVEL, END, 0], b"\0\x0f", (&[], 6, Some(true), 2)),
+    ([COLOUR, LEVEL, END, 0], b"\0\x0f", (&[], 6, b"1", 2)),
 ];
 
 #[test]
@@ -90,16 +105,31 @@ fn scans_are_read(rt: HostRuntime) {
 
 fn is_read(rt: &impl Abort, plan: &Plan, bytes: &[u8], place: usize, wanted: Read) -> bool {
     let mut reader = Reader::start(plan, &PlanCodes::build(plan), bytes, place);
-    let (values, count, pad, length) = wanted;
+    let (values, count, told, length) = wanted;
     if reader.place() != place {
         return false;
     }
     let mut seen = 0;
-    for _ in 0..plan.mcus() {
+    for pad in told {
         seen = after_mcu(rt, &mut reader, seen, values);
+        if !tells(&reader, *pad) {
+            return false;
+        }
     }
-    let (bit, end) = reader.end();
-    reader.at_end() && seen == count && bit == pad && end.checked_sub(place) == Some(length)
+    reader.at_end() && seen == count && reader.end().checked_sub(place) == Some(length)
+}
+
+// Whether this is told after an MCU.
+fn tells(reader: &Reader, pad: u8) -> bool {
+    reader.ends_interval() == (pad != b'.') && reader.pad() == bit_of(pad)
+}
+
+fn bit_of(pad: u8) -> Option<bool> {
+    match pad {
+        b'0' => Some(false),
+        b'1' => Some(true),
+        _ => None,
+    }
 }
 
 // Reads an MCU of these coefficients, `seen` blocks being read before; answers how many are read then.
@@ -123,7 +153,7 @@ const CLIMB: &[u8] =
 
 // The segments of a header, the bytes after it, and the refusal. Its place counts from the header's end.
 const REFUSED: &[(Header, &[u8], ScanRefusal)] = &[
-    // Pad bits that differ, in one byte and in two intervals.
+    // Pad bits of one interval that differ: of the scan, of the first of two, and of the second.
     (
         [GREY, LEVEL, END, 0],
         b"\x2f",
@@ -131,7 +161,12 @@ const REFUSED: &[(Header, &[u8], ScanRefusal)] = &[
     ),
     (
         [TWO_HIGH, LEVEL, END, 1],
-        b"\x3f\xff\xd0\0\xff\xd9",
+        b"\x3e\xff\xd0\x3f",
+        ScanRefusal::MixedPad { place: 0 },
+    ),
+    (
+        [TWO_HIGH, LEVEL, END, 1],
+        b"\0\xff\xd0\x1f\xff\xd9",
         ScanRefusal::MixedPad { place: 3 },
     ),
     // Markers that are due: another one, another byte, half of one, none.

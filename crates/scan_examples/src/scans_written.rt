@@ -1,108 +1,196 @@
 // Worked scans that are written, and blocks that have no bits.
 use crate::headers::{
-    COLOUR, ELEVEN, END, FOUR_HIGH, GREY, Header, LEVEL, LONG_ELEVEN, LONG_TEN, ONES, ONES_AND_END,
-    RUNS, SHORT_K5, STEPS, TABLE_K3, TEN_BLOCKS, TEN_HIGH, THREE_HIGH, THREE_ZEROS, TWO_HIGH,
-    TWO_WIDE, plan_of,
+    COLOUR, ELEVEN, END, FIVE_HIGH, FOUR_HIGH, GREY, Header, LEVEL, LONG_ELEVEN, LONG_TEN, ONES,
+    ONES_AND_END, RUNS, SHORT_K5, STEPS, TABLE_K3, TEN_BLOCKS, TEN_HIGH, THREE_HIGH, THREE_ZEROS,
+    TWO_HIGH, TWO_WIDE, plan_of,
 };
+use crate::pads::{BOTH, IN_VAIN, NO_BIT, ONE, ZERO, ZERO_IN_VAIN, are_for};
 use crate::values::{Value, mcu_of, put};
 use bit_list::{BitOut, Piece};
 use coef_block::Block;
+use handover::PadSum;
 use huff_table::PlanCodes;
 use jpeg_marker::Plan;
-use scan_text::{MOST_SLOTS, WriteStop};
+use scan_text::{MOST_SLOTS, Pads, WriteStop};
 use scan_write::{Writer, mcu_room};
 use std::alloc::Global;
 use std::process::Abort;
 
-// A header, the pad bit, the bytes of zero blocks, and whether a bit is padded.
-const ZEROS: &[(Header, bool, &[u8], bool)] = &[
+// A header, the pad bits, the bytes of zero blocks, and what was padded.
+const ZEROS: &[(Header, Pads<'static>, &[u8], PadSum)] = &[
     // Zero block and ones.
-    ([GREY, LEVEL, END, 0], true, b"\x3f", true),
+    ([GREY, LEVEL, END, 0], Pads::All(true), b"\x3f", ONE),
     // Zero block and zeros.
-    ([GREY, LEVEL, END, 0], false, b"\0", true),
+    ([GREY, LEVEL, END, 0], Pads::All(false), b"\0", ZERO),
     // Two blocks in a byte.
-    ([TWO_WIDE, LEVEL, END, 0], true, b"\x0f", true),
+    ([TWO_WIDE, LEVEL, END, 0], Pads::All(true), b"\x0f", ONE),
     // Full byte is not padded.
-    ([FOUR_HIGH, ONES, ONES_AND_END, 0], true, b"\xff\0", false),
+    (
+        [FOUR_HIGH, ONES, ONES_AND_END, 0],
+        Pads::All(true),
+        b"\xff\0",
+        NO_BIT,
+    ),
     // Padding makes ff.
-    ([GREY, ONES, ONES_AND_END, 0], true, b"\xff\0", true),
+    (
+        [GREY, ONES, ONES_AND_END, 0],
+        Pads::All(true),
+        b"\xff\0",
+        ONE,
+    ),
     // One restart.
-    ([TWO_HIGH, LEVEL, END, 1], true, b"\x3f\xff\xd0\x3f", true),
+    (
+        [TWO_HIGH, LEVEL, END, 1],
+        Pads::All(true),
+        b"\x3f\xff\xd0\x3f",
+        ONE,
+    ),
     // Two restarts and zeros.
     (
         [THREE_HIGH, LEVEL, END, 1],
-        false,
+        Pads::All(false),
         b"\0\xff\xd0\0\xff\xd1\0",
-        true,
+        ZERO,
     ),
     // Two restarts.
     (
         [THREE_HIGH, LEVEL, END, 1],
-        true,
+        Pads::All(true),
         b"\x3f\xff\xd0\x3f\xff\xd1\x3f",
-        true,
+        ONE,
     ),
     // Marker numbers go round.
     (
         [TEN_HIGH, LEVEL, END, 1],
-        true,
+        Pads::All(true),
         &[
             0x3f, 0xff, 0xd0, 0x3f, 0xff, 0xd1, 0x3f, 0xff, 0xd2, 0x3f, 0xff, 0xd3, 0x3f, 0xff,
             0xd4, 0x3f, 0xff, 0xd5, 0x3f, 0xff, 0xd6, 0x3f, 0xff, 0xd7, 0x3f, 0xff, 0xd0, 0x3f,
         ],
-        true,
+        ONE,
     ),
     // Last interval is shorter.
-    ([THREE_HIGH, LEVEL, END, 2], true, b"\x0f\xff\xd0\x3f", true),
+    (
+        [THREE_HIGH, LEVEL, END, 2],
+        Pads::All(true),
+        b"\x0f\xff\xd0\x3f",
+        ONE,
+    ),
     // No marker after a whole last interval.
-    ([TWO_HIGH, LEVEL, END, 2], true, b"\x0f", true),
+    ([TWO_HIGH, LEVEL, END, 2], Pads::All(true), b"\x0f", ONE),
     // Six blocks.
-    ([COLOUR, LEVEL, END, 0], true, b"\0\x0f", true),
+    ([COLOUR, LEVEL, END, 0], Pads::All(true), b"\0\x0f", ONE),
+    // A bit for each interval.
+    (
+        [TWO_HIGH, LEVEL, END, 1],
+        Pads::Each(b"\x80"),
+        b"\x3f\xff\xd0\0",
+        BOTH,
+    ),
+    (
+        [TWO_HIGH, LEVEL, END, 1],
+        Pads::Each(b"\x40"),
+        b"\0\xff\xd0\x3f",
+        BOTH,
+    ),
+    (
+        [TWO_HIGH, LEVEL, END, 1],
+        Pads::Each(b"\xc0"),
+        b"\x3f\xff\xd0\x3f",
+        ONE,
+    ),
+    (
+        [TWO_HIGH, LEVEL, END, 1],
+        Pads::Each(b"\0"),
+        b"\0\xff\xd0\0",
+        ZERO,
+    ),
+    (
+        [TEN_HIGH, LEVEL, END, 1],
+        Pads::Each(b"\xaa\x40"),
+        &[
+            0x3f, 0xff, 0xd0, 0x00, 0xff, 0xd1, 0x3f, 0xff, 0xd2, 0x00, 0xff, 0xd3, 0x3f, 0xff,
+            0xd4, 0x00, 0xff, 0xd5, 0x3f, 0xff, 0xd6, 0x00, 0xff, 0xd7, 0x00, 0xff, 0xd0, 0x3f,
+        ],
+        BOTH,
+    ),
+    // An interval that pads no bit.
+    (
+        [FIVE_HIGH, ONES, ONES_AND_END, 4],
+        Pads::All(false),
+        b"\xff\0\xff\xd0\xc0",
+        ZERO,
+    ),
+    (
+        [FIVE_HIGH, ONES, ONES_AND_END, 4],
+        Pads::Each(b"\x80"),
+        b"\xff\0\xff\xd0\xc0",
+        ZERO,
+    ),
+    // Its bit of a list is 0, and in vain.
+    (
+        [FIVE_HIGH, ONES, ONES_AND_END, 4],
+        Pads::Each(b"\0"),
+        b"\xff\0\xff\xd0\xc0",
+        ZERO_IN_VAIN,
+    ),
+    (
+        [FOUR_HIGH, ONES, ONES_AND_END, 0],
+        Pads::Each(b"\0"),
+        b"\xff\0",
+        IN_VAIN,
+    ),
+    (
+        [FOUR_HIGH, ONES, ONES_AND_END, 0],
+        Pads::All(false),
+        b"\xff\0",
+        NO_BIT,
+    ),
 ];
 
 #[test]
 fn zero_blocks_are_written(rt: HostRuntime) {
-    for (header, pad, bytes, padded) in ZEROS {
-        let written = is_written(&rt, rt.alloc(), *header, *pad, &[], bytes, *padded);
+    for (header, pads, bytes, padded) in ZEROS {
+        let written = is_written(&rt, rt.alloc(), *header, *pads, &[], bytes, *padded);
         assert!(rt; written, "{bytes:?}");
     }
 }
 
-// A header, the coefficients that aren't 0, the bytes, and whether a bit is padded.
-const VALUES: &[(Header, &[Value], &[u8], bool)] = &[
+// A header, the coefficients that aren't 0, the bytes, and what was padded.
+const VALUES: &[(Header, &[Value], &[u8], PadSum)] = &[
     // One step.
-    ([GREY, STEPS, END, 0], &[(0, 0, 1)], b"\xdf", true),
+    ([GREY, STEPS, END, 0], &[(0, 0, 1)], b"\xdf", ONE),
     // Second difference is zero.
     (
         [TWO_HIGH, STEPS, END, 0],
         &[(0, 0, 1), (1, 0, 1)],
         b"\xc7",
-        true,
+        ONE,
     ),
     // Difference begins anew after a restart.
     (
         [TWO_HIGH, STEPS, END, 1],
         &[(0, 0, 1), (1, 0, 1)],
         b"\xdf\xff\xd0\xdf",
-        true,
+        ONE,
     ),
     // Largest difference.
-    ([GREY, ELEVEN, END, 0], &[(0, 0, 2047)], b"\x7f\xf7", true),
+    ([GREY, ELEVEN, END, 0], &[(0, 0, 2047)], b"\x7f\xf7", ONE),
     // Least difference.
-    ([GREY, ELEVEN, END, 0], &[(0, 0, -2047)], b"\0\x07", true),
+    ([GREY, ELEVEN, END, 0], &[(0, 0, -2047)], b"\0\x07", ONE),
     // Each component has its own difference.
     (
         [COLOUR, STEPS, END, 0],
         &[(0, 0, 1), (1, 0, 1), (2, 0, 1), (3, 0, 1), (5, 0, -1)],
         b"\xc0\x13",
-        true,
+        ONE,
     ),
     // Three zeros and a value.
-    ([GREY, LEVEL, THREE_ZEROS, 0], &[(0, 4, -1)], b"\x1f", true),
+    ([GREY, LEVEL, THREE_ZEROS, 0], &[(0, 4, -1)], b"\x1f", ONE),
     // Twice sixteen zeros.
-    ([GREY, LEVEL, RUNS, 0], &[(0, 33, 1)], b"\x17\xff\0", true),
+    ([GREY, LEVEL, RUNS, 0], &[(0, 33, 1)], b"\x17\xff\0", ONE),
     // No end after the last coefficient.
-    ([GREY, LEVEL, RUNS, 0], &[(0, 63, -1)], b"\x0c", false),
+    ([GREY, LEVEL, RUNS, 0], &[(0, 63, -1)], b"\x0c", NO_BIT),
     // Differences 12 and 3, and the coefficients -2, -1, -1, -1 and, after two zeros, -1.
     (
         [TWO_WIDE, TABLE_K3, SHORT_K5, 0],
@@ -116,31 +204,40 @@ const VALUES: &[(Header, &[Value], &[u8], bool)] = &[
             (1, 8, -1),
         ],
         b"\xb9\x4f\xda\0\xe2\xbf",
-        true,
+        ONE,
     ),
 ];
 
 #[test]
 fn values_are_written(rt: HostRuntime) {
     for (header, values, bytes, padded) in VALUES {
-        let written = is_written(&rt, rt.alloc(), *header, true, values, bytes, *padded);
+        let written = is_written(
+            &rt,
+            rt.alloc(),
+            *header,
+            Pads::All(true),
+            values,
+            bytes,
+            *padded,
+        );
         assert!(rt; written, "{bytes:?}");
     }
 }
 
-// Whether these are the scan's bytes, and a bit is padded or not.
+// Whether these are the scan's bytes, and this was padded.
 fn is_written(
     rt: &impl Abort,
     alloc: Global,
     header: Header,
-    pad: bool,
+    pads: Pads,
     values: &[Value],
     bytes: &[u8],
-    padded: bool,
+    padded: PadSum,
 ) -> bool {
     let plan = plan_of(rt, alloc, header);
     let mut out = Piece::new(alloc).expect(rt, "memory");
-    let mut writer = Writer::start(&plan, &PlanCodes::build(&plan), pad);
+    assert!(rt; are_for(&plan, &pads));
+    let mut writer = Writer::start(&plan, &PlanCodes::build(&plan), pads);
     put_mcus(rt, &mut writer, plan.mcus(), values, &mut out);
     writer.at_end() && writer.padded() == padded && out.bytes() == bytes
 }
@@ -252,7 +349,7 @@ fn stops(
     stop: WriteStop,
     out: &mut Piece,
 ) -> bool {
-    let mut writer = Writer::start(plan, &PlanCodes::build(plan), true);
+    let mut writer = Writer::start(plan, &PlanCodes::build(plan), Pads::All(true));
     put_mcus(rt, &mut writer, count, values, out);
     is_stopped(rt, &mut writer, count, values, stop, out, bytes)
         && is_stopped(rt, &mut writer, count, values, stop, out, bytes)
@@ -308,11 +405,11 @@ fn are_put(rt: &impl Abort, plan: &Plan, out: &mut Piece) -> bool {
     for i in 0..MOST_SLOTS {
         blocks[i] = full(rt, DCS[i]);
     }
-    let mut writer = Writer::start(plan, &PlanCodes::build(plan), true);
+    let mut writer = Writer::start(plan, &PlanCodes::build(plan), Pads::All(true));
     assert!(rt; !writer.at_end());
     assert!(rt; writer.mcu_blocks() == MOST_SLOTS);
     assert!(rt; out.free() >= mcu_room());
-    writer.mcu(&blocks, out) == Ok(()) && writer.at_end() && writer.padded()
+    writer.mcu(&blocks, out) == Ok(()) && writer.at_end() && writer.padded() == ONE
 }
 
 // A block of this DC and the largest AC coefficients.

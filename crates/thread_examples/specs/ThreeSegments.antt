@@ -1,6 +1,8 @@
 -- The content of the tests, and what they know of a seat (this project's own).
 use Rattle.std.specs.Prelude.{◌≡◌, ℕ, Bool, true, false, List, [], ◌∷◌, Some, None}
 use Rattle.atomic_table.specs.Seated.{TableId}
+use Rattle.handover.specs.PadSums.{no_pads}
+use Rattle.handover.specs.declared.pads.PadSum.{PadSum}
 use Rattle.handover.specs.declared.outcome.Outcome.{Outcome}
 use Rattle.handover.specs.declared.outcome.Outcome.TheVariants.{Good}
 use Rattle.output_board.specs.declared.view.EmitterView.{EmitterView}
@@ -11,9 +13,13 @@ use Rattle.output_board.specs.Seats.{SeatValue}
 abbrev pub three_bytes : List (List ℕ)
 three_bytes = (0x3f ∷ 0xff ∷ 0xd0 ∷ []) ∷ (1 ∷ 2 ∷ []) ∷ (0x3f ∷ []) ∷ []
 
+-- bits of 1 were padded
+abbrev pub ones : PadSum
+ones = record no_pads { one = true }
+
 -- their outcomes: any, and two good ones
 abbrev pub three_outcomes : Outcome → List Outcome
-three_outcomes first = first ∷ Good true ∷ Good false ∷ []
+three_outcomes first = first ∷ Good ones ∷ Good no_pads ∷ []
 
 module _ {C : Type 0} where
   -- a worker that owns nothing

@@ -1,5 +1,6 @@
 // Boards of three segments by hand, on one thread.
 ghost use Rattle.std.specs.Prelude.{◌≡◌, false};
+ghost use Rattle.handover.specs.PadSums.{no_pads};
 ghost use Rattle.handover.specs.declared.outcome.Outcome.TheVariants.{Good};
 ghost use Rattle.thread_examples.specs.ThreeSegments.{IsIdle, IsPutting, IsEmitting};
 
@@ -8,14 +9,26 @@ use crate::worker_by_hand::{
     claims, finds_claim_stopped, finds_finish_stopped, finds_none, finds_put_stopped, finishes,
     puts,
 };
-use handover::{Outcome, StreamCause, StreamFault};
+use handover::{Outcome, PadSum, StreamCause, StreamFault};
 use output_board::{Board, Content, EmitterSeat, WorkerSeat};
 use std::process::Abort;
 use std::sync::Wait;
 
-const GOOD: Outcome = Outcome::Good { padded: false };
+const NONE: PadSum = PadSum {
+    zero: false,
+    one: false,
+    vain: false,
+};
 
-const PADDED: Outcome = Outcome::Good { padded: true };
+const ONES: PadSum = PadSum {
+    zero: false,
+    one: true,
+    vain: false,
+};
+
+const GOOD: Outcome = Outcome::Good { pads: NONE };
+
+const PADDED: Outcome = Outcome::Good { pads: ONES };
 
 const BAD: Outcome = Outcome::Bad(StreamFault {
     segment: 0,
@@ -57,7 +70,7 @@ fn emit_three<R: Wait + Abort>(
     requires emits { IsEmitting board.now emitter.old.content 0 0 false emitter.old }
     requires one { IsIdle board.now one.old.content one.old }
     requires two { IsIdle board.now two.old.content two.old }
-    requires good { two.old.content.first ≡ Good false }
+    requires good { two.old.content.first ≡ Good no_pads }
 {
     waits(rt, board, emitter, 0, 0, false);
     put_the_first(rt, board, emitter, two);
@@ -101,7 +114,7 @@ fn finish_the_first<R: Wait + Abort>(
 )
     requires emits { IsEmitting board.now emitter.old.content 0 2 false emitter.old }
     requires puts { IsPutting board.now worker.old.content 0 2 worker.old }
-    requires good { worker.old.content.first ≡ Good false }
+    requires good { worker.old.content.first ≡ Good no_pads }
     ensures emits { IsEmitting board.now emitter.old.content 1 0 false emitter.new }
     ensures idle { IsIdle board.now worker.old.content worker.new }
 {

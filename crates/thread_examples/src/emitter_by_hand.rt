@@ -44,7 +44,7 @@ pub(crate) fn ends<R: Wait + Abort>(
 {
     let mut buf = [9; 2];
     match board.take(rt, seat, &mut buf) {
-        Take::Ended(Outcome::Good { padded: _ }) => {}
+        Take::Ended(Outcome::Good { pads: _ }) => {}
         _ => panic!(rt; "no end"),
     }
 }

@@ -1,10 +1,16 @@
 // Events on small boards.
 use board_core::{Actor, Core, Event, Took};
-use handover::{Handover, Outcome, StreamCause, StreamFault};
+use handover::{Handover, Outcome, PadSum, StreamCause, StreamFault};
 use std::alloc::Global;
 use std::process::Abort;
 
-const GOOD: Outcome = Outcome::Good { padded: false };
+const GOOD: Outcome = Outcome::Good { pads: NONE };
+
+const NONE: PadSum = PadSum {
+    zero: false,
+    one: false,
+    vain: false,
+};
 
 const WORKER: Actor = Actor::Worker(0);
 

@@ -20,8 +20,35 @@ pub(crate) const LEVEL_SEGMENT: Segment<'static> = Segment {
     stream: &[0, 0, 0],
 };
 
-/// The container, with this byte for the pad bit.
+/// The pad bits of a scan: their byte, and their list, if there is one.
+#[derive(Clone, Copy)]
+pub(crate) struct Padding<'a> {
+    pub(crate) byte: u8,
+    pub(crate) list: &'a [u8],
+}
+
+/// Ones.
+pub(crate) const PADDED_WITH_ONES: Padding<'static> = Padding { byte: 1, list: &[] };
+
+/// The container in version 2.
 pub(crate) fn container_of(
+    rt: &impl Abort,
+    alloc: Global,
+    pads: Padding,
+    segments: &[Segment],
+    header: &[u8],
+    trailer: &[u8],
+) -> Vec<u8> {
+    let mut made = front_of(rt, alloc, 2, pads.byte, segments, header, trailer);
+    append(rt, &mut made, &four_bytes(pads.list.len()));
+    append_entries(rt, &mut made, segments);
+    append(rt, &mut made, pads.list);
+    append_rest(rt, &mut made, segments, header, trailer);
+    made
+}
+
+/// The container in version 1, with this byte for the pad bit.
+pub(crate) fn first_container_of(
     rt: &impl Abort,
     alloc: Global,
     pad: u8,
@@ -29,32 +56,52 @@ pub(crate) fn container_of(
     header: &[u8],
     trailer: &[u8],
 ) -> Vec<u8> {
-    let mut made = prefix_of(rt, alloc, pad, segments, header.len(), trailer.len());
-    append(rt, &mut made, header);
-    append(rt, &mut made, trailer);
-    for segment in segments {
-        append(rt, &mut made, segment.stream);
-    }
+    let mut made = front_of(rt, alloc, 1, pad, segments, header, trailer);
+    append_entries(rt, &mut made, segments);
+    append_rest(rt, &mut made, segments, header, trailer);
     made
 }
 
-// What comes before the header: the magic, the counts and the segments' entries.
-fn prefix_of(
+// What both versions begin with: the magic, the version, the byte of pad bits, and the counts.
+fn front_of(
     rt: &impl Abort,
     alloc: Global,
+    version: u8,
     pad: u8,
     segments: &[Segment],
-    header: usize,
-    trailer: usize,
+    header: &[u8],
+    trailer: &[u8],
 ) -> Vec<u8> {
     let mut made = bytes_of(rt, alloc, b"LPSG");
-    append(rt, &mut made, &[1, pad, four_bytes(segments.len())[3]]);
-    append(rt, &mut made, &four_bytes(header));
-    append(rt, &mut made, &four_bytes(trailer));
-    for segment in segments {
-        append_entry(rt, &mut made, segment);
-    }
+    append(
+        rt,
+        &mut made,
+        &[version, pad, four_bytes(segments.len())[3]],
+    );
+    append(rt, &mut made, &four_bytes(header.len()));
+    append(rt, &mut made, &four_bytes(trailer.len()));
     made
+}
+
+fn append_entries(rt: &impl Abort, made: &mut Vec<u8>, segments: &[Segment]) {
+    for segment in segments {
+        append_entry(rt, made, segment);
+    }
+}
+
+// What both versions end with: the header, the trailer and the streams.
+fn append_rest(
+    rt: &impl Abort,
+    made: &mut Vec<u8>,
+    segments: &[Segment],
+    header: &[u8],
+    trailer: &[u8],
+) {
+    append(rt, made, header);
+    append(rt, made, trailer);
+    for segment in segments {
+        append(rt, made, segment.stream);
+    }
 }
 
 fn append_entry(rt: &impl Abort, made: &mut Vec<u8>, segment: &Segment) {

@@ -1,6 +1,6 @@
 // Containers with a byte changed.
 use crate::rows::{LEAST, Row, UP_AND_DOWN};
-use crate::segments::{INTERVALS_SPLIT, STEPS_SPLIT, Split};
+use crate::segments::{INTERVALS_SPLIT, PADS_SPLIT, STEPS_SPLIT, Split};
 use crate::trial::{NONE, Trial, assert_holds, run_over};
 use std::alloc::Global;
 use std::process::Abort;
@@ -23,11 +23,25 @@ fn files_of_row<R: Threads + Wait + Sync + Abort>(rt: &R, alloc: Global, row: &R
     files_of_changed(rt, alloc, "1", container.as_mut_slice())
 }
 
+// In version 1.
+#[test]
+fn changed_bytes_of_the_first_version(rt: HostRuntime) {
+    let mut container = LEAST.first_container(&rt, rt.alloc());
+    let found = files_of_changed(&rt, rt.alloc(), "1", container.as_mut_slice());
+    assert!(rt; found == FREE);
+}
+
 // If the second block has the first one's DC, it may have one above or below as well.
 #[test]
 fn changed_bytes_of_two_segments(rt: HostRuntime) {
     assert!(rt; files_of_split(&rt, rt.alloc(), &INTERVALS_SPLIT) == FREE);
     assert!(rt; files_of_split(&rt, rt.alloc(), &STEPS_SPLIT) == FREE + 2);
+}
+
+// If two intervals pad with different bits, there is the list with the two changed round in place of another pad bit.
+#[test]
+fn changed_bytes_of_two_pads(rt: HostRuntime) {
+    assert!(rt; files_of_split(&rt, rt.alloc(), &PADS_SPLIT) == FREE);
 }
 
 fn files_of_split<R: Threads + Wait + Sync + Abort>(rt: &R, alloc: Global, split: &Split) -> u32 {
@@ -75,8 +89,8 @@ fn raise(rt: &impl Abort, container: &mut [u8], place: usize) {
     container[place] = container[place].wrapping_add(1);
 }
 
-// Whether a container is of a file: then it is exactly the one of the file that it gives, in this number of segments. If
-// not, it is refused. No threads are started, as there are many containers.
+// Whether a container is of a file: then in version 2 it is exactly the one of the file that it gives, in this number of
+// segments. If not, it is refused. No threads are started, as there are many containers.
 fn is_of_a_file<R: Threads + Wait + Sync + Abort>(
     rt: &R,
     alloc: Global,
@@ -86,13 +100,33 @@ fn is_of_a_file<R: Threads + Wait + Sync + Abort>(
 ) -> bool {
     let tried = run_over(rt, alloc, &["decode", "--workers", "0"], container, NONE);
     if tried.status == 0 {
-        let is_its_own = gives(rt, alloc, asked, tried.written.as_slice(), container);
+        let newest = in_the_second_version(rt, alloc, container);
+        let is_its_own = gives(
+            rt,
+            alloc,
+            asked,
+            tried.written.as_slice(),
+            newest.as_slice(),
+        );
         assert_holds(rt, is_its_own, "its container at", place as u64);
     } else {
         let is_refused = is_refused_somehow(&tried);
         assert_holds(rt, is_refused, "refused at", place as u64);
     }
     tried.status == 0
+}
+
+// What `migrate` makes of a container: of version 2 itself.
+fn in_the_second_version<R: Threads + Wait + Sync + Abort>(
+    rt: &R,
+    alloc: Global,
+    container: &[u8],
+) -> Vec<u8> {
+    let tried = run_over(rt, alloc, &["migrate"], container, NONE);
+    assert!(rt; container.len() > 4);
+    assert!(rt; tried.status == 0);
+    assert!(rt; container[4] == 1 || tried.written.as_slice() == container);
+    tried.written
 }
 
 fn gives<R: Threads + Wait + Sync + Abort>(

@@ -1,5 +1,5 @@
 // Sources and sinks that fail in mid-stream, and inputs at the limit.
-use crate::containers::{LEVEL_SEGMENT, container_of};
+use crate::containers::{LEVEL_SEGMENT, PADDED_WITH_ONES, container_of};
 use crate::rows::{LEAST, Row, TWO_INTERVALS};
 use crate::segments::INTERVALS_SPLIT;
 use crate::trial::{Faults, NONE, Room, SEVEN_A_CALL, Trial, assert_holds, run_from, run_over};
@@ -43,7 +43,7 @@ fn is_encoded_by_bytes<R: Threads + Wait + Sync + Abort>(
     n: u64,
 ) -> bool {
     let container = INTERVALS_SPLIT.container(rt, alloc);
-    assert!(rt; container.len() == 142);
+    assert!(rt; container.len() == 146);
     encoded_by_bytes(rt, alloc, file, n).is_done(container.as_slice())
 }
 
@@ -71,19 +71,22 @@ fn is_a_read_fault(tried: &Trial) -> bool {
     tried.status == 3 && tried.written.is_empty() && tried.noted.as_slice() == READ_FAILED
 }
 
-// Seven reads give all the bytes and the eighth reports the end.
+// Eight reads give all the bytes and the ninth reports the end.
 #[test]
 fn a_read_that_fails_on_the_way_back(rt: HostRuntime) {
     let container = LEAST.container(&rt, rt.alloc());
-    for n in 1..9u64 {
-        let is_fault = fails_at_a_read(&rt, rt.alloc(), container.as_slice(), n);
-        assert_holds(&rt, is_fault, "read", n);
+    for n in 1..10u64 {
+        for word in ["decode", "migrate"] {
+            let is_fault = fails_at_a_read(&rt, rt.alloc(), word, container.as_slice(), n);
+            assert_holds(&rt, is_fault, word, n);
+        }
     }
 }
 
 fn fails_at_a_read<R: Threads + Wait + Sync + Abort>(
     rt: &R,
     alloc: Global,
+    word: &str,
     container: &[u8],
     n: u64,
 ) -> bool {
@@ -92,38 +95,43 @@ fn fails_at_a_read<R: Threads + Wait + Sync + Abort>(
         reads: &fails,
         ..NONE
     };
-    is_a_read_fault(&run_over(rt, alloc, &["decode"], container, faults))
+    is_a_read_fault(&run_over(rt, alloc, &[word], container, faults))
 }
 
-// Fifteen pieces of 7 bytes and one of 6.
+// Sixteen pieces of 7 bytes and one of 3.
 #[test]
 fn a_write_that_fails(rt: HostRuntime) {
     let file = LEAST.file(&rt, rt.alloc());
     let whole = LEAST.container(&rt, rt.alloc());
-    assert!(rt; whole.len() == 111);
-    for n in 1..17u64 {
-        let length = 7 * (n - 1);
-        assert_cut_container(
-            &rt,
-            rt.alloc(),
-            file.as_slice(),
-            whole.as_slice(),
-            n,
-            length,
-        );
-    }
+    assert_cut_containers(&rt, rt.alloc(), "encode", file.as_slice(), whole.as_slice());
 }
 
-fn assert_cut_container<R: Threads + Wait + Sync + Abort>(
+// The same of a container of version 1 in version 2.
+#[test]
+fn a_write_of_a_migrated_container_that_fails(rt: HostRuntime) {
+    let first = LEAST.first_container(&rt, rt.alloc());
+    let whole = LEAST.container(&rt, rt.alloc());
+    assert_cut_containers(
+        &rt,
+        rt.alloc(),
+        "migrate",
+        first.as_slice(),
+        whole.as_slice(),
+    );
+}
+
+fn assert_cut_containers<R: Threads + Wait + Sync + Abort>(
     rt: &R,
     alloc: Global,
-    file: &[u8],
+    word: &str,
+    input: &[u8],
     whole: &[u8],
-    n: u64,
-    length: u64,
 ) {
-    let tried = run_cut(rt, alloc, "encode", file, n);
-    assert_holds(rt, is_cut(&tried, whole, 4, length), "write", n);
+    assert!(rt; whole.len() == 115);
+    for n in 1..18u64 {
+        let tried = run_cut(rt, alloc, word, input, n);
+        assert_holds(rt, is_cut(&tried, whole, 4, 7 * (n - 1)), word, n);
+    }
 }
 
 // The sink's call of this number fails.
@@ -248,7 +256,7 @@ fn the_longest_file_is_encoded(rt: HostRuntime) {
     let file = longer(&rt, rt.alloc(), LIMIT);
     let tried = run_long(&rt, rt.alloc(), "encode", file.as_slice());
     assert!(rt; tried.status == 0 && tried.noted.is_empty());
-    assert!(rt; tried.written.len() == LIMIT + 39);
+    assert!(rt; tried.written.len() == LIMIT + 43);
 }
 
 #[test]
@@ -276,7 +284,14 @@ fn longest_container(rt: &impl Abort, alloc: Global, file: &[u8]) -> Vec<u8> {
     assert!(rt; file.len() == LIMIT);
     let (header, rest) = file.split_at(69);
     let (_, trailer) = rest.split_at(1);
-    container_of(rt, alloc, 1, &[LEVEL_SEGMENT], header, trailer)
+    container_of(
+        rt,
+        alloc,
+        PADDED_WITH_ONES,
+        &[LEVEL_SEGMENT],
+        header,
+        trailer,
+    )
 }
 
 // Room for all.

@@ -1,5 +1,5 @@
 // A decode in which two workers must decode at the same time.
-use crate::containers::{LEVEL_SEGMENT, Segment, container_of};
+use crate::containers::{LEVEL_SEGMENT, PADDED_WITH_ONES, Segment, container_of};
 use crate::files::{END, RESTARTS, START, joined};
 use crate::segments::AFTER_A_MARKER;
 use crate::trial::{NONE, comes_back, run_past};
@@ -117,7 +117,14 @@ fn file(rt: &impl Abort, alloc: Global) -> Vec<u8> {
 
 fn container(rt: &impl Abort, alloc: Global) -> Vec<u8> {
     let header = joined(rt, alloc, &[&START, &SIZE, &RESTARTS]);
-    container_of(rt, alloc, 1, &SEGMENTS, header.as_slice(), &END)
+    container_of(
+        rt,
+        alloc,
+        PADDED_WITH_ONES,
+        &SEGMENTS,
+        header.as_slice(),
+        &END,
+    )
 }
 
 // Three workers with rings of two bytes give the file.

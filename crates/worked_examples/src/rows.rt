@@ -1,17 +1,19 @@
 // Files with their containers of one segment.
-use crate::containers::{SCAN_START, Segment, container_of};
+use crate::containers::{
+    PADDED_WITH_ONES, Padding, SCAN_START, Segment, container_of, first_container_of,
+};
 use crate::files::{END, LEVEL, RESTARTS, START, STEPS, append, bytes_of};
 use std::alloc::Global;
 use std::process::Abort;
 
-/// A file by its height and width, what comes after them, its scan, the byte of its pad bit and its trailer; and its
-/// stream, all of it in one segment.
+/// A file by its height and width, what comes after them, its scan, its pad bits and its trailer; and its stream, all of
+/// it in one segment.
 #[derive(Clone, Copy)]
 pub(crate) struct Row<'a> {
     pub(crate) size: [u8; 4],
     pub(crate) tail: &'a [u8],
     pub(crate) scan: &'a [u8],
-    pub(crate) pad: u8,
+    pub(crate) pads: Padding<'a>,
     pub(crate) trailer: &'a [u8],
     pub(crate) stream: &'a [u8],
 }
@@ -21,7 +23,7 @@ pub(crate) const LEAST: Row<'static> = Row {
     size: [0, 8, 0, 8],
     tail: &LEVEL,
     scan: &[0x3f],
-    pad: 1,
+    pads: PADDED_WITH_ONES,
     trailer: &END,
     stream: &[0, 0, 0],
 };
@@ -31,7 +33,7 @@ pub(crate) const UP_AND_DOWN: Row<'static> = Row {
     size: [0, 9, 0, 9],
     tail: &STEPS,
     scan: &[0xd0, 0x9f],
-    pad: 1,
+    pads: PADDED_WITH_ONES,
     trailer: &END,
     stream: &[0, 8, 2, 82, 105, 80],
 };
@@ -41,7 +43,20 @@ pub(crate) const TWO_INTERVALS: Row<'static> = Row {
     size: [0, 16, 0, 8],
     tail: &RESTARTS,
     scan: &[0x3f, 0xff, 0xd0, 0x3f],
-    pad: 1,
+    pads: PADDED_WITH_ONES,
+    trailer: &END,
+    stream: &[0, 0, 0, 0],
+};
+
+/// The same, padded with ones and with zeros.
+pub(crate) const TWO_PADS: Row<'static> = Row {
+    size: [0, 16, 0, 8],
+    tail: &RESTARTS,
+    scan: &[0x3f, 0xff, 0xd0, 0],
+    pads: Padding {
+        byte: 2,
+        list: &[0x80],
+    },
     trailer: &END,
     stream: &[0, 0, 0, 0],
 };
@@ -51,7 +66,7 @@ pub(crate) const TWO_STEPS: Row<'static> = Row {
     size: [0, 16, 0, 8],
     tail: &STEPS,
     scan: &[0xc7],
-    pad: 1,
+    pads: PADDED_WITH_ONES,
     trailer: &END,
     stream: &[0, 8, 0, 0],
 };
@@ -73,17 +88,33 @@ impl Row<'_> {
 
     pub(crate) fn container(&self, rt: &impl Abort, alloc: Global) -> Vec<u8> {
         let header = self.header(rt, alloc);
-        let segment = Segment {
-            start: SCAN_START,
-            stream: self.stream,
-        };
         container_of(
             rt,
             alloc,
-            self.pad,
-            &[segment],
+            self.pads,
+            &[self.segment()],
             header.as_slice(),
             self.trailer,
         )
+    }
+
+    /// In version 1, of a file with one pad bit.
+    pub(crate) fn first_container(&self, rt: &impl Abort, alloc: Global) -> Vec<u8> {
+        let header = self.header(rt, alloc);
+        first_container_of(
+            rt,
+            alloc,
+            self.pads.byte,
+            &[self.segment()],
+            header.as_slice(),
+            self.trailer,
+        )
+    }
+
+    fn segment(&self) -> Segment<'_> {
+        Segment {
+            start: SCAN_START,
+            stream: self.stream,
+        }
     }
 }

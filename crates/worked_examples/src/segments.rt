@@ -1,6 +1,6 @@
 // Files in several segments, and their containers.
 use crate::containers::{LEVEL_SEGMENT, SCAN_START, Segment, container_of};
-use crate::rows::{Row, TWO_INTERVALS, TWO_STEPS};
+use crate::rows::{Row, TWO_INTERVALS, TWO_PADS, TWO_STEPS};
 use std::alloc::Global;
 use std::process::Abort;
 
@@ -20,6 +20,12 @@ pub(crate) const AFTER_A_MARKER: Segment<'static> = Segment {
 /// A restart marker at the end of a segment.
 pub(crate) const INTERVALS_SPLIT: Split<'static> = Split {
     row: TWO_INTERVALS,
+    segments: &[LEVEL_SEGMENT, AFTER_A_MARKER],
+};
+
+/// The same, padded with ones and with zeros.
+pub(crate) const PADS_SPLIT: Split<'static> = Split {
+    row: TWO_PADS,
     segments: &[LEVEL_SEGMENT, AFTER_A_MARKER],
 };
 
@@ -44,7 +50,7 @@ impl Split<'_> {
         container_of(
             rt,
             alloc,
-            self.row.pad,
+            self.row.pads,
             self.segments,
             header.as_slice(),
             self.row.trailer,

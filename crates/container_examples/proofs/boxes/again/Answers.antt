@@ -1,6 +1,8 @@
-use Rattle.std.proofs.Common.{◌≡◌, ◌∙◌, map, ap, subst}
+use Rattle.std.proofs.Common.{◌≡◌, ◌∙◌, map, ap, subst, sym}
 use Rattle.std.specs.Prelude.{IfOk}
+use Rattle.scan_text.specs.Pads.{pads_given}
 use Rattle.box_format.specs.Parts.{BoxParts, box_bytes}
+use Rattle.box_format.specs.declared.version.Version.TheVariants.{Second}
 use Rattle.box_format.proofs.BoxLawsProved.{parts_same}
 use Rattle.container_examples.proofs.boxes.again.Goals as goal
 
@@ -9,8 +11,8 @@ returns c =
     let handovers = c.as_slice.ensures.value ∙ c.in_ok-handovers.ensures in
     let streams = ap (λ vs. map (λ v. v.items) vs) c.as_slice-2.ensures.value
     ∙ c.in_ok-streams.ensures in
-    let same = parts_same c.pad.result c.header.result.now c.trailer.result.now
-    c.as_slice.result.now (map (λ v. v.items) c.as_slice-2.result.now) c.args.view.now.parts
-    c.pad.ensures c.header.ensures.bytes c.trailer.ensures.bytes handovers streams in
+    let same = parts_same Second (pads_given c.pad.result) c.header.result.now
+    c.trailer.result.now c.as_slice.result.now (map (λ v. v.items) c.as_slice-2.result.now)
+    c.args.view.now.parts (sym c.requires) c.pad.ensures.value c.header.ensures.bytes c.trailer.ensures.bytes handovers streams in
     subst (λ (b : BoxParts). IfOk c.write_box.result (λ bytes. bytes.items ≡ box_bytes b)) same
     c.write_box.ensures
