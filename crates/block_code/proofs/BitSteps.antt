@@ -5,7 +5,7 @@ use Rattle.std.specs.Option.{option_map}
 use Rattle.std.proofs.lemmas.Bool.Decides.{nat_tests}
 use Rattle.std.proofs.lemmas.Nat.{pow-add}
 use Rattle.std.proofs.Math.Nat.{div-div-eq-div-mul}
-use Rattle.block_events.specs.BitEvents.{bits_events, ones}
+use Rattle.block_spec.specs.BitEvents.{bits_events, ones}
 use mir.Val.{bool_byte}
 
 half_of : (u : ℕ) (b : Bool) → (2 * u + bool_byte b) / 2 ≡ u

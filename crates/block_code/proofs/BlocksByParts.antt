@@ -2,9 +2,9 @@
 use Rattle.std.proofs.Common.{◌≡◌, ℕ, ◌++◌, Bool, List, refl, subst, sym, ap, ◌∙◌}
 use Rattle.std.specs.Prelude.{ℤ, ◌+ℤ◌}
 use Rattle.coef_block.specs.Block.{IsBlock, IsDc}
-use Rattle.block_events.specs.Around.{Around, prediction, inner_count, guess}
-use Rattle.block_events.specs.BlockEvents.{block_events, inner_count_events, ac_events, dc_events}
-use Rattle.block_events.specs.ReadBlocks.{IsDcRange}
+use Rattle.block_spec.specs.Around.{Around, prediction, inner_count, guess}
+use Rattle.block_spec.specs.BlockEvents.{block_events, inner_count_events, ac_events, dc_events}
+use Rattle.block_spec.specs.ReadBlocks.{IsDcRange}
 use Rattle.block_code.specs.BlockParts.{parts_in, parts_events, after_count_events, AreParts}
 use Rattle.block_code.specs.declared.parts.Parts.{Parts}
 

@@ -8,9 +8,9 @@ use Rattle.std.proofs.lemmas.Int.{fits_signed_from_abs}
 use Rattle.std.proofs.lemmas.List.{take_more_set, take_more, take_all, drop_more, drop_all, length-map, get_or-map}
 use Rattle.std.proofs.lemmas.Option.{get_or_from_slice_get}
 use Rattle.coef_block.specs.Block.{IsBlock}
-use Rattle.block_events.specs.Values.{category_of}
-use Rattle.block_events.specs.Around.{values_in, value_at}
-use Rattle.block_events.proofs.CategoryBits.{category_at_most, category_below}
+use Rattle.block_spec.specs.Values.{category_of}
+use Rattle.block_spec.specs.Around.{values_in, value_at}
+use Rattle.block_spec.proofs.CategoryBits.{category_at_most, category_below}
 use Rattle.block_code.specs.ValueRanges.{IsAc}
 use Rattle.block_code.specs.PutCoefficients.{IsAcPosition, put_in}
 

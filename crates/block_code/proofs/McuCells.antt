@@ -4,9 +4,9 @@ use Rattle.std.specs.Prelude.{slice_index}
 use Rattle.std.proofs.lemmas.List.{append-nil}
 use Rattle.std.proofs.Math.Nat.{mul-le-mul_right}
 use Rattle.coef_block.specs.TwoRows.{Extents, block_count, width, height, four_of, extents_of}
-use Rattle.block_events.specs.Grid.{Grid, component_of, cell_in}
-use Rattle.block_events.specs.HeldRows.{FitsGrid}
-use Rattle.block_events.proofs.CellsOfBlocks.{stands}
+use Rattle.block_spec.specs.Grid.{Grid, component_of, cell_in}
+use Rattle.block_spec.specs.HeldRows.{FitsGrid}
+use Rattle.block_spec.proofs.CellsOfBlocks.{stands}
 
 pub column_small : (g : Grid) (before index : ℕ) → before < g.across → index < block_count g.mcu → g.across < 2 ^ 25 → width g.mcu (component_of g.mcu index) ≤ 4 → (cell_in g 0 before index).column < 2 ^ 32
 column_small g before index mcu below narrow wide =

@@ -8,19 +8,19 @@ use Rattle.adapt_bins.specs.PutEvents.{PutsEvents, puts_none, puts_joined}
 use Rattle.adapt_bins.specs.GotEvents.{GetsEvents, gets_none, gets_joined}
 use Rattle.adapt_bins.specs.declared.put.Put.{Put}
 use Rattle.adapt_bins.specs.declared.get.Get.{Get}
-use Rattle.block_events.specs.Around.{Around}
-use Rattle.block_events.specs.BlockEvents.{block_events}
-use Rattle.block_events.specs.ReadBlocks.{IsRead}
-use Rattle.block_events.specs.declared.fault.BlockFault.{BlockFault}
-use Rattle.block_events.specs.declared.fault.BlockFault.TheVariants.{BlockCount, DcRange}
+use Rattle.block_spec.specs.Around.{Around}
+use Rattle.block_spec.specs.BlockEvents.{block_events}
+use Rattle.block_spec.specs.ReadBlocks.{IsRead}
+use Rattle.block_spec.specs.declared.fault.BlockFault.{BlockFault}
+use Rattle.block_spec.specs.declared.fault.BlockFault.TheVariants.{BlockCount, DcRange}
 use Rattle.coef_block.specs.TwoRows.{block_count}
-use Rattle.block_events.specs.Grid.{Grid, Cell, IsCell, IsGrid, cell_at, cell_in, index_of}
-use Rattle.block_events.specs.SegmentEvents.{around_in, class_of, segment_events}
+use Rattle.block_spec.specs.Grid.{Grid, Cell, IsCell, IsGrid, cell_at, cell_in, index_of}
+use Rattle.block_spec.specs.SegmentEvents.{around_in, class_of, segment_events}
 use Rattle.coef_block.specs.TwoRows.{TwoRows, stored}
-use Rattle.block_events.specs.HeldRows.{HoldBlocks, kept_around}
-use Rattle.block_events.proofs.CellsOfBlocks.{cell_at_index, stands}
-use Rattle.block_events.proofs.Segments.{segment_more}
-use Rattle.block_events.proofs.Keeping.{around_is, one_kept}
+use Rattle.block_spec.specs.HeldRows.{HoldBlocks, kept_around}
+use Rattle.block_spec.proofs.CellsOfBlocks.{cell_at_index, stands}
+use Rattle.block_spec.proofs.Segments.{segment_more}
+use Rattle.block_spec.proofs.Keeping.{around_is, one_kept}
 use Rattle.block_code.specs.SegmentUnderWay.{PutsMore, GetsMore, GetsFault}
 
 -- block k of an MCU comes next

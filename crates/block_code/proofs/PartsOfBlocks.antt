@@ -8,9 +8,9 @@ use Rattle.std.proofs.lemmas.Bool.Decides.{nat_tests}
 use Rattle.std.proofs.lemmas.Int.{fits_signed_from_abs, ints}
 use Rattle.std.proofs.lemmas.List.{get_or-set_same, get_or-set_other, get_or-replicate, length-set}
 use Rattle.coef_block.specs.Block.{IsBlock, IsCoefficient, IsDc}
-use Rattle.block_events.specs.Values.{category_of}
-use Rattle.block_events.specs.Around.{values_in, value_at, inner_positions, row_positions, column_positions}
-use Rattle.block_events.proofs.CategoryBits.{category_at_most, category_below}
+use Rattle.block_spec.specs.Values.{category_of}
+use Rattle.block_spec.specs.Around.{values_in, value_at, inner_positions, row_positions, column_positions}
+use Rattle.block_spec.proofs.CategoryBits.{category_at_most, category_below}
 use Rattle.block_code.specs.ValueRanges.{IsAc}
 use Rattle.block_code.specs.PutCoefficients.{IsAcPosition, put_in}
 use Rattle.block_code.specs.BlockParts.{parts_in, AreParts, HasCoefficients}

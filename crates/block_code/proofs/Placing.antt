@@ -4,7 +4,7 @@ use Rattle.std.specs.Prelude.{◌==◌, ◌&&◌, ◌||◌, not, nat_lt, ℤ, po
 use Rattle.std.proofs.lemmas.Bool.{and_parts, eq-eqb, ltb-true, not-true}
 use Rattle.std.proofs.lemmas.List.{get_or-set_same, get_or-set_other, length-set}
 use Rattle.block_code.specs.PutCoefficients.{put_in}
-use Rattle.block_events.specs.Around.{value_at, values_in, inner_positions, row_positions, column_positions}
+use Rattle.block_spec.specs.Around.{value_at, values_in, inner_positions, row_positions, column_positions}
 
 unfoldable pub stands_in : ℕ → List ℕ → Bool
 stands_in p [] = false

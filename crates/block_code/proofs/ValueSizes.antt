@@ -6,9 +6,9 @@ use Rattle.std.proofs.lemmas.List.{append-nil}
 use Rattle.std.proofs.Math.Nat.{mul-le-mul_right}
 use Rattle.coef_context.specs.BinNumbers.{rows_from}
 use Rattle.coef_context.proofs.Radix.{rows_is}
-use Rattle.block_events.specs.BitEvents.{bits_events}
-use Rattle.block_events.specs.Values.{ValueBins, category_of, rest_events, value_events, step_events}
-use Rattle.block_events.proofs.CategoryBits.{top_is, zero_value}
+use Rattle.block_spec.specs.BitEvents.{bits_events}
+use Rattle.block_spec.specs.Values.{ValueBins, category_of, rest_events, value_events, step_events}
+use Rattle.block_spec.proofs.CategoryBits.{top_is, zero_value}
 use Rattle.coef_block.specs.Categories.{category}
 use Rattle.coef_block.proofs.CategoryLemmas.{size_of_bound}
 

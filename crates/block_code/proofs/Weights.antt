@@ -6,12 +6,12 @@ use Rattle.std.proofs.Common.{Option, Some, None, IfSome, List, length, Bor, sym
 use Rattle.std.specs.Prelude.{ℤ}
 use Rattle.std.specs.Option.{option_map}
 use Rattle.std.specs.List.{AllByRecursion}
-use Rattle.block_events.proofs.ValuesApart.{nonzeros_le}
+use Rattle.block_spec.proofs.ValuesApart.{nonzeros_le}
 use Rattle.block_code.specs.ValueRanges.{IsAc}
 use Rattle.coef_block.specs.Categories.{category}
-use Rattle.block_events.specs.Values.{nonzeros}
-use Rattle.block_events.specs.Around.{inner_positions}
-use Rattle.block_events.proofs.CategoryBits.{category_at_most}
+use Rattle.block_spec.specs.Values.{nonzeros}
+use Rattle.block_spec.specs.Around.{inner_positions}
+use Rattle.block_spec.proofs.CategoryBits.{category_at_most}
 
 -- a mean of magnitudes of AC coefficients has at most ten bits
 pub few_bits : (n : ℕ) → n ≤ 1023 → category n < 11

@@ -2,7 +2,7 @@
 use Rattle.std.specs.Prelude.{ℕ, ◌+◌, ◌-◌, ◌≤◌}
 use Rattle.coef_context.specs.BinNumbers.{rows_from}
 use Rattle.coef_context.specs.Runs.{dc_sizes, dc_low_bits}
-use Rattle.block_events.specs.Values.{ValueBins}
+use Rattle.block_spec.specs.Values.{ValueBins}
 use Rattle.block_code.specs.declared.bin_bases.BinBases.{BinBases}
 
 -- how many bins there are for all contexts of both classes (own)

@@ -1,9 +1,9 @@
 -- The parts of a block in the order of their events (own; docs/FORMAT.md).
 use Rattle.std.specs.Prelude.{ℕ, ◌≡◌, ◌++◌, Bool, true, false, List, length, ℤ, ◌-ℤ◌}
 use Rattle.std.specs.List.{AllByRecursion}
-use Rattle.block_events.specs.Values.{nonzeros, values_events}
-use Rattle.block_events.specs.Around.{Around, value_at, values_in, inner_positions, row_positions, column_positions, guess}
-use Rattle.block_events.specs.BlockEvents.{inner_count_events, inner_bins, edge_events, dc_events}
+use Rattle.block_spec.specs.Values.{nonzeros, values_events}
+use Rattle.block_spec.specs.Around.{Around, value_at, values_in, inner_positions, row_positions, column_positions, guess}
+use Rattle.block_spec.specs.BlockEvents.{inner_count_events, inner_bins, edge_events, dc_events}
 use Rattle.block_code.specs.ValueRanges.{IsAc, IsResidue}
 use Rattle.block_code.specs.declared.parts.Parts.{Parts}
 

@@ -1,7 +1,7 @@
 -- What the fields of a grid keep (own).
 use Rattle.std.specs.Prelude.{◌≡◌, ℕ, ◌^◌, ◌<◌, ◌≤◌, slice_index}
 use Rattle.coef_block.specs.TwoRows.{Extents, block_count, offset}
-use Rattle.block_events.specs.Grid.{Grid}
+use Rattle.block_spec.specs.Grid.{Grid}
 use Rattle.block_code.specs.declared.mcu_grid.McuGrid.TheInside.{Inside}
 
 -- the extents of an MCU (T.81 A.2.3)

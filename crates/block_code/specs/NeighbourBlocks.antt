@@ -1,6 +1,6 @@
 -- The blocks around one, without where they lie in memory (own).
 use Rattle.std.specs.Prelude.{option_map, ◌↔◌, IsSome}
-use Rattle.block_events.specs.Around.{Around}
+use Rattle.block_spec.specs.Around.{Around}
 use Rattle.block_code.specs.declared.neighbours.Neighbours.{Neighbours}
 
 -- what clauses see of the neighbours (own)

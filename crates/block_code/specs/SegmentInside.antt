@@ -1,7 +1,7 @@
 -- What the fields of a segment's rows keep (own).
 use Rattle.std.specs.Prelude.{◌<◌}
-use Rattle.block_events.specs.Grid.{IsGrid}
-use Rattle.block_events.specs.HeldRows.{FitsGrid}
+use Rattle.block_spec.specs.Grid.{IsGrid}
+use Rattle.block_spec.specs.HeldRows.{FitsGrid}
 use Rattle.block_code.specs.declared.mcu.SegmentRows.TheInside.{Inside}
 
 -- the rows have the extents of an MCU row of the grid, which has more MCUs than came before (own)

@@ -7,13 +7,13 @@ use Rattle.adapt_bins.specs.PutEvents.{PutsEvents}
 use Rattle.adapt_bins.specs.GotEvents.{GetsEvents}
 use Rattle.adapt_bins.specs.declared.put.Put.{Put}
 use Rattle.adapt_bins.specs.declared.get.Get.{Get}
-use Rattle.block_events.specs.ReadBlocks.{IsRead}
-use Rattle.block_events.specs.declared.fault.BlockFault.{BlockFault}
+use Rattle.block_spec.specs.ReadBlocks.{IsRead}
+use Rattle.block_spec.specs.declared.fault.BlockFault.{BlockFault}
 use Rattle.coef_block.specs.TwoRows.{block_count}
-use Rattle.block_events.specs.Grid.{Grid, cell_at}
-use Rattle.block_events.specs.SegmentEvents.{segment_events, around_in, class_of}
+use Rattle.block_spec.specs.Grid.{Grid, cell_at}
+use Rattle.block_spec.specs.SegmentEvents.{segment_events, around_in, class_of}
 use Rattle.coef_block.specs.TwoRows.{TwoRows}
-use Rattle.block_events.specs.HeldRows.{HoldBlocks}
+use Rattle.block_spec.specs.HeldRows.{HoldBlocks}
 
 -- the grid, the rows, and how many MCUs of this MCU row came before (own)
 pub record UnderWay : Type 0 where

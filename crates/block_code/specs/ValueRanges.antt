@@ -1,7 +1,7 @@
 -- How large the values of a block are (own).
 use Rattle.std.specs.Prelude.{ℕ, ◌<◌, ◌≤◌, ℤ}
 use Rattle.coef_context.specs.Runs.{ac_sizes, dc_sizes}
-use Rattle.block_events.specs.Values.{category_of}
+use Rattle.block_spec.specs.Values.{category_of}
 
 -- an AC coefficient has at most 10 bits (T.81 F.1.2.2, Table F.2)
 abbrev pub IsAc : ℤ → Type 0

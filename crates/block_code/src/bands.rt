@@ -3,9 +3,9 @@ ghost use Rattle.std.specs.Prelude.{◌≡◌, ℕ, Bool, ◌<◌, ◌≤◌, �
 ghost use Rattle.std.specs.List.{AllByRecursion};
 ghost use Rattle.std.specs.Option.{option_map};
 ghost use Rattle.coef_context.specs.Runs.{edge_values, inner_values};
-ghost use Rattle.block_events.specs.Around.{inner_positions};
-ghost use Rattle.block_events.specs.BlockEvents.{inner_bins, edge_bins, edge_positions, edge_events};
-ghost use Rattle.block_events.specs.Values.{values_events, nonzeros};
+ghost use Rattle.block_spec.specs.Around.{inner_positions};
+ghost use Rattle.block_spec.specs.BlockEvents.{inner_bins, edge_bins, edge_positions, edge_events};
+ghost use Rattle.block_spec.specs.Values.{values_events, nonzeros};
 ghost use Rattle.block_code.specs.BinBases.{bin_count};
 ghost use Rattle.block_code.specs.NeighbourBlocks.{around_of};
 ghost use Rattle.block_code.specs.ValueRanges.{IsAc};
@@ -43,7 +43,7 @@ fn inner_position(place: usize) -> usize
 impl Band for InnerBand<'_> {
     ghost use Rattle.std.specs.Prelude.{◌<◌};
     ghost use Rattle.coef_context.specs.Runs.{inner_values};
-    ghost use Rattle.block_events.specs.BlockEvents.{inner_bins};
+    ghost use Rattle.block_spec.specs.BlockEvents.{inner_bins};
     ghost use Rattle.block_code.specs.NeighbourBlocks.{around_of};
 
     ghost bins = { λ band place remain.
@@ -116,7 +116,7 @@ fn edge_position(column: bool, place: usize) -> usize
 impl Band for EdgeBand<'_> {
     ghost use Rattle.std.specs.Prelude.{◌<◌};
     ghost use Rattle.coef_context.specs.Runs.{edge_values};
-    ghost use Rattle.block_events.specs.BlockEvents.{edge_bins};
+    ghost use Rattle.block_spec.specs.BlockEvents.{edge_bins};
     ghost use Rattle.block_code.specs.NeighbourBlocks.{around_of};
 
     ghost bins = { λ band place remain.

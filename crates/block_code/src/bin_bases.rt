@@ -4,7 +4,7 @@ ghost use Rattle.coef_context.specs.BinNumbers.{bin_number, rows_from};
 ghost use Rattle.coef_context.specs.Runs.{ac_sizes, count_sizes, dc_low_bits, dc_sizes, edge_nodes, edge_remain_sizes, edge_values, inner_nodes, inner_remain_sizes, inner_values, spreads, weights};
 ghost use Rattle.coef_context.specs.declared.context.Context.TheVariants.{DcStep, EdgeCount, EdgeStep, InnerCount, InnerStep};
 ghost use Rattle.coef_context.specs.declared.context.Kind.TheVariants.{Dc, Inner};
-ghost use Rattle.block_events.specs.BlockEvents.{kind_of, value_bins};
+ghost use Rattle.block_spec.specs.BlockEvents.{kind_of, value_bins};
 ghost use Rattle.block_code.specs.BinBases.{AreBases, bin_count, bins_at};
 
 use crate::parts::{EDGE_VALUES, INNER_VALUES};

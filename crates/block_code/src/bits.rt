@@ -2,8 +2,8 @@
 ghost use Rattle.std.specs.Prelude.{◌≡◌, ◌%◌, ◌==◌, nat_lt, ℕ, ◌-◌, ◌/◌, ◌+◌, ◌*◌, ◌^◌, ◌<◌, ◌≤◌, IfOk, OnErr, IfSome, IsTrue};
 ghost use Rattle.std.specs.Option.{option_map};
 ghost use Rattle.coef_context.specs.Runs.{dc_sizes};
-ghost use Rattle.block_events.specs.Values.{step_events};
-ghost use Rattle.block_events.specs.BitEvents.{bits_events};
+ghost use Rattle.block_spec.specs.Values.{step_events};
+ghost use Rattle.block_spec.specs.BitEvents.{bits_events};
 ghost use Rattle.block_code.specs.BinBases.{AreBases, bin_count, bins_at};
 
 use crate::bin_bases::BinBases;

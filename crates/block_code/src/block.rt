@@ -4,10 +4,10 @@ ghost use Rattle.coef_block.specs.Block.{IsBlock};
 ghost use Rattle.coef_block.specs.TwoRows.{width, height};
 ghost use Rattle.adapt_bins.specs.PutEvents.{PutsEvents};
 ghost use Rattle.adapt_bins.specs.GotEvents.{GetsEvents};
-ghost use Rattle.block_events.specs.declared.fault.BlockFault.{BlockFault};
-ghost use Rattle.block_events.specs.BlockEvents.{block_events};
-ghost use Rattle.block_events.specs.HeldRows.{kept_around};
-ghost use Rattle.block_events.specs.ReadBlocks.{IsRead};
+ghost use Rattle.block_spec.specs.declared.fault.BlockFault.{BlockFault};
+ghost use Rattle.block_spec.specs.BlockEvents.{block_events};
+ghost use Rattle.block_spec.specs.HeldRows.{kept_around};
+ghost use Rattle.block_spec.specs.ReadBlocks.{IsRead};
 ghost use Rattle.block_code.specs.BinBases.{bin_count};
 ghost use Rattle.block_code.specs.NeighbourBlocks.{around_of, HasCorner};
 
@@ -15,7 +15,7 @@ use crate::neighbours::{Neighbours, prediction};
 use crate::parts::Parts;
 use crate::parts_code::code_parts;
 use adapt_bins::{Get, Put};
-use block_events::BlockFault;
+use block_spec::BlockFault;
 use coef_block::{Block, Rows};
 use std::alloc::AllocError;
 

@@ -1,7 +1,7 @@
 // Counts, highest bit first.
 ghost use Rattle.std.specs.Prelude.{◌≡◌, ℕ, ◌+◌, ◌-◌, ◌*◌, ◌^◌, ◌<◌, ◌≤◌, IfOk, OnErr, IfSome, IsTrue};
 ghost use Rattle.std.specs.Option.{option_map};
-ghost use Rattle.block_events.specs.Values.{count_events};
+ghost use Rattle.block_spec.specs.Values.{count_events};
 ghost use Rattle.block_code.specs.BinBases.{bin_count};
 
 use crate::bits::{BitBins, code_bits};

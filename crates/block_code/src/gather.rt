@@ -1,7 +1,7 @@
 // Coefficients by natural position, out of a block and into one.
 ghost use Rattle.std.specs.Prelude.{◌≡◌, ℕ, ◌<◌, ◌≤◌, length};
 ghost use Rattle.std.specs.List.{AllByRecursion};
-ghost use Rattle.block_events.specs.Around.{values_in};
+ghost use Rattle.block_spec.specs.Around.{values_in};
 ghost use Rattle.block_code.specs.PutCoefficients.{IsAcPosition, put_in};
 ghost use Rattle.block_code.specs.ValueRanges.{IsAc};
 

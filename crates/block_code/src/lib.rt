@@ -9,7 +9,7 @@
 //!     7           |                         column edge   3 bits of count, 7 values
 //!                                           residue       the DC less its prediction
 //!
-//! One body codes the parts of a block in that order, as the events of `block_events` say: with `Put` it is given each
+//! One body codes the parts of a block in that order, as the events of `block_spec` say: with `Put` it is given each
 //! bit, and with `Get` it takes each. A bit's bin follows from the blocks around and from earlier bits of the block.
 //! `SegmentRows` keeps two MCU rows of blocks, so that `put_mcu` and `get_mcu` find the blocks around each.
 //!

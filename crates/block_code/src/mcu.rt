@@ -3,16 +3,16 @@ ghost use Rattle.std.specs.Prelude.{◌≡◌, ℕ, ◌<◌, ◌≤◌, ◌+◌,
 ghost use Rattle.std.specs.List.{AllByRecursion};
 ghost use Rattle.coef_block.specs.Block.{IsBlock};
 ghost use Rattle.coef_block.specs.TwoRows.{block_count};
-ghost use Rattle.block_events.specs.Grid.{IsGrid};
-ghost use Rattle.block_events.specs.SegmentEvents.{class_of};
-ghost use Rattle.block_events.specs.HeldRows.{HoldBlocks, FitsGrid};
+ghost use Rattle.block_spec.specs.Grid.{IsGrid};
+ghost use Rattle.block_spec.specs.SegmentEvents.{class_of};
+ghost use Rattle.block_spec.specs.HeldRows.{HoldBlocks, FitsGrid};
 ghost use Rattle.block_code.specs.BinBases.{bin_count};
 ghost use Rattle.block_code.specs.SegmentUnderWay.{GetsFault, GetsMore, HoldsUpTo, PutsMore};
 
 use crate::block::{get_block, put_block};
 use crate::mcu_grid::McuGrid;
 use adapt_bins::{Get, Put};
-use block_events::BlockFault;
+use block_spec::BlockFault;
 use coef_block::{Block, Rows};
 use std::alloc::{AllocError, Global};
 use std::marker::Model;

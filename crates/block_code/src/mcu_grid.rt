@@ -1,7 +1,7 @@
 // Where the blocks of an MCU stand.
 ghost use Rattle.std.specs.Prelude.{ℕ, ◌≡◌, ◌<◌, ◌≤◌, ◌*◌, ◌^◌, length, slice_index};
 ghost use Rattle.coef_block.specs.TwoRows.{block_count, width};
-ghost use Rattle.block_events.specs.Grid.{component_of, cell_in};
+ghost use Rattle.block_spec.specs.Grid.{component_of, cell_in};
 
 use std::marker::Model;
 
@@ -25,7 +25,7 @@ pub struct McuGrid {
 }
 
 impl Model for McuGrid {
-    ghost use Rattle.block_events.specs.Grid.{Grid};
+    ghost use Rattle.block_spec.specs.Grid.{Grid};
     ghost use Rattle.block_code.specs.GridInside.{grid_in, IsGridInside};
 
     ghost Value = { Grid };

@@ -4,7 +4,7 @@ ghost use Rattle.std.specs.List.{AllByRecursion};
 ghost use Rattle.coef_block.specs.Block.{IsDc};
 ghost use Rattle.coef_block.specs.Categories.{category};
 ghost use Rattle.coef_context.specs.Runs.{inner_values, spreads, weights};
-ghost use Rattle.block_events.specs.Around.{magnitude, inner_weight, edge_weight, inner_positions, inner_count, guess, prediction, dc_spread, dc, mean};
+ghost use Rattle.block_spec.specs.Around.{magnitude, inner_weight, edge_weight, inner_positions, inner_count, guess, prediction, dc_spread, dc, mean};
 ghost use Rattle.block_code.specs.NeighbourBlocks.{around_of, HasCorner};
 
 use crate::gather::gather_values;

@@ -1,11 +1,11 @@
 // A block's coefficients in the order of their events.
 ghost use Rattle.std.specs.Prelude.{◌≡◌, ℕ, ◌<◌, ◌≤◌, List, ℤ, ◌+ℤ◌, ◌-ℤ◌, pos, replicate, IfOk, IfErr};
 ghost use Rattle.coef_block.specs.Block.{IsBlock, IsDc};
-ghost use Rattle.block_events.specs.declared.fault.BlockFault.TheVariants.{DcRange};
+ghost use Rattle.block_spec.specs.declared.fault.BlockFault.TheVariants.{DcRange};
 ghost use Rattle.block_code.specs.BlockParts.{AreParts, HasCoefficients, parts_in};
 
 use crate::gather::{gather_values, put_values};
-use block_events::BlockFault;
+use block_spec::BlockFault;
 use coef_block::Block;
 
 /// How many inner coefficients a block has.

@@ -2,10 +2,10 @@
 ghost use Rattle.std.specs.Prelude.{◌≡◌, ℕ, Bool, ◌<◌, ◌≤◌, ◌+◌, ◌-◌, ◌++◌, IfOk, OnOk, OnErr, IfSome, IsTrue, IsOk, length, true, false, List, MatchResult, option_map};
 ghost use Rattle.std.specs.List.{AllByRecursion};
 ghost use Rattle.coef_context.specs.Runs.{edge_values, inner_values, spreads};
-ghost use Rattle.block_events.specs.Around.{Around, dc_spread};
-ghost use Rattle.block_events.specs.BlockEvents.{inner_bins, edge_events, inner_count_events, dc_events};
-ghost use Rattle.block_events.specs.ReadBlocks.{IsBlockCount};
-ghost use Rattle.block_events.specs.Values.{values_events, nonzeros, category_of};
+ghost use Rattle.block_spec.specs.Around.{Around, dc_spread};
+ghost use Rattle.block_spec.specs.BlockEvents.{inner_bins, edge_events, inner_count_events, dc_events};
+ghost use Rattle.block_spec.specs.ReadBlocks.{IsBlockCount};
+ghost use Rattle.block_spec.specs.Values.{values_events, nonzeros, category_of};
 ghost use Rattle.block_code.specs.BinBases.{bin_count};
 ghost use Rattle.block_code.specs.BlockParts.{AreParts, after_count_events, parts_events};
 ghost use Rattle.block_code.specs.NeighbourBlocks.{around_of};

@@ -2,7 +2,7 @@
 ghost use Rattle.std.specs.Prelude.{ℕ, ◌+◌, ◌-◌, ◌/◌, ◌^◌, ◌<◌, ◌≤◌, IfOk, OnOk, None, length, ◌≡◌, OnErr, IfSome, IsTrue, unsigned_abs, int_lt, pos, ◌∷◌, ◌++◌};
 ghost use Rattle.std.specs.Option.{option_map};
 ghost use Rattle.coef_context.specs.Runs.{dc_sizes};
-ghost use Rattle.block_events.specs.Values.{category_of, rest_events, value_events};
+ghost use Rattle.block_spec.specs.Values.{category_of, rest_events, value_events};
 ghost use Rattle.block_code.specs.BinBases.{AreBases, bin_count, bins_at};
 
 use crate::bin_bases::BinBases;

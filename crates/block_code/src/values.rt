@@ -3,7 +3,7 @@ ghost use Rattle.std.specs.Prelude.{◌≡◌, ℕ, ◌+◌, ◌-◌, ◌<◌, �
 ghost use Rattle.std.specs.Option.{option_map};
 ghost use Rattle.std.specs.List.{AllByRecursion};
 ghost use Rattle.coef_context.specs.Runs.{inner_values};
-ghost use Rattle.block_events.specs.Values.{ValueBins, category_of, is_zero, nonzeros, one_events, values_events};
+ghost use Rattle.block_spec.specs.Values.{ValueBins, category_of, is_zero, nonzeros, one_events, values_events};
 ghost use Rattle.block_code.specs.BinBases.{AreBases, bin_count, bins_at};
 ghost use Rattle.block_code.specs.ValueRanges.{IsAc};
 

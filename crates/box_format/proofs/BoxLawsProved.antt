@@ -6,9 +6,9 @@ use Rattle.std.proofs.lemmas.List.{take_at, drop_at, drop-drop}
 use Rattle.jpeg_marker.specs.Plans.{PlanFields}
 use Rattle.jpeg_marker.specs.HeaderPlan.{Accepts}
 use Rattle.jpeg_marker.proofs.HeaderLaws as header_laws
-use Rattle.scan_text.specs.Slots.{Shape, shape_of}
+use Rattle.scan_spec.specs.Slots.{Shape, shape_of}
 use Rattle.handover.specs.Handovers.{HandoverFields}
-use Rattle.scan_text.specs.Pads.{PadBits, Same, Listed}
+use Rattle.scan_spec.specs.Pads.{PadBits, Same, Listed}
 use Rattle.box_format.specs.Versions.{layout_of, version_in, is_version}
 use Rattle.box_format.specs.Parts.{BoxParts, IsBox, IsBoxOf, magic, pad_byte, list_bytes, can_pad, records, box_bytes, bad_start, cut_in}
 use Rattle.box_format.specs.Raws.{Raw, raw_of, parts_of, numbers, parted, handover_at, front_room, record_place, list_place, list_long, pads_in, stream_length, stream_lengths, segments_in, header_length, header_place, trailer_length, trailer_place, streams_place, named_end}

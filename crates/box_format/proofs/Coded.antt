@@ -9,8 +9,8 @@ use Rattle.std.proofs.Math.Nat.{mul-le-mul}
 use Rattle.jpeg_marker.specs.declared.component.Component.{Component}
 use Rattle.jpeg_marker.specs.Frames.{area, is_sampled, are_components}
 use Rattle.jpeg_marker.specs.Plans.{PlanFields, IsPlan, part_of}
-use Rattle.scan_text.specs.declared.slot.Slot.{Slot}
-use Rattle.scan_text.specs.Slots.{slot_of, slots_from, slots_of, shape_of}
+use Rattle.scan_spec.specs.declared.slot.Slot.{Slot}
+use Rattle.scan_spec.specs.Slots.{slot_of, slots_from, slots_of, shape_of}
 use Rattle.handover.specs.Handovers.{HandoverFields}
 use Rattle.handover.proofs.FieldBytes.{four_of}
 use Rattle.box_format.specs.Parts.{is_coded}

@@ -1,8 +1,8 @@
 -- The first segment that can't start from its record.
 use Rattle.std.proofs.Common.{◌≡◌, ◌<◌, ℕ, zero, suc, ◌+◌, ◌-◌, map, refl, arith, true, false, Bool, cond}
 use Rattle.std.specs.Prelude.{Option, Some, None}
-use Rattle.scan_text.specs.Slots.{Shape}
-use Rattle.segment_text.specs.Cuts.{Cut, first_mcu}
+use Rattle.scan_spec.specs.Slots.{Shape}
+use Rattle.cut_spec.specs.Cuts.{Cut, first_mcu}
 use Rattle.handover.specs.Handovers.{HandoverFields}
 use Rattle.box_format.specs.Parts.{bad_start, can_start}
 use Rattle.box_format.specs.Raws.{numbers}

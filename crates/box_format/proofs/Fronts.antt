@@ -1,8 +1,8 @@
 -- What holds of the layouts of all versions, and of pad bytes.
 use Rattle.std.proofs.Common.{◌≡◌, ◌≤◌, ◌==◌, ◌||◌, ◌&&◌, not, Bool, true, false, ℕ, zero, suc, List, [], ◌∷◌, length, nat_lt, if◌then◌else◌, refl, sym, ap, ◌∙◌, arith}
 use Rattle.std.proofs.lemmas.Bool.{ltb-false, lt-ltb, ne_eqb, or_from, or_parts, and_parts, false≢true}
-use Rattle.scan_text.specs.Slots.{Shape}
-use Rattle.scan_text.specs.Pads.{PadBits, Same, Listed, is_long_for, list_room}
+use Rattle.scan_spec.specs.Slots.{Shape}
+use Rattle.scan_spec.specs.Pads.{PadBits, Same, Listed, is_long_for, list_room}
 use Rattle.box_format.specs.Versions.{layout_of, most_segments, version_byte, is_version}
 use Rattle.box_format.specs.Parts.{pad_byte, list_bytes, is_list, can_pad}
 use Rattle.box_format.specs.Raws.{pads_in}

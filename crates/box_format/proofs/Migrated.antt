@@ -1,8 +1,8 @@
 -- The bytes of a container in the first version, as they are put in the second one.
 use Rattle.std.proofs.Common.{◌≡◌, ◌≤◌, true, ℕ, List, length, refl, sym, ap, ◌∙◌, arith}
 use Rattle.jpeg_marker.specs.Plans.{PlanFields}
-use Rattle.scan_text.specs.Slots.{Shape, shape_of}
-use Rattle.scan_text.specs.Pads.{PadBits, Same, Listed}
+use Rattle.scan_spec.specs.Slots.{Shape, shape_of}
+use Rattle.scan_spec.specs.Pads.{PadBits, Same, Listed}
 use Rattle.box_format.specs.Versions.{layout_of, version_in}
 use Rattle.box_format.specs.Parts.{BoxParts, can_pad, migrated, relaid}
 use Rattle.box_format.specs.BoxChecks.{PassesChecks}

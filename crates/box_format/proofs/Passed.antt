@@ -5,7 +5,7 @@ use Rattle.std.proofs.lemmas.Bool.{ltb-false, le-ltb, or_parts, or_from}
 use Rattle.std.proofs.lemmas.Bool.Decides.{nat_tests}
 use Rattle.std.proofs.lemmas.List.{length-take-le}
 use Rattle.jpeg_marker.specs.Plans.{PlanFields}
-use Rattle.scan_text.specs.Slots.{shape_of}
+use Rattle.scan_spec.specs.Slots.{shape_of}
 use Rattle.box_format.specs.Versions.{layout_of, version_in, is_version}
 use Rattle.box_format.specs.Parts.{magic}
 use Rattle.box_format.specs.Raws.{raw_of, handover_at, segments_in, list_place, header_place, header_length, named_end}

@@ -9,9 +9,9 @@ use Rattle.bit_list.specs.Bits.{IsByte}
 use Rattle.jpeg_marker.specs.Plans.{PlanFields}
 use Rattle.jpeg_marker.specs.HeaderPlan.{Accepts}
 use Rattle.jpeg_marker.proofs.HeadersTaken.{accepted_has_plan}
-use Rattle.scan_text.specs.Slots.{shape_of}
+use Rattle.scan_spec.specs.Slots.{shape_of}
 use Rattle.handover.specs.Handovers.{HandoverFields, IsHandover}
-use Rattle.scan_text.specs.Pads.{PadBits}
+use Rattle.scan_spec.specs.Pads.{PadBits}
 use Rattle.box_format.specs.Versions.{layout_of, version_in}
 use Rattle.box_format.specs.Parts.{BoxParts, IsBox, list_bytes, list_length, records, box_bytes, bad_start, cut_in}
 use Rattle.box_format.specs.Raws.{raw_of, numbers, handover_at, front_room, record_place, segments_in, list_place, list_long, header_place, header_length, trailer_place, trailer_length, streams_place, stream_length, stream_lengths, parted}

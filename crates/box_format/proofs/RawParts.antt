@@ -4,7 +4,7 @@ use Rattle.std.specs.Prelude.{sum, None}
 use Rattle.std.proofs.lemmas.Bool.{and_parts}
 use Rattle.std.proofs.lemmas.List.{drop-drop}
 use Rattle.jpeg_marker.specs.Plans.{PlanFields}
-use Rattle.scan_text.specs.Slots.{shape_of}
+use Rattle.scan_spec.specs.Slots.{shape_of}
 use Rattle.handover.specs.Handovers.{HandoverFields}
 use Rattle.handover.specs.HandoverBytes.{is_handover}
 use Rattle.box_format.specs.Parts.{cut_in}

@@ -11,8 +11,8 @@ use Rattle.handover.specs.Handovers.{IsHandover}
 use Rattle.handover.specs.HandoverBytes.{handover_bytes, handover_in, is_handover}
 use Rattle.handover.proofs.FieldBytes.{bytes_again}
 use Rattle.jpeg_marker.specs.Plans.{PlanFields}
-use Rattle.scan_text.specs.Pads.{PadBits}
-use Rattle.scan_text.specs.Slots.{shape_of}
+use Rattle.scan_spec.specs.Pads.{PadBits}
+use Rattle.scan_spec.specs.Slots.{shape_of}
 use Rattle.box_format.specs.Versions.{layout_of, version_byte, version_in}
 use Rattle.box_format.specs.Parts.{magic, pad_byte, records}
 use Rattle.box_format.specs.Raws.{numbers, handover_at, record_place, stream_length, segments_in, list_place, pads_in}

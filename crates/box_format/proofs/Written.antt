@@ -8,7 +8,7 @@ use Rattle.byteorder.specs.Numbers.{big_number-reads_back}
 use Rattle.handover.specs.Handovers.{HandoverFields, IsHandover}
 use Rattle.handover.specs.HandoverBytes.{handover_bytes, handover_in}
 use Rattle.handover.proofs.FieldBytes.{fields_again}
-use Rattle.scan_text.specs.Pads.{PadBits}
+use Rattle.scan_spec.specs.Pads.{PadBits}
 use Rattle.box_format.specs.Versions.{layout_of, version_byte, version_in}
 use Rattle.box_format.specs.Parts.{BoxParts, magic, pad_byte, list_bytes, list_length, records, box_bytes}
 use Rattle.box_format.specs.Raws.{numbers, parted, handover_at, front_room, record_place, stream_length, segments_in, header_length, trailer_length, list_long}

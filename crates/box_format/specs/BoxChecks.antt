@@ -3,7 +3,7 @@ use Rattle.std.specs.Prelude.{ℕ, ◌≡◌, ◌⊎◌, Bool, ◌&&◌, ◌||�
 use Rattle.jpeg_marker.specs.Plans.{PlanFields}
 use Rattle.jpeg_marker.specs.HeaderPlan.{Accepts, Refuses as HeaderRefuses}
 use Rattle.jpeg_marker.specs.declared.refusal.HeaderRefusal.{HeaderRefusal}
-use Rattle.scan_text.specs.Slots.{Shape, shape_of}
+use Rattle.scan_spec.specs.Slots.{Shape, shape_of}
 use Rattle.box_format.specs.Versions.{layout_of, is_version}
 use Rattle.box_format.specs.Parts.{magic, is_list, bad_start, cut_in}
 use Rattle.box_format.specs.Raws.{Raw, raw_of, list_place, named_end}

@@ -1,9 +1,9 @@
 -- Worked containers (own).
 use Rattle.std.specs.Prelude.{ℕ, ◌≡◌, true, List, [], ◌∷◌, ◌++◌, length, replicate, map, take, drop, slice_set, slice_index, Some, None}
 use Rattle.jpeg_marker.specs.Plans.{PlanFields}
-use Rattle.scan_text.specs.BlockRows.{level_table}
+use Rattle.scan_spec.specs.BlockRows.{level_table}
 use Rattle.handover.specs.Handovers.{start}
-use Rattle.scan_text.specs.Pads.{Same, Listed}
+use Rattle.scan_spec.specs.Pads.{Same, Listed}
 use Rattle.box_format.specs.Parts.{BoxParts, box_bytes, migrated}
 use Rattle.box_format.specs.Raws.{numbers, raw_of, parts_of}
 use Rattle.box_format.specs.BoxChecks.{early_fault, late_fault}

@@ -5,12 +5,12 @@ use Rattle.byteorder.specs.Endian.{big_bytes}
 use Rattle.bit_list.specs.Bits.{IsByte, bits_of}
 use Rattle.jpeg_marker.specs.Plans.{PlanFields}
 use Rattle.jpeg_marker.specs.HeaderPlan.{Accepts}
-use Rattle.scan_text.specs.Pads.{PadBits, Same, Listed, interval_count, list_room}
-use Rattle.scan_text.specs.Slots.{Shape, shape_of}
+use Rattle.scan_spec.specs.Pads.{PadBits, Same, Listed, interval_count, list_room}
+use Rattle.scan_spec.specs.Slots.{Shape, shape_of}
 use Rattle.handover.specs.Handovers.{HandoverFields, IsHandover}
 use Rattle.handover.specs.HandoverBytes.{handover_bytes, is_handover}
-use Rattle.segment_text.specs.Cuts.{Cut, first_mcu}
-use Rattle.segment_text.specs.RowHandovers.{markers_before}
+use Rattle.cut_spec.specs.Cuts.{Cut, first_mcu}
+use Rattle.cut_spec.specs.RowHandovers.{markers_before}
 use Rattle.box_format.specs.Versions.{layout_of, version_byte}
 use Rattle.box_format.specs.declared.version.Version.{Version}
 use Rattle.box_format.specs.declared.version.Version.TheVariants.{Second}

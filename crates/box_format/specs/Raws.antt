@@ -3,7 +3,7 @@ use Rattle.std.specs.Prelude.{ℕ, zero, suc, ◌+◌, ◌*◌, not, ◌==◌, i
 use Rattle.byteorder.specs.Endian.{big_number}
 use Rattle.handover.specs.Handovers.{HandoverFields}
 use Rattle.handover.specs.HandoverBytes.{handover_in}
-use Rattle.scan_text.specs.Pads.{PadBits, Same, Listed}
+use Rattle.scan_spec.specs.Pads.{PadBits, Same, Listed}
 use Rattle.box_format.specs.Parts.{BoxParts}
 use Rattle.box_format.specs.Versions.{layout_of, version_in}
 use Rattle.box_format.specs.declared.version.Version.{Version}

@@ -1,6 +1,6 @@
 // What a container is written from.
 use handover::Handover;
-use scan_text::Pads;
+use scan_spec::Pads;
 
 /// What a container is written from. Clauses see `BoxParts`.
 #[derive(Clone, Copy)]

@@ -2,9 +2,9 @@
 ghost use Rattle.std.specs.Prelude.{◌≡◌, ◌<◌, ◌≤◌, ◌==◌, length, true, unsigned_abs};
 ghost use Rattle.std.specs.List.{list_all};
 ghost use Rattle.handover.specs.HandoverBytes.{is_handover};
-ghost use Rattle.scan_text.specs.Slots.{shape_of};
-ghost use Rattle.segment_text.specs.Cuts.{first_mcu};
-ghost use Rattle.segment_text.specs.RowHandovers.{markers_before};
+ghost use Rattle.scan_spec.specs.Slots.{shape_of};
+ghost use Rattle.cut_spec.specs.Cuts.{first_mcu};
+ghost use Rattle.cut_spec.specs.RowHandovers.{markers_before};
 ghost use Rattle.box_format.specs.Parts.{bad_start, can_start, cut_in, is_start};
 ghost use Rattle.box_format.specs.Raws.{handover_at, list_place, segments_in};
 ghost use Rattle.box_format.specs.Whole.{bad_segment, are_unused_zeros};

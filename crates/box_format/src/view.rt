@@ -1,8 +1,8 @@
 // A container that was read.
 ghost use Rattle.std.specs.Prelude.{◌≡◌, ◌≤◌, ◌<◌, ◌^◌, length, get_or, [], true};
 ghost use Rattle.handover.specs.Handovers.{start};
-ghost use Rattle.scan_text.specs.Pads.{is_long_for, pads_given};
-ghost use Rattle.scan_text.specs.Slots.{shape_of};
+ghost use Rattle.scan_spec.specs.Pads.{is_long_for, pads_given};
+ghost use Rattle.scan_spec.specs.Slots.{shape_of};
 ghost use Rattle.box_format.specs.Parts.{IsBox};
 ghost use Rattle.box_format.specs.Versions.{layout_of, most_segments};
 
@@ -12,7 +12,7 @@ use crate::fields::{
 use crate::version::Version;
 use handover::Handover;
 use jpeg_marker::Plan;
-use scan_text::Pads;
+use scan_spec::Pads;
 use std::marker::Model;
 
 /// A container that was read, by its parts, which it borrows.

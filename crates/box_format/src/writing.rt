@@ -3,7 +3,7 @@ ghost use Rattle.std.specs.Prelude.{◌≡◌, ◌-◌, ◌^◌, min, ◌∷◌,
 ghost use Rattle.byteorder.specs.Endian.{big_bytes};
 ghost use Rattle.handover.specs.HandoverBytes.{handover_bytes};
 ghost use Rattle.jpeg_marker.specs.Plans.{PlanFields};
-ghost use Rattle.scan_text.specs.Pads.{pads_given};
+ghost use Rattle.scan_spec.specs.Pads.{pads_given};
 ghost use Rattle.box_format.specs.Parts.{IsBox, box_bytes, list_bytes, magic, pad_byte, records};
 ghost use Rattle.box_format.specs.Versions.{version_byte};
 ghost use Rattle.box_format.specs.declared.version.Version.TheVariants.{Second};
@@ -14,7 +14,7 @@ use crate::fields::RECORD;
 use crate::parts::Parts;
 use crate::version::Version;
 use handover::Handover;
-use scan_text::Pads;
+use scan_spec::Pads;
 use std::alloc::{AllocError, Global};
 
 /// Writes the container of these parts, in version 2. They have to be those of one: their checks pass. The one error is

@@ -10,7 +10,7 @@
 //! A context says all that the probability of a bit may depend on: what the bit is of, and what is known before it
 //! of this block and of those around. Each shape of context has a run of bins, in which the class of the component and
 //! the parts of the context are digits. Different contexts have different bins: `different_numbers`. Which events a
-//! block has is left to `block_events`, and what a bin counts to `adapt_bins`.
+//! block has is left to `block_spec`, and what a bin counts to `adapt_bins`.
 #![tactic(auto)]
 
 mod context;

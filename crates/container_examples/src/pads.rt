@@ -1,6 +1,6 @@
 // Pad bits, and what was padded, by plain numbers.
 use handover::PadSum;
-use scan_text::Pads;
+use scan_spec::Pads;
 
 /// Whether pad bits are told by this byte and this list of one byte, which is 0 where there is no list.
 pub(crate) fn are_told(pads: &Pads, wanted: (u8, u8)) -> bool {

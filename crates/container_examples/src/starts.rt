@@ -4,7 +4,7 @@ ghost use Rattle.std.specs.Prelude.{◌<◌, length};
 use crate::pads::are_told;
 use handover::Handover;
 use jpeg_marker::read_header;
-use scan_text::ScanRefusal;
+use scan_spec::ScanRefusal;
 use segment_code::{FindError, Starts, encode_segment, find_starts};
 use std::alloc::{AllocError, Global};
 use std::test::Fail;

@@ -1,7 +1,7 @@
 -- How a decode ends by how its emitter did.
 use Rattle.std.proofs.Common.{◌≡◌, ℕ, true, List, Option, Result, Ok, Err}
 use Rattle.std.specs.Prelude.{All, OnOk, OnErr}
-use Rattle.segment_meaning.specs.Meanings.{Joined}
+use Rattle.container_spec.specs.Meanings.{Joined}
 use Rattle.output_board.specs.declared.view.EmitterView.{EmitterView}
 use Rattle.output_board.specs.declared.view.WorkerView.{WorkerView}
 use Rattle.segment_worker.specs.declared.ending.Emitted.{Emitted}

@@ -2,11 +2,11 @@
 use Rattle.std.proofs.Common.{◌≡◌, ℕ, ◌+◌, Bool, List, [], ◌++◌, length, length-append, sym, ap, ap₂, subst, ◌∙◌, append_assoc, append-nil, Option, Some, None, Err}
 use Rattle.std.specs.Prelude.{if◌then◌else◌}
 use Rattle.jpeg_marker.specs.Plans.{PlanFields}
-use Rattle.scan_text.specs.Pads.{is_spelled}
+use Rattle.scan_spec.specs.Pads.{is_spelled}
 use Rattle.handover.specs.declared.pads.PadSum.{PadSum}
 use Rattle.handover.specs.declared.outcome.StreamFault.{StreamFault}
 use Rattle.box_format.specs.Parts.{BoxParts}
-use Rattle.segment_meaning.specs.Meanings.{Joined, Meaning, Restored, PadSpelled, Faulty, joined, outputs_of, meaning_by, meaning_of}
+use Rattle.container_spec.specs.Meanings.{Joined, Meaning, Restored, PadSpelled, Faulty, joined, outputs_of, meaning_by, meaning_of}
 use Rattle.lepton_decode.specs.declared.error.DecodeError.TheVariants as DecodeError
 use Rattle.segment_worker.specs.declared.ending.EmitStop.TheVariants.{Fault}
 use Rattle.segment_worker.specs.Written.{HasWritten, HasFailed}

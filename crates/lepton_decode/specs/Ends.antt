@@ -2,7 +2,7 @@
 use Rattle.std.specs.Prelude.{All, ℕ, ◌≡◌, Bool, true, List, length, Option, Result, Ok, Err}
 use Rattle.jpeg_marker.specs.Plans.{PlanFields}
 use Rattle.box_format.specs.Parts.{BoxParts}
-use Rattle.segment_meaning.specs.Meanings.{Meaning, Restored, PadSpelled, Faulty, meaning_of}
+use Rattle.container_spec.specs.Meanings.{Meaning, Restored, PadSpelled, Faulty, meaning_of}
 use Rattle.output_board.specs.declared.view.EmitterView.{EmitterView}
 use Rattle.output_board.specs.declared.view.WorkerView.{WorkerView}
 use Rattle.segment_worker.specs.Written.{HasWritten, HasFailed}

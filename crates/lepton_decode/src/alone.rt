@@ -3,7 +3,7 @@ ghost use Rattle.std.specs.Prelude.{◌≡◌, ◌≤◌, IfOk, IsErrOf, false, 
 ghost use Rattle.box_format.specs.Parts.{IsBoxOf};
 ghost use Rattle.box_format.specs.BoxChecks.{IsRefusedBox};
 ghost use Rattle.box_format.specs.declared.refusal.BoxRefusal.{BoxRefusal};
-ghost use Rattle.segment_meaning.specs.Meanings.{meaning_of};
+ghost use Rattle.container_spec.specs.Meanings.{meaning_of};
 ghost use Rattle.lepton_decode.specs.Ends.{Ends, lone_meaning_in};
 
 use crate::error::DecodeError;

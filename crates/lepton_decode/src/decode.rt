@@ -1,6 +1,6 @@
 // A container decoded into a sink.
 ghost use Rattle.std.specs.Prelude.{◌≡◌, ◌≤◌, All, false, length, true};
-ghost use Rattle.segment_meaning.specs.Meanings.{meaning_of};
+ghost use Rattle.container_spec.specs.Meanings.{meaning_of};
 ghost use Rattle.lepton_decode.specs.Ends.{Ends, HasEmitted, HaveLeft, meaning_in};
 ghost use Rattle.lepton_decode.specs.Teams.{IsIdleWorker, IsNewLead, views_of};
 

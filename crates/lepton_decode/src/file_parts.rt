@@ -1,7 +1,7 @@
 // What a decode writes before its segments and after them.
 ghost use Rattle.std.specs.Prelude.{◌≡◌, ◌*◌, ◌^◌, ◌<◌, ◌≤◌, length, IfOk, IfErr};
 ghost use Rattle.box_format.specs.Versions.{most_segments};
-ghost use Rattle.segment_meaning.specs.Meanings.{meaning_of};
+ghost use Rattle.container_spec.specs.Meanings.{meaning_of};
 ghost use Rattle.segment_worker.specs.Contents.{segment_room};
 ghost use Rattle.segment_worker.specs.Emitting.{Counts, Emits, joined_in};
 ghost use Rattle.segment_worker.specs.Written.{HasWritten, HasFailed};

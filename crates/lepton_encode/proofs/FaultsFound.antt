@@ -1,6 +1,6 @@
 -- A scan's refusal in encoding is that of the pass over the scan.
 use Rattle.std.proofs.Common.{◌≡◌}
-use Rattle.scan_text.specs.declared.refusal.ScanRefusal.{ScanRefusal}
+use Rattle.scan_spec.specs.declared.refusal.ScanRefusal.{ScanRefusal}
 use Rattle.segment_code.specs.declared.find.FindError.{FindError}
 use Rattle.segment_code.specs.declared.find.FindError.TheVariants as found
 use Rattle.lepton_encode.specs.declared.error.EncodeError.TheVariants.{Scan}

@@ -5,14 +5,14 @@ use Rattle.bit_list.specs.Bits.{IsByte}
 use Rattle.jpeg_marker.specs.Plans.{PlanFields}
 use Rattle.jpeg_marker.proofs.HeadersTaken.{accepted_has_plan}
 use Rattle.handover.specs.Handovers.{HandoverFields}
-use Rattle.scan_text.specs.FileLaws.{IsFileOf}
-use Rattle.scan_text.specs.Pads.{PadBits}
+use Rattle.scan_spec.specs.FileLaws.{IsFileOf}
+use Rattle.scan_spec.specs.Pads.{PadBits}
 use Rattle.box_format.specs.Parts.{BoxParts, IsBox, box_bytes}
 use Rattle.box_format.specs.Versions.{layout_of}
 use Rattle.box_format.specs.declared.version.Version.TheVariants.{Second}
-use Rattle.segment_meaning.specs.Files.{IsContainerOf, StartsFields, parts_of_file}
-use Rattle.segment_meaning.proofs.FileParts.{box_is}
-use Rattle.segment_meaning.proofs.PadsTold.{second_can_pad}
+use Rattle.container_spec.specs.Files.{IsContainerOf, StartsFields, parts_of_file}
+use Rattle.container_spec.proofs.FileParts.{box_is}
+use Rattle.container_spec.proofs.PadsTold.{second_can_pad}
 use Rattle.segment_code.specs.Starting.{AreStarts}
 
 pub are_bytes : (xs : List ℕ) → ((i : ℕ) → get_or xs i 0 < 256) → AllByRecursion IsByte xs

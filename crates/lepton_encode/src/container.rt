@@ -3,12 +3,12 @@ ghost use Rattle.std.specs.Prelude.{◌≡◌, ◌<◌, ◌≤◌, ◌^◌, leng
 ghost use Rattle.jpeg_marker.specs.HeaderPlan.{Accepts, Refuses as HeaderRefuses};
 ghost use Rattle.jpeg_marker.specs.Plans.{PlanFields};
 ghost use Rattle.jpeg_marker.specs.declared.refusal.HeaderRefusal.{HeaderRefusal};
-ghost use Rattle.scan_text.specs.Items.{Refuses as ScanRefuses};
-ghost use Rattle.scan_text.specs.Slots.{shape_of};
-ghost use Rattle.scan_text.specs.declared.refusal.ScanRefusal.{ScanRefusal};
+ghost use Rattle.scan_spec.specs.Items.{Refuses as ScanRefuses};
+ghost use Rattle.scan_spec.specs.Slots.{shape_of};
+ghost use Rattle.scan_spec.specs.declared.refusal.ScanRefusal.{ScanRefusal};
 ghost use Rattle.box_format.specs.Versions.{layout_of};
 ghost use Rattle.box_format.specs.declared.version.Version.TheVariants.{Second};
-ghost use Rattle.segment_meaning.specs.Files.{IsContainerOf};
+ghost use Rattle.container_spec.specs.Files.{IsContainerOf};
 
 use crate::error::EncodeError;
 use box_format::{Parts, write_box};

@@ -1,6 +1,6 @@
 // Why a file isn't encoded.
 use jpeg_marker::HeaderRefusal;
-use scan_text::ScanRefusal;
+use scan_spec::ScanRefusal;
 use segment_code::FindError;
 use std::alloc::AllocError;
 use thiserror::Error;

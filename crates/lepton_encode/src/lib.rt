@@ -4,7 +4,7 @@
 //!
 //! The segments are made side by side from the file's bytes: beside these, memory is for the streams, for each
 //! segment's two MCU rows of blocks and its bins, and for the container. What a segment's stream is is
-//! `segment_meaning`'s, how it is made `segment_code`'s, and in which thread `segment_worker`'s.
+//! `container_spec`'s, how it is made `segment_code`'s, and in which thread `segment_worker`'s.
 #![tactic(auto)]
 
 mod container;

@@ -7,13 +7,13 @@ use Rattle.box_format.specs.Versions.{layout_of, version_in}
 use Rattle.box_format.specs.declared.version.Version.{Version}
 use Rattle.box_format.specs.declared.version.Version.TheVariants.{Second}
 use Rattle.box_format.proofs.BoxLawsProved.{migrated_is}
-use Rattle.segment_meaning.specs.Meanings.{Meaning, Verdict, Restored, PadSpelled, Faulty, NoBox, IsMeaning}
-use Rattle.segment_meaning.specs.Files.{IsContainerOf, parts_of_file}
-use Rattle.segment_meaning.proofs.ContainerSizes.{container_is_short}
-use Rattle.segment_meaning.proofs.FileParts.{box_is}
-use Rattle.segment_meaning.proofs.FilesOfContainers.{restored_is_container}
-use Rattle.segment_meaning.proofs.MigratedMeanings.{migrated_means_the_same}
-use Rattle.segment_meaning.proofs.RestoredFiles.{container_is_restored}
+use Rattle.container_spec.specs.Meanings.{Meaning, Verdict, Restored, PadSpelled, Faulty, NoBox, IsMeaning}
+use Rattle.container_spec.specs.Files.{IsContainerOf, parts_of_file}
+use Rattle.container_spec.proofs.ContainerSizes.{container_is_short}
+use Rattle.container_spec.proofs.FileParts.{box_is}
+use Rattle.container_spec.proofs.FilesOfContainers.{restored_is_container}
+use Rattle.container_spec.proofs.MigratedMeanings.{migrated_means_the_same}
+use Rattle.container_spec.proofs.RestoredFiles.{container_is_restored}
 use Rattle.command_words.specs.declared.command.Command.TheVariants.{Encode, Decode, Migrate}
 use Rattle.lepton_run.specs.Answers.{Answer, Answers, AnswersWithin, Made, answer_by, limit_of}
 use Rattle.lepton_run.proofs.BoxesOfBytes.{box_are}

@@ -8,7 +8,7 @@ use Rattle.bit_list.specs.Bits.{IsByte}
 use Rattle.jpeg_marker.specs.Plans.{PlanFields}
 use Rattle.handover.specs.Handovers.{HandoverFields, IsHandover}
 use Rattle.handover.specs.HandoverBytes.{handover_bytes}
-use Rattle.scan_text.specs.Pads.{PadBits, Same, Listed}
+use Rattle.scan_spec.specs.Pads.{PadBits, Same, Listed}
 use Rattle.box_format.specs.Parts.{BoxParts, IsBox, bit_byte, box_bytes, list_bytes, list_length, magic, pad_byte, records}
 use Rattle.box_format.specs.Versions.{layout_of, version_byte}
 use Rattle.box_format.specs.declared.version.Version.{Version}

@@ -8,9 +8,9 @@ use Rattle.jpeg_marker.specs.Plans.{PlanFields}
 use Rattle.box_format.specs.Parts.{BoxParts, IsBoxOf, box_bytes, migrated}
 use Rattle.box_format.specs.Versions.{layout_of}
 use Rattle.box_format.specs.declared.version.Version.{Version}
-use Rattle.segment_meaning.specs.Files.{IsContainerOf}
-use Rattle.segment_meaning.specs.Meanings.{Meaning, IsMeaning}
-use Rattle.segment_meaning.proofs.MigratedMeanings.{migrated_means_the_same}
+use Rattle.container_spec.specs.Files.{IsContainerOf}
+use Rattle.container_spec.specs.Meanings.{Meaning, IsMeaning}
+use Rattle.container_spec.proofs.MigratedMeanings.{migrated_means_the_same}
 use Rattle.command_words.specs.Meaning.{Means}
 use Rattle.command_words.specs.declared.command.Command.{Command}
 use Rattle.command_words.specs.declared.command.Command.TheVariants.{Encode, Decode, Migrate}

@@ -6,22 +6,22 @@ use Rattle.bit_list.specs.Bits.{IsByte}
 use Rattle.jpeg_marker.specs.Plans.{PlanFields}
 use Rattle.jpeg_marker.proofs.HeaderLaws.{one_plan, one_refusal, never_both}
 use Rattle.jpeg_marker.proofs.HeadersTaken.{accepted_has_plan}
-use Rattle.scan_text.specs.FileLaws.{IsFileOf}
-use Rattle.scan_text.specs.Items.{Refuses}
-use Rattle.scan_text.specs.Scans.{Mcu}
-use Rattle.scan_text.specs.ScanLaws.{Begins, IsShape}
-use Rattle.scan_text.specs.Slots.{shape_of}
-use Rattle.scan_text.specs.declared.refusal.ScanRefusal.{ScanRefusal}
-use Rattle.scan_text.proofs.ItemsOnce.{one_outcome}
-use Rattle.scan_text.proofs.ItemsRead.{ends_so}
-use Rattle.scan_text.proofs.PlanShapes.{accepted_is_shape}
-use Rattle.scan_text.proofs.ScanTaken.{read_again}
-use Rattle.segment_text.specs.Cuts.{cut_of}
+use Rattle.scan_spec.specs.FileLaws.{IsFileOf}
+use Rattle.scan_spec.specs.Items.{Refuses}
+use Rattle.scan_spec.specs.Scans.{Mcu}
+use Rattle.scan_spec.specs.ScanLaws.{Begins, IsShape}
+use Rattle.scan_spec.specs.Slots.{shape_of}
+use Rattle.scan_spec.specs.declared.refusal.ScanRefusal.{ScanRefusal}
+use Rattle.scan_spec.proofs.ItemsOnce.{one_outcome}
+use Rattle.scan_spec.proofs.ItemsRead.{ends_so}
+use Rattle.scan_spec.proofs.PlanShapes.{accepted_is_shape}
+use Rattle.scan_spec.proofs.ScanTaken.{read_again}
+use Rattle.cut_spec.specs.Cuts.{cut_of}
 use Rattle.box_format.specs.Parts.{BoxParts, box_bytes, migrated}
 use Rattle.box_format.specs.declared.version.Version.TheVariants.{Second}
 use Rattle.box_format.proofs.BoxLawsProved.{one_box, one_box_refusal, never_both as box_or_refused}
-use Rattle.segment_meaning.specs.Meanings.{Meaning}
-use Rattle.segment_meaning.proofs.OneMeanings.{one_container, one_meaning}
+use Rattle.container_spec.specs.Meanings.{Meaning}
+use Rattle.container_spec.proofs.OneMeanings.{one_container, one_meaning}
 use Rattle.command_words.specs.declared.command.Command.{Command}
 use Rattle.command_words.specs.declared.command.Command.TheVariants.{Encode, Decode, Migrate, Sample}
 use Rattle.sample_jpeg.specs.SampleFile.{sample_file}

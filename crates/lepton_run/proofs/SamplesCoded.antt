@@ -5,15 +5,15 @@ use Rattle.jpeg_marker.specs.HeaderPlan.{Refuses as HeaderRefuses}
 use Rattle.jpeg_marker.specs.Plans.{PlanFields}
 use Rattle.jpeg_marker.specs.declared.refusal.HeaderRefusal.{HeaderRefusal}
 use Rattle.jpeg_marker.proofs.HeaderLaws.{never_both}
-use Rattle.scan_text.specs.declared.refusal.ScanRefusal.{ScanRefusal}
+use Rattle.scan_spec.specs.declared.refusal.ScanRefusal.{ScanRefusal}
 use Rattle.box_format.specs.Parts.{BoxParts, IsBoxOf}
 use Rattle.box_format.specs.BoxChecks.{IsRefusedBox}
 use Rattle.box_format.specs.declared.refusal.BoxRefusal.{BoxRefusal}
 use Rattle.box_format.specs.declared.version.Version.TheVariants.{Second}
-use Rattle.segment_meaning.specs.Files.{IsContainerOf}
-use Rattle.segment_meaning.specs.Meanings.{IsMeaning, Meaning, NoBox, Restored, meaning_of}
-use Rattle.segment_meaning.proofs.OneMeanings.{one_meaning}
-use Rattle.segment_meaning.proofs.RestoredFiles.{container_is_restored}
+use Rattle.container_spec.specs.Files.{IsContainerOf}
+use Rattle.container_spec.specs.Meanings.{IsMeaning, Meaning, NoBox, Restored, meaning_of}
+use Rattle.container_spec.proofs.OneMeanings.{one_meaning}
+use Rattle.container_spec.proofs.RestoredFiles.{container_is_restored}
 use Rattle.lepton_decode.specs.Ends.{Ends}
 use Rattle.lepton_decode.specs.declared.error.DecodeError.{DecodeError}
 use Rattle.lepton_decode.specs.declared.error.DecodeError.TheVariants.{WriteFault, Fault, PadSpelling}

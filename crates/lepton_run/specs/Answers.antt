@@ -6,15 +6,15 @@ use Rattle.std.specs.Io.KnownBytes.{Appends, Consumes, IsAtEnd}
 use Rattle.bit_list.specs.Bits.{IsByte}
 use Rattle.jpeg_marker.specs.Plans.{PlanFields}
 use Rattle.jpeg_marker.specs.HeaderPlan.{Accepts, Refuses as HeaderRefuses}
-use Rattle.scan_text.specs.Items.{Refuses as ItemsRefuse}
-use Rattle.scan_text.specs.Slots.{shape_of}
-use Rattle.scan_text.specs.declared.refusal.ScanRefusal.{ScanRefusal}
+use Rattle.scan_spec.specs.Items.{Refuses as ItemsRefuse}
+use Rattle.scan_spec.specs.Slots.{shape_of}
+use Rattle.scan_spec.specs.declared.refusal.ScanRefusal.{ScanRefusal}
 use Rattle.box_format.specs.BoxChecks.{IsRefusedBox}
 use Rattle.box_format.specs.Parts.{BoxParts, IsBoxOf, box_bytes, migrated}
 use Rattle.box_format.specs.declared.version.Version.TheVariants.{Second}
-use Rattle.segment_meaning.specs.Files.{IsContainerOf}
-use Rattle.segment_meaning.specs.Limits.{most_of_a_container, most_of_a_file}
-use Rattle.segment_meaning.specs.Meanings.{Meaning, Verdict, Restored, PadSpelled, Faulty, NoBox, IsMeaning}
+use Rattle.container_spec.specs.Files.{IsContainerOf}
+use Rattle.container_spec.specs.Limits.{most_of_a_container, most_of_a_file}
+use Rattle.container_spec.specs.Meanings.{Meaning, Verdict, Restored, PadSpelled, Faulty, NoBox, IsMeaning}
 use Rattle.command_words.specs.declared.command.Command.{Command}
 use Rattle.command_words.specs.declared.command.Command.TheVariants.{Encode, Decode, Migrate, Sample}
 use Rattle.lepton_run.specs.Lines.{refusal_line}

@@ -1,8 +1,8 @@
 -- What `sample` says of the file that it made (this project's own; docs/SAMPLE.md).
 use Rattle.std.specs.Prelude.{ℕ, ◌≡◌, List, [], ◌∷◌, ◌++◌, codes, decimal, length}
-use Rattle.segment_text.specs.Cuts.{cut_of}
+use Rattle.cut_spec.specs.Cuts.{cut_of}
 use Rattle.box_format.specs.declared.version.Version.TheVariants.{Second}
-use Rattle.segment_meaning.specs.Files.{IsContainerOf}
+use Rattle.container_spec.specs.Files.{IsContainerOf}
 use Rattle.sample_jpeg.specs.SampleFile.{sample_file}
 
 -- the most segments that a sample is encoded in, and the workers that decode it

@@ -2,7 +2,7 @@
 ghost use Rattle.std.specs.Prelude.{◌≡◌, ◌<◌, ◌≤◌, ℕ, List, length};
 ghost use Rattle.box_format.specs.Versions.{layout_of, version_in};
 ghost use Rattle.box_format.specs.declared.version.Version.TheVariants.{Second};
-ghost use Rattle.segment_meaning.specs.Files.{IsContainerOf};
+ghost use Rattle.container_spec.specs.Files.{IsContainerOf};
 ghost use Rattle.command_words.specs.declared.command.Command.{Command};
 ghost use Rattle.command_words.specs.declared.command.Command.TheVariants.{Encode, Decode, Migrate};
 ghost use Rattle.lepton_run.specs.Answers.{Answer, Answers, Made, limit_of};

@@ -5,7 +5,7 @@ ghost use Rattle.lepton_run.specs.Lines.{box_words, cause_words, name_of, scan_p
 use box_format::BoxRefusal;
 use handover::StreamCause;
 use jpeg_marker::HeaderRefusal;
-use scan_text::ScanRefusal;
+use scan_spec::ScanRefusal;
 
 /// The name of a header's refusal.
 pub(crate) fn name(refusal: HeaderRefusal) -> &'static [u8]

@@ -7,7 +7,7 @@ use crate::note::Line;
 use box_format::BoxRefusal;
 use handover::StreamFault;
 use jpeg_marker::HeaderRefusal;
-use scan_text::ScanRefusal;
+use scan_spec::ScanRefusal;
 
 /// Why bytes are refused.
 #[derive(Clone, Copy, Debug, PartialEq, Eq)]

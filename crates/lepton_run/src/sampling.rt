@@ -1,7 +1,7 @@
 // A file made from a number, encoded, decoded, and what is said of it.
 ghost use Rattle.std.specs.Prelude.{◌≡◌, ◌+◌, ◌≤◌, ◌++◌, [], IfOk, length};
 ghost use Rattle.box_format.specs.declared.version.Version.TheVariants.{Second};
-ghost use Rattle.segment_meaning.specs.Files.{IsContainerOf};
+ghost use Rattle.container_spec.specs.Files.{IsContainerOf};
 ghost use Rattle.command_words.specs.Meaning.{IsInRange};
 ghost use Rattle.command_words.specs.declared.command.Command.TheVariants.{Sample};
 ghost use Rattle.lepton_run.specs.Endings.{CarriedOut};

@@ -3,8 +3,8 @@ ghost use Rattle.std.specs.Prelude.{◌≡◌, ◌≢◌, ◌⊎◌, ◌+◌, �
 ghost use Rattle.std.specs.Io.KnownBytes.{Appends};
 ghost use Rattle.outside_core.specs.Faults.{Rose};
 ghost use Rattle.jpeg_marker.specs.Plans.{PlanFields};
-ghost use Rattle.segment_meaning.specs.Files.{IsContainerOf};
-ghost use Rattle.segment_meaning.specs.Meanings.{Meaning, IsMeaning};
+ghost use Rattle.container_spec.specs.Files.{IsContainerOf};
+ghost use Rattle.container_spec.specs.Meanings.{Meaning, IsMeaning};
 ghost use Rattle.box_format.specs.Parts.{BoxParts, IsBoxOf, box_bytes, migrated};
 ghost use Rattle.box_format.specs.Versions.{layout_of};
 ghost use Rattle.box_format.specs.declared.version.Version.{Version};

@@ -1,11 +1,11 @@
-// Streams worked by hand; the definitions give the same ones (`rows_of_events` of `block_events`).
+// Streams worked by hand; the definitions give the same ones (`rows_of_events` of `block_spec`).
 ghost use Rattle.std.specs.Prelude.{◌≡◌, length};
 ghost use Rattle.coef_block.specs.TwoRows.{block_count};
-ghost use Rattle.block_events.specs.Grid.{IsGrid};
+ghost use Rattle.block_spec.specs.Grid.{IsGrid};
 
 use adapt_bins::{Bins, Get, Put};
 use block_code::{McuGrid, SegmentRows, get_block, get_mcu, put_block, put_mcu};
-use block_events::BlockFault;
+use block_spec::BlockFault;
 use bool_coder::{Decoder, Encoder};
 use coef_block::{Block, Rows};
 use coef_context::BINS;

@@ -7,7 +7,7 @@ use Rattle.std.proofs.lemmas.List.{get_or_past, get_or-set_other, get_or-set_sam
 use Rattle.std.proofs.Math.Nat.{mod-lt}
 use Rattle.coef_block.specs.Block.{IsBlock, IsCoefficient}
 use Rattle.coef_block.specs.Zigzag.{zigzag}
-use Rattle.scan_text.specs.BlockBits.{ac_values, coefficient_at}
+use Rattle.scan_spec.specs.BlockBits.{ac_values, coefficient_at}
 use Rattle.sample_jpeg.specs.Draws.{draw, state_after}
 use Rattle.sample_jpeg.specs.DrawnMcus.{block_of_dc, drawn_ac, drawn_block, drawn_dc, drawn_index, set_once, set_times}
 use Rattle.sample_jpeg.proofs.SampleTexts.{AreSmall}

@@ -2,12 +2,12 @@
 use Rattle.std.proofs.Common.{◌≡◌, ℕ, suc, ◌+◌, ◌-◌, ◌*◌, ◌<◌, ◌≤◌, true, List, [], ◌∷◌, ◌++◌, length, ℤ, Option, Result, Ok, Err, refl, sym, ap, subst, ◌∙◌, arith, append_assoc, append-nil}
 use Rattle.std.specs.Prelude.{None}
 use Rattle.jpeg_marker.specs.Plans.{PlanFields}
-use Rattle.scan_text.specs.Pads.{PadBits, Same, bit_for}
-use Rattle.scan_text.specs.ScanCalls.{McuIsPut, McuIsPutOn, ScanWriter, writer_of}
-use Rattle.scan_text.specs.Scans.{Mcu}
-use Rattle.scan_text.specs.Slots.{Shape, shape_of}
-use Rattle.scan_text.specs.Spots.{Put, Spot, mcu_put, mcus_put, prefixed_put}
-use Rattle.scan_text.specs.declared.stop.WriteStop.{WriteStop}
+use Rattle.scan_spec.specs.Pads.{PadBits, Same, bit_for}
+use Rattle.scan_spec.specs.ScanCalls.{McuIsPut, McuIsPutOn, ScanWriter, writer_of}
+use Rattle.scan_spec.specs.Scans.{Mcu}
+use Rattle.scan_spec.specs.Slots.{Shape, shape_of}
+use Rattle.scan_spec.specs.Spots.{Put, Spot, mcu_put, mcus_put, prefixed_put}
+use Rattle.scan_spec.specs.declared.stop.WriteStop.{WriteStop}
 use Rattle.sample_jpeg.specs.declared.extent.Extent.{Extent}
 use Rattle.sample_jpeg.specs.Draws.{state_after}
 use Rattle.sample_jpeg.specs.DrawnMcus.{drawn_block, drawn_blocks, drawn_mcus, set_once, set_times}

@@ -3,13 +3,13 @@ use Rattle.std.proofs.Common.{◌≡◌, ℕ, ◌*◌, ◌≤◌, Bool, true, fa
 use Rattle.std.proofs.Math.Nat.{mul-le-mul_left, mul-le-mul_right}
 use Rattle.std.proofs.Math.Seq.{drop-append_seam}
 use Rattle.jpeg_marker.specs.HeaderPlan.{Accepts}
-use Rattle.scan_text.specs.Scans.{scan_bytes, intervals_of, pad_counts, pad_at}
-use Rattle.scan_text.specs.Pads.{interval_count}
-use Rattle.scan_text.specs.ScanLaws.{IsShape}
-use Rattle.scan_text.specs.Slots.{shape_of}
-use Rattle.scan_text.specs.Spots.{first_spot}
-use Rattle.scan_text.proofs.PlanShapes.{accepted_is_shape}
-use Rattle.scan_text.proofs.PadsAlike.{pads_alike, intervals_are, ones_are, ones_agree}
+use Rattle.scan_spec.specs.Scans.{scan_bytes, intervals_of, pad_counts, pad_at}
+use Rattle.scan_spec.specs.Pads.{interval_count}
+use Rattle.scan_spec.specs.ScanLaws.{IsShape}
+use Rattle.scan_spec.specs.Slots.{shape_of}
+use Rattle.scan_spec.specs.Spots.{first_spot}
+use Rattle.scan_spec.proofs.PlanShapes.{accepted_is_shape}
+use Rattle.scan_spec.proofs.PadsAlike.{pads_alike, intervals_are, ones_are, ones_agree}
 use Rattle.sample_jpeg.specs.declared.extent.Extent.{Extent}
 use Rattle.sample_jpeg.specs.SampleFile.{IsSample, SamplesAreFiles, bytes_or_none, end_of_image, sample_file, sample_mcus, sample_pads, sample_scan}
 use Rattle.sample_jpeg.specs.SampleHeader.{IsExtent, extent_of, sample_header, sample_plan}

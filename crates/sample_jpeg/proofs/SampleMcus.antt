@@ -9,12 +9,12 @@ use Rattle.bit_list.specs.Bits.{IsByte, begun_after, bytes_after, number_of, pad
 use Rattle.bit_list.proofs.LowBits.{number_below}
 use Rattle.bit_list.proofs.Spanning.{few_stuffed}
 use Rattle.bit_list.proofs.Wholes.{begun_count, bytes_count}
-use Rattle.scan_text.specs.BlockBits.{block_text, coefficient_at}
-use Rattle.scan_text.specs.Blocks.{blocks_text, dcs_after, dcs_after_block, last_dc}
-use Rattle.scan_text.specs.Scans.{Mcu, restart_marker}
-use Rattle.scan_text.specs.Slots.{Shape}
-use Rattle.scan_text.specs.Spots.{Spot, interval_number, is_closed, marker_after, mcu_put, put_bits, put_text}
-use Rattle.scan_text.specs.declared.slot.Slot.{Slot}
+use Rattle.scan_spec.specs.BlockBits.{block_text, coefficient_at}
+use Rattle.scan_spec.specs.Blocks.{blocks_text, dcs_after, dcs_after_block, last_dc}
+use Rattle.scan_spec.specs.Scans.{Mcu, restart_marker}
+use Rattle.scan_spec.specs.Slots.{Shape}
+use Rattle.scan_spec.specs.Spots.{Spot, interval_number, is_closed, marker_after, mcu_put, put_bits, put_text}
+use Rattle.scan_spec.specs.declared.slot.Slot.{Slot}
 use Rattle.sample_jpeg.specs.DrawnMcus.{drawn_block, drawn_blocks}
 use Rattle.sample_jpeg.specs.SampleWriting.{AreDrawnDcs, sample_slots}
 use Rattle.sample_jpeg.proofs.DrawnBlocks.{IsDrawn, block_drawn, drawn_acs}

@@ -2,11 +2,11 @@
 use Rattle.std.proofs.Common.{◌≡◌, ℕ, zero, suc, ◌*◌, ◌<◌, ◌≤◌, true, List, [], ◌∷◌, ◌++◌, length, ℤ, Ok, refl, sym, ap, subst, ◌∙◌, arith, length-append}
 use Rattle.std.specs.List.{AllByRecursion}
 use Rattle.coef_block.specs.Block.{IsBlock}
-use Rattle.scan_text.specs.Scans.{AreMcus, IsMcu, scan_bytes}
-use Rattle.scan_text.specs.ScanLaws.{IsShape, bytes_in}
-use Rattle.scan_text.specs.Slots.{Shape}
-use Rattle.scan_text.specs.Spots.{Spot, first_spot, mcu_put, mcus_put, prefixed_put, then_put}
-use Rattle.scan_text.proofs.PutWhole.{put_whole}
+use Rattle.scan_spec.specs.Scans.{AreMcus, IsMcu, scan_bytes}
+use Rattle.scan_spec.specs.ScanLaws.{IsShape, bytes_in}
+use Rattle.scan_spec.specs.Slots.{Shape}
+use Rattle.scan_spec.specs.Spots.{Spot, first_spot, mcu_put, mcus_put, prefixed_put, then_put}
+use Rattle.scan_spec.proofs.PutWhole.{put_whole}
 use Rattle.sample_jpeg.specs.DrawnMcus.{drawn_blocks, drawn_mcus}
 use Rattle.sample_jpeg.specs.SampleWriting.{AreDrawnDcs, sample_slots}
 use Rattle.sample_jpeg.proofs.DrawnBlocks.{IsDrawn, drawn_is_block}

@@ -6,10 +6,10 @@ use Rattle.std.proofs.lemmas.Int.{ints}
 use Rattle.std.proofs.Math.Nat.{mod-lt}
 use Rattle.coef_block.specs.Categories.{category as size}
 use Rattle.huff_table.specs.declared.plan_codes.ComponentCodes.{ComponentCodes}
-use Rattle.scan_text.specs.ValueBits.{mag}
-use Rattle.scan_text.specs.BlockBits.{Text, prefixed, then_text, word_text, value_text, zeros_text, coefficient_text, ac_text, dc_text, coefficient_at, ac_values, block_text}
-use Rattle.scan_text.proofs.ValueLemmas.{length-mag, small_size, size_some}
-use Rattle.scan_text.proofs.Words.{ac_zero, ac_value, ac_full, ac_end, dc_near, block_is, length-ac_values}
+use Rattle.scan_spec.specs.ValueBits.{mag}
+use Rattle.scan_spec.specs.BlockBits.{Text, prefixed, then_text, word_text, value_text, zeros_text, coefficient_text, ac_text, dc_text, coefficient_at, ac_values, block_text}
+use Rattle.scan_spec.proofs.ValueLemmas.{length-mag, small_size, size_some}
+use Rattle.scan_spec.proofs.Words.{ac_zero, ac_value, ac_full, ac_end, dc_near, block_is, length-ac_values}
 use Rattle.sample_jpeg.specs.SampleHeader.{ac_table, dc_table}
 use Rattle.sample_jpeg.proofs.SampleWords.{ac_word, dc_word, end_word, zeros_word}
 

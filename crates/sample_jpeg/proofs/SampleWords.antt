@@ -5,7 +5,7 @@ use Rattle.std.proofs.lemmas.Bool.{and_parts, eqb-true, agree_below, agree_below
 use Rattle.bit_list.specs.NumbersOfBits.{length-low_bits}
 use Rattle.jpeg_marker.specs.HuffmanTables.{TableFields}
 use Rattle.huff_table.specs.CodeWords.{CodeWord, bits_of, word_in, words_of, word_of}
-use Rattle.scan_text.specs.BlockBits.{coded_word, word_text}
+use Rattle.scan_spec.specs.BlockBits.{coded_word, word_text}
 use Rattle.sample_jpeg.specs.SampleHeader.{dc_table, ac_table}
 
 -- whether a word was found, and has so many bits

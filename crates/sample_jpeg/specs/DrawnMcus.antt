@@ -1,7 +1,7 @@
 -- The MCUs of a sample, each number of them drawn after the one before (own; docs/SAMPLE.md).
 use Rattle.std.specs.Prelude.{ℕ, zero, suc, ◌+◌, ◌%◌, List, [], ◌∷◌, replicate, ℤ, pos, ◌-ℤ◌, slice_index, slice_set}
 use Rattle.coef_block.specs.Zigzag.{zigzag}
-use Rattle.scan_text.specs.Scans.{Mcu}
+use Rattle.scan_spec.specs.Scans.{Mcu}
 use Rattle.sample_jpeg.specs.Draws.{draw, state_after}
 
 -- what was drawn, and the state of the generator after it

@@ -2,10 +2,10 @@
 use Rattle.std.specs.Prelude.{ℕ, ◌*◌, ◌≤◌, Bool, true, List, [], ◌∷◌, ◌++◌, length, replicate, Ok, Err}
 use Rattle.std.specs.List.{AllByRecursion}
 use Rattle.bit_list.specs.Bits.{IsByte}
-use Rattle.scan_text.specs.FileLaws.{IsFileOf}
-use Rattle.scan_text.specs.Scans.{Bytes, Mcu, scan_bytes}
-use Rattle.scan_text.specs.Slots.{shape_of}
-use Rattle.scan_text.specs.Pads.{interval_count}
+use Rattle.scan_spec.specs.FileLaws.{IsFileOf}
+use Rattle.scan_spec.specs.Scans.{Bytes, Mcu, scan_bytes}
+use Rattle.scan_spec.specs.Slots.{shape_of}
+use Rattle.scan_spec.specs.Pads.{interval_count}
 use Rattle.sample_jpeg.specs.DrawnMcus.{drawn_mcus}
 use Rattle.sample_jpeg.specs.declared.extent.Extent.{Extent}
 use Rattle.sample_jpeg.specs.SampleHeader.{IsExtent, extent_of, sample_header, sample_plan}

@@ -1,11 +1,11 @@
 -- How the scan of a sample is written MCU by MCU (own).
 use Rattle.std.specs.Prelude.{ℕ, ◌≡◌, ◌+◌, ◌<◌, ◌≤◌, true, List, [], ◌∷◌, ◌++◌, length, ℤ, unsigned_abs, None, Ok}
 use Rattle.std.specs.List.{AllByRecursion}
-use Rattle.scan_text.specs.Pads.{Same}
-use Rattle.scan_text.specs.ScanCalls.{ScanWriter}
-use Rattle.scan_text.specs.Slots.{slots_of}
-use Rattle.scan_text.specs.Spots.{Spot, mcu_put, mcus_put}
-use Rattle.scan_text.specs.declared.slot.Slot.{Slot}
+use Rattle.scan_spec.specs.Pads.{Same}
+use Rattle.scan_spec.specs.ScanCalls.{ScanWriter}
+use Rattle.scan_spec.specs.Slots.{slots_of}
+use Rattle.scan_spec.specs.Spots.{Spot, mcu_put, mcus_put}
+use Rattle.scan_spec.specs.declared.slot.Slot.{Slot}
 use Rattle.sample_jpeg.specs.DrawnMcus.{drawn_blocks, drawn_mcus}
 use Rattle.sample_jpeg.specs.SampleHeader.{sample_component}
 

@@ -10,7 +10,7 @@ use crate::extent::Extent;
 use crate::header::{plan_of, put_header};
 use bit_list::Piece;
 use huff_table::PlanCodes;
-use scan_text::Pads;
+use scan_spec::Pads;
 use scan_write::Writer;
 use std::alloc::{AllocError, Global};
 

@@ -7,7 +7,7 @@ use coef_block::Block;
 use huff_table::PlanCodes;
 use jpeg_marker::Plan;
 use scan_decode::Reader;
-use scan_text::{MOST_SLOTS, Pads};
+use scan_spec::{MOST_SLOTS, Pads};
 use scan_write::{Writer, mcu_room};
 use std::alloc::Global;
 

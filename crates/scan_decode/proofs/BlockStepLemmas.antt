@@ -6,15 +6,15 @@ use Rattle.std.proofs.lemmas.List.{length-replicate, length-set, replicate-appen
 use Rattle.bit_list.specs.Units.{Cursor}
 use Rattle.coef_block.specs.Zigzag.{zigzag}
 use Rattle.jpeg_marker.specs.HuffmanTables.{TableFields}
-use Rattle.scan_text.specs.ScanReading.{and_then, in_zigzag, symbol_at, extended_at, Symbol, Value, Sixteen, End, symbol_of, prefixed_values, by_symbol, acs_at}
-use Rattle.scan_text.specs.declared.refusal.ScanRefusal.{ScanRefusal}
-use Rattle.scan_text.proofs.AcsRead.{Means, means}
-use Rattle.scan_text.proofs.ZigzagLaws.{set_in_zigzag}
+use Rattle.scan_spec.specs.ScanReading.{and_then, in_zigzag, symbol_at, extended_at, Symbol, Value, Sixteen, End, symbol_of, prefixed_values, by_symbol, acs_at}
+use Rattle.scan_spec.specs.declared.refusal.ScanRefusal.{ScanRefusal}
+use Rattle.scan_spec.proofs.AcsRead.{Means, means}
+use Rattle.scan_spec.proofs.ZigzagLaws.{set_in_zigzag}
 use Rattle.std.specs.Int.{w16, w32}
-use Rattle.scan_text.proofs.MachineValues.{kept_word}
+use Rattle.scan_spec.proofs.MachineValues.{kept_word}
 use mir.Val.{to_z, of_z}
 use Rattle.coef_block.specs.Block.{IsCoefficient, limit}
-use Rattle.scan_text.proofs.SignedValues.{kept_half}
+use Rattle.scan_spec.proofs.SignedValues.{kept_half}
 use Rattle.scan_decode.specs.BlockSteps.{Going}
 
 abbrev pub Whole : Type 0

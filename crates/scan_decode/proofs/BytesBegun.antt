@@ -5,7 +5,7 @@ use Rattle.bit_list.specs.Bits.{low_bits, number_of}
 use Rattle.bit_list.specs.NumbersOfBits.{length-low_bits, mod_small, number_again}
 use Rattle.bit_list.proofs.LowBits.{low_bits-join, take-low_bits}
 use Rattle.bit_list.proofs.Machine.{zeros_are}
-use Rattle.segment_text.specs.RowHandovers.{partial_byte}
+use Rattle.cut_spec.specs.RowHandovers.{partial_byte}
 
 -- the first of eight bits, and zeros
 padded_bits : (first last byte : ℕ) → first + last ≡ 8

@@ -4,9 +4,9 @@ use Rattle.std.specs.Prelude.{nat_le}
 use Rattle.std.proofs.lemmas.Bool.Decides.{nat_tests}
 use Rattle.bit_list.specs.Units.{Cursor}
 use Rattle.jpeg_marker.specs.HuffmanTables.{TableFields}
-use Rattle.scan_text.specs.ScanReading.{and_then, symbol_at, extended_at, difference_at, within_dc, dc_at}
-use Rattle.scan_text.specs.declared.refusal.ScanRefusal.{ScanRefusal}
-use Rattle.scan_text.specs.declared.refusal.ScanRefusal.TheVariants as refusals
+use Rattle.scan_spec.specs.ScanReading.{and_then, symbol_at, extended_at, difference_at, within_dc, dc_at}
+use Rattle.scan_spec.specs.declared.refusal.ScanRefusal.{ScanRefusal}
+use Rattle.scan_spec.specs.declared.refusal.ScanRefusal.TheVariants as refusals
 
 abbrev pub Dc : Type 0
 Dc = Result (ℤ × Cursor) ScanRefusal

@@ -4,12 +4,12 @@ use Rattle.std.proofs.lemmas.Bool.Decides.{nat_tests}
 use Rattle.bit_list.specs.Bits.{low_bits, number_of}
 use Rattle.bit_list.specs.Units.{Cursor, starting}
 use Rattle.bit_list.proofs.LowBits.{bits_again}
-use Rattle.scan_text.specs.Slots.{Shape}
-use Rattle.scan_text.specs.Spots.{interval_number}
-use Rattle.scan_text.specs.Scans.{no_dcs}
-use Rattle.scan_text.specs.ScanReading.{and_then, pad_of, padded_or, pads_at, after_pads, restart_at, Standing}
-use Rattle.scan_text.specs.declared.refusal.ScanRefusal.{ScanRefusal}
-use Rattle.scan_text.specs.declared.refusal.ScanRefusal.TheVariants as refusals
+use Rattle.scan_spec.specs.Slots.{Shape}
+use Rattle.scan_spec.specs.Spots.{interval_number}
+use Rattle.scan_spec.specs.Scans.{no_dcs}
+use Rattle.scan_spec.specs.ScanReading.{and_then, pad_of, padded_or, pads_at, after_pads, restart_at, Standing}
+use Rattle.scan_spec.specs.declared.refusal.ScanRefusal.{ScanRefusal}
+use Rattle.scan_spec.specs.declared.refusal.ScanRefusal.TheVariants as refusals
 
 abbrev pub Next : Type 0
 Next = Result Standing ScanRefusal

@@ -4,16 +4,16 @@ use Rattle.std.proofs.lemmas.List.{drop_all, take_all, get_or_read}
 use Rattle.std.specs.Int.{w16}
 use mir.Val.{to_z, of_z}
 use Rattle.huff_table.specs.PlanWords.{no_codes}
-use Rattle.scan_text.specs.BlockBits.{coefficient_at}
-use Rattle.scan_text.proofs.SignedValues.{kept_half}
+use Rattle.scan_spec.specs.BlockBits.{coefficient_at}
+use Rattle.scan_spec.proofs.SignedValues.{kept_half}
 use Rattle.bit_list.specs.Units.{Cursor}
 use Rattle.huff_table.specs.declared.plan_codes.ComponentCodes.{ComponentCodes}
-use Rattle.scan_text.specs.Blocks.{last_dc}
-use Rattle.scan_text.specs.ScanReading.{and_then, in_zigzag, dcs_after_read, block_at, blocks_at, BlocksRead}
-use Rattle.scan_text.specs.declared.refusal.ScanRefusal.{ScanRefusal}
-use Rattle.scan_text.specs.declared.slot.Slot.{Slot}
+use Rattle.scan_spec.specs.Blocks.{last_dc}
+use Rattle.scan_spec.specs.ScanReading.{and_then, in_zigzag, dcs_after_read, block_at, blocks_at, BlocksRead}
+use Rattle.scan_spec.specs.declared.refusal.ScanRefusal.{ScanRefusal}
+use Rattle.scan_spec.specs.declared.slot.Slot.{Slot}
 use Rattle.scan_decode.specs.ReadResults.{coded_at}
-use Rattle.scan_text.specs.ShapeInside.{slot_in}
+use Rattle.scan_spec.specs.ShapeInside.{slot_in}
 use Rattle.scan_decode.specs.McuBlocks.{after_prefix}
 
 abbrev pub Read : Type 0

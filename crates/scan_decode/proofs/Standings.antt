@@ -1,9 +1,9 @@
 -- An MCU by its blocks and what stands after them.
 use Rattle.std.proofs.Common.{◌≡◌, ℕ, ◌+◌, Bool, true, false, if◌then◌else◌, List, ℤ, None, Result, Ok, Err, refl, ap, ◌∙◌}
-use Rattle.scan_text.specs.Slots.{Shape}
-use Rattle.scan_text.specs.Spots.{is_closed}
-use Rattle.scan_text.specs.ScanReading.{and_then, blocks_at, BlocksRead, after_mcu, after_pads, pads_at, mcu_at, Standing}
-use Rattle.scan_text.specs.declared.refusal.ScanRefusal.{ScanRefusal}
+use Rattle.scan_spec.specs.Slots.{Shape}
+use Rattle.scan_spec.specs.Spots.{is_closed}
+use Rattle.scan_spec.specs.ScanReading.{and_then, blocks_at, BlocksRead, after_mcu, after_pads, pads_at, mcu_at, Standing}
+use Rattle.scan_spec.specs.declared.refusal.ScanRefusal.{ScanRefusal}
 use Rattle.scan_decode.specs.ReadResults.{mcu_read, standing_read}
 
 abbrev pub Mcu : Type 0

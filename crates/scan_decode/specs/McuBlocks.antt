@@ -1,8 +1,8 @@
 -- The blocks of an MCU, as a reader keeps and reads them (own).
 use Rattle.std.specs.Prelude.{List, ◌++◌, ℤ, Result, Ok, Err}
 use Rattle.bit_list.specs.Units.{Cursor}
-use Rattle.scan_text.specs.ScanReading.{and_then, BlocksRead}
-use Rattle.scan_text.specs.declared.refusal.ScanRefusal.{ScanRefusal}
+use Rattle.scan_spec.specs.ScanReading.{and_then, BlocksRead}
+use Rattle.scan_spec.specs.declared.refusal.ScanRefusal.{ScanRefusal}
 
 -- blocks in zigzag order, the DCs after them and the cursor, or a refusal
 abbrev pub blocks_read : {A : Type 0} → Result A ScanRefusal → List (List ℤ) → List ℤ → Cursor

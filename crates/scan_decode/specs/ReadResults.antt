@@ -2,8 +2,8 @@
 use Rattle.std.specs.Prelude.{ℕ, List, [], ◌∷◌, ℤ, false, Result, Ok, Err}
 use Rattle.bit_list.specs.Units.{Cursor}
 use Rattle.huff_table.specs.declared.plan_codes.ComponentCodes.{ComponentCodes}
-use Rattle.scan_text.specs.ScanReading.{and_then, dc_at, acs_at, prefixed_values}
-use Rattle.scan_text.specs.declared.refusal.ScanRefusal.{ScanRefusal}
+use Rattle.scan_spec.specs.ScanReading.{and_then, dc_at, acs_at, prefixed_values}
+use Rattle.scan_spec.specs.declared.refusal.ScanRefusal.{ScanRefusal}
 
 -- a value and the cursor after it, or a refusal
 abbrev pub at_cursor : {A : Type 0} → Result A ScanRefusal → Cursor

@@ -2,7 +2,7 @@
 use Rattle.std.specs.Prelude.{◌≡◌, ◌^◌, ◌<◌, ◌≤◌}
 use Rattle.std.specs.List.{All}
 use Rattle.coef_block.specs.Block.{IsDc}
-use Rattle.scan_text.specs.ScanCalls.{ScanReader}
+use Rattle.scan_spec.specs.ScanCalls.{ScanReader}
 use Rattle.scan_decode.specs.declared.reader.Reader.TheInside.{Inside}
 
 -- the scan, its bytes, where the reader stands in them, and its refusal

@@ -1,17 +1,17 @@
 // The AC coefficients of a block.
 ghost use Rattle.std.specs.Prelude.{◌≡◌, ◌≤◌, ◌<◌, ◌-◌, List, ℤ, ◌∷◌, [], Bool, true, false, length, replicate, pos, Result, Err, IfOk, IfErr};
 ghost use Rattle.bit_list.specs.Units.{Cursor};
-ghost use Rattle.scan_text.specs.BlockBits.{coefficient_at, ac_values};
-ghost use Rattle.scan_text.specs.ScanReading.{in_zigzag, prefixed_values, acs_at, symbol_of};
+ghost use Rattle.scan_spec.specs.BlockBits.{coefficient_at, ac_values};
+ghost use Rattle.scan_spec.specs.ScanReading.{in_zigzag, prefixed_values, acs_at, symbol_of};
 ghost use Rattle.scan_decode.specs.ReadResults.{values_at_cursor};
 ghost use Rattle.scan_decode.specs.BlockSteps.{Going, step_symbol};
-ghost use Rattle.scan_text.specs.declared.refusal.ScanRefusal.{ScanRefusal as Refusal};
+ghost use Rattle.scan_spec.specs.declared.refusal.ScanRefusal.{ScanRefusal as Refusal};
 
 use crate::values::{extended, symbol};
 use bit_list::BitIn;
 use coef_block::{Block, natural_position};
 use huff_table::Codes;
-use scan_text::ScanRefusal;
+use scan_spec::ScanRefusal;
 
 // What a symbol says, by how many coefficients are left.
 enum Step {

@@ -1,8 +1,8 @@
 // A block.
 ghost use Rattle.std.specs.Prelude.{◌≡◌, ◌≤◌, IfOk, unsigned_abs};
 ghost use Rattle.coef_block.specs.Block.{IsDc};
-ghost use Rattle.scan_text.specs.BlockBits.{coefficient_at};
-ghost use Rattle.scan_text.specs.ScanReading.{in_zigzag};
+ghost use Rattle.scan_spec.specs.BlockBits.{coefficient_at};
+ghost use Rattle.scan_spec.specs.ScanReading.{in_zigzag};
 ghost use Rattle.scan_decode.specs.ReadResults.{values_at_cursor, coded_at};
 
 use crate::acs::acs;
@@ -10,7 +10,7 @@ use crate::dc::dc;
 use bit_list::BitIn;
 use coef_block::Block;
 use huff_table::ComponentCodes;
-use scan_text::ScanRefusal;
+use scan_spec::ScanRefusal;
 
 /// A block after one with the DC before. Answers its DC.
 #[inline]

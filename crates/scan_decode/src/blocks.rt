@@ -2,15 +2,15 @@
 ghost use Rattle.std.specs.Prelude.{◌≡◌, ◌≤◌, ◌<◌, length, map, unsigned_abs};
 ghost use Rattle.std.specs.List.{All};
 ghost use Rattle.coef_block.specs.Block.{IsDc};
-ghost use Rattle.scan_text.specs.ScanReading.{in_zigzag, blocks_at};
-ghost use Rattle.scan_text.specs.ShapeInside.{slot_in};
+ghost use Rattle.scan_spec.specs.ScanReading.{in_zigzag, blocks_at};
+ghost use Rattle.scan_spec.specs.ShapeInside.{slot_in};
 ghost use Rattle.scan_decode.specs.McuBlocks.{blocks_read};
 
 use crate::block::block;
 use bit_list::BitIn;
 use coef_block::Block;
 use huff_table::ComponentCodes;
-use scan_text::ScanRefusal;
+use scan_spec::ScanRefusal;
 
 /// The blocks of an MCU, each of the component that its slot names, after the last DC of each component.
 #[inline]

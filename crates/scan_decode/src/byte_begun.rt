@@ -1,8 +1,8 @@
 // The byte that one segment begins and the next one ends.
 ghost use Rattle.std.specs.Prelude.{◌≡◌, ◌≤◌, ◌<◌, ◌-◌, ◌%◌, ◌^◌, length, take, get_or};
 ghost use Rattle.bit_list.specs.Bits.{low_bits};
-ghost use Rattle.segment_text.specs.RowHandovers.{partial_byte};
-ghost use Rattle.segment_text.specs.HandedOver.{cursor_from, begun_in};
+ghost use Rattle.cut_spec.specs.RowHandovers.{partial_byte};
+ghost use Rattle.cut_spec.specs.HandedOver.{cursor_from, begun_in};
 
 use bit_list::BitIn;
 

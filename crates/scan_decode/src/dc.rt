@@ -1,13 +1,13 @@
 // The DC of a block.
 ghost use Rattle.std.specs.Prelude.{◌≡◌, ◌≤◌, IfOk, unsigned_abs};
 ghost use Rattle.coef_block.specs.Block.{IsDc};
-ghost use Rattle.scan_text.specs.ScanReading.{dc_at};
+ghost use Rattle.scan_spec.specs.ScanReading.{dc_at};
 ghost use Rattle.scan_decode.specs.ReadResults.{at_cursor};
 
 use crate::values::{extended, symbol};
 use bit_list::BitIn;
 use huff_table::Codes;
-use scan_text::ScanRefusal;
+use scan_spec::ScanRefusal;
 
 /// The DC after the one before (ITU-T T.81, F.2.2.1).
 #[inline]

@@ -1,9 +1,9 @@
 // What stands after the MCUs of an interval.
 ghost use Rattle.std.specs.Prelude.{◌≡◌, ◌≤◌, Some, None};
 ghost use Rattle.bit_list.specs.Bits.{low_bits};
-ghost use Rattle.scan_text.specs.ScanReading.{pad_of, restart_at};
+ghost use Rattle.scan_spec.specs.ScanReading.{pad_of, restart_at};
 
-use scan_text::ScanRefusal;
+use scan_spec::ScanRefusal;
 
 /// The pad bit of bits that are all equal, if there are any.
 pub(crate) fn pads(number: u8, count: u8) -> Option<Option<bool>>
@@ -19,7 +19,7 @@ pub(crate) fn pads(number: u8, count: u8) -> Option<Option<bool>>
     Some(known)
 }
 
-ghost use Rattle.scan_text.specs.ScanReading.{pad_with};
+ghost use Rattle.scan_spec.specs.ScanReading.{pad_with};
 
 fn matched(pad: Option<bool>, bit: bool) -> Option<Option<bool>>
     ensures { result ≡ pad_with pad bit }

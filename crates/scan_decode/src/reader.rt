@@ -1,14 +1,14 @@
 // A scan, MCU by MCU.
 ghost use Rattle.std.specs.Prelude.{◌≡◌, ◌+◌, ◌*◌, ◌<◌, ◌≤◌, ◌==◌, length, map, OnErr};
-ghost use Rattle.scan_text.specs.ScanCalls.{McuIsRead, reader_at, resume_place, stopped_at};
-ghost use Rattle.scan_text.specs.Slots.{shape_of};
-ghost use Rattle.scan_text.specs.Spots.{is_closed};
-ghost use Rattle.scan_text.specs.ShapeInside.{most_slots};
+ghost use Rattle.scan_spec.specs.ScanCalls.{McuIsRead, reader_at, resume_place, stopped_at};
+ghost use Rattle.scan_spec.specs.Slots.{shape_of};
+ghost use Rattle.scan_spec.specs.Spots.{is_closed};
+ghost use Rattle.scan_spec.specs.ShapeInside.{most_slots};
 ghost use Rattle.huff_table.specs.PlanWords.{tables_of};
-ghost use Rattle.scan_text.specs.ScanReading.{and_then, in_zigzag, mcu_at, pads_at, after_pads};
-ghost use Rattle.scan_text.specs.Scans.{no_dcs};
-ghost use Rattle.segment_text.specs.HandedOver.{reader_from, spot_in};
-ghost use Rattle.segment_text.specs.RowHandovers.{handover_of, markers_before};
+ghost use Rattle.scan_spec.specs.ScanReading.{and_then, in_zigzag, mcu_at, pads_at, after_pads};
+ghost use Rattle.scan_spec.specs.Scans.{no_dcs};
+ghost use Rattle.cut_spec.specs.HandedOver.{reader_from, spot_in};
+ghost use Rattle.cut_spec.specs.RowHandovers.{handover_of, markers_before};
 ghost use Rattle.scan_decode.specs.ReadResults.{mcu_read, standing_read};
 
 use crate::blocks::blocks;
@@ -19,7 +19,7 @@ use coef_block::Block;
 use handover::Handover;
 use huff_table::PlanCodes;
 use jpeg_marker::Plan;
-use scan_text::{ScanRefusal, ScanShape};
+use scan_spec::{ScanRefusal, ScanShape};
 use std::marker::Model;
 
 /// A scan that is read MCU by MCU (ITU-T T.81, F.2.2). It keeps the first refusal, and takes no memory.
@@ -40,7 +40,7 @@ pub struct Reader<'a> {
 }
 
 impl<'a> Model for Reader<'a> {
-    ghost use Rattle.scan_text.specs.ScanCalls.{ScanReader};
+    ghost use Rattle.scan_spec.specs.ScanCalls.{ScanReader};
     ghost use Rattle.scan_decode.specs.ReaderInside.{reader_of, IsReader};
 
     ghost Value = { ScanReader };

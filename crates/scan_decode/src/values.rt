@@ -1,12 +1,12 @@
 // Symbols, and values by their category.
 ghost use Rattle.std.specs.Prelude.{◌≡◌, ◌^◌, ◌<◌, ◌≤◌, IfOk, unsigned_abs};
-ghost use Rattle.scan_text.specs.ScanReading.{symbol_at, extended_at};
+ghost use Rattle.scan_spec.specs.ScanReading.{symbol_at, extended_at};
 ghost use Rattle.scan_decode.specs.ReadResults.{at_cursor};
 
 use crate::refusals::{of_bits, of_code};
 use bit_list::BitIn;
 use huff_table::Codes;
-use scan_text::{ScanRefusal, extend};
+use scan_spec::{ScanRefusal, extend};
 
 /// The symbol whose code word stands next.
 #[inline(always)]

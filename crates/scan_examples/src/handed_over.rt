@@ -1,8 +1,8 @@
 // Rows of MCUs that are read, and written, from what those before hand over.
 ghost use Rattle.std.specs.Prelude.{◌≡◌, ◌*◌, ◌<◌, map};
 ghost use Rattle.huff_table.specs.PlanWords.{tables_of};
-ghost use Rattle.scan_text.specs.Slots.{shape_of};
-ghost use Rattle.segment_text.specs.RowHandovers.{markers_before};
+ghost use Rattle.scan_spec.specs.Slots.{shape_of};
+ghost use Rattle.cut_spec.specs.RowHandovers.{markers_before};
 
 use crate::headers::{
     END, FIVE_HIGH, FOUR_HIGH, Header, LEVEL, ONES, ONES_AND_END, STEPS, THREE_HIGH, TWO_HIGH,
@@ -15,7 +15,7 @@ use handover::Handover;
 use huff_table::PlanCodes;
 use jpeg_marker::Plan;
 use scan_decode::Reader;
-use scan_text::{MOST_SLOTS, Pads};
+use scan_spec::{MOST_SLOTS, Pads};
 use scan_write::{Writer, mcu_room};
 use std::alloc::Global;
 use std::process::Abort;

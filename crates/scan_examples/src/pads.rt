@@ -1,11 +1,11 @@
 // Pad bits, and what was padded.
 ghost use Rattle.std.specs.Prelude.{◌≡◌, ◌+◌, ◌^◌, ◌<◌};
-ghost use Rattle.scan_text.specs.Pads.{interval_count, is_long_for, pads_given};
-ghost use Rattle.scan_text.specs.Slots.{shape_of};
+ghost use Rattle.scan_spec.specs.Pads.{interval_count, is_long_for, pads_given};
+ghost use Rattle.scan_spec.specs.Slots.{shape_of};
 
 use handover::PadSum;
 use jpeg_marker::Plan;
-use scan_text::Pads;
+use scan_spec::Pads;
 
 // No bit was padded, bits of 0, bits of 1, or both; and an interval that pads none has a 0 in the list.
 pub(crate) const NO_BIT: PadSum = PadSum {

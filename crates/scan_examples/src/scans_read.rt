@@ -9,7 +9,7 @@ use coef_block::Block;
 use huff_table::PlanCodes;
 use jpeg_marker::Plan;
 use scan_decode::Reader;
-use scan_text::{MOST_SLOTS, ScanRefusal};
+use scan_spec::{MOST_SLOTS, ScanRefusal};
 use std::process::Abort;
 
 // The coefficients that aren't 0, how many blocks there are, what is told after each MCU, and how many bytes the scan

@@ -11,7 +11,7 @@ use coef_block::Block;
 use handover::PadSum;
 use huff_table::PlanCodes;
 use jpeg_marker::Plan;
-use scan_text::{MOST_SLOTS, Pads, WriteStop};
+use scan_spec::{MOST_SLOTS, Pads, WriteStop};
 use scan_write::{Writer, mcu_room};
 use std::alloc::Global;
 use std::process::Abort;

@@ -7,7 +7,7 @@ use crate::values::put;
 use coef_block::Block;
 use huff_table::{ComponentCodes, PlanCodes};
 use jpeg_marker::Plan;
-use scan_text::{PlainError, ScanShape, Slot, WriteStop, plain_block, plain_blocks, plain_scan};
+use scan_spec::{PlainError, ScanShape, Slot, WriteStop, plain_block, plain_blocks, plain_scan};
 use std::alloc::Global;
 use std::process::Abort;
 

@@ -1,6 +1,6 @@
 // Blocks by their coefficients that aren't 0.
 use coef_block::{Block, natural_position};
-use scan_text::MOST_SLOTS;
+use scan_spec::MOST_SLOTS;
 use std::process::Abort;
 
 // The number of a block in the scan, a zigzag index, and the coefficient there.

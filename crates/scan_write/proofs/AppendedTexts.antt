@@ -1,8 +1,8 @@
 -- Texts one after another: what was appended, and what is still to come.
 use Rattle.std.proofs.Common.{[], ◌++◌, Result, Ok, Err, sym, ap, ◌∙◌, append-nil}
-use Rattle.scan_text.specs.BlockBits.{Text, prefixed, then_text}
-use Rattle.scan_text.specs.declared.stop.WriteStop.{WriteStop}
-use Rattle.scan_text.proofs.Texts.{after_nothing, after_twice}
+use Rattle.scan_spec.specs.BlockBits.{Text, prefixed, then_text}
+use Rattle.scan_spec.specs.declared.stop.WriteStop.{WriteStop}
+use Rattle.scan_spec.proofs.Texts.{after_nothing, after_twice}
 use Rattle.scan_write.specs.Outputs.{OutputState, appended}
 use Rattle.scan_write.specs.Appending.{IsAppended, IsStopped, IsWritten, HasAppended}
 use Rattle.scan_write.proofs.OutputLemmas.{appended_nothing, appended_twice}

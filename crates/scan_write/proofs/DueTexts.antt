@@ -5,9 +5,9 @@ use Rattle.coef_block.specs.Block.{IsCoefficient}
 use Rattle.coef_block.specs.Zigzag.{zigzag}
 use Rattle.jpeg_marker.specs.HuffmanTables.{TableFields}
 use Rattle.huff_table.specs.declared.plan_codes.ComponentCodes.{ComponentCodes}
-use Rattle.scan_text.specs.BlockBits.{Text, then_text, dc_text, ac_text, ac_values, block_text}
-use Rattle.scan_text.proofs.SignedValues.{kept_half, widened}
-use Rattle.scan_text.proofs.Words.{block_is, value_is, dc_small, small_value, ac_next}
+use Rattle.scan_spec.specs.BlockBits.{Text, then_text, dc_text, ac_text, ac_values, block_text}
+use Rattle.scan_spec.proofs.SignedValues.{kept_half, widened}
+use Rattle.scan_spec.proofs.Words.{block_is, value_is, dc_small, small_value, ac_next}
 use Rattle.scan_write.specs.Outputs.{OutputState}
 use Rattle.scan_write.specs.Appending.{HasAppended}
 use Rattle.scan_write.proofs.AppendedTexts.{texts_start}

@@ -4,11 +4,11 @@ use Rattle.std.proofs.lemmas.List.{drop_all, get_or_read}
 use Rattle.std.specs.List.{All}
 use Rattle.huff_table.specs.PlanWords.{no_codes}
 use Rattle.huff_table.specs.declared.plan_codes.ComponentCodes.{ComponentCodes}
-use Rattle.scan_text.specs.BlockBits.{Text, then_text, coefficient_at, block_text}
-use Rattle.scan_text.specs.Blocks.{last_dc, dcs_after_block, dcs_after, blocks_text}
-use Rattle.scan_text.specs.ShapeInside.{slot_in}
-use Rattle.scan_text.specs.declared.slot.Slot.{Slot}
-use Rattle.scan_text.proofs.SignedValues.{kept_half}
+use Rattle.scan_spec.specs.BlockBits.{Text, then_text, coefficient_at, block_text}
+use Rattle.scan_spec.specs.Blocks.{last_dc, dcs_after_block, dcs_after, blocks_text}
+use Rattle.scan_spec.specs.ShapeInside.{slot_in}
+use Rattle.scan_spec.specs.declared.slot.Slot.{Slot}
+use Rattle.scan_spec.proofs.SignedValues.{kept_half}
 use Rattle.scan_write.specs.Outputs.{OutputState}
 use Rattle.scan_write.specs.Appending.{HasAppended}
 use Rattle.scan_write.proofs.SmallNumbers.{half}

@@ -2,7 +2,7 @@
 use Rattle.std.proofs.Common.{◌≡◌, ◌≤◌, ℤ, ◌-ℤ◌, unsigned_abs, ap₂, ◌∙◌}
 use Rattle.std.specs.Int.{w16, w32}
 use mir.Val.{to_z, of_z}
-use Rattle.scan_text.proofs.SignedValues.{difference_is, kept_half}
+use Rattle.scan_spec.proofs.SignedValues.{difference_is, kept_half}
 
 -- a number of 32 bits, as the machine keeps it
 abbrev pub made : ℤ → ℤ

@@ -4,15 +4,15 @@ use Rattle.std.specs.Prelude.{◌||◌, ◌==◌}
 use Rattle.bit_list.specs.Bits.{bytes_after, begun_after, padding, stuffed}
 use Rattle.bit_list.proofs.Wholes.{bytes_cut}
 use Rattle.bit_list.proofs.Stuffing.{stuffed-append}
-use Rattle.scan_text.specs.BlockBits.{Text}
-use Rattle.scan_text.specs.Blocks.{blocks_text, dcs_after}
+use Rattle.scan_spec.specs.BlockBits.{Text}
+use Rattle.scan_spec.specs.Blocks.{blocks_text, dcs_after}
 use Rattle.handover.specs.PadSums.{no_pads, pads_with}
 use Rattle.handover.specs.declared.pads.PadSum.{PadSum}
-use Rattle.scan_text.specs.Pads.{bit_for, interval_sum}
-use Rattle.scan_text.specs.ScanCalls.{ScanWriter, text_sum, padded_after, McuIsPutOn}
-use Rattle.scan_text.specs.Scans.{Mcu, no_dcs}
-use Rattle.scan_text.specs.Spots.{Spot, interval_number, is_closed, marker_after, put_bits, put_text, mcu_put}
-use Rattle.scan_text.specs.declared.stop.WriteStop.{WriteStop}
+use Rattle.scan_spec.specs.Pads.{bit_for, interval_sum}
+use Rattle.scan_spec.specs.ScanCalls.{ScanWriter, text_sum, padded_after, McuIsPutOn}
+use Rattle.scan_spec.specs.Scans.{Mcu, no_dcs}
+use Rattle.scan_spec.specs.Spots.{Spot, interval_number, is_closed, marker_after, put_bits, put_text, mcu_put}
+use Rattle.scan_spec.specs.declared.stop.WriteStop.{WriteStop}
 use Rattle.scan_write.specs.Outputs.{OutputState, output_of}
 use Rattle.scan_write.specs.Appending.{IsAppended}
 

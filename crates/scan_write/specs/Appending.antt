@@ -1,7 +1,7 @@
 -- Texts that are appended to what was put out (own).
 use Rattle.std.specs.Prelude.{◌≡◌, Bool, List, Result, Ok, Err}
-use Rattle.scan_text.specs.BlockBits.{Text, prefixed}
-use Rattle.scan_text.specs.declared.stop.WriteStop.{WriteStop}
+use Rattle.scan_spec.specs.BlockBits.{Text, prefixed}
+use Rattle.scan_spec.specs.declared.stop.WriteStop.{WriteStop}
 use Rattle.scan_write.specs.Outputs.{OutputState, appended}
 
 -- a text was appended

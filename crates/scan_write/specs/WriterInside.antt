@@ -2,11 +2,11 @@
 use Rattle.std.specs.Prelude.{ℕ, ◌≡◌, ◌^◌, ◌<◌, ◌≤◌, true, List, ◌++◌, Result, Ok, Err}
 use Rattle.std.specs.List.{All}
 use Rattle.coef_block.specs.Block.{IsDc}
-use Rattle.scan_text.specs.Scans.{Mcu}
-use Rattle.scan_text.specs.Pads.{pads_given, bit_for, is_long_for}
-use Rattle.scan_text.specs.ScanCalls.{ScanWriter, McuIsPutOn}
-use Rattle.scan_text.specs.Spots.{mcu_put}
-use Rattle.scan_text.specs.declared.stop.WriteStop.{WriteStop}
+use Rattle.scan_spec.specs.Scans.{Mcu}
+use Rattle.scan_spec.specs.Pads.{pads_given, bit_for, is_long_for}
+use Rattle.scan_spec.specs.ScanCalls.{ScanWriter, McuIsPutOn}
+use Rattle.scan_spec.specs.Spots.{mcu_put}
+use Rattle.scan_spec.specs.declared.stop.WriteStop.{WriteStop}
 use Rattle.scan_write.specs.Outputs.{IsBegun}
 use Rattle.scan_write.specs.declared.writer.Writer.TheInside.{Inside}
 

@@ -1,7 +1,7 @@
 // The AC coefficients of a block.
 ghost use Rattle.std.specs.Prelude.{◌+◌, ◌*◌, ◌<◌, ◌≤◌, List, ℤ, ◌∷◌, IfOk, IfErr, OnOk};
 ghost use Rattle.coef_block.specs.Block.{IsAc};
-ghost use Rattle.scan_text.specs.BlockBits.{Text, zeros_text, coefficient_text, ac_text, ac_values};
+ghost use Rattle.scan_spec.specs.BlockBits.{Text, zeros_text, coefficient_text, ac_text, ac_values};
 ghost use Rattle.scan_write.specs.Outputs.{OutputState, output_of, quarters, HasRoom, word_bits, coefficient_bits, ac_bits, IsBegun};
 ghost use Rattle.scan_write.specs.Appending.{IsWritten, HasAppended, IsStopped};
 
@@ -9,7 +9,7 @@ use crate::values::{value, word};
 use bit_list::{BitOut, Piece};
 use coef_block::{Block, natural_position, size};
 use huff_table::Codes;
-use scan_text::WriteStop;
+use scan_spec::WriteStop;
 
 // The symbols of sixteen zeros and of the end of a block (ITU-T T.81, F.1.2.2.1).
 const SIXTEEN_ZEROS: u8 = 0xf0;

@@ -1,7 +1,7 @@
 // A block.
 ghost use Rattle.std.specs.Prelude.{◌≡◌, ◌+◌, ◌≤◌, IfOk};
 ghost use Rattle.coef_block.specs.Block.{IsDc};
-ghost use Rattle.scan_text.specs.BlockBits.{coefficient_at, block_text};
+ghost use Rattle.scan_spec.specs.BlockBits.{coefficient_at, block_text};
 ghost use Rattle.scan_write.specs.Outputs.{output_of, quarters, HasRoom, block_bits, IsBegun};
 ghost use Rattle.scan_write.specs.Appending.{IsWritten};
 
@@ -10,7 +10,7 @@ use crate::dc::dc;
 use bit_list::{BitOut, Piece};
 use coef_block::Block;
 use huff_table::ComponentCodes;
-use scan_text::WriteStop;
+use scan_spec::WriteStop;
 
 /// A block after one with the DC before. Answers its DC.
 #[inline]

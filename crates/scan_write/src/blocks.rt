@@ -2,8 +2,8 @@
 ghost use Rattle.std.specs.Prelude.{◌≡◌, ◌+◌, ◌*◌, ◌<◌, ◌≤◌, length, map, OnOk};
 ghost use Rattle.std.specs.List.{All};
 ghost use Rattle.coef_block.specs.Block.{IsDc};
-ghost use Rattle.scan_text.specs.Blocks.{blocks_text, dcs_after};
-ghost use Rattle.scan_text.specs.ShapeInside.{slot_in};
+ghost use Rattle.scan_spec.specs.Blocks.{blocks_text, dcs_after};
+ghost use Rattle.scan_spec.specs.ShapeInside.{slot_in};
 ghost use Rattle.scan_write.specs.Outputs.{output_of, quarters, HasRoom, block_bits, IsBegun};
 ghost use Rattle.scan_write.specs.Appending.{IsWritten};
 
@@ -11,7 +11,7 @@ use crate::block::block;
 use bit_list::{BitOut, Piece};
 use coef_block::Block;
 use huff_table::ComponentCodes;
-use scan_text::WriteStop;
+use scan_spec::WriteStop;
 
 /// The blocks of an MCU, each of the component that its slot names, after the last DC of each component.
 #[inline]

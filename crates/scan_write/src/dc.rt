@@ -1,7 +1,7 @@
 // The DC of a block.
 ghost use Rattle.std.specs.Prelude.{◌+◌, ◌≤◌};
 ghost use Rattle.coef_block.specs.Block.{IsDc};
-ghost use Rattle.scan_text.specs.BlockBits.{dc_text};
+ghost use Rattle.scan_spec.specs.BlockBits.{dc_text};
 ghost use Rattle.scan_write.specs.Outputs.{output_of, quarters, HasRoom, dc_bits, IsBegun};
 ghost use Rattle.scan_write.specs.Appending.{IsWritten};
 
@@ -9,7 +9,7 @@ use crate::values::value;
 use bit_list::{BitOut, Piece};
 use coef_block::size;
 use huff_table::Codes;
-use scan_text::WriteStop;
+use scan_spec::WriteStop;
 
 // The largest magnitude of a difference (ITU-T T.81, Table F.1): `most_difference` in clauses.
 const MOST_DIFFERENCE: u32 = 2_047;

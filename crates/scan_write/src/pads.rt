@@ -1,7 +1,7 @@
 // What stands after the MCUs of an interval.
 ghost use Rattle.std.specs.Prelude.{◌≡◌, ◌+◌, ◌≤◌, [], ◌++◌, length};
 ghost use Rattle.bit_list.specs.Pieces.{piece_room};
-ghost use Rattle.scan_text.specs.Scans.{restart_marker};
+ghost use Rattle.scan_spec.specs.Scans.{restart_marker};
 
 use bit_list::{BitOut, Piece};
 

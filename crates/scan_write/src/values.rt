@@ -3,13 +3,13 @@ ghost use Rattle.std.specs.Prelude.{◌≡◌, ◌+◌, ◌^◌, ◌<◌, ◌≤
 ghost use Rattle.bit_list.specs.Bits.{low_bits};
 ghost use Rattle.coef_block.specs.Block.{most_difference};
 ghost use Rattle.coef_block.specs.Categories.{category};
-ghost use Rattle.scan_text.specs.BlockBits.{word_text, value_text};
+ghost use Rattle.scan_spec.specs.BlockBits.{word_text, value_text};
 ghost use Rattle.scan_write.specs.Outputs.{output_of, appended, quarters, HasRoom, word_bits, IsBegun};
 ghost use Rattle.scan_write.specs.Appending.{IsWritten};
 
 use bit_list::{BitOut, Piece};
 use huff_table::Codes;
-use scan_text::{WriteStop, value_bits};
+use scan_spec::{WriteStop, value_bits};
 
 /// The code word of a symbol.
 #[inline]

@@ -4,15 +4,15 @@ ghost use Rattle.bit_list.specs.Bits.{bytes_after, padding, stuffed};
 ghost use Rattle.bit_list.specs.Pieces.{piece_room};
 ghost use Rattle.huff_table.specs.PlanWords.{tables_of};
 ghost use Rattle.handover.specs.PadSums.{pads_with};
-ghost use Rattle.scan_text.specs.Pads.{pads_given, bit_for, interval_sum, is_long_for};
-ghost use Rattle.scan_text.specs.ScanCalls.{McuIsPut, writer_of};
-ghost use Rattle.scan_text.specs.Scans.{no_dcs};
-ghost use Rattle.scan_text.specs.ShapeInside.{most_slots};
-ghost use Rattle.scan_text.specs.Slots.{shape_of};
-ghost use Rattle.scan_text.specs.Spots.{interval_number, marker_after};
+ghost use Rattle.scan_spec.specs.Pads.{pads_given, bit_for, interval_sum, is_long_for};
+ghost use Rattle.scan_spec.specs.ScanCalls.{McuIsPut, writer_of};
+ghost use Rattle.scan_spec.specs.Scans.{no_dcs};
+ghost use Rattle.scan_spec.specs.ShapeInside.{most_slots};
+ghost use Rattle.scan_spec.specs.Slots.{shape_of};
+ghost use Rattle.scan_spec.specs.Spots.{interval_number, marker_after};
 ghost use Rattle.scan_write.specs.Outputs.{mcu_room};
-ghost use Rattle.segment_text.specs.HandedOver.{writer_from};
-ghost use Rattle.segment_text.specs.RowHandovers.{handover_of, markers_before};
+ghost use Rattle.cut_spec.specs.HandedOver.{writer_from};
+ghost use Rattle.cut_spec.specs.RowHandovers.{handover_of, markers_before};
 ghost use Rattle.scan_write.specs.WriterInside.{McuIsTried};
 
 use crate::blocks::blocks;
@@ -22,7 +22,7 @@ use coef_block::Block;
 use handover::{Handover, PadSum};
 use huff_table::PlanCodes;
 use jpeg_marker::Plan;
-use scan_text::{Pads, ScanShape, WriteStop};
+use scan_spec::{Pads, ScanShape, WriteStop};
 use std::marker::Model;
 
 /// How many free bytes of a piece are enough for any MCU.
@@ -49,7 +49,7 @@ pub struct Writer<'a> {
 }
 
 impl<'a> Model for Writer<'a> {
-    ghost use Rattle.scan_text.specs.ScanCalls.{ScanWriter};
+    ghost use Rattle.scan_spec.specs.ScanCalls.{ScanWriter};
     ghost use Rattle.scan_write.specs.WriterInside.{writer_in, IsWriter};
 
     ghost Value = { ScanWriter };

@@ -6,18 +6,18 @@ use Rattle.std.proofs.Math.Nat.{lt_of_mul-lt-mul_left}
 use Rattle.std.proofs.lemmas.Bool.{and_parts, eqb-true}
 use Rattle.jpeg_marker.specs.Plans.{PlanFields}
 use Rattle.jpeg_marker.proofs.HeadersTaken.{accepted_has_plan}
-use Rattle.scan_text.specs.Pads.{PadBits}
-use Rattle.scan_text.specs.Slots.{Shape, shape_of}
-use Rattle.scan_text.proofs.PlanShapes.{accepted_is_shape}
+use Rattle.scan_spec.specs.Pads.{PadBits}
+use Rattle.scan_spec.specs.Slots.{Shape, shape_of}
+use Rattle.scan_spec.proofs.PlanShapes.{accepted_is_shape}
 use Rattle.handover.specs.Handovers.{HandoverFields, start}
 use Rattle.handover.specs.HandoverBytes.{is_handover}
-use Rattle.segment_text.specs.Cuts.{Cut, row_of, first_mcu}
-use Rattle.segment_text.specs.RowHandovers.{markers_before}
-use Rattle.segment_text.proofs.SpotsBegun.{each_has_rows}
+use Rattle.cut_spec.specs.Cuts.{Cut, row_of, first_mcu}
+use Rattle.cut_spec.specs.RowHandovers.{markers_before}
+use Rattle.cut_spec.proofs.SpotsBegun.{each_has_rows}
 use Rattle.box_format.specs.Parts.{BoxParts, IsBox, bad_start, can_start, cut_in, is_start, is_unused_zero}
-use Rattle.segment_meaning.specs.ScanStream.{grid_of}
-use Rattle.segment_meaning.specs.Meanings.{segment_in}
-use Rattle.segment_meaning.specs.SegmentLaws.{Suits}
+use Rattle.container_spec.specs.ScanStream.{grid_of}
+use Rattle.container_spec.specs.Meanings.{segment_in}
+use Rattle.container_spec.specs.SegmentLaws.{Suits}
 use Rattle.segment_code.specs.BegunSegments.{segment_with}
 use Rattle.segment_code.proofs.GridsOfPlans.{has_grid}
 use Rattle.segment_code.proofs.SlotsOfGrid.{slots_of_grid}

@@ -3,9 +3,9 @@ use Rattle.std.proofs.Common.{◌≡◌, ℕ, ◌+◌, ◌-◌, ◌*◌, ◌/◌
 use Rattle.std.specs.Prelude.{min}
 use Rattle.std.proofs.Math.Nat.{div-le_of_le-mul, zero-mul, zero-div, mul-zero, mul-le-mul_left, mul-le-mul_right}
 use Rattle.jpeg_marker.specs.Plans.{PlanFields}
-use Rattle.segment_text.specs.Cuts.{Cut, first_mcu, row_of}
-use Rattle.segment_text.proofs.SpotsBegun.{rows}
-use Rattle.segment_meaning.specs.Files.{plan_cut}
+use Rattle.cut_spec.specs.Cuts.{Cut, first_mcu, row_of}
+use Rattle.cut_spec.proofs.SpotsBegun.{rows}
+use Rattle.container_spec.specs.Files.{plan_cut}
 use Rattle.box_format.specs.Parts.{cut_in}
 
 -- a plan's cut by how many segments it has

@@ -8,17 +8,17 @@ use Rattle.adapt_bins.specs.Events.{bools_of}
 use Rattle.adapt_bins.specs.GotEvents.{HasGot}
 use Rattle.adapt_bins.specs.declared.get.Get.{Get}
 use Rattle.bit_list.specs.Bits.{begun_after}
-use Rattle.scan_text.specs.BlockBits.{Text}
-use Rattle.scan_text.specs.Blocks.{blocks_text, dcs_after}
-use Rattle.scan_text.specs.Scans.{Mcu, no_dcs}
-use Rattle.scan_text.specs.Slots.{Shape}
-use Rattle.scan_text.specs.Spots.{Spot, is_closed, put_bits, put_text, spot_in, mcu_put}
-use Rattle.block_events.specs.Around.{Around}
-use Rattle.block_events.specs.Grid.{Grid}
-use Rattle.block_events.specs.ReadBlocks.{IsRead}
-use Rattle.block_events.specs.SegmentEvents.{segment_events}
-use Rattle.block_events.specs.declared.fault.BlockFault.{BlockFault}
-use Rattle.block_events.specs.declared.fault.BlockFault.TheVariants.{BlockCount, DcRange}
+use Rattle.scan_spec.specs.BlockBits.{Text}
+use Rattle.scan_spec.specs.Blocks.{blocks_text, dcs_after}
+use Rattle.scan_spec.specs.Scans.{Mcu, no_dcs}
+use Rattle.scan_spec.specs.Slots.{Shape}
+use Rattle.scan_spec.specs.Spots.{Spot, is_closed, put_bits, put_text, spot_in, mcu_put}
+use Rattle.block_spec.specs.Around.{Around}
+use Rattle.block_spec.specs.Grid.{Grid}
+use Rattle.block_spec.specs.ReadBlocks.{IsRead}
+use Rattle.block_spec.specs.SegmentEvents.{segment_events}
+use Rattle.block_spec.specs.declared.fault.BlockFault.{BlockFault}
+use Rattle.block_spec.specs.declared.fault.BlockFault.TheVariants.{BlockCount, DcRange}
 use Rattle.block_code.specs.SegmentUnderWay.{GetsMore}
 
 pub blocks_joined : (xs ys : List (List ℤ)) → AllByRecursion IsBlock xs → AllByRecursion IsBlock ys → AllByRecursion IsBlock (xs ++ ys)

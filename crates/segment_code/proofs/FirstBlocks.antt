@@ -4,10 +4,10 @@ use Rattle.std.specs.Prelude.{Err}
 use Rattle.bool_coder.specs.BoolStream.{Interval, opening, after}
 use Rattle.bool_coder.specs.BoolReading.{next_bit, reading, IsReading}
 use Rattle.adapt_bins.specs.Events.{probability, bools_after, bools_of}
-use Rattle.block_events.specs.Around.{Around}
-use Rattle.block_events.specs.ReadBlocks.{IsRead}
-use Rattle.block_events.specs.declared.fault.BlockFault.{BlockFault}
-use Rattle.block_events.specs.declared.fault.BlockFault.TheVariants.{BlockCount, DcRange}
+use Rattle.block_spec.specs.Around.{Around}
+use Rattle.block_spec.specs.ReadBlocks.{IsRead}
+use Rattle.block_spec.specs.declared.fault.BlockFault.{BlockFault}
+use Rattle.block_spec.specs.declared.fault.BlockFault.TheVariants.{BlockCount, DcRange}
 
 bools_first : (earlier es fs : List (ℕ × Bool)) → bools_after earlier (es ++ fs) ≡ bools_after earlier es ++ bools_after (earlier ++ es) fs
 bools_first earlier [] fs = ap (λ (all : List (ℕ × Bool)). bools_after all fs) (sym (append-nil earlier))

@@ -11,7 +11,7 @@ use Rattle.coef_block.specs.TwoRows.{block_count, four_of}
 use Rattle.jpeg_marker.specs.Frames.{is_sampled, fit_an_mcu}
 use Rattle.jpeg_marker.specs.Plans.{PlanFields, IsPlan, part_of, blocks_in_mcu}
 use Rattle.jpeg_marker.specs.declared.component.Component.{Component}
-use Rattle.segment_meaning.specs.ScanStream.{mcu_extents}
+use Rattle.container_spec.specs.ScanStream.{mcu_extents}
 
 -- sampling factors from 1 to 4
 pub record IsSampled (c : Component) : Type 0 where

@@ -6,24 +6,24 @@ use Rattle.bool_coder.specs.BoolReading.{IsReading}
 use Rattle.adapt_bins.specs.Events.{bools_of}
 use Rattle.adapt_bins.specs.GotEvents.{HasGot, GetsEvents}
 use Rattle.adapt_bins.specs.declared.get.Get.{Get}
-use Rattle.scan_text.specs.Pads.{PadBits, bit_for}
-use Rattle.scan_text.specs.ScanCalls.{ScanWriter, McuIsPut, McuIsPutOn, padded_after}
-use Rattle.scan_text.specs.Scans.{Mcu}
-use Rattle.scan_text.specs.Slots.{Shape}
-use Rattle.scan_text.specs.Spots.{Spot, Put, mcu_put}
-use Rattle.scan_text.specs.declared.stop.WriteStop.{WriteStop}
-use Rattle.scan_text.specs.declared.stop.WriteStop.TheVariants as stops
+use Rattle.scan_spec.specs.Pads.{PadBits, bit_for}
+use Rattle.scan_spec.specs.ScanCalls.{ScanWriter, McuIsPut, McuIsPutOn, padded_after}
+use Rattle.scan_spec.specs.Scans.{Mcu}
+use Rattle.scan_spec.specs.Slots.{Shape}
+use Rattle.scan_spec.specs.Spots.{Spot, Put, mcu_put}
+use Rattle.scan_spec.specs.declared.stop.WriteStop.{WriteStop}
+use Rattle.scan_spec.specs.declared.stop.WriteStop.TheVariants as stops
 use Rattle.handover.specs.declared.pads.PadSum.{PadSum}
 use Rattle.handover.specs.declared.outcome.StreamCause.{StreamCause}
-use Rattle.block_events.specs.Grid.{Grid}
-use Rattle.block_events.specs.SegmentEvents.{segment_events}
-use Rattle.block_events.specs.declared.fault.BlockFault.{BlockFault}
-use Rattle.block_events.specs.declared.fault.BlockFault.TheVariants as faults
+use Rattle.block_spec.specs.Grid.{Grid}
+use Rattle.block_spec.specs.SegmentEvents.{segment_events}
+use Rattle.block_spec.specs.declared.fault.BlockFault.{BlockFault}
+use Rattle.block_spec.specs.declared.fault.BlockFault.TheVariants as faults
 use Rattle.block_code.specs.SegmentUnderWay.{UnderWay, HoldsUpTo, GetsMore, GetsFault}
-use Rattle.block_reading.specs.BlockReading.{and_then, blocks_read}
-use Rattle.block_reading.specs.ReadingLaws.{HaveGiven}
-use Rattle.block_reading.proofs.BlocksRead.{given_blocks_are_read, fault_is_read}
-use Rattle.segment_meaning.specs.Segments.{SegmentFields, Progress, fault_cause, stop_cause, progress_after, mcu_step}
+use Rattle.block_spec.specs.BlockReading.{and_then, blocks_read}
+use Rattle.block_spec.specs.ReadingLaws.{HaveGiven}
+use Rattle.block_spec.proofs.BlocksRead.{given_blocks_are_read, fault_is_read}
+use Rattle.container_spec.specs.Segments.{SegmentFields, Progress, fault_cause, stop_cause, progress_after, mcu_step}
 use Rattle.segment_code.specs.Decoding.{DecoderSeen}
 use Rattle.segment_code.specs.DecodedPieces.{IsWithin, McuIsMade}
 use Rattle.segment_code.proofs.FirstBlocks.{before_fault}

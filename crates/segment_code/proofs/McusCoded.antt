@@ -7,15 +7,15 @@ use Rattle.std.proofs.lemmas.List.Concat.{flat_map-append}
 use Rattle.coef_block.specs.Block.{IsBlock}
 use Rattle.adapt_bins.specs.PutEvents.{puts_joined}
 use Rattle.adapt_bins.specs.declared.put.Put.{Put}
-use Rattle.scan_text.specs.Scans.{Mcu}
-use Rattle.scan_text.specs.ScanCalls.{ScanReader}
-use Rattle.scan_text.specs.ScanLaws.{zigzag_of}
-use Rattle.scan_text.specs.ScanReading.{in_zigzag, mcu_at}
-use Rattle.block_events.specs.Grid.{Grid}
-use Rattle.block_events.specs.SegmentEvents.{segment_events}
+use Rattle.scan_spec.specs.Scans.{Mcu}
+use Rattle.scan_spec.specs.ScanCalls.{ScanReader}
+use Rattle.scan_spec.specs.ScanLaws.{zigzag_of}
+use Rattle.scan_spec.specs.ScanReading.{in_zigzag, mcu_at}
+use Rattle.block_spec.specs.Grid.{Grid}
+use Rattle.block_spec.specs.SegmentEvents.{segment_events}
 use Rattle.block_code.specs.SegmentUnderWay.{UnderWay, HoldsUpTo, PutsMore}
 use Rattle.block_code.proofs.McuSteps.{puts_nothing}
-use Rattle.segment_meaning.specs.ScanStream.{blocks_of}
+use Rattle.container_spec.specs.ScanStream.{blocks_of}
 use Rattle.segment_code.specs.CodedMcus.{AreReadOn, AreCoded}
 use Rattle.segment_code.proofs.ReadOn.{none_read, one_more}
 

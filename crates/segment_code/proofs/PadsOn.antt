@@ -3,13 +3,13 @@ use Rattle.std.proofs.Common.{◌≡◌, ℕ, zero, suc, ◌+◌, Bool, true, fa
 use Rattle.std.specs.Prelude.{ℤ, Ok, unwrap_or}
 use Rattle.handover.specs.PadSums.{no_pads, pads_with}
 use Rattle.handover.specs.declared.pads.PadSum.{PadSum}
-use Rattle.scan_text.specs.Slots.{Shape}
-use Rattle.scan_text.specs.Spots.{is_closed}
-use Rattle.scan_text.specs.ScanCalls.{ScanReader}
-use Rattle.scan_text.specs.ScanReading.{Standing, mcu_at, mcus_at, pad_told, pads_told, pad_sum, sum_ended, sum_told}
-use Rattle.scan_text.proofs.BitsTaken.{both_fine}
-use Rattle.scan_text.proofs.PadsTold.{pads_more, no_pads_told, sums_more, no_sum_told}
-use Rattle.scan_text.proofs.ScanTaken.{mcus_fine, no_mcus}
+use Rattle.scan_spec.specs.Slots.{Shape}
+use Rattle.scan_spec.specs.Spots.{is_closed}
+use Rattle.scan_spec.specs.ScanCalls.{ScanReader}
+use Rattle.scan_spec.specs.ScanReading.{Standing, mcu_at, mcus_at, pad_told, pads_told, pad_sum, sum_ended, sum_told}
+use Rattle.scan_spec.proofs.BitsTaken.{both_fine}
+use Rattle.scan_spec.proofs.PadsTold.{pads_more, no_pads_told, sums_more, no_sum_told}
+use Rattle.scan_spec.proofs.ScanTaken.{mcus_fine, no_mcus}
 use Rattle.segment_code.specs.CodedMcus.{AreReadOn}
 use Rattle.segment_code.specs.FoundPads.{FoundPads, pads_through}
 

@@ -10,7 +10,7 @@ use Rattle.bit_list.proofs.LowBits.{low_bits-join}
 use Rattle.bit_list.proofs.Machine.{zeros_are}
 use Rattle.bit_list.proofs.Wholes.{all_begun, begun_cut, bytes_after-bits_of}
 use Rattle.huff_table.proofs.Pairs.{all-append}
-use Rattle.scan_text.specs.Pads.{pad_list}
+use Rattle.scan_spec.specs.Pads.{pad_list}
 
 -- a bit as a number
 abbrev pub number_of_bit : Bool → ℕ

@@ -5,9 +5,9 @@ use Rattle.std.proofs.lemmas.Bool.Decides.{nat_tests}
 use Rattle.bit_list.specs.Pieces.{piece_room}
 use Rattle.scan_write.specs.Outputs.{mcu_room}
 use Rattle.handover.specs.declared.outcome.StreamCause.{StreamCause}
-use Rattle.segment_meaning.specs.Segments.{SegmentFields, Progress, stopped, with_prefix, ending, mcu_step}
-use Rattle.segment_meaning.specs.Pieces.{Made, SomeOf, AllOf, made_with_prefix, made_after, piece}
-use Rattle.segment_meaning.proofs.JoinedPieces.{prefix_twice}
+use Rattle.container_spec.specs.Segments.{SegmentFields, Progress, stopped, with_prefix, ending, mcu_step}
+use Rattle.container_spec.specs.Pieces.{Made, SomeOf, AllOf, made_with_prefix, made_after, piece}
+use Rattle.container_spec.proofs.JoinedPieces.{prefix_twice}
 use Rattle.segment_code.specs.Decoding.{DecoderSeen}
 use Rattle.segment_code.specs.DecodedPieces.{IsWithin, McuIsMade, IsBegunPiece, IsFilled, goes_on}
 

@@ -2,14 +2,14 @@
 use Rattle.std.proofs.Common.{◌≡◌, ℕ, zero, suc, ◌+◌, ◌-◌, ◌≤◌, Bool, true, false, ◌==◌, if◌then◌else◌, List, [], ◌∷◌, ◌++◌, refl, ap, ◌∙◌, sym, subst, arith}
 use Rattle.std.specs.Prelude.{ℤ, Option, None, Result, Ok, Err}
 use Rattle.bit_list.specs.Units.{Cursor, starting}
-use Rattle.scan_text.specs.Slots.{Shape}
-use Rattle.scan_text.specs.Scans.{no_dcs}
-use Rattle.scan_text.specs.Spots.{is_closed, interval_number}
-use Rattle.scan_text.specs.ScanCalls.{ScanReader, McuIsRead, McuIsReadOn}
-use Rattle.scan_text.specs.ScanReading.{Standing, BlocksRead, and_then, after_mcu, after_pads, pads_at, restart_at, mcu_at, mcus_at}
-use Rattle.scan_text.specs.declared.refusal.ScanRefusal.{ScanRefusal}
-use Rattle.scan_text.proofs.BitsTaken.{then_fine, is_fine, both_fine}
-use Rattle.scan_text.proofs.ScanTaken.{mcu_fine, mcus_fine, no_mcus}
+use Rattle.scan_spec.specs.Slots.{Shape}
+use Rattle.scan_spec.specs.Scans.{no_dcs}
+use Rattle.scan_spec.specs.Spots.{is_closed, interval_number}
+use Rattle.scan_spec.specs.ScanCalls.{ScanReader, McuIsRead, McuIsReadOn}
+use Rattle.scan_spec.specs.ScanReading.{Standing, BlocksRead, and_then, after_mcu, after_pads, pads_at, restart_at, mcu_at, mcus_at}
+use Rattle.scan_spec.specs.declared.refusal.ScanRefusal.{ScanRefusal}
+use Rattle.scan_spec.proofs.BitsTaken.{then_fine, is_fine, both_fine}
+use Rattle.scan_spec.proofs.ScanTaken.{mcu_fine, mcus_fine, no_mcus}
 use Rattle.segment_code.specs.CodedMcus.{McusRead, AreReadOn, next_of}
 
 -- an MCU more is counted

@@ -12,22 +12,22 @@ use Rattle.adapt_bins.specs.PutEvents.{HasPut}
 use Rattle.adapt_bins.specs.declared.put.Put.{Put}
 use Rattle.jpeg_marker.specs.Plans.{PlanFields}
 use Rattle.jpeg_marker.specs.HeaderPlan.{Accepts}
-use Rattle.scan_text.specs.Slots.{shape_of}
-use Rattle.scan_text.specs.Scans.{Mcu, IsMcu}
-use Rattle.scan_text.specs.ScanLaws.{zigzag_of}
-use Rattle.scan_text.specs.ScanReading.{in_zigzag, scan_at}
-use Rattle.scan_text.specs.Items.{Refuses}
-use Rattle.scan_text.specs.declared.slot.Slot.{Slot}
-use Rattle.scan_text.specs.declared.refusal.ScanRefusal.{ScanRefusal}
-use Rattle.scan_text.proofs.ItemsRead.{refused_so}
-use Rattle.scan_text.proofs.PlanShapes.{accepted_is_shape}
-use Rattle.scan_text.proofs.ZigzagLaws.{zigzag_tells}
-use Rattle.block_events.specs.Grid.{Grid}
-use Rattle.block_events.specs.SegmentEvents.{segment_events}
+use Rattle.scan_spec.specs.Slots.{shape_of}
+use Rattle.scan_spec.specs.Scans.{Mcu, IsMcu}
+use Rattle.scan_spec.specs.ScanLaws.{zigzag_of}
+use Rattle.scan_spec.specs.ScanReading.{in_zigzag, scan_at}
+use Rattle.scan_spec.specs.Items.{Refuses}
+use Rattle.scan_spec.specs.declared.slot.Slot.{Slot}
+use Rattle.scan_spec.specs.declared.refusal.ScanRefusal.{ScanRefusal}
+use Rattle.scan_spec.proofs.ItemsRead.{refused_so}
+use Rattle.scan_spec.proofs.PlanShapes.{accepted_is_shape}
+use Rattle.scan_spec.proofs.ZigzagLaws.{zigzag_tells}
+use Rattle.block_spec.specs.Grid.{Grid}
+use Rattle.block_spec.specs.SegmentEvents.{segment_events}
 use Rattle.block_code.specs.SegmentUnderWay.{PutsMore}
 use Rattle.segment_code.specs.declared.encode.EncodeError.{EncodeError}
 use Rattle.segment_code.specs.declared.encode.EncodeError.TheVariants.{Scan, NoMemory}
-use Rattle.segment_meaning.specs.ScanStream.{grid_of, blocks_of, blocks_stream, stream_of}
+use Rattle.container_spec.specs.ScanStream.{grid_of, blocks_of, blocks_stream, stream_of}
 
 -- bytes by their places
 pub bytes_all : (xs : List ℕ) → ((i : ℕ) → get_or xs i 0 < 256) → AllByRecursion IsByte xs

@@ -10,10 +10,10 @@ use Rattle.handover.specs.HandoverBytes.{handover_bytes}
 use Rattle.handover.specs.declared.outcome.Outcome.TheVariants.{Good}
 use Rattle.handover.specs.declared.outcome.StreamCause.{StreamCause}
 use Rattle.handover.specs.declared.outcome.StreamCause.TheVariants.{Seam, StreamBad}
-use Rattle.segment_text.specs.RowHandovers.{handover_of}
-use Rattle.block_events.specs.SegmentEvents.{segment_events}
-use Rattle.segment_meaning.specs.ScanStream.{blocks_stream}
-use Rattle.segment_meaning.specs.Segments.{SegmentFields, Progress, Output, stopped, stream_ending, ending_by, ending}
+use Rattle.cut_spec.specs.RowHandovers.{handover_of}
+use Rattle.block_spec.specs.SegmentEvents.{segment_events}
+use Rattle.container_spec.specs.ScanStream.{blocks_stream}
+use Rattle.container_spec.specs.Segments.{SegmentFields, Progress, Output, stopped, stream_ending, ending_by, ending}
 use Rattle.segment_code.specs.Decoding.{DecoderSeen}
 use Rattle.segment_code.specs.DecodedPieces.{IsWithin, seam_in, ended_by}
 

@@ -4,18 +4,18 @@ use Rattle.std.specs.Prelude.{Option}
 use Rattle.adapt_bins.specs.GotEvents.{HasGot}
 use Rattle.adapt_bins.specs.declared.get.Get.{Get}
 use Rattle.jpeg_marker.specs.Plans.{PlanFields}
-use Rattle.scan_text.specs.Pads.{PadBits}
-use Rattle.scan_text.specs.ScanCalls.{ScanWriter}
-use Rattle.scan_text.specs.Slots.{shape_of}
+use Rattle.scan_spec.specs.Pads.{PadBits}
+use Rattle.scan_spec.specs.ScanCalls.{ScanWriter}
+use Rattle.scan_spec.specs.Slots.{shape_of}
 use Rattle.handover.specs.Handovers.{HandoverFields}
-use Rattle.segment_text.specs.HandedOver.{writer_from}
-use Rattle.block_events.specs.Grid.{Grid, IsGrid}
-use Rattle.block_events.specs.SegmentEvents.{segment_events}
+use Rattle.cut_spec.specs.HandedOver.{writer_from}
+use Rattle.block_spec.specs.Grid.{Grid, IsGrid}
+use Rattle.block_spec.specs.SegmentEvents.{segment_events}
 use Rattle.block_code.specs.SegmentUnderWay.{HoldsUpTo}
-use Rattle.block_reading.specs.ReadingLaws.{HaveGiven}
-use Rattle.segment_meaning.specs.ScanStream.{grid_of, starts}
-use Rattle.segment_meaning.specs.SegmentLaws.{Suits}
-use Rattle.segment_meaning.specs.Segments.{SegmentFields, first_progress}
+use Rattle.block_spec.specs.ReadingLaws.{HaveGiven}
+use Rattle.container_spec.specs.ScanStream.{grid_of, starts}
+use Rattle.container_spec.specs.SegmentLaws.{Suits}
+use Rattle.container_spec.specs.Segments.{SegmentFields, first_progress}
 use Rattle.segment_code.specs.BegunSegments.{segment_with}
 use Rattle.segment_code.specs.Decoding.{DecoderSeen, StandsAt}
 

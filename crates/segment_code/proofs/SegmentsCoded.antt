@@ -6,23 +6,23 @@ use Rattle.bit_list.specs.Bits.{IsByte}
 use Rattle.coef_block.specs.Block.{IsBlock}
 use Rattle.jpeg_marker.specs.Plans.{PlanFields, IsPlan}
 use Rattle.jpeg_marker.proofs.HeadersTaken.{accepted_has_plan}
-use Rattle.scan_text.specs.Slots.{Shape, shape_of}
-use Rattle.scan_text.specs.Scans.{Mcu, IsMcu, pad_at}
-use Rattle.scan_text.specs.Spots.{Spot, bytes_done, spot_at}
-use Rattle.scan_text.specs.ScanCalls.{ScanReader}
-use Rattle.scan_text.specs.ScanLaws.{IsShape, zigzag_of}
-use Rattle.scan_text.specs.ScanReading.{Standing, standing_at}
-use Rattle.scan_text.specs.declared.slot.Slot.{Slot}
-use Rattle.scan_text.specs.declared.refusal.ScanRefusal.{ScanRefusal}
-use Rattle.scan_text.proofs.BitsTaken.{both_fine}
-use Rattle.scan_text.proofs.PlanShapes.{accepted_is_shape}
+use Rattle.scan_spec.specs.Slots.{Shape, shape_of}
+use Rattle.scan_spec.specs.Scans.{Mcu, IsMcu, pad_at}
+use Rattle.scan_spec.specs.Spots.{Spot, bytes_done, spot_at}
+use Rattle.scan_spec.specs.ScanCalls.{ScanReader}
+use Rattle.scan_spec.specs.ScanLaws.{IsShape, zigzag_of}
+use Rattle.scan_spec.specs.ScanReading.{Standing, standing_at}
+use Rattle.scan_spec.specs.declared.slot.Slot.{Slot}
+use Rattle.scan_spec.specs.declared.refusal.ScanRefusal.{ScanRefusal}
+use Rattle.scan_spec.proofs.BitsTaken.{both_fine}
+use Rattle.scan_spec.proofs.PlanShapes.{accepted_is_shape}
 use Rattle.handover.specs.Handovers.{HandoverFields, start}
-use Rattle.segment_text.specs.Cuts.{first_mcu, row_of}
-use Rattle.segment_text.specs.HandedOver.{reader_from}
-use Rattle.segment_text.specs.RowHandovers.{handover_at, markers_before}
-use Rattle.segment_text.proofs.SegmentsRead.{first_are_read, segment_is_read}
-use Rattle.segment_text.proofs.SpotsBegun.{each_has_rows}
-use Rattle.segment_meaning.specs.Files.{StartsFields, plan_cut, segment_mcus, segment_start, starts_of}
+use Rattle.cut_spec.specs.Cuts.{first_mcu, row_of}
+use Rattle.cut_spec.specs.HandedOver.{reader_from}
+use Rattle.cut_spec.specs.RowHandovers.{handover_at, markers_before}
+use Rattle.cut_spec.proofs.SegmentsRead.{first_are_read, segment_is_read}
+use Rattle.cut_spec.proofs.SpotsBegun.{each_has_rows}
+use Rattle.container_spec.specs.Files.{StartsFields, plan_cut, segment_mcus, segment_start, starts_of}
 use Rattle.segment_code.specs.CodedMcus.{AreReadOn, next_of}
 use Rattle.segment_code.specs.Starting.{IsFileAt}
 use Rattle.segment_code.proofs.CutsOfPlans.{start_within}

@@ -5,8 +5,8 @@ use Rattle.coef_block.specs.TwoRows.{block_count}
 use Rattle.jpeg_marker.specs.Frames.{area}
 use Rattle.jpeg_marker.specs.Plans.{part_of}
 use Rattle.jpeg_marker.specs.declared.component.Component.{Component}
-use Rattle.scan_text.specs.Slots.{slot_of, slots_from, slots_of}
-use Rattle.segment_meaning.specs.ScanStream.{mcu_extents}
+use Rattle.scan_spec.specs.Slots.{slot_of, slots_from, slots_of}
+use Rattle.container_spec.specs.ScanStream.{mcu_extents}
 
 one_more : (index : ℕ) (c : Component) (components : List Component) → length (slots_from index (c ∷ components)) ≡ c.h * c.v + length (slots_from (index + 1) components)
 one_more index c components =

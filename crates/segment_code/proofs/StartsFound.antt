@@ -6,22 +6,22 @@ use Rattle.bit_list.specs.Bits.{IsByte}
 use Rattle.jpeg_marker.specs.Plans.{PlanFields}
 use Rattle.jpeg_marker.specs.HeaderPlan.{Accepts}
 use Rattle.jpeg_marker.proofs.HeadersTaken.{accepted_has_plan}
-use Rattle.scan_text.specs.Slots.{shape_of}
-use Rattle.scan_text.specs.Pads.{PadBits, spelling_of}
-use Rattle.scan_text.specs.Scans.{Mcu, pad_at}
-use Rattle.scan_text.specs.Spots.{Spot, bytes_done}
-use Rattle.scan_text.specs.ScanCalls.{ScanReader, reader_at, resume_place}
-use Rattle.scan_text.specs.ScanLaws.{Begins, IsShape}
-use Rattle.scan_text.specs.ScanReading.{Standing, scan_at, scan_pads}
-use Rattle.scan_text.proofs.ScanTaken.{spelled, summed_again}
-use Rattle.scan_text.proofs.PlanShapes.{accepted_is_shape}
+use Rattle.scan_spec.specs.Slots.{shape_of}
+use Rattle.scan_spec.specs.Pads.{PadBits, spelling_of}
+use Rattle.scan_spec.specs.Scans.{Mcu, pad_at}
+use Rattle.scan_spec.specs.Spots.{Spot, bytes_done}
+use Rattle.scan_spec.specs.ScanCalls.{ScanReader, reader_at, resume_place}
+use Rattle.scan_spec.specs.ScanLaws.{Begins, IsShape}
+use Rattle.scan_spec.specs.ScanReading.{Standing, scan_at, scan_pads}
+use Rattle.scan_spec.proofs.ScanTaken.{spelled, summed_again}
+use Rattle.scan_spec.proofs.PlanShapes.{accepted_is_shape}
 use Rattle.handover.specs.Handovers.{HandoverFields}
-use Rattle.segment_text.specs.Cuts.{Cut, first_mcu, row_of}
-use Rattle.segment_text.specs.HandedOver.{spot_in}
-use Rattle.segment_text.specs.RowHandovers.{handover_of, handover_at}
-use Rattle.segment_text.proofs.SegmentsRead.{first_are_read}
+use Rattle.cut_spec.specs.Cuts.{Cut, first_mcu, row_of}
+use Rattle.cut_spec.specs.HandedOver.{spot_in}
+use Rattle.cut_spec.specs.RowHandovers.{handover_of, handover_at}
+use Rattle.cut_spec.proofs.SegmentsRead.{first_are_read}
 use Rattle.box_format.specs.Raws.{numbers}
-use Rattle.segment_meaning.specs.Files.{StartsFields, plan_cut, segment_start, starts_of, told_pads}
+use Rattle.container_spec.specs.Files.{StartsFields, plan_cut, segment_start, starts_of, told_pads}
 use Rattle.segment_code.specs.CodedMcus.{AreReadOn}
 use Rattle.segment_code.specs.FoundPads.{FoundPads, none_found, pads_through}
 use Rattle.segment_code.specs.FoundStarts.{found, handover_after, place_after, stands_after, standing_or}

@@ -6,10 +6,10 @@ use Rattle.scan_write.specs.Outputs.{mcu_room}
 use Rattle.handover.specs.declared.outcome.Outcome.{Outcome}
 use Rattle.handover.specs.declared.outcome.StreamCause.{StreamCause}
 use Rattle.handover.specs.declared.outcome.StreamCause.TheVariants.{StreamBad}
-use Rattle.segment_meaning.specs.ScanStream.{starts}
-use Rattle.segment_meaning.specs.Segments.{SegmentFields, Progress, Output, stopped, with_prefix, mcu_step, mcus_output}
-use Rattle.segment_meaning.specs.Pieces.{Made, SomeOf, AllOf, made_with_prefix, made_after, piece, next_piece, output_after}
-use Rattle.segment_meaning.proofs.JoinedPieces.{piece_is_prefix}
+use Rattle.container_spec.specs.ScanStream.{starts}
+use Rattle.container_spec.specs.Segments.{SegmentFields, Progress, Output, stopped, with_prefix, mcu_step, mcus_output}
+use Rattle.container_spec.specs.Pieces.{Made, SomeOf, AllOf, made_with_prefix, made_after, piece, next_piece, output_after}
+use Rattle.container_spec.proofs.JoinedPieces.{piece_is_prefix}
 use Rattle.segment_code.specs.Decoding.{DecoderSeen, Pays, IsStep, StepPays}
 use Rattle.segment_code.specs.declared.step.Step.{Step}
 use Rattle.segment_code.specs.declared.step.Step.TheVariants.{More, Done, Fault}

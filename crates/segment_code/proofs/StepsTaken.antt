@@ -3,9 +3,9 @@ use Rattle.std.proofs.Common.{◌≡◌, ℕ, ◌<◌, Bool, true, false, if◌t
 use Rattle.std.specs.Prelude.{⊤}
 use Rattle.handover.specs.declared.outcome.Outcome.TheVariants.{Good, Bad}
 use Rattle.handover.specs.declared.outcome.StreamCause.{StreamCause}
-use Rattle.segment_meaning.specs.ScanStream.{starts}
-use Rattle.segment_meaning.specs.Segments.{SegmentFields, Progress, Output, stopped, with_prefix, ending}
-use Rattle.segment_meaning.specs.Pieces.{Made, SomeOf, AllOf, piece, next_piece}
+use Rattle.container_spec.specs.ScanStream.{starts}
+use Rattle.container_spec.specs.Segments.{SegmentFields, Progress, Output, stopped, with_prefix, ending}
+use Rattle.container_spec.specs.Pieces.{Made, SomeOf, AllOf, piece, next_piece}
 use Rattle.segment_code.specs.Decoding.{DecoderSeen, StandsAt, IsStep}
 use Rattle.segment_code.specs.DecodedPieces.{IsWithin, IsBegunPiece, IsFilled, IsEnd, goes_on}
 use Rattle.segment_code.specs.declared.step.Step.{Step}

@@ -1,11 +1,11 @@
 -- A segment that a decoder begins, by its parts (own).
 use Rattle.std.specs.Prelude.{ℕ, ◌*◌, List, Option}
 use Rattle.jpeg_marker.specs.Plans.{PlanFields}
-use Rattle.scan_text.specs.Pads.{PadBits}
-use Rattle.scan_text.specs.Slots.{shape_of}
+use Rattle.scan_spec.specs.Pads.{PadBits}
+use Rattle.scan_spec.specs.Slots.{shape_of}
 use Rattle.handover.specs.Handovers.{HandoverFields}
-use Rattle.segment_meaning.specs.ScanStream.{grid_of}
-use Rattle.segment_meaning.specs.Segments.{SegmentFields}
+use Rattle.container_spec.specs.ScanStream.{grid_of}
+use Rattle.container_spec.specs.Segments.{SegmentFields}
 
 -- a segment of a plan's scan: its number, its stream, what it starts from, its first row of MCUs, how many MCUs it has,
 -- what the next segment starts from, and the pad bits

@@ -3,14 +3,14 @@ use Rattle.std.specs.Prelude.{◌≡◌, ℕ, List, [], ℤ, Result, Ok}
 use Rattle.std.specs.List.{AllByRecursion}
 use Rattle.coef_block.specs.Block.{IsBlock}
 use Rattle.adapt_bins.specs.declared.put.Put.{Put}
-use Rattle.scan_text.specs.Scans.{Mcu}
-use Rattle.scan_text.specs.ScanCalls.{ScanReader}
-use Rattle.scan_text.specs.ScanLaws.{zigzag_of}
-use Rattle.scan_text.specs.ScanReading.{Standing, mcus_at}
-use Rattle.scan_text.specs.declared.refusal.ScanRefusal.{ScanRefusal}
-use Rattle.block_events.specs.Grid.{Grid}
+use Rattle.scan_spec.specs.Scans.{Mcu}
+use Rattle.scan_spec.specs.ScanCalls.{ScanReader}
+use Rattle.scan_spec.specs.ScanLaws.{zigzag_of}
+use Rattle.scan_spec.specs.ScanReading.{Standing, mcus_at}
+use Rattle.scan_spec.specs.declared.refusal.ScanRefusal.{ScanRefusal}
+use Rattle.block_spec.specs.Grid.{Grid}
 use Rattle.block_code.specs.SegmentUnderWay.{UnderWay, HoldsUpTo, PutsMore}
-use Rattle.segment_meaning.specs.ScanStream.{blocks_of}
+use Rattle.container_spec.specs.ScanStream.{blocks_of}
 
 -- MCUs in zigzag order that were read, or a refusal (own)
 abbrev pub McusRead : Type 0

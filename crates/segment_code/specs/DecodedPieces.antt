@@ -7,10 +7,10 @@ use Rattle.handover.specs.HandoverBytes.{handover_bytes}
 use Rattle.handover.specs.declared.outcome.Outcome.TheVariants.{Good, Bad}
 use Rattle.handover.specs.declared.outcome.StreamCause.{StreamCause}
 use Rattle.handover.specs.declared.outcome.StreamCause.TheVariants.{Seam}
-use Rattle.segment_meaning.specs.ScanStream.{starts}
-use Rattle.segment_meaning.specs.Segments.{SegmentFields, Progress, Output, stopped, with_prefix, mcu_step}
-use Rattle.segment_meaning.specs.SegmentLaws.{Suits}
-use Rattle.segment_meaning.specs.Pieces.{AllOf, made_with_prefix, piece}
+use Rattle.container_spec.specs.ScanStream.{starts}
+use Rattle.container_spec.specs.Segments.{SegmentFields, Progress, Output, stopped, with_prefix, mcu_step}
+use Rattle.container_spec.specs.SegmentLaws.{Suits}
+use Rattle.container_spec.specs.Pieces.{AllOf, made_with_prefix, piece}
 use Rattle.segment_code.specs.Decoding.{DecoderSeen, HasDecoded}
 use Rattle.segment_code.specs.declared.step.Step.{Step}
 use Rattle.segment_code.specs.declared.step.Step.TheVariants.{More, Done, Fault}

@@ -1,19 +1,19 @@
 -- A decoder of segments, where it stands, and what its steps give (own).
 use Rattle.std.specs.Prelude.{ℕ, ◌≡◌, ◌+◌, ◌<◌, ◌≤◌, Bool, true, false, List, ◌++◌, Option, None}
 use Rattle.jpeg_marker.specs.Plans.{PlanFields}
-use Rattle.scan_text.specs.ScanCalls.{ScanWriter}
+use Rattle.scan_spec.specs.ScanCalls.{ScanWriter}
 use Rattle.handover.specs.Handovers.{HandoverFields}
 use Rattle.handover.specs.declared.outcome.Outcome.{Outcome}
 use Rattle.handover.specs.declared.outcome.Outcome.TheVariants.{Good, Bad}
 use Rattle.adapt_bins.specs.GotEvents.{HasGot}
 use Rattle.adapt_bins.specs.declared.get.Get.{Get}
-use Rattle.block_events.specs.SegmentEvents.{segment_events}
+use Rattle.block_spec.specs.SegmentEvents.{segment_events}
 use Rattle.block_code.specs.SegmentUnderWay.{UnderWay, HoldsUpTo}
-use Rattle.block_reading.specs.ReadingLaws.{HaveGiven}
-use Rattle.segment_meaning.specs.ScanStream.{starts}
-use Rattle.segment_meaning.specs.Segments.{SegmentFields, Progress, rest_output}
-use Rattle.segment_meaning.specs.SegmentLaws.{Suits}
-use Rattle.segment_meaning.specs.Pieces.{Made, SomeOf, AllOf, next_piece}
+use Rattle.block_spec.specs.ReadingLaws.{HaveGiven}
+use Rattle.container_spec.specs.ScanStream.{starts}
+use Rattle.container_spec.specs.Segments.{SegmentFields, Progress, rest_output}
+use Rattle.container_spec.specs.SegmentLaws.{Suits}
+use Rattle.container_spec.specs.Pieces.{Made, SomeOf, AllOf, next_piece}
 use Rattle.segment_code.specs.declared.step.Step.{Step}
 use Rattle.segment_code.specs.declared.step.Step.TheVariants.{More, Done, Fault}
 

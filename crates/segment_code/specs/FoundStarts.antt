@@ -1,14 +1,14 @@
 -- The starts that a reader finds on its way through a scan (own).
 use Rattle.std.specs.Prelude.{ℕ, true, map, Ok, Err}
-use Rattle.scan_text.specs.Pads.{Same}
-use Rattle.scan_text.specs.ScanCalls.{ScanReader, resume_place}
-use Rattle.scan_text.specs.ScanReading.{Standing}
+use Rattle.scan_spec.specs.Pads.{Same}
+use Rattle.scan_spec.specs.ScanCalls.{ScanReader, resume_place}
+use Rattle.scan_spec.specs.ScanReading.{Standing}
 use Rattle.handover.specs.Handovers.{HandoverFields}
-use Rattle.segment_text.specs.Cuts.{Cut, row_of, first_mcu}
-use Rattle.segment_text.specs.HandedOver.{spot_in}
-use Rattle.segment_text.specs.RowHandovers.{handover_of}
+use Rattle.cut_spec.specs.Cuts.{Cut, row_of, first_mcu}
+use Rattle.cut_spec.specs.HandedOver.{spot_in}
+use Rattle.cut_spec.specs.RowHandovers.{handover_of}
 use Rattle.box_format.specs.Raws.{numbers}
-use Rattle.segment_meaning.specs.Files.{StartsFields}
+use Rattle.container_spec.specs.Files.{StartsFields}
 use Rattle.segment_code.specs.CodedMcus.{McusRead, next_of}
 
 -- where MCUs were read to, or another standing where they weren't (own)

@@ -1,10 +1,10 @@
 // Why there are no more bytes of a segment, by the cause that stopped them.
 ghost use Rattle.std.specs.Prelude.{◌≡◌, Err, ⊤};
-ghost use Rattle.segment_meaning.specs.Segments.{fault_cause, stop_cause};
+ghost use Rattle.container_spec.specs.Segments.{fault_cause, stop_cause};
 
-use block_events::BlockFault;
+use block_spec::BlockFault;
 use handover::StreamCause;
-use scan_text::WriteStop;
+use scan_spec::WriteStop;
 
 /// The cause of a fault in reading blocks.
 pub(crate) fn read_cause(fault: BlockFault) -> StreamCause

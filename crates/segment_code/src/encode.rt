@@ -5,11 +5,11 @@ ghost use Rattle.coef_block.specs.Block.{IsBlock};
 ghost use Rattle.coef_block.specs.TwoRows.{block_count};
 ghost use Rattle.block_code.specs.SegmentUnderWay.{HoldsUpTo};
 ghost use Rattle.segment_code.specs.CodedMcus.{AreCoded, AreReadOn, next_of};
-ghost use Rattle.scan_text.specs.ScanLaws.{zigzag_of};
-ghost use Rattle.scan_text.specs.Scans.{Mcu};
-ghost use Rattle.scan_text.specs.Slots.{shape_of};
-ghost use Rattle.scan_text.specs.declared.refusal.ScanRefusal.{ScanRefusal};
-ghost use Rattle.segment_meaning.specs.ScanStream.{stream_of};
+ghost use Rattle.scan_spec.specs.ScanLaws.{zigzag_of};
+ghost use Rattle.scan_spec.specs.Scans.{Mcu};
+ghost use Rattle.scan_spec.specs.Slots.{shape_of};
+ghost use Rattle.scan_spec.specs.declared.refusal.ScanRefusal.{ScanRefusal};
+ghost use Rattle.container_spec.specs.ScanStream.{stream_of};
 
 use crate::grid::grid_of;
 use adapt_bins::{Bins, Put};
@@ -19,7 +19,7 @@ use coef_block::Block;
 use coef_context::BINS;
 use jpeg_marker::Plan;
 use scan_decode::Reader;
-use scan_text::{MOST_SLOTS, ScanRefusal};
+use scan_spec::{MOST_SLOTS, ScanRefusal};
 use std::alloc::{AllocError, Global};
 
 /// Why there is no stream.

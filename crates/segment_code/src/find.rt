@@ -1,10 +1,10 @@
 // Where the segments of a file start, in one pass over its scan.
 ghost use Rattle.std.specs.Prelude.{◌≡◌, ◌+◌, ◌<◌, ◌≤◌, ℤ, List, length, None, Err, IfOk, OnOk, IsErrOf};
 ghost use Rattle.jpeg_marker.specs.HeaderPlan.{Accepts};
-ghost use Rattle.scan_text.specs.Items.{Refuses};
-ghost use Rattle.scan_text.specs.Slots.{shape_of};
-ghost use Rattle.scan_text.specs.declared.refusal.ScanRefusal.{ScanRefusal};
-ghost use Rattle.segment_meaning.specs.Files.{plan_cut};
+ghost use Rattle.scan_spec.specs.Items.{Refuses};
+ghost use Rattle.scan_spec.specs.Slots.{shape_of};
+ghost use Rattle.scan_spec.specs.declared.refusal.ScanRefusal.{ScanRefusal};
+ghost use Rattle.container_spec.specs.Files.{plan_cut};
 ghost use Rattle.segment_code.specs.CodedMcus.{AreReadOn, next_of};
 ghost use Rattle.segment_code.specs.FoundPads.{pads_through};
 ghost use Rattle.segment_code.specs.FoundStarts.{found};
@@ -18,7 +18,7 @@ use coef_block::Block;
 use huff_table::PlanCodes;
 use jpeg_marker::Plan;
 use scan_decode::Reader;
-use scan_text::{MOST_SLOTS, ScanRefusal};
+use scan_spec::{MOST_SLOTS, ScanRefusal};
 use std::alloc::{AllocError, Global};
 
 /// Why there are no starts.

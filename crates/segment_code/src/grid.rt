@@ -4,9 +4,9 @@ ghost use Rattle.coef_block.specs.TwoRows.{Extents, block_count, four_of};
 ghost use Rattle.jpeg_marker.specs.declared.component.Component.{Component};
 ghost use Rattle.jpeg_marker.specs.Frames.{are_components};
 ghost use Rattle.jpeg_marker.specs.Plans.{part_of};
-ghost use Rattle.scan_text.specs.Slots.{shape_of};
-ghost use Rattle.block_events.specs.Grid.{Grid, IsGrid};
-ghost use Rattle.segment_meaning.specs.ScanStream.{grid_of, mcu_extents};
+ghost use Rattle.scan_spec.specs.Slots.{shape_of};
+ghost use Rattle.block_spec.specs.Grid.{Grid, IsGrid};
+ghost use Rattle.container_spec.specs.ScanStream.{grid_of, mcu_extents};
 
 use block_code::McuGrid;
 use jpeg_marker::{Component, Plan};

@@ -6,8 +6,8 @@
 //! `find_starts` reads a scan once and keeps where its segments start; `encode_segment` reads one of them from there.
 //! `SegmentDecoder` decodes the segments of a container, each in steps of a piece of bytes.
 //!
-//! Two MCU rows of blocks are kept, as neighbours. What a block's events are is `block_events`'s, what a scan's bytes
-//! are is `scan_text`'s, and what a segment's stream stands for is `segment_meaning`'s.
+//! Two MCU rows of blocks are kept, as neighbours. What a block's events are is `block_spec`'s, what a scan's bytes
+//! are is `scan_spec`'s, and what a segment's stream stands for is `container_spec`'s.
 #![tactic(auto)]
 
 mod causes;

@@ -1,6 +1,6 @@
 // Which MCUs are a segment's.
 ghost use Rattle.std.specs.Prelude.{◌≡◌, ◌+◌, ◌*◌, ◌<◌, ◌≤◌, min};
-ghost use Rattle.segment_text.specs.Cuts.{first_mcu, row_of};
+ghost use Rattle.cut_spec.specs.Cuts.{first_mcu, row_of};
 ghost use Rattle.box_format.specs.Parts.{cut_in};
 
 use jpeg_marker::Plan;

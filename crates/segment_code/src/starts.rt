@@ -1,12 +1,12 @@
 // Where a file's segments start.
 ghost use Rattle.std.specs.Prelude.{◌≡◌, ◌+◌, ◌<◌, ◌++◌, List, [], ◌∷◌, true, length, get_or, OnOk};
 ghost use Rattle.handover.specs.Handovers.{start};
-ghost use Rattle.scan_text.specs.Pads.{pads_given, spelling_of};
+ghost use Rattle.scan_spec.specs.Pads.{pads_given, spelling_of};
 ghost use Rattle.segment_code.specs.StartsInside.{no_starts, starts_more};
 
 use crate::pads::PadsFound;
 use handover::{Handover, PadSum};
-use scan_text::Pads;
+use scan_spec::Pads;
 use std::alloc::{AllocError, Global};
 use std::marker::Model;
 
@@ -27,7 +27,7 @@ pub struct Starts {
 }
 
 impl Model for Starts {
-    ghost use Rattle.segment_meaning.specs.Files.{StartsFields};
+    ghost use Rattle.container_spec.specs.Files.{StartsFields};
     ghost use Rattle.segment_code.specs.StartsInside.{starts_in, IsStarts};
 
     ghost Value = { StartsFields };

@@ -1,8 +1,8 @@
 // The stream of one segment of a file.
 ghost use Rattle.std.specs.Prelude.{◌≡◌, ◌<◌, ℕ, Bool, List, length, IfOk};
-ghost use Rattle.scan_text.specs.Scans.{Mcu};
-ghost use Rattle.segment_meaning.specs.Files.{segment_mcus, starts_of};
-ghost use Rattle.segment_meaning.specs.ScanStream.{stream_of};
+ghost use Rattle.scan_spec.specs.Scans.{Mcu};
+ghost use Rattle.container_spec.specs.Files.{segment_mcus, starts_of};
+ghost use Rattle.container_spec.specs.ScanStream.{stream_of};
 ghost use Rattle.segment_code.specs.Starting.{AreStarts, IsFileAt};
 
 use crate::encode::{EncodeError, code_segment};

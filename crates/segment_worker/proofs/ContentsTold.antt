@@ -8,10 +8,10 @@ use Rattle.handover.specs.declared.outcome.Outcome.TheVariants.{Good}
 use Rattle.board_core.specs.BoardInvariants.{bytes_at}
 use Rattle.box_format.specs.Parts.{IsBox}
 use Rattle.box_format.specs.Seen.{BoxSeen}
-use Rattle.segment_meaning.specs.Segments.{Output, segment_output}
-use Rattle.segment_meaning.specs.Meanings.{segment_in}
-use Rattle.segment_meaning.proofs.Numbered.{mapped_long, mapped_at, got_at, got_none}
-use Rattle.segment_meaning.proofs.ShortSegments.{segment_is_short}
+use Rattle.container_spec.specs.Segments.{Output, segment_output}
+use Rattle.container_spec.specs.Meanings.{segment_in}
+use Rattle.container_spec.proofs.Numbered.{mapped_long, mapped_at, got_at, got_none}
+use Rattle.container_spec.proofs.ShortSegments.{segment_is_short}
 use Rattle.segment_worker.specs.Contents.{segments_bytes, segments_outcomes, segment_room, AreShort}
 use Rattle.segment_worker.proofs.Tails.{mapped_twice, past_end}
 

@@ -12,9 +12,9 @@ use Rattle.handover.specs.declared.outcome.StreamFault.{StreamFault}
 use Rattle.board_core.specs.BoardInvariants.{bytes_at}
 use Rattle.box_format.specs.Raws.{numbers}
 use Rattle.box_format.specs.Seen.{BoxSeen}
-use Rattle.segment_meaning.specs.Segments.{Output, segment_output}
-use Rattle.segment_meaning.specs.Meanings.{Joined, joined, joined_with, segment_in}
-use Rattle.segment_meaning.proofs.PutParts.{sums_none}
+use Rattle.container_spec.specs.Segments.{Output, segment_output}
+use Rattle.container_spec.specs.Meanings.{Joined, joined, joined_with, segment_in}
+use Rattle.container_spec.proofs.PutParts.{sums_none}
 use Rattle.segment_code.specs.Decoding.{DecoderSeen}
 use Rattle.output_board.specs.declared.view.EmitterView.{EmitterView}
 use Rattle.output_board.specs.declared.answers.Take.{Take}

@@ -6,7 +6,7 @@ use Rattle.handover.specs.declared.pads.PadSum.{PadSum}
 use Rattle.handover.specs.declared.outcome.Outcome.TheVariants.{Good, Bad}
 use Rattle.handover.specs.declared.outcome.StreamFault.{StreamFault}
 use Rattle.box_format.specs.Parts.{BoxParts}
-use Rattle.segment_meaning.specs.Meanings.{joined, outputs_of}
+use Rattle.container_spec.specs.Meanings.{joined, outputs_of}
 use Rattle.segment_code.specs.Decoding.{DecoderSeen}
 use Rattle.segment_worker.specs.Joining.{joined_from, joined_onto}
 use Rattle.segment_worker.specs.LoneSegments.{SegmentsWritten, pieces_room}

@@ -9,8 +9,8 @@ use Rattle.handover.specs.declared.outcome.Outcome.TheVariants.{Good, Bad}
 use Rattle.handover.specs.declared.outcome.StreamFault.{StreamFault}
 use Rattle.board_core.specs.BoardInvariants.{bytes_at}
 use Rattle.box_format.specs.Seen.{BoxSeen}
-use Rattle.segment_meaning.specs.Segments.{segment_output}
-use Rattle.segment_meaning.specs.Meanings.{segment_in}
+use Rattle.container_spec.specs.Segments.{segment_output}
+use Rattle.container_spec.specs.Meanings.{segment_in}
 use Rattle.segment_code.specs.Decoding.{DecoderSeen, Owes, Pays}
 use Rattle.segment_code.specs.declared.step.Step.{Step}
 use Rattle.segment_code.specs.declared.step.Step.TheVariants.{More, Done, Fault}

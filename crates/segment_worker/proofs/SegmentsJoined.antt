@@ -8,9 +8,9 @@ use Rattle.handover.specs.declared.outcome.Outcome.TheVariants.{Good, Bad}
 use Rattle.handover.specs.declared.outcome.StreamFault.{StreamFault}
 use Rattle.box_format.specs.Parts.{BoxParts}
 use Rattle.box_format.specs.Raws.{numbers}
-use Rattle.segment_meaning.specs.Segments.{Output, segment_output}
-use Rattle.segment_meaning.specs.Meanings.{Joined, joined, joined_with, segment_in, outputs_of}
-use Rattle.segment_meaning.proofs.PutParts.{sums_more}
+use Rattle.container_spec.specs.Segments.{Output, segment_output}
+use Rattle.container_spec.specs.Meanings.{Joined, joined, joined_with, segment_in, outputs_of}
+use Rattle.container_spec.proofs.PutParts.{sums_more}
 use Rattle.segment_worker.specs.Joining.{joined_from, joined_onto}
 
 abbrev pub output_at : PlanFields → BoxParts → ℕ → Output

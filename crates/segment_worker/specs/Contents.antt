@@ -4,8 +4,8 @@ use Rattle.handover.specs.declared.outcome.Outcome.{Outcome}
 use Rattle.scan_write.specs.Outputs.{mcu_room}
 use Rattle.board_core.specs.BoardInvariants.{bytes_at}
 use Rattle.box_format.specs.Seen.{BoxSeen}
-use Rattle.segment_meaning.specs.Segments.{Output}
-use Rattle.segment_meaning.specs.Meanings.{outputs_of}
+use Rattle.container_spec.specs.Segments.{Output}
+use Rattle.container_spec.specs.Meanings.{outputs_of}
 
 -- the bytes of each segment of a container
 abbrev pub segments_bytes : BoxSeen → List (List ℕ)

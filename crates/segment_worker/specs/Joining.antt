@@ -5,8 +5,8 @@ use Rattle.handover.specs.PadSums.{pads_with}
 use Rattle.handover.specs.declared.pads.PadSum.{PadSum}
 use Rattle.box_format.specs.Parts.{BoxParts}
 use Rattle.box_format.specs.Raws.{numbers}
-use Rattle.segment_meaning.specs.Segments.{segment_output}
-use Rattle.segment_meaning.specs.Meanings.{Joined, joined, segment_in}
+use Rattle.container_spec.specs.Segments.{segment_output}
+use Rattle.container_spec.specs.Meanings.{Joined, joined, segment_in}
 
 -- the segments from the one with a number on, one after another
 abbrev pub joined_from : PlanFields → BoxParts → ℕ → Joined

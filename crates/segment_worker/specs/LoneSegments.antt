@@ -6,7 +6,7 @@ use Rattle.jpeg_marker.specs.Plans.{PlanFields}
 use Rattle.handover.specs.declared.outcome.Outcome.{Outcome}
 use Rattle.handover.specs.declared.pads.PadSum.{PadSum}
 use Rattle.box_format.specs.Parts.{BoxParts}
-use Rattle.segment_meaning.specs.Meanings.{joined, outputs_of}
+use Rattle.container_spec.specs.Meanings.{joined, outputs_of}
 use Rattle.segment_code.specs.Decoding.{DecoderSeen, Owes}
 use Rattle.segment_worker.specs.Joining.{joined_from, joined_onto}
 use Rattle.segment_worker.specs.Written.{HasWritten, HasFailed}

@@ -1,9 +1,9 @@
 // The streams of a file's segments, side by side.
 ghost use Rattle.std.specs.Prelude.{◌≡◌, ◌<◌, ℕ, Bool, List, length, map, Ok, IfOk};
-ghost use Rattle.scan_text.specs.Scans.{Mcu};
+ghost use Rattle.scan_spec.specs.Scans.{Mcu};
 ghost use Rattle.box_format.specs.Raws.{numbers};
-ghost use Rattle.segment_meaning.specs.Files.{plan_cut, segment_mcus, starts_of};
-ghost use Rattle.segment_meaning.specs.ScanStream.{stream_of};
+ghost use Rattle.container_spec.specs.Files.{plan_cut, segment_mcus, starts_of};
+ghost use Rattle.container_spec.specs.ScanStream.{stream_of};
 ghost use Rattle.segment_code.specs.Starting.{AreStarts, IsFileAt};
 
 use jpeg_marker::Plan;

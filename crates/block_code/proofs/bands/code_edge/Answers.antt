@@ -1,7 +1,7 @@
 use Rattle.std.proofs.Common.{ℕ, arith, subst, ◌++◌}
-use Rattle.block_events.specs.Values.{count_events, values_events}
-use Rattle.block_events.specs.BlockEvents.{edge_events, edge_bins}
-use Rattle.block_events.proofs.CategoryBits.{category_at_most}
+use Rattle.block_spec.specs.Values.{count_events, values_events}
+use Rattle.block_spec.specs.BlockEvents.{edge_events, edge_bins}
+use Rattle.block_spec.proofs.CategoryBits.{category_at_most}
 use Rattle.block_code.specs.NeighbourBlocks.{around_of}
 use Rattle.block_code.proofs.Weights.{few_asked, counted_asked}
 use Rattle.block_code.proofs.bands.code_edge.Goals as goal

@@ -1,4 +1,4 @@
-use Rattle.block_events.specs.Around.{inner_positions}
+use Rattle.block_spec.specs.Around.{inner_positions}
 use Rattle.std.proofs.lemmas.Bool.{and_parts, ltb-true}
 use Rattle.block_code.proofs.Weights.{inner_within}
 use Rattle.block_code.proofs.bands.inner_position.Goals as goal

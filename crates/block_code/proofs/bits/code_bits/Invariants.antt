@@ -1,5 +1,5 @@
 use Rattle.std.proofs.Common.{◌≡◌, ◌+◌, ◌-◌, ◌/◌, ◌^◌, ◌<◌, ◌≤◌, IfSome, IsTrue}
-use Rattle.block_events.specs.BitEvents.{bits_events}
+use Rattle.block_spec.specs.BitEvents.{bits_events}
 use Rattle.block_code.proofs.bits.code_bits.Given as goal
 
 abbrev pub invariant-loop-bit : goal.invariant-loop-bit

@@ -1,6 +1,6 @@
 use Rattle.std.proofs.Common.{◌-◌, ◌≤◌, IfSome, IsTrue}
 use Rattle.block_code.specs.BinBases.{bins_at}
-use Rattle.block_events.specs.BitEvents.{ones}
+use Rattle.block_spec.specs.BitEvents.{ones}
 use Rattle.block_code.proofs.bits.code_size.Given as goal
 
 abbrev pub invariant-loop-step : goal.invariant-loop-step

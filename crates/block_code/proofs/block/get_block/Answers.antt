@@ -4,10 +4,10 @@ use Rattle.std.specs.Prelude.{ℤ, Result, Ok, Err, IfOk, IfErr, ◌+ℤ◌}
 use Rattle.coef_block.specs.Block.{IsBlock, IsDc}
 use Rattle.adapt_bins.specs.GotEvents.{GetsEvents}
 use Rattle.adapt_bins.specs.declared.get.Get.{Get}
-use Rattle.block_events.specs.Around.{Around, prediction}
-use Rattle.block_events.specs.ReadBlocks.{IsRead}
-use Rattle.block_events.specs.declared.fault.BlockFault.{BlockFault}
-use Rattle.block_events.specs.declared.fault.BlockFault.TheVariants.{BlockCount, DcRange}
+use Rattle.block_spec.specs.Around.{Around, prediction}
+use Rattle.block_spec.specs.ReadBlocks.{IsRead}
+use Rattle.block_spec.specs.declared.fault.BlockFault.{BlockFault}
+use Rattle.block_spec.specs.declared.fault.BlockFault.TheVariants.{BlockCount, DcRange}
 use Rattle.block_code.specs.NeighbourBlocks.{around_of}
 use Rattle.block_code.specs.BlockParts.{parts_in, parts_events, AreParts}
 use Rattle.block_code.specs.declared.parts.Parts.{Parts}

@@ -1,7 +1,7 @@
 use Rattle.std.proofs.Common.{rules, ◌≡◌, arith, ap, ◌∙◌, sym, FitsSigned, w32, w16, get_or}
 use Rattle.std.proofs.lemmas.Int.{to_z-of_z}
 use Rattle.std.proofs.lemmas.List.{length-set}
-use Rattle.block_events.specs.Around.{value_at}
+use Rattle.block_spec.specs.Around.{value_at}
 use Rattle.block_code.proofs.Gathering.{one_more, all_filled, got}
 use Rattle.block_code.proofs.gather.gather_values.Goals as goal
 

@@ -1,5 +1,5 @@
 use Rattle.std.proofs.Common.{◌≡◌, take, length}
-use Rattle.block_events.specs.Around.{values_in}
+use Rattle.block_spec.specs.Around.{values_in}
 use Rattle.block_code.proofs.gather.gather_values.Given as goal
 
 abbrev pub invariant-loop-i : goal.invariant-loop-i

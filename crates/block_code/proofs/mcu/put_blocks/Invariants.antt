@@ -3,7 +3,7 @@ use Rattle.std.specs.Prelude.{ℤ}
 use Rattle.coef_block.specs.TwoRows.{block_count}
 use Rattle.std.specs.List.{AllByRecursion}
 use Rattle.coef_block.specs.Block.{IsBlock}
-use Rattle.block_events.specs.HeldRows.{HoldBlocks}
+use Rattle.block_spec.specs.HeldRows.{HoldBlocks}
 use Rattle.block_code.specs.SegmentUnderWay.{PutsMore}
 use Rattle.block_code.proofs.mcu.put_blocks.Given as goal
 use Rattle.block_code.specs.BinBases.{bin_count}

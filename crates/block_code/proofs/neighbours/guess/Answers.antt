@@ -1,5 +1,5 @@
 use Rattle.std.proofs.Common.{rules}
-use Rattle.block_events.specs.Around.{guess}
+use Rattle.block_spec.specs.Around.{guess}
 use Rattle.block_code.proofs.neighbours.guess.Goals as goal
 
 pub returns-in-Some-Some-clause-value : goal.returns-in-Some-Some-clause-value

@@ -1,4 +1,4 @@
-use Rattle.block_events.specs.Around.{inner_positions}
+use Rattle.block_spec.specs.Around.{inner_positions}
 use Rattle.block_code.proofs.neighbours.inner_count.Goals as goal
 
 pub returns-clause-value : goal.returns-clause-value

@@ -1,7 +1,7 @@
 use Rattle.std.proofs.Common.{ℕ, arith, subst}
-use Rattle.block_events.specs.Values.{count_events}
-use Rattle.block_events.specs.BlockEvents.{inner_count_events}
-use Rattle.block_events.proofs.CategoryBits.{category_at_most}
+use Rattle.block_spec.specs.Values.{count_events}
+use Rattle.block_spec.specs.BlockEvents.{inner_count_events}
+use Rattle.block_spec.proofs.CategoryBits.{category_at_most}
 use Rattle.block_code.proofs.parts_code.code_inner_count.Goals as goal
 
 pub inner_count_base-base-requires-clause-bits : goal.inner_count_base-base-requires-clause-bits

@@ -1,7 +1,7 @@
 use Rattle.std.proofs.Common.{rules, ◌≡◌, ℕ, ◌-◌, ◌∷◌, arith, ◌∙◌, sym, subst, FitsSigned, w32, suc, List, Bool, refl}
 use Rattle.std.proofs.lemmas.Int.{to_z-of_z}
-use Rattle.block_events.specs.BitEvents.{bits_events}
-use Rattle.block_events.specs.Values.{rest_events}
+use Rattle.block_spec.specs.BitEvents.{bits_events}
+use Rattle.block_spec.specs.Values.{rest_events}
 use Rattle.block_code.specs.BinBases.{bins_at}
 use Rattle.block_code.proofs.ValueSizes.{rest_is, top_asked, length_is}
 use Rattle.block_code.proofs.value.code_rest.Goals as goal

@@ -1,6 +1,6 @@
 use Rattle.std.proofs.Common.{◌≡◌, ◌+◌, ◌≤◌, IfSome, IsTrue, take, length}
 use Rattle.std.specs.List.{AllByRecursion}
-use Rattle.block_events.specs.Values.{nonzeros}
+use Rattle.block_spec.specs.Values.{nonzeros}
 use Rattle.block_code.specs.ValueRanges.{IsAc}
 use Rattle.block_code.proofs.BandSteps.{values_from, Kept}
 use Rattle.block_code.proofs.values.code_values.Given as goal

@@ -1,5 +1,5 @@
 use Rattle.std.proofs.Common.{◌≡◌, ◌≤◌, ◌+◌, drop}
-use Rattle.block_events.specs.Values.{nonzeros}
+use Rattle.block_spec.specs.Values.{nonzeros}
 use Rattle.block_code.proofs.values.nonzeros_of.Given as goal
 
 abbrev pub invariant-loop-x : goal.invariant-loop-x

@@ -1,6 +1,6 @@
 use Rattle.std.proofs.Common.{true, ℕ, ◌-◌, ◌/◌, ◌%◌, get_or, nat_eq, sym, ap, ◌∙◌}
 use Rattle.std.proofs.lemmas.Nat.Bits.{shr_and_one}
-use Rattle.scan_text.proofs.ListedBits.{bit_of}
+use Rattle.scan_spec.proofs.ListedBits.{bit_of}
 use Rattle.box_format.proofs.pad_lists.bit_in.Goals as goal
 
 pub returns : goal.returns

@@ -1,5 +1,5 @@
 use Rattle.std.proofs.Common.{◌<◌, sym, ◌∙◌, arith}
-use Rattle.scan_text.specs.Slots.{shape_of}
+use Rattle.scan_spec.specs.Slots.{shape_of}
 use Rattle.box_format.specs.Parts.{cut_in}
 use Rattle.box_format.specs.Raws.{handover_at, segments_in}
 use Rattle.box_format.proofs.FirstBad.{bad_here, bad_later}

@@ -1,5 +1,5 @@
 use Rattle.std.proofs.Common.{◌≡◌, ◌-◌, map}
-use Rattle.scan_text.specs.Slots.{shape_of}
+use Rattle.scan_spec.specs.Slots.{shape_of}
 use Rattle.box_format.specs.Parts.{bad_start, cut_in}
 use Rattle.box_format.specs.Raws.{handover_at, numbers, segments_in}
 use Rattle.box_format.specs.Whole.{bad_segment}

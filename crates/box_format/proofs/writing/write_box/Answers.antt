@@ -1,6 +1,6 @@
 use Rattle.std.proofs.Common.{◌≡◌, ◌∷◌, [], ◌++◌, length, map, flat_map, List, ℕ, refl}
 use Rattle.byteorder.specs.Endian.{big_bytes}
-use Rattle.scan_text.specs.Pads.{pads_given}
+use Rattle.scan_spec.specs.Pads.{pads_given}
 use Rattle.box_format.specs.Versions.{version_byte}
 use Rattle.box_format.specs.Parts.{box_bytes, list_bytes, magic, pad_byte, records}
 use Rattle.box_format.specs.declared.parts.Parts.{Parts}

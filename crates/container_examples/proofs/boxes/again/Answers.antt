@@ -1,6 +1,6 @@
 use Rattle.std.proofs.Common.{◌≡◌, ◌∙◌, map, ap, subst, sym}
 use Rattle.std.specs.Prelude.{IfOk}
-use Rattle.scan_text.specs.Pads.{pads_given}
+use Rattle.scan_spec.specs.Pads.{pads_given}
 use Rattle.box_format.specs.Parts.{BoxParts, box_bytes}
 use Rattle.box_format.specs.declared.version.Version.TheVariants.{Second}
 use Rattle.box_format.proofs.BoxLawsProved.{parts_same}

@@ -1,5 +1,5 @@
 use Rattle.std.proofs.Common.{◌≡◌, ◌<◌, ◌+◌, ◌∙◌, arith, sym, ap, subst, List, ℕ, true, false, length, Err}
-use Rattle.scan_text.specs.Pads.{PadBits, is_spelled}
+use Rattle.scan_spec.specs.Pads.{PadBits, is_spelled}
 use Rattle.segment_worker.specs.Emitting.{Counts, Emits, joined_in}
 use Rattle.segment_worker.specs.Written.{HasWritten, HasFailed}
 use Rattle.segment_worker.specs.declared.ending.EmitStop.{EmitStop}

@@ -5,7 +5,7 @@ use Rattle.std.proofs.lemmas.Result.{err_from_is_err_and}
 use Rattle.bit_list.specs.Bits.{IsByte}
 use Rattle.box_format.specs.Parts.{IsBox, box_bytes}
 use Rattle.box_format.specs.declared.version.Version.TheVariants.{Second}
-use Rattle.segment_meaning.specs.Files.{IsContainerOf}
+use Rattle.container_spec.specs.Files.{IsContainerOf}
 use Rattle.lepton_encode.specs.declared.error.EncodeError.TheVariants.{Scan}
 use Rattle.lepton_encode.specs.Errors.{error_of}
 use Rattle.lepton_encode.proofs.FaultsFound.{scan_found}

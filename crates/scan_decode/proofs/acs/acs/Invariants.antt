@@ -1,6 +1,6 @@
 use Rattle.std.proofs.Common.{◌-◌, ◌≡◌, ◌≤◌, ◌<◌, ◌∷◌, [], false}
-use Rattle.scan_text.specs.BlockBits.{coefficient_at}
-use Rattle.scan_text.specs.ScanReading.{prefixed_values, acs_at}
+use Rattle.scan_spec.specs.BlockBits.{coefficient_at}
+use Rattle.scan_spec.specs.ScanReading.{prefixed_values, acs_at}
 use Rattle.scan_decode.specs.BlockSteps.{Going}
 use Rattle.scan_decode.proofs.acs.acs.Given as goal
 

@@ -1,11 +1,11 @@
 use Rattle.std.proofs.Common.{◌≡◌, ◌≤◌, ◌<◌, ◌+ℤ◌, List, ℕ, ℤ, unsigned_abs, Ok, Err, ap, subst, ◌∙◌, arith}
 use Rattle.std.proofs.lemmas.Result.{err_from_is_err_and}
-use Rattle.scan_text.specs.ScanReading.{extended_at}
-use Rattle.scan_text.proofs.SignedValues.{kept_half}
+use Rattle.scan_spec.specs.ScanReading.{extended_at}
+use Rattle.scan_spec.proofs.SignedValues.{kept_half}
 use Rattle.std.specs.Int.{w16}
 use mir.Val.{to_z, of_z}
-use Rattle.scan_text.specs.declared.refusal.ScanRefusal.TheVariants as refusals
-use Rattle.scan_text.proofs.MachineValues.{dc_sum, few_bits}
+use Rattle.scan_spec.specs.declared.refusal.ScanRefusal.TheVariants as refusals
+use Rattle.scan_spec.proofs.MachineValues.{dc_sum, few_bits}
 use Rattle.scan_decode.proofs.DcReading.{no_size, large_size, no_difference, large_dc, dc_there}
 use Rattle.scan_decode.proofs.dc.dc.Goals as goal
 

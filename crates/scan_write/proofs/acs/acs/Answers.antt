@@ -1,7 +1,7 @@
 use Rattle.std.proofs.Common.{◌≡◌, ◌≤◌, ◌+◌, ◌-◌, drop, ap, ◌∙◌, subst, arith}
 use Rattle.std.proofs.lemmas.Result.{err_from_is_err_and}
-use Rattle.scan_text.specs.BlockBits.{Text, ac_text, ac_values, word_text}
-use Rattle.scan_text.proofs.Words.{no_more, ac_full, ac_end}
+use Rattle.scan_spec.specs.BlockBits.{Text, ac_text, ac_values, word_text}
+use Rattle.scan_spec.proofs.Words.{no_more, ac_full, ac_end}
 use Rattle.scan_write.specs.Outputs.{output_of}
 use Rattle.scan_write.specs.Appending.{HasAppended}
 use Rattle.scan_write.proofs.AppendedTexts.{texts_end, texts_last}

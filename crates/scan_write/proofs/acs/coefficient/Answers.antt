@@ -2,8 +2,8 @@ use Rattle.std.proofs.Common.{◌+◌, ◌*◌, ◌/◌, ◌%◌, ℤ, unsigned_
 use Rattle.std.proofs.lemmas.Int.{to_z-of_z}
 use Rattle.std.specs.Int.{w32}
 use Rattle.coef_block.specs.Categories.{category}
-use Rattle.scan_text.specs.BlockBits.{Text, zeros_text, value_text, coefficient_text}
-use Rattle.scan_text.proofs.ValueLemmas.{size_is}
+use Rattle.scan_spec.specs.BlockBits.{Text, zeros_text, value_text, coefficient_text}
+use Rattle.scan_spec.proofs.ValueLemmas.{size_is}
 use Rattle.scan_write.specs.Outputs.{output_of}
 use Rattle.scan_write.specs.Appending.{IsWritten}
 use Rattle.scan_write.proofs.AppendedTexts.{texts_start, texts_more, texts_last}

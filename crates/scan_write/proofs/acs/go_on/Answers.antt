@@ -2,9 +2,9 @@ use Rattle.std.proofs.Common.{ℤ, subst}
 use Rattle.std.proofs.lemmas.Int.{to_z-of_z}
 use Rattle.std.specs.Int.{w32}
 use Rattle.std.proofs.lemmas.Result.{err_from_is_err_and}
-use Rattle.scan_text.specs.BlockBits.{Text, coefficient_text, ac_text}
-use Rattle.scan_text.proofs.SignedValues.{zero_is, not_zero_is}
-use Rattle.scan_text.proofs.Words.{ac_zero, ac_value}
+use Rattle.scan_spec.specs.BlockBits.{Text, coefficient_text, ac_text}
+use Rattle.scan_spec.proofs.SignedValues.{zero_is, not_zero_is}
+use Rattle.scan_spec.proofs.Words.{ac_zero, ac_value}
 use Rattle.scan_write.specs.Outputs.{output_of}
 use Rattle.scan_write.specs.Appending.{IsStopped, IsAppended, HasAppended}
 use Rattle.scan_write.proofs.AppendedTexts.{texts_more, texts_stop}

@@ -1,7 +1,7 @@
 use Rattle.std.proofs.Common.{◌≡◌, ◌<◌, ◌+◌, ◌-◌, ◌∙◌, ap, subst, arith}
 use Rattle.std.proofs.lemmas.Result.{err_from_is_err_and}
-use Rattle.scan_text.specs.BlockBits.{Text, then_text, word_text, zeros_text}
-use Rattle.scan_text.proofs.Words.{zeros_none, zeros_more}
+use Rattle.scan_spec.specs.BlockBits.{Text, then_text, word_text, zeros_text}
+use Rattle.scan_spec.proofs.Words.{zeros_none, zeros_more}
 use Rattle.scan_write.specs.Outputs.{output_of}
 use Rattle.scan_write.specs.Appending.{HasAppended}
 use Rattle.scan_write.proofs.AppendedTexts.{texts_more, texts_stop, texts_end}

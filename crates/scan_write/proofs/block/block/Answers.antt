@@ -1,5 +1,5 @@
 use Rattle.std.proofs.lemmas.Result.{err_from_is_err_and}
-use Rattle.scan_text.specs.BlockBits.{dc_text, ac_text, ac_values, block_text}
+use Rattle.scan_spec.specs.BlockBits.{dc_text, ac_text, ac_values, block_text}
 use Rattle.scan_write.specs.Outputs.{output_of}
 use Rattle.scan_write.proofs.AppendedTexts.{texts_more, texts_stop, texts_last_stop, texts_whole}
 use Rattle.scan_write.proofs.DueTexts.{dc_due}

@@ -2,10 +2,10 @@ use Rattle.std.proofs.Common.{◌≤◌, ◌+◌, map, drop, get_or, List, ℤ, 
 use Rattle.std.proofs.lemmas.List.{length-set}
 use Rattle.std.proofs.lemmas.List.Elements.{All-set}
 use Rattle.std.proofs.lemmas.Result.{err_from_is_err_and}
-use Rattle.scan_text.specs.BlockBits.{Text, block_text}
-use Rattle.scan_text.specs.Blocks.{dcs_after_block, dcs_after, blocks_text}
-use Rattle.scan_text.specs.ShapeInside.{slot_in}
-use Rattle.scan_text.proofs.SignedValues.{kept_half}
+use Rattle.scan_spec.specs.BlockBits.{Text, block_text}
+use Rattle.scan_spec.specs.Blocks.{dcs_after_block, dcs_after, blocks_text}
+use Rattle.scan_spec.specs.ShapeInside.{slot_in}
+use Rattle.scan_spec.proofs.SignedValues.{kept_half}
 use Rattle.scan_write.specs.Outputs.{output_of}
 use Rattle.scan_write.specs.Appending.{HasAppended}
 use Rattle.scan_write.proofs.AppendedTexts.{texts_more, texts_stop, texts_end}

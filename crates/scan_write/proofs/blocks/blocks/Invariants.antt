@@ -1,7 +1,7 @@
 use Rattle.std.proofs.Common.{◌≡◌, ◌≤◌, ◌<◌, ◌+◌, ◌*◌, map, drop, length, unsigned_abs}
 use Rattle.std.specs.List.{All}
-use Rattle.scan_text.specs.Blocks.{blocks_text, dcs_after}
-use Rattle.scan_text.specs.ShapeInside.{slot_in}
+use Rattle.scan_spec.specs.Blocks.{blocks_text, dcs_after}
+use Rattle.scan_spec.specs.ShapeInside.{slot_in}
 use Rattle.scan_write.specs.Outputs.{output_of, quarters, block_bits}
 use Rattle.scan_write.specs.Appending.{HasAppended}
 use Rattle.scan_write.proofs.blocks.blocks.Given as goal

@@ -1,8 +1,8 @@
 use Rattle.std.proofs.Common.{[], ◌≤◌, ℤ, ◌-ℤ◌, unsigned_abs, sym, ap, ap₂, ◌∙◌, subst, arith}
 use Rattle.coef_block.specs.Categories.{category}
-use Rattle.scan_text.specs.BlockBits.{Text, value_text}
-use Rattle.scan_text.proofs.ValueLemmas.{size_is}
-use Rattle.scan_text.proofs.Words.{dc_far, dc_near}
+use Rattle.scan_spec.specs.BlockBits.{Text, value_text}
+use Rattle.scan_spec.proofs.ValueLemmas.{size_is}
+use Rattle.scan_spec.proofs.Words.{dc_far, dc_near}
 use Rattle.scan_write.specs.Outputs.{output_of}
 use Rattle.scan_write.specs.Appending.{IsWritten}
 use Rattle.scan_write.proofs.OutputLemmas.{appended_nothing}

@@ -2,9 +2,9 @@ use Rattle.std.proofs.Common.{[], ◌++◌, List, Bool, Ok, sym, ap, ◌∙◌}
 use Rattle.std.proofs.lemmas.Int.{to_z-of_z}
 use Rattle.std.specs.Int.{w32}
 use Rattle.bit_list.specs.Bits.{low_bits}
-use Rattle.scan_text.specs.ValueBits.{mag}
-use Rattle.scan_text.specs.BlockBits.{Text, then_text}
-use Rattle.scan_text.proofs.Words.{word_none, word_some, value_parts}
+use Rattle.scan_spec.specs.ValueBits.{mag}
+use Rattle.scan_spec.specs.BlockBits.{Text, then_text}
+use Rattle.scan_spec.proofs.Words.{word_none, word_some, value_parts}
 use Rattle.scan_write.specs.Outputs.{output_of, appended}
 use Rattle.scan_write.proofs.OutputLemmas.{appended_nothing}
 use Rattle.scan_write.proofs.values.value.Goals as goal

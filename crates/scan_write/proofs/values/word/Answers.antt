@@ -1,6 +1,6 @@
 use Rattle.std.proofs.Common.{[]}
 use Rattle.bit_list.specs.Bits.{low_bits}
-use Rattle.scan_text.proofs.Words.{word_none, word_some}
+use Rattle.scan_spec.proofs.Words.{word_none, word_some}
 use Rattle.std.proofs.Common.{sym}
 use Rattle.scan_write.specs.Outputs.{output_of}
 use Rattle.scan_write.proofs.OutputLemmas.{appended_nothing}

@@ -2,9 +2,9 @@ use Rattle.std.proofs.Common.{rules, ◌≡◌, ◌≤◌, ◌+◌, [], ◌∷�
 use Rattle.std.specs.Prelude.{Ok, Err, None}
 use Rattle.std.proofs.lemmas.List.{length-take-le}
 use Rattle.std.proofs.lemmas.Result.{err_from_is_err_and}
-use Rattle.scan_text.specs.ScanLaws.{zigzag_of}
-use Rattle.scan_text.specs.Slots.{Shape}
-use Rattle.segment_meaning.specs.ScanStream.{blocks_of}
+use Rattle.scan_spec.specs.ScanLaws.{zigzag_of}
+use Rattle.scan_spec.specs.Slots.{Shape}
+use Rattle.container_spec.specs.ScanStream.{blocks_of}
 use Rattle.segment_code.specs.CodedMcus.{next_of}
 use Rattle.segment_code.proofs.McusCoded.{coded_none, coded_one}
 use Rattle.segment_code.proofs.ReadOn.{count_on, keeps, reads_on, refused_on}

@@ -1,5 +1,5 @@
 use Rattle.std.proofs.Common.{◌≡◌, ◌≤◌, List, length}
-use Rattle.scan_text.specs.Scans.{Mcu}
+use Rattle.scan_spec.specs.Scans.{Mcu}
 use Rattle.segment_code.specs.CodedMcus.{AreCoded}
 use Rattle.segment_code.proofs.encode.code_mcus.Given as goal
 

@@ -2,11 +2,11 @@ use Rattle.std.proofs.Common.{rules, ◌≡◌, ℕ, ◌<◌, List, [], ◌++◌
 use Rattle.std.specs.Prelude.{Err}
 use Rattle.std.proofs.lemmas.List.{length-take-le}
 use Rattle.std.proofs.lemmas.Result.{err_from_is_err_and}
-use Rattle.scan_text.specs.Slots.{Shape}
-use Rattle.segment_text.specs.Cuts.{Cut, first_mcu, row_of}
-use Rattle.segment_text.specs.HandedOver.{spot_in}
-use Rattle.segment_text.specs.RowHandovers.{handover_of}
-use Rattle.segment_meaning.specs.Files.{StartsFields, plan_cut}
+use Rattle.scan_spec.specs.Slots.{Shape}
+use Rattle.cut_spec.specs.Cuts.{Cut, first_mcu, row_of}
+use Rattle.cut_spec.specs.HandedOver.{spot_in}
+use Rattle.cut_spec.specs.RowHandovers.{handover_of}
+use Rattle.container_spec.specs.Files.{StartsFields, plan_cut}
 use Rattle.segment_code.specs.CodedMcus.{AreReadOn}
 use Rattle.segment_code.specs.FoundPads.{FoundPads, pads_through}
 use Rattle.segment_code.specs.declared.find.FindError.TheVariants.{Scan}

@@ -1,6 +1,6 @@
 use Rattle.std.proofs.Common.{◌≡◌, ℤ, List, length}
-use Rattle.segment_text.specs.Cuts.{first_mcu}
-use Rattle.segment_meaning.specs.Files.{plan_cut}
+use Rattle.cut_spec.specs.Cuts.{first_mcu}
+use Rattle.container_spec.specs.Files.{plan_cut}
 use Rattle.segment_code.specs.CodedMcus.{AreReadOn}
 use Rattle.segment_code.specs.FoundPads.{pads_through}
 use Rattle.segment_code.specs.FoundStarts.{found}

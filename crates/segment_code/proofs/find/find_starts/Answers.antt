@@ -4,8 +4,8 @@ use Rattle.std.specs.List.{AllByRecursion}
 use Rattle.std.proofs.lemmas.Result.{err_from_is_err_and}
 use Rattle.bit_list.specs.Bits.{IsByte}
 use Rattle.jpeg_marker.proofs.HeadersTaken.{accepted_has_plan}
-use Rattle.scan_text.specs.ScanCalls.{reader_at}
-use Rattle.scan_text.specs.Slots.{shape_of}
+use Rattle.scan_spec.specs.ScanCalls.{reader_at}
+use Rattle.scan_spec.specs.Slots.{shape_of}
 use Rattle.segment_code.specs.FoundPads.{none_found, pads_through}
 use Rattle.segment_code.specs.declared.find.FindError.TheVariants.{Scan}
 use Rattle.segment_code.proofs.ScansCoded.{bytes_all, scan_refused}

@@ -2,9 +2,9 @@ use Rattle.std.proofs.Common.{rules, ◌≡◌, ◌≤◌, ◌+◌, [], ◌∷�
 use Rattle.std.specs.Prelude.{Bool, true, Option, Ok, Err, None, unwrap_or}
 use Rattle.std.proofs.lemmas.Result.{err_from_is_err_and}
 use Rattle.handover.specs.PadSums.{pads_with}
-use Rattle.scan_text.specs.ScanReading.{in_zigzag, pad_sum}
-use Rattle.scan_text.specs.Slots.{Shape}
-use Rattle.scan_text.specs.Spots.{is_closed}
+use Rattle.scan_spec.specs.ScanReading.{in_zigzag, pad_sum}
+use Rattle.scan_spec.specs.Slots.{Shape}
+use Rattle.scan_spec.specs.Spots.{is_closed}
 use Rattle.segment_code.specs.FoundPads.{pads_through}
 use Rattle.segment_code.specs.CodedMcus.{next_of}
 use Rattle.segment_code.proofs.PadsOn.{ending_through, more_through, none_through, within_through}

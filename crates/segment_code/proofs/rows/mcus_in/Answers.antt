@@ -1,7 +1,7 @@
 use Rattle.std.proofs.Common.{◌≡◌, ℕ, ◌+◌, ◌-◌, ◌*◌, ◌<◌, ◌≤◌, refl, arith}
 use Rattle.std.proofs.Math.Nat.{mul-le-mul_left}
-use Rattle.segment_text.specs.Cuts.{Cut, row_of}
-use Rattle.segment_text.proofs.SpotsBegun.{rows}
+use Rattle.cut_spec.specs.Cuts.{Cut, row_of}
+use Rattle.cut_spec.proofs.SpotsBegun.{rows}
 use Rattle.segment_code.proofs.rows.mcus_in.Goals as goal
 
 -- rows rise

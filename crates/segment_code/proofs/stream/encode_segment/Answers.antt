@@ -2,11 +2,11 @@ use Rattle.std.proofs.Common.{rules, ℕ, ◌*◌, ap, ◌∙◌, sym, arith}
 use Rattle.std.specs.Prelude.{Err}
 use Rattle.std.specs.List.{AllByRecursion}
 use Rattle.bit_list.specs.Bits.{IsByte}
-use Rattle.scan_text.specs.ScanCalls.{ScanReader}
-use Rattle.scan_text.specs.Slots.{shape_of}
+use Rattle.scan_spec.specs.ScanCalls.{ScanReader}
+use Rattle.scan_spec.specs.Slots.{shape_of}
 use Rattle.handover.specs.Handovers.{HandoverFields}
-use Rattle.segment_text.specs.RowHandovers.{markers_before}
-use Rattle.segment_meaning.specs.ScanStream.{stream_of}
+use Rattle.cut_spec.specs.RowHandovers.{markers_before}
+use Rattle.container_spec.specs.ScanStream.{stream_of}
 use Rattle.segment_code.proofs.CutsOfPlans.{ends_there, ends_within}
 use Rattle.segment_code.proofs.ScansCoded.{bytes_all}
 use Rattle.segment_code.proofs.SegmentsCoded.{from_same, markers_are, not_refused, row_within, said_of, same_mcus, segment_reads}

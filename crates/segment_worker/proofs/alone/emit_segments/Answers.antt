@@ -1,6 +1,6 @@
 use Rattle.std.proofs.Common.{◌≡◌, ◌<◌, ◌∙◌, sym, subst, ℕ}
-use Rattle.segment_meaning.specs.Segments.{segment_output}
-use Rattle.segment_meaning.specs.Meanings.{segment_in}
+use Rattle.container_spec.specs.Segments.{segment_output}
+use Rattle.container_spec.specs.Meanings.{segment_in}
 use Rattle.segment_code.specs.Decoding.{DecoderSeen, Owes}
 use Rattle.box_format.specs.Parts.{BoxParts}
 use Rattle.jpeg_marker.specs.Plans.{PlanFields}

@@ -1,8 +1,8 @@
 use Rattle.std.proofs.Common.{◌≡◌, ◌<◌, ◌∙◌, sym, ap, subst, arith, ℕ, length}
 use Rattle.jpeg_marker.specs.Plans.{PlanFields}
 use Rattle.box_format.specs.Seen.{BoxSeen}
-use Rattle.segment_meaning.specs.Segments.{segment_output}
-use Rattle.segment_meaning.specs.Meanings.{segment_in}
+use Rattle.container_spec.specs.Segments.{segment_output}
+use Rattle.container_spec.specs.Meanings.{segment_in}
 use Rattle.segment_code.specs.Decoding.{Owes}
 use Rattle.output_board.specs.declared.view.EmitterView.{EmitterView}
 use Rattle.segment_worker.specs.OwnSegments.{OwesRest}

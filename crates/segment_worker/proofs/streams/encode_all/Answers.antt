@@ -1,8 +1,8 @@
 use Rattle.std.proofs.Common.{rules, ◌≡◌, ◌∙◌, ap, arith, ℕ, List, length}
-use Rattle.segment_text.specs.Cuts.{row_of}
-use Rattle.segment_meaning.specs.Files.{StartsFields, plan_cut, segment_mcus}
-use Rattle.segment_meaning.specs.ScanStream.{stream_of}
-use Rattle.segment_meaning.proofs.Numbered.{mapped_long}
+use Rattle.cut_spec.specs.Cuts.{row_of}
+use Rattle.container_spec.specs.Files.{StartsFields, plan_cut, segment_mcus}
+use Rattle.container_spec.specs.ScanStream.{stream_of}
+use Rattle.container_spec.proofs.Numbered.{mapped_long}
 use Rattle.segment_worker.proofs.StreamsMade.{all_streams}
 use Rattle.segment_worker.proofs.streams.encode_all.Goals as goal
 

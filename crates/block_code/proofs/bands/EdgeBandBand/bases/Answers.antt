@@ -1,5 +1,5 @@
 use Rattle.std.proofs.Common.{arith}
-use Rattle.block_events.proofs.CategoryBits.{category_at_most}
+use Rattle.block_spec.proofs.CategoryBits.{category_at_most}
 use Rattle.block_code.proofs.bands.EdgeBandBand.bases.Goals as goal
 
 pub edge_bases-requires-clause-most : goal.edge_bases-requires-clause-most

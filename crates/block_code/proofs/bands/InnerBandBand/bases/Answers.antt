@@ -1,5 +1,5 @@
 use Rattle.std.proofs.Common.{arith}
-use Rattle.block_events.proofs.CategoryBits.{category_at_most}
+use Rattle.block_spec.proofs.CategoryBits.{category_at_most}
 use Rattle.block_code.proofs.bands.InnerBandBand.bases.Goals as goal
 
 pub inner_bases-requires-clause-most : goal.inner_bases-requires-clause-most

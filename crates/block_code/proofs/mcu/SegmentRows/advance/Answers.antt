@@ -1,6 +1,6 @@
 use Rattle.std.proofs.Common.{◌≡◌, ℕ, suc, ◌+◌, ◌*◌, length, arith, ◌∙◌, ap}
 use Rattle.coef_block.specs.TwoRows.{block_count}
-use Rattle.block_events.proofs.Keeping.{next_kept}
+use Rattle.block_spec.proofs.Keeping.{next_kept}
 use Rattle.block_code.proofs.mcu.SegmentRows.advance.Goals as goal
 
 -- the last MCU of a row is followed by the first one of the next

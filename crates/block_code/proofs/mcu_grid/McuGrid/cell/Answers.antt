@@ -1,5 +1,5 @@
 use Rattle.std.proofs.Common.{◌<◌, ◌*◌, ◌+◌, ◌-◌, ◌%◌, ◌^◌, arith, slice_index}
-use Rattle.block_events.specs.Grid.{component_of}
+use Rattle.block_spec.specs.Grid.{component_of}
 use Rattle.block_code.specs.GridInside.{grid_in}
 use Rattle.block_code.proofs.McuCells.{column_small, in_frame}
 use Rattle.block_code.proofs.mcu_grid.McuGrid.cell.Goals.{After-width-1}

@@ -1,5 +1,5 @@
 use Rattle.std.proofs.Common.{rules, ◌≡◌, length, refl}
-use Rattle.block_events.specs.Around.{inner_positions}
+use Rattle.block_spec.specs.Around.{inner_positions}
 use Rattle.block_code.proofs.PartsOfBlocks.{has_coefficients, parts_make_a_block, put_all}
 use Rattle.block_code.proofs.parts.Parts.coefficients.Goals as goal
 

@@ -2,7 +2,7 @@ use Rattle.std.proofs.Common.{rules, refl, ◌≡◌, ◌∙◌, sym, FitsSigned
 use Rattle.std.specs.Prelude.{◌-ℤ◌}
 use Rattle.std.proofs.lemmas.Int.{to_z-of_z, fits_signed_from_abs}
 use Rattle.coef_block.specs.Block.{IsDc}
-use Rattle.block_events.specs.Around.{value_at, inner_positions}
+use Rattle.block_spec.specs.Around.{value_at, inner_positions}
 use Rattle.block_code.proofs.Gathering.{got}
 use Rattle.block_code.proofs.PartsOfBlocks.{parts_is, parts_are, apart}
 use Rattle.block_code.proofs.parts.Parts.of.Goals as goal

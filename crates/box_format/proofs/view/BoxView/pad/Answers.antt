@@ -1,7 +1,7 @@
 use Rattle.std.proofs.Common.{◌≡◌, ◌==◌, false, true, ℕ, List, length, sym, subst, ◌∙◌}
 use Rattle.std.specs.Prelude.{slice_index}
-use Rattle.scan_text.specs.Pads.{Listed, list_room}
-use Rattle.scan_text.specs.Slots.{shape_of}
+use Rattle.scan_spec.specs.Pads.{Listed, list_room}
+use Rattle.scan_spec.specs.Slots.{shape_of}
 use Rattle.box_format.specs.BoxChecks.{is_bad_pad}
 use Rattle.box_format.specs.Seen.{BoxSeen}
 use Rattle.box_format.specs.Versions.{layout_of, version_in}

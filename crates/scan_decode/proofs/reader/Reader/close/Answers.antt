@@ -1,10 +1,10 @@
 use Rattle.std.proofs.Common.{◌≡◌, ◌+◌, ℕ, List, [], Ok, Err, sym, ap, ap₂, subst, ◌∙◌}
 use Rattle.std.proofs.lemmas.Result.{err_from_is_err_and}
 use Rattle.bit_list.specs.Units.{Cursor, Reading, starting}
-use Rattle.scan_text.specs.ScanCalls.{ScanReader}
-use Rattle.scan_text.specs.Scans.{no_dcs}
-use Rattle.scan_text.specs.ScanReading.{and_then, pads_at, after_pads, restart_at}
-use Rattle.scan_text.specs.declared.refusal.ScanRefusal.TheVariants as refusals
+use Rattle.scan_spec.specs.ScanCalls.{ScanReader}
+use Rattle.scan_spec.specs.Scans.{no_dcs}
+use Rattle.scan_spec.specs.ScanReading.{and_then, pads_at, after_pads, restart_at}
+use Rattle.scan_spec.specs.declared.refusal.ScanRefusal.TheVariants as refusals
 use Rattle.scan_decode.specs.ReaderInside.{reader_of}
 use Rattle.scan_decode.proofs.IntervalEnds.{Next, mixed, padded, scan_over, no_restart, begins}
 use Rattle.scan_decode.proofs.reader.Reader.close.Goals as goal

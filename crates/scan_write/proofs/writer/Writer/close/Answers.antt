@@ -1,7 +1,7 @@
 use Rattle.std.proofs.Common.{ℕ, ◌<◌, sym, subst}
-use Rattle.scan_text.specs.Pads.{HasBit, pads_given}
-use Rattle.scan_text.specs.ScanCalls.{ScanWriter}
-use Rattle.scan_text.proofs.PadLists.{has_bit}
+use Rattle.scan_spec.specs.Pads.{HasBit, pads_given}
+use Rattle.scan_spec.specs.ScanCalls.{ScanWriter}
+use Rattle.scan_spec.proofs.PadLists.{has_bit}
 use Rattle.scan_write.proofs.writer.Writer.close.Goals as goal
 
 pub bit-requires : goal.bit-requires

@@ -1,10 +1,10 @@
 use Rattle.std.proofs.Common.{◌≡◌, ◌<◌, ◌≤◌, length, ℕ, ◌-◌, ◌%◌, ◌^◌, min, List, Bool, sym, ap, ◌∙◌, arith, ℤ, subst, take}
 use Rattle.bit_list.specs.Bits.{low_bits}
-use Rattle.scan_text.specs.Slots.{Shape}
-use Rattle.scan_text.specs.Spots.{interval_number}
+use Rattle.scan_spec.specs.Slots.{Shape}
+use Rattle.scan_spec.specs.Spots.{interval_number}
 use Rattle.handover.specs.Handovers.{HandoverFields}
-use Rattle.segment_text.specs.RowHandovers.{handover_of, partial_byte}
-use Rattle.segment_text.proofs.PartialBytes.{partial_is}
+use Rattle.cut_spec.specs.RowHandovers.{handover_of, partial_byte}
+use Rattle.cut_spec.proofs.PartialBytes.{partial_is}
 use Rattle.scan_write.proofs.writer.Writer.handover.Goals as goal
 
 handed : (shape : Shape) (begun : List Bool) (before : List ℤ) (count last restarts partial bits : ℕ)

@@ -1,11 +1,11 @@
 use Rattle.std.proofs.Common.{◌≡◌, ◌+◌, List, true, Ok, Err, refl, sym, ap, subst, ◌∙◌}
 use Rattle.std.proofs.lemmas.Result.{err_from_is_err_and}
 use Rattle.bit_list.specs.Bits.{bytes_after, stuffed}
-use Rattle.scan_text.specs.Blocks.{blocks_text, dcs_after}
-use Rattle.scan_text.specs.Pads.{bit_for}
-use Rattle.scan_text.specs.ScanCalls.{ScanWriter, McuIsPutOn}
-use Rattle.scan_text.specs.Spots.{mcu_put}
-use Rattle.scan_text.specs.declared.slot.Slot.{Slot}
+use Rattle.scan_spec.specs.Blocks.{blocks_text, dcs_after}
+use Rattle.scan_spec.specs.Pads.{bit_for}
+use Rattle.scan_spec.specs.ScanCalls.{ScanWriter, McuIsPutOn}
+use Rattle.scan_spec.specs.Spots.{mcu_put}
+use Rattle.scan_spec.specs.declared.slot.Slot.{Slot}
 use Rattle.scan_write.specs.Appending.{IsAppended, IsStopped}
 use Rattle.scan_write.specs.Outputs.{OutputState, output_of}
 use Rattle.scan_write.specs.WriterInside.{writer_in}

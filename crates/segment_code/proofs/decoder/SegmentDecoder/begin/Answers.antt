@@ -1,10 +1,10 @@
 use Rattle.std.proofs.Common.{◌≡◌, true, refl, ap, subst, ◌∙◌}
-use Rattle.scan_text.specs.Pads.{is_long_for, pads_given}
-use Rattle.scan_text.specs.Slots.{shape_of}
+use Rattle.scan_spec.specs.Pads.{is_long_for, pads_given}
+use Rattle.scan_spec.specs.Slots.{shape_of}
 use Rattle.jpeg_marker.specs.Plans.{PlanFields}
 use Rattle.handover.specs.Handovers.{HandoverFields}
-use Rattle.segment_meaning.specs.Meanings.{segment_in}
-use Rattle.segment_meaning.specs.Segments.{SegmentFields, first_progress}
+use Rattle.container_spec.specs.Meanings.{segment_in}
+use Rattle.container_spec.specs.Segments.{SegmentFields, first_progress}
 use Rattle.segment_code.specs.Decoding.{StandsAt}
 use Rattle.segment_code.proofs.BoxSegments.{IsCounted, box_suits, counted_in, some_mcus, within_rows, starts_there, same_segment}
 use Rattle.segment_code.proofs.decoder.SegmentDecoder.begin.Goals as goal

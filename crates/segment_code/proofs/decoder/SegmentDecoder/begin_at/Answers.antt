@@ -1,9 +1,9 @@
 use Rattle.std.proofs.Common.{◌≡◌, ◌+◌, ◌*◌, true, refl, ap, subst, ◌∙◌}
 use Rattle.jpeg_marker.specs.Plans.{PlanFields}
-use Rattle.scan_text.specs.Pads.{pads_given}
-use Rattle.scan_text.specs.Slots.{shape_of}
-use Rattle.segment_text.specs.HandedOver.{writer_from}
-use Rattle.segment_meaning.specs.ScanStream.{grid_of}
+use Rattle.scan_spec.specs.Pads.{pads_given}
+use Rattle.scan_spec.specs.Slots.{shape_of}
+use Rattle.cut_spec.specs.HandedOver.{writer_from}
+use Rattle.container_spec.specs.ScanStream.{grid_of}
 use Rattle.segment_code.specs.Decoding.{DecoderSeen}
 use Rattle.segment_code.specs.DecoderInside.{decoder_of}
 use Rattle.segment_code.proofs.SegmentsBegun.{stands_first}

@@ -1,5 +1,5 @@
 use Rattle.std.proofs.Common.{◌≡◌, ℕ}
-use Rattle.segment_meaning.specs.Segments.{Progress, SegmentFields}
+use Rattle.container_spec.specs.Segments.{Progress, SegmentFields}
 use Rattle.segment_code.specs.DecodedPieces.{IsWithin, IsBegunPiece}
 use Rattle.segment_code.proofs.decoder.SegmentDecoder.fill.Given as goal
 

@@ -1,9 +1,9 @@
 use Rattle.std.proofs.Common.{rules, ◌≡◌, ◌-◌, ◌<◌, ℕ, length, Ok, Err, refl, sym, ap, subst, ◌∙◌, arith}
 use Rattle.std.specs.Prelude.{⊤}
-use Rattle.scan_text.specs.ScanCalls.{McuIsPut}
-use Rattle.block_events.specs.Grid.{Grid}
+use Rattle.scan_spec.specs.ScanCalls.{McuIsPut}
+use Rattle.block_spec.specs.Grid.{Grid}
 use Rattle.coef_block.specs.TwoRows.{block_count}
-use Rattle.scan_text.specs.Slots.{Shape}
+use Rattle.scan_spec.specs.Slots.{Shape}
 use Rattle.segment_code.specs.Decoding.{DecoderSeen}
 use Rattle.segment_code.specs.DecoderInside.{decoder_of}
 use Rattle.segment_code.specs.DecodedPieces.{IsWithin, McuIsMade}

@@ -1,8 +1,8 @@
 use Rattle.std.proofs.Common.{◌+◌, ◌≤◌, length, sym, ap, ◌∙◌, arith}
 use Rattle.std.proofs.lemmas.List.{length-replicate}
 use Rattle.coef_block.specs.TwoRows.{block_count}
-use Rattle.block_events.specs.Grid.{Grid}
-use Rattle.scan_text.specs.ScanCalls.{ScanWriter}
+use Rattle.block_spec.specs.Grid.{Grid}
+use Rattle.scan_spec.specs.ScanCalls.{ScanWriter}
 use Rattle.adapt_bins.specs.Counts.{unseen}
 use Rattle.segment_code.proofs.decoder.SegmentDecoder.prepare.Goals as goal
 

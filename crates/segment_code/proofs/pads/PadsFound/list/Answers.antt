@@ -1,6 +1,6 @@
 use Rattle.std.proofs.Common.{◌≡◌, ℕ, ◌++◌, ap, sym, ◌∙◌, append-nil, arith}
 use Rattle.bit_list.specs.Bits.{bits_of, low_bits}
-use Rattle.scan_text.specs.Pads.{pad_list}
+use Rattle.scan_spec.specs.Pads.{pad_list}
 use Rattle.segment_code.specs.FoundPads.{FoundPads}
 use Rattle.segment_code.specs.declared.pads.PadsFound.TheInside.{Inside}
 use Rattle.segment_code.proofs.PadsPacked.{begun_list, whole_list}

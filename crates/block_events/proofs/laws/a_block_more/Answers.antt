@@ -1,5 +1,0 @@
-use Rattle.block_events.proofs.Segments.{segment_more}
-use Rattle.block_events.proofs.laws.a_block_more.Goals as goal
-
-pub returns : goal.returns
-returns c = segment_more

@@ -1,5 +1,0 @@
-use Rattle.block_events.proofs.Predicted.{prediction_fits}
-use Rattle.block_events.proofs.laws.predictions_are_in_range.Goals as goal
-
-pub returns : goal.returns
-returns c = prediction_fits

@@ -1,5 +1,0 @@
-use Rattle.block_events.proofs.ProbsOfBins.{probs_in}
-use Rattle.block_events.proofs.laws.probs_are_bools.Goals as goal
-
-pub returns : goal.returns
-returns c = probs_in

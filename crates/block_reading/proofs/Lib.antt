@@ -1,9 +1,0 @@
-pub mod Spelling
-pub mod NumbersSpelled
-pub mod ValuesSpelled
-pub mod EdgesSpelled
-pub mod PlacedValues
-pub mod BlockSpelled
-pub mod FirstGiven
-pub mod BlocksRead
-pub mod RandomRead

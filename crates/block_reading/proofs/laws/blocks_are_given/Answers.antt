@@ -1,5 +1,0 @@
-use Rattle.block_reading.proofs.BlocksRead.{read_is_given, blocks_are_given, fault_is_given}
-use Rattle.block_reading.proofs.laws.blocks_are_given.Goals as goal
-
-pub returns : goal.returns
-returns c = record { block = read_is_given; blocks = blocks_are_given; fault = fault_is_given }

@@ -1,0 +1,16 @@
+pub mod Around
+pub mod AskedBlocks
+pub mod Asking
+pub mod BitEvents
+pub mod BlockEvents
+pub mod BlockReading
+pub mod EventsApart
+pub mod Grid
+pub mod HeldRows
+pub mod RandomSegment
+pub mod ReadBlocks
+pub mod ReadingLaws
+pub mod ReadingRows
+pub mod SegmentEvents
+pub mod Values
+pub mod WorkedSegments

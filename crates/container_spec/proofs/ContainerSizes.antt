@@ -1,0 +1,71 @@
+-- How long the container of a file can be.
+use Rattle.std.proofs.Common.{◌≡◌, ℕ, ◌+◌, ◌*◌, ◌≤◌, Bool, true, false, List, [], ◌∷◌, ◌++◌, length, take, ap, ◌∙◌, arith, length-append, zero-add}
+use Rattle.std.specs.Prelude.{flat_map}
+use Rattle.std.specs.List.{AllByRecursion}
+use Rattle.byteorder.specs.Endian.{big_bytes}
+use Rattle.scan_spec.specs.Slots.{shape_of}
+use Rattle.handover.specs.Handovers.{HandoverFields, IsHandover}
+use Rattle.handover.specs.HandoverBytes.{handover_bytes}
+use Rattle.handover.proofs.FieldBytes.{fields_again}
+use Rattle.box_format.specs.Parts.{BoxParts, box_bytes, records, list_bytes, list_length}
+use Rattle.box_format.specs.Versions.{layout_of}
+use Rattle.box_format.proofs.Fronts.{most_few}
+use Rattle.container_spec.specs.ScanStream.{stream_of}
+use Rattle.container_spec.specs.Files.{segment_mcus, parts_of_file}
+use Rattle.container_spec.specs.MeaningLaws.{ContainerIsShort}
+use Rattle.container_spec.proofs.FileParts.{segments, cut, cuts, file_long, stream_long, all_blocks, list_long, mcus_few, box_is}
+use Rattle.container_spec.proofs.Numbered.{mapped_long}
+use Rattle.container_spec.proofs.StreamSizes.{streams_short}
+
+records_long : (hs : List HandoverFields) (ss : List (List ℕ)) → AllByRecursion IsHandover hs
+    → length (records hs ss) ≤ 22 * length hs
+records_long [] ss each = omega arith
+records_long (h ∷ hs) [] each = omega arith
+records_long (h ∷ hs) (s ∷ ss) each =
+    let fourteen = (fields_again h each.0).0 in
+    let rest = records_long hs ss each.1 in
+    let tail = records hs ss in
+    let fields = length-append (handover_bytes h) (big_bytes 8 (length s)) in
+    let all = length-append (handover_bytes h ++ big_bytes 8 (length s)) tail in
+    omega (arith, fourteen, rest, fields, all)
+
+named_long : (listed : Bool) (list : List ℕ) → length (list_length listed list) ≤ 4
+named_long true list = omega arith
+named_long false list = omega arith
+
+box_long : (b : BoxParts) → AllByRecursion IsHandover b.handovers
+    → length (box_bytes b)
+    ≤ 19 + length (list_bytes b.pads) + 22 * length b.handovers + length b.header
+    + length b.trailer + length (flat_map (λ stream. stream) b.streams)
+unfolding box_bytes
+box_long b each =
+    let few = records_long b.handovers b.streams each in
+    let named = named_long (layout_of b.version).listed (list_bytes b.pads) in
+    simp length-append (omega (arith, few, named))
+
+pub container_is_short : ContainerIsShort
+container_is_short version most made file some allowed is short =
+    let b : BoxParts =
+    parts_of_file version is.plan is.mcus is.pads (take is.plan.header_length file) is.trailer
+    most in
+    let box = box_is version most made file some is allowed in
+    let count : ℕ = segments version most made file some is in
+    let d : ℕ → ℕ = cut version most made file some is in
+    let rise = cuts version most made file some is in
+    let n : ℕ = length (shape_of is.plan).slots in
+    let stream : ℕ → List ℕ = λ j. stream_of is.plan (segment_mcus is.plan is.mcus most j) in
+    let all = streams_short stream d n count 0
+    (λ j after within. rise.order j (omega (arith, within)))
+    (λ j after within. stream_long version most made file some is j (omega (arith, within))) in
+    let whole : d (0 + count) * n ≡ is.plan.across * is.plan.down * n =
+    ap (λ m. d m * n) (zero-add count) ∙ ap (λ m. m * n) rise.whole in
+    let long = box_long b box.each in
+    let text = ap length is.spelled in
+    let blocks = all_blocks version most made file some is in
+    let within = file_long version most made file some is in
+    let few = box.few in
+    let list = list_long version most made file some is in
+    let mcus = mcus_few version most made file some is in
+    let least = most_few version in
+    let many = mapped_long stream 0 count in
+    omega (arith, all, whole, long, text, blocks, within, few, short, allowed, list, mcus, least)

@@ -1,0 +1,49 @@
+-- The cuts of a plan's MCUs into segments.
+use Rattle.std.proofs.Common.{◌≡◌, ℕ, zero, suc, ◌+◌, ◌-◌, ◌*◌, ◌<◌, ◌≤◌, refl, subst, arith}
+use Rattle.jpeg_marker.specs.Plans.{PlanFields}
+use Rattle.cut_spec.specs.Cuts.{first_mcu}
+use Rattle.cut_spec.proofs.SpotsBegun.{rows}
+use Rattle.box_format.specs.Parts.{cut_in}
+
+-- where the segments of a plan start: MCUs that rise from 0 to all of them
+pub record AreCuts (d : ℕ → ℕ) (segments all : ℕ) : Type 0 where
+  pub some : 0 < segments
+  pub none : d 0 ≡ 0
+  pub whole : d segments ≡ all
+  pub order : (i : ℕ) → i < segments → d i ≤ d (i + 1)
+
+-- the MCU that segment i of some segments starts at
+abbrev pub starts_at : PlanFields → ℕ → ℕ → ℕ
+starts_at plan segments i = first_mcu (cut_in plan segments) i
+
+pub plan_cuts : (plan : PlanFields) (segments : ℕ) → 0 < segments
+    → AreCuts (starts_at plan segments) segments (plan.across * plan.down)
+plan_cuts plan segments some =
+    let r = rows (cut_in plan segments) refl some in
+    record { some = some; none = r.0; whole = r.1; order = r.2 }
+
+rises : (d : ℕ → ℕ) (segments i count : ℕ) → ((j : ℕ) → j < segments → d j ≤ d (j + 1))
+    → i + count ≤ segments → d i ≤ d (i + count)
+rises d segments i zero order within =
+    let e : i ≡ i + 0 = omega arith in
+    subst (λ n. d i ≤ d n) e (let r : d i ≤ d i = omega arith in r)
+rises d segments i (suc count) order within =
+    let one = order i (omega (arith, within)) in
+    let rest = rises d segments (i + 1) count order (omega (arith, within)) in
+    let e : (i + 1) + count ≡ i + suc count = omega arith in
+    let more : d (i + 1) ≤ d (i + suc count) = subst (λ n. d (i + 1) ≤ d n) e rest in
+    omega (arith, one, more)
+
+-- no cut stands before an earlier one
+pub cuts_rise : (d : ℕ → ℕ) (segments all i j : ℕ) → AreCuts d segments all → i ≤ j
+    → j ≤ segments → d i ≤ d j
+cuts_rise d segments all i j are order within =
+    let e : i + (j - i) ≡ j = omega (arith, order) in
+    subst (λ n. d i ≤ d n) e (rises d segments i (j - i) are.order (omega (arith, e, within)))
+
+pub cut_within : (d : ℕ → ℕ) (segments all j : ℕ) → AreCuts d segments all → j ≤ segments
+    → d j ≤ all
+cut_within d segments all j are within =
+    subst (λ n. d j ≤ n) are.whole
+    (cuts_rise d segments all j segments are within
+    (let r : segments ≤ segments = omega arith in r))

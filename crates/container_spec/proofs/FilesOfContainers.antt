@@ -1,0 +1,268 @@
+-- What stands for a file is its container.
+use Rattle.std.proofs.Common.{◌≡◌, ℕ, ◌+◌, ◌-◌, ◌^◌, ◌≤◌, Bool, true, not, ◌==◌, ◌/◌, if◌then◌else◌, List, [], ◌∷◌, ◌++◌, length, take, drop, map, inl, inr, refl, sym, ap, subst, ◌∙◌, arith, append_assoc, zero-add}
+use Rattle.std.specs.Prelude.{min}
+use Rattle.std.specs.List.{AllByRecursion, list_all}
+use Rattle.std.proofs.lemmas.Bool.{and_parts, eqb-true}
+use Rattle.std.proofs.lemmas.List.{take_at, drop_at}
+use Rattle.huff_table.proofs.Pairs.{all-append}
+use Rattle.bit_list.specs.Bits.{IsByte, bits_of}
+use Rattle.jpeg_marker.specs.HeaderPlan.{Accepts}
+use Rattle.jpeg_marker.specs.MarkerSegments.{header_text}
+use Rattle.jpeg_marker.specs.Plans.{PlanFields, IsPlan}
+use Rattle.jpeg_marker.proofs.HeadersTaken.{accepted_has_plan}
+use Rattle.jpeg_marker.proofs.PlanGrids.{few_mcus}
+use Rattle.scan_spec.specs.Pads.{PadBits, Same, Listed, bit_for, intervals_sum, is_spelled, interval_count, list_room}
+use Rattle.scan_spec.specs.Scans.{AreMcus, IsScan, pad_counts, pad_at, intervals_of}
+use Rattle.scan_spec.specs.ScanLaws.{bytes_in}
+use Rattle.scan_spec.specs.Slots.{Shape, shape_of}
+use Rattle.scan_spec.specs.Spots.{first_spot, mcus_put, spot_in}
+use Rattle.scan_spec.specs.FileLaws.{IsFileOf}
+use Rattle.scan_spec.proofs.PadSpelling.{CanTell, kept, kept_are, kept_agree, told_again}
+use Rattle.scan_spec.proofs.PadsAlike.{pads_alike, intervals_are}
+use Rattle.scan_spec.proofs.PutWhole.{put_whole}
+use Rattle.handover.specs.declared.pads.PadSum.{PadSum}
+use Rattle.handover.specs.Handovers.{HandoverFields, start}
+use Rattle.cut_spec.specs.Cuts.{first_mcu}
+use Rattle.cut_spec.specs.RowHandovers.{handover_of, handover_at, mcus_between}
+use Rattle.box_format.specs.Parts.{BoxParts, IsBox, box_bytes, cut_in, can_pad, is_list, list_bytes}
+use Rattle.box_format.specs.Versions.{layout_of, version_byte, version_in}
+use Rattle.box_format.specs.declared.version.Version.{Version}
+use Rattle.box_format.specs.declared.version.Version.TheVariants.{First, Second}
+use Rattle.box_format.specs.Raws.{numbers}
+use Rattle.container_spec.specs.ScanStream.{grid_of, blocks_of, blocks_stream, stream_of}
+use Rattle.container_spec.specs.SegmentLaws.{Suits}
+use Rattle.container_spec.specs.Meanings.{Meaning, outputs_of, joined}
+use Rattle.container_spec.specs.Files.{IsContainerOf, parts_of_file, told_pads}
+use Rattle.container_spec.specs.MeaningLaws.{RestoredIsContainer}
+use Rattle.container_spec.proofs.ChainedSegments.{Chained, chained}
+use Rattle.container_spec.proofs.CutsOfPlans.{AreCuts, starts_at, plan_cuts}
+use Rattle.container_spec.proofs.Numbered.{mapped_is}
+use Rattle.container_spec.proofs.PaddedMcus.{scan_sum}
+use Rattle.container_spec.proofs.PlanGrids.{plan_suits}
+use Rattle.container_spec.proofs.ReachedSegments.{Reached}
+use Rattle.container_spec.proofs.RestoredMeanings.{IsRestored, first_start, is_restored}
+use Rattle.container_spec.proofs.ScanBytes.{put_are_bytes}
+use Rattle.container_spec.proofs.SpotsAlike.{handovers_alike}
+use Rattle.container_spec.proofs.SpotsKept.{first_is_spot}
+use Rattle.container_spec.proofs.StartsOfSegments.{first_handover}
+
+-- a header is taken, whatever follows it
+accepts_more : (header rest : List ℕ) (plan : PlanFields) → Accepts header plan
+    → Accepts (header ++ rest) plan
+accepts_more header rest plan is = record {
+  before = is.before;
+  scan = is.scan;
+  rest = is.rest ++ rest;
+  header = is.header;
+  text = ap (λ l. l ++ rest) is.text
+      ∙ append_assoc (header_text (is.before ++ is.scan ∷ [])) is.rest rest;
+  says = is.says;
+}
+
+-- the version that a container names
+version_again : (v : Version) → (if version_byte v == 2 then Second else First) ≡ v
+version_again First = refl
+version_again Second = refl
+
+version_said : (b : BoxParts) → version_in (box_bytes b) ≡ b.version
+unfolding box_bytes
+version_said b = version_again b.version
+
+-- pad bits that a version can say
+can_tell : (listed : Bool) (shape : Shape) (count : ℕ) (told : PadBits)
+    → count ≡ interval_count shape → AllByRecursion IsByte (list_bytes told)
+    → can_pad listed shape told ≡ true → CanTell count told
+can_tell listed shape count (Same pad) e all can = tt
+can_tell listed shape count (Listed bytes) e all can =
+    let clean = list_all (λ bit. not bit) (drop (interval_count shape) (bits_of bytes)) in
+    let there = (and_parts listed (is_list shape bytes) can).1 in
+    let parts = and_parts (length bytes == list_room shape) clean there in
+    record {
+      are = all;
+      long = eqb-true (length bytes) (list_room shape) parts.0
+          ∙ ap (λ n. (n + 7) / 8) (sym e);
+      clean = ap (λ n. list_all (λ bit. not bit) (drop n (bits_of bytes))) e ∙ parts.1;
+    }
+
+-- parts by what a file determines
+same_parts : (b : BoxParts) (pads : PadBits) (header : List ℕ) (handovers : List HandoverFields)
+    (streams : List (List ℕ)) → b.pads ≡ pads → b.header ≡ header → b.handovers ≡ handovers
+    → b.streams ≡ streams
+    → b ≡ record b { pads = pads; header = header; handovers = handovers; streams = streams }
+same_parts b pads header handovers streams d e f g = rw (← d, ← e, ← f, ← g) refl
+
+module _ (plan : PlanFields) (b : BoxParts) (file : List ℕ) (is : IsBox plan b)
+    (so : IsRestored b (joined (outputs_of plan b)) file) where
+  abbrev shape : Shape
+  shape = shape_of plan
+
+  abbrev pads : ℕ → Bool
+  pads = bit_for b.pads
+
+  abbrev count : ℕ
+  count = length b.handovers
+
+  abbrev cut : ℕ → ℕ
+  cut i = starts_at plan count i
+
+  abbrev scan : List ℕ
+  scan = (joined (outputs_of plan b)).bytes
+
+  plan_is : IsPlan plan
+  plan_is = (accepted_has_plan b.header plan is.header_bytes is.header).is_plan
+
+  few : shape.mcus ≤ 2 ^ 32
+  few = let h = few_mcus plan plan_is in omega (arith, h)
+
+  suits : Suits (shape_of plan) (grid_of plan)
+  suits = plan_suits b.header plan is.header_bytes is.header
+
+  cuts : AreCuts (starts_at plan (length b.handovers)) (length b.handovers) (shape_of plan).mcus
+  cuts = plan_cuts plan count is.some
+
+  reached : Reached plan b 0 count first_spot
+  reached = record {
+    is = first_is_spot;
+    counted = sym cuts.none;
+    at = λ some. first_start shape
+        (cut_in plan count) b.handovers is.some is.each cuts.none is.starts
+        ∙ sym (first_handover shape);
+  }
+
+  chain : Chained plan b few suits.grid_is is.each cuts 0 count first_spot
+  chain =
+      chained plan b few suits.grid_is is.each cuts count 0 first_spot (omega arith) reached so.none
+
+  are : AreMcus shape chain.mcus
+  are = record {
+    count = (let a = chain.long in
+        let b = cuts.none in
+        let c = ap cut (zero-add count) ∙ cuts.whole in omega (arith, a, b, c));
+    each = chain.all;
+  }
+
+  abbrev counts : List ℕ
+  counts = pad_counts shape.slots (intervals_of shape chain.mcus)
+
+  -- the pad bits of the file
+  abbrev bits : List Bool
+  bits = kept b.pads 0 counts
+
+  spelled : is_spelled b.pads (intervals_sum b.pads 0 counts) ≡ true
+  spelled =
+      ap (λ (sum : PadSum). is_spelled b.pads sum)
+      (sym (chain.padded ∙ scan_sum shape b.pads chain.mcus (scan, chain.end) are chain.text))
+      ∙ so.told
+
+  -- they are told as they were
+  told : told_pads plan chain.mcus bits ≡ b.pads
+  told =
+      let some = suits.shape_is.mcus in
+      told_again b.pads counts
+      (can_tell (layout_of b.version).listed shape (length counts) b.pads
+      (intervals_are shape chain.mcus (omega (arith, some)) are.count) is.list_bytes_are is.pads)
+      spelled
+
+  is_scan : IsScan shape chain.mcus bits scan
+  is_scan = record {
+    grid = are;
+    told = kept_are counts b.pads 0;
+    text = sym (pads_alike shape chain.mcus pads (pad_at bits) (kept_agree counts b.pads))
+        ∙ sym (put_whole shape pads chain.mcus suits.shape_is are) ∙ ap bytes_in chain.text;
+  }
+
+  file_is : file ≡ b.header ++ (scan ++ b.trailer)
+  file_is = so.text ∙ append_assoc b.header scan b.trailer
+
+  header_is : b.header ≡ take plan.header_length file
+  header_is =
+      sym (ap (take plan.header_length) file_is
+      ∙ take_at b.header (scan ++ b.trailer) plan.header_length (sym is.whole))
+
+  file_of : IsFileOf file plan chain.mcus bits b.trailer
+  file_of = record {
+    header = subst (λ l. Accepts l plan) (sym file_is)
+        (accepts_more b.header (scan ++ b.trailer) plan is.header);
+    scan = scan;
+    is = is_scan;
+    text = ap (drop plan.header_length) file_is
+        ∙ drop_at b.header (scan ++ b.trailer) plan.header_length (sym is.whole);
+  }
+
+  all_bytes : AllByRecursion IsByte file
+  all_bytes =
+      subst (AllByRecursion IsByte) (sym file_is)
+      (all-append IsByte b.header (scan ++ b.trailer) is.header_bytes
+      (all-append IsByte scan b.trailer
+      (put_are_bytes shape pads chain.mcus first_spot chain.end scan chain.text) is.trailer_bytes))
+
+  abbrev handed : ℕ → ℕ → HandoverFields
+  handed n i = handover_at shape (pad_at bits) chain.mcus (first_mcu (cut_in plan n) i)
+
+  abbrev streamed : ℕ → ℕ → List ℕ
+  streamed n i =
+      stream_of plan (mcus_between chain.mcus (first_mcu (cut_in plan n) i)
+      (first_mcu (cut_in plan n) (i + 1)))
+
+  as_many : count ≡ min count plan.down
+  as_many = let h = is.rows in omega (arith, h)
+
+  handovers_are : b.handovers ≡ map (handed (min count plan.down)) (numbers 0 (min count plan.down))
+  handovers_are =
+      mapped_is (handed count) b.handovers 0 start
+      (λ k within.
+      let none = cuts.none in
+      let f = ap cut (zero-add k) in
+      let e : cut k - cut 0 ≡ cut (0 + k) = omega (arith, none, f) in
+      chain.handovers k (omega arith) (omega (arith, within))
+      ∙ ap (λ n. handover_of shape
+      (spot_in (mcus_put shape pads first_spot (take n chain.mcus)))) e
+      ∙ handovers_alike shape pads (pad_at bits) chain.mcus (cut (0 + k)))
+      ∙ ap (λ n. map (handed n) (numbers 0 n)) as_many
+
+  streams_are : b.streams ≡ map (streamed (min count plan.down)) (numbers 0 (min count plan.down))
+  streams_are =
+      let long = is.streams in
+      mapped_is (streamed count) b.streams 0 []
+      (λ k within.
+      let none = cuts.none in
+      let e : cut k - cut 0 ≡ cut k = omega (arith, none) in
+      chain.streams k (omega arith) (omega (arith, within, long))
+      ∙ ap (λ n. blocks_stream (grid_of plan)
+      (blocks_of (take (cut (k + 1) - cut k) (drop n chain.mcus)))) e
+      ∙ ap (streamed count) (sym (zero-add k)))
+      ∙ ap (λ n. map (streamed count) (numbers 0 n)) long
+      ∙ ap (λ n. map (streamed n) (numbers 0 n)) as_many
+
+  parts_are : b
+      ≡ parts_of_file b.version plan chain.mcus bits (take plan.header_length file) b.trailer count
+  parts_are =
+      same_parts b (told_pads plan chain.mcus bits) (take plan.header_length file) _ _ (sym told)
+      header_is handovers_are streams_are
+
+  pub container_is : (made : List ℕ) → made ≡ box_bytes b → IsContainerOf b.version count made file
+  container_is made text = record {
+    bytes = all_bytes;
+    plan = plan;
+    mcus = chain.mcus;
+    pads = bits;
+    trailer = b.trailer;
+    is = file_of;
+    header_fits = let h = is.header_fits in let e = is.whole in omega (arith, h, e);
+    trailer_fits = is.trailer_fits;
+    can = ap (can_pad (layout_of b.version).listed shape) told ∙ is.pads;
+    spelled = text ∙ ap box_bytes parts_are;
+  }
+
+pub restored_is_container : RestoredIsContainer
+restored_is_container made file each (inl refused) =
+    absurd (let f = ap (λ (m : Meaning). m.verdict) refused.2 in cc)
+restored_is_container made file each (inr (plan, b, of, e)) =
+    let so = is_restored plan b file e in
+    let version : b.version ≡ version_in made = sym (ap version_in of.text ∙ version_said b) in (
+      length b.handovers,
+      of.box.some,
+      subst (λ v. length b.handovers ≤ (layout_of v).most) version of.box.few,
+      subst (λ v. IsContainerOf v (length b.handovers) made file) version
+          (container_is plan b file of.box so made of.text),
+    )

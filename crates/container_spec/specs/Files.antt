@@ -1,0 +1,91 @@
+-- The container of a file, and where its segments start (own; docs/FORMAT.md).
+use Rattle.std.specs.Prelude.{ℕ, ◌≡◌, ◌+◌, ◌<◌, ◌^◌, Bool, true, List, length, take, map}
+use Rattle.std.specs.List.{AllByRecursion}
+use Rattle.bit_list.specs.Bits.{IsByte}
+use Rattle.jpeg_marker.specs.Plans.{PlanFields}
+use Rattle.scan_spec.specs.FileLaws.{IsFileOf}
+use Rattle.scan_spec.specs.Slots.{shape_of}
+use Rattle.scan_spec.specs.Scans.{Mcu, intervals_of, pad_counts, pad_at}
+use Rattle.scan_spec.specs.Pads.{PadBits, bits_sum, spelling_of}
+use Rattle.scan_spec.specs.Spots.{bytes_done}
+use Rattle.handover.specs.Handovers.{HandoverFields}
+use Rattle.cut_spec.specs.Cuts.{Cut, cut_of, first_mcu, row_of}
+use Rattle.cut_spec.specs.RowHandovers.{handover_at, mcus_between}
+use Rattle.box_format.specs.Parts.{BoxParts, box_bytes, can_pad}
+use Rattle.box_format.specs.Versions.{layout_of}
+use Rattle.box_format.specs.declared.version.Version.{Version}
+use Rattle.box_format.specs.Raws.{numbers}
+use Rattle.container_spec.specs.ScanStream.{stream_of}
+
+-- the cut of a plan's rows in at most `most` segments
+abbrev pub plan_cut : PlanFields → ℕ → Cut
+plan_cut plan most = cut_of plan.across plan.down most
+
+-- the MCUs of segment i
+abbrev pub segment_mcus : PlanFields → List Mcu → ℕ → ℕ → List Mcu
+segment_mcus plan mcus most i =
+    let cut = plan_cut plan most in mcus_between mcus (first_mcu cut i) (first_mcu cut (i + 1))
+
+-- what segment i starts from
+abbrev pub segment_start : PlanFields → List Mcu → List Bool → ℕ → ℕ → HandoverFields
+segment_start plan mcus pads most i =
+    handover_at (shape_of plan) (pad_at pads) mcus (first_mcu (plan_cut plan most) i)
+
+-- how the pad bits of a file are told
+abbrev pub told_pads : PlanFields → List Mcu → List Bool → PadBits
+told_pads plan mcus pads =
+    let shape = shape_of plan in
+    spelling_of pads (bits_sum (pad_counts shape.slots (intervals_of shape mcus)) pads)
+
+-- the parts of a file's container in a version, with at most `most` segments
+abbrev pub parts_of_file : Version → PlanFields → List Mcu → List Bool → List ℕ → List ℕ → ℕ
+    → BoxParts
+parts_of_file version plan mcus pads header trailer most =
+    let segments = numbers 0 (plan_cut plan most).segments in
+    record {
+      version = version;
+      pads = told_pads plan mcus pads;
+      header = header;
+      trailer = trailer;
+      handovers = map (segment_start plan mcus pads most) segments;
+      streams = map (λ i. stream_of plan (segment_mcus plan mcus most i)) segments;
+    }
+
+-- `made` is the container of a file in a version, with at most `most` segments, by the plan of the file's header, its
+-- MCUs, the pad bit of each of its intervals and its trailer; the lengths of header and trailer have fields of four
+-- bytes, and the version can say the pad bits
+pub record IsContainerOf (version : Version) (most : ℕ) (made file : List ℕ) : Type 0 where
+  pub bytes : AllByRecursion IsByte file
+  pub plan : PlanFields
+  pub mcus : List Mcu
+  pub pads : List Bool
+  pub trailer : List ℕ
+  pub is : IsFileOf file plan mcus pads trailer
+  pub header_fits : plan.header_length < 2 ^ 32
+  pub trailer_fits : length trailer < 2 ^ 32
+  pub can : can_pad (layout_of version).listed (shape_of plan) (told_pads plan mcus pads) ≡ true
+  pub spelled : made
+      ≡ box_bytes (parts_of_file version plan mcus pads (take plan.header_length file) trailer most)
+
+-- where segments start: of each its row, the place of its first byte that the MCUs before don't complete, and its
+-- handover; how the file's pad bits are told, and the place of its trailer
+pub record StartsFields : Type 0 where
+  pub rows : List ℕ
+  pub places : List ℕ
+  pub handovers : List HandoverFields
+  pub pads : PadBits
+  pub trailer : ℕ
+
+-- the starts of a file's segments, of at most `most`, its trailer being at a place
+abbrev pub starts_of : PlanFields → List Mcu → List Bool → ℕ → ℕ → StartsFields
+starts_of plan mcus pads trailer most =
+    let cut = plan_cut plan most in
+    let segments = numbers 0 cut.segments in
+    record {
+      rows = map (row_of cut) segments;
+      places = map (λ i. plan.header_length
+          + bytes_done (shape_of plan) (pad_at pads) mcus (first_mcu cut i)) segments;
+      handovers = map (segment_start plan mcus pads most) segments;
+      pads = told_pads plan mcus pads;
+      trailer = trailer;
+    }

@@ -1,0 +1,81 @@
+-- What holds of all containers and files (own).
+use Rattle.std.specs.Prelude.{ℕ, ◌≡◌, ◌*◌, ◌^◌, ◌<◌, ◌≤◌, Bool, true, not, ◌&&◌, List, length}
+use Rattle.std.specs.List.{AllByRecursion}
+use Rattle.bit_list.specs.Bits.{IsByte}
+use Rattle.jpeg_marker.specs.Plans.{PlanFields}
+use Rattle.scan_write.specs.Outputs.{mcu_room}
+use Rattle.scan_spec.specs.FileLaws.{IsFileOf}
+use Rattle.scan_spec.specs.Pads.{bits_sum}
+use Rattle.scan_spec.specs.Scans.{Mcu, intervals_of, pad_counts}
+use Rattle.scan_spec.specs.Slots.{shape_of}
+use Rattle.box_format.specs.Versions.{layout_of, version_in}
+use Rattle.box_format.specs.Parts.{BoxParts, IsBox, IsBoxOf, can_pad, box_bytes, migrated}
+use Rattle.box_format.specs.declared.version.Version.{Version}
+use Rattle.box_format.specs.declared.version.Version.TheVariants.{First, Second}
+use Rattle.container_spec.specs.Segments.{segment_output}
+use Rattle.container_spec.specs.Meanings.{Meaning, Restored, IsMeaning, segment_in}
+use Rattle.container_spec.specs.Files.{IsContainerOf, told_pads}
+use Rattle.container_spec.specs.Limits.{most_of_a_container, most_of_a_file}
+
+-- bytes stand for one thing as a container
+abbrev pub OneMeaning : Type 0
+OneMeaning =
+    (bytes : List ℕ) (a b : Meaning) → AllByRecursion IsByte bytes
+    → IsMeaning bytes a → IsMeaning bytes b → a ≡ b
+
+-- a file's container stands for the file, in each version that can say its pad bits
+abbrev pub ContainerIsRestored : Type 0
+ContainerIsRestored =
+    (version : Version) (most : ℕ) (made file : List ℕ) → 0 < most
+    → most ≤ (layout_of version).most → IsContainerOf version most made file
+    → IsMeaning made (record { bytes = file; verdict = Restored })
+
+-- and what stands for a file is its container in the version that it names, with as many segments as it has
+abbrev pub RestoredIsContainer : Type 0
+RestoredIsContainer =
+    (made file : List ℕ) → AllByRecursion IsByte made
+    → IsMeaning made (record { bytes = file; verdict = Restored })
+    → (most : ℕ) × (0 < most) × (most ≤ (layout_of (version_in made)).most)
+    × IsContainerOf (version_in made) most made file
+
+-- a file has one container of each version and number of segments
+abbrev pub OneContainer : Type 0
+OneContainer =
+    (version : Version) (most : ℕ) (made other file : List ℕ)
+    → IsContainerOf version most made file → IsContainerOf version most other file → made ≡ other
+
+-- the second version can say the pad bits of each file
+abbrev pub SecondCanPad : Type 0
+SecondCanPad =
+    (file trailer : List ℕ) (plan : PlanFields) (mcus : List Mcu) (pads : List Bool)
+    → AllByRecursion IsByte file → IsFileOf file plan mcus pads trailer
+    → can_pad (layout_of Second).listed (shape_of plan) (told_pads plan mcus pads) ≡ true
+
+-- and the first one can exactly where no two intervals are padded with different bits
+abbrev pub FirstCanPad : Type 0
+FirstCanPad =
+    (plan : PlanFields) (mcus : List Mcu) (pads : List Bool)
+    → let sum = bits_sum (pad_counts (shape_of plan).slots (intervals_of (shape_of plan) mcus))
+    pads in
+    can_pad (layout_of First).listed (shape_of plan) (told_pads plan mcus pads)
+    ≡ not (sum.zero && sum.one)
+
+-- the container of a file that encode takes is within what decode takes
+abbrev pub ContainerIsShort : Type 0
+ContainerIsShort =
+    (version : Version) (most : ℕ) (made file : List ℕ) → 0 < most
+    → most ≤ (layout_of version).most → IsContainerOf version most made file
+    → length file ≤ most_of_a_file → length made ≤ most_of_a_container
+
+-- a segment's bytes are few: room for an MCU is enough for each of its MCUs, and there are fewer than 2^32
+abbrev pub SegmentIsShort : Type 0
+SegmentIsShort =
+    (plan : PlanFields) (b : BoxParts) (i : ℕ) → IsBox plan b → i < length b.handovers
+    → length (segment_output (segment_in plan b i)).0 ≤ mcu_room * 2 ^ 32
+
+-- a container and the same one in the second version stand for the same
+abbrev pub MigratedMeansTheSame : Type 0
+MigratedMeansTheSame =
+    (plan : PlanFields) (b : BoxParts) (bytes : List ℕ) (meaning : Meaning)
+    → AllByRecursion IsByte bytes → IsBoxOf plan b bytes → IsMeaning bytes meaning
+    → IsMeaning (box_bytes (migrated b)) meaning

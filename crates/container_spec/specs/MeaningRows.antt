@@ -1,0 +1,143 @@
+-- Worked segments and containers, by what they stand for (own; docs/FORMAT.md).
+use Rattle.std.specs.Prelude.{ℕ, ◌≡◌, Bool, true, false, List, [], ◌∷◌, ◌++◌, replicate, Option, Some, None}
+use Rattle.bit_list.specs.Pieces.{piece_room}
+use Rattle.jpeg_marker.specs.Plans.{PlanFields}
+use Rattle.huff_table.specs.declared.plan_codes.ComponentCodes.{ComponentCodes}
+use Rattle.scan_spec.specs.BlockRows.{level}
+use Rattle.scan_spec.specs.ScanRows.{grey, ones}
+use Rattle.handover.specs.Handovers.{HandoverFields, start}
+use Rattle.handover.specs.PadSums.{no_pads}
+use Rattle.handover.specs.declared.pads.PadSum.{PadSum}
+use Rattle.handover.specs.declared.outcome.Outcome.TheVariants.{Good, Bad}
+use Rattle.handover.specs.declared.outcome.StreamCause.{StreamCause}
+use Rattle.handover.specs.declared.outcome.StreamCause.TheVariants.{BlockCount, DcRange, DiffRange, NoCode, Seam, StreamBad}
+use Rattle.scan_spec.specs.Pads.{Same, Listed}
+use Rattle.cut_spec.specs.SegmentRows.{begun}
+use Rattle.block_spec.specs.ReadingRows.{one_across, zeros_stream, dc_one_stream, dc_large_stream, dc_outside_stream, ones_stream}
+use Rattle.box_format.specs.Parts.{BoxParts}
+use Rattle.box_format.specs.BoxRows.{grey_header, grey_plan, image_end, least_parts, byteless_parts}
+use Rattle.container_spec.specs.Segments.{SegmentFields, Output, first_progress, segment_output}
+use Rattle.container_spec.specs.Pieces.{SomeOf, AllOf, piece, next_piece}
+use Rattle.box_format.specs.declared.version.Version.TheVariants.{First, Second}
+use Rattle.container_spec.specs.Meanings.{Meaning, Verdict, Restored, PadSpelled, Faulty, meaning_of}
+
+-- a segment of one MCU of two with these tables, by its stream, what it starts from, and what the next one starts from
+abbrev pub one_of_two : ComponentCodes → List ℕ → ℕ → HandoverFields → Option HandoverFields
+    → SegmentFields
+one_of_two codes stream from start next = record {
+  number = 0;
+  shape = grey codes 2 0;
+  grid = one_across;
+  pads = Same true;
+  stream = stream;
+  start = start;
+  from = from;
+  count = 1;
+  next = next;
+}
+
+-- the only segment of one MCU
+abbrev pub alone : List ℕ → SegmentFields
+alone stream = record (one_of_two level stream 0 start None) { shape = grey level 1 0 }
+
+-- bytes, and a fault of segment 0
+abbrev pub faulty : List ℕ → StreamCause → Output
+faulty bytes cause = (bytes, Bad (record { segment = 0; cause = cause }))
+
+-- a bit of 1 was padded
+abbrev pub ones_padded : PadSum
+ones_padded = record no_pads { one = true }
+
+-- a block of zeros, and two that share a byte, of which the first has none
+abbrev pub zeros_are_put : Type 0
+zeros_are_put =
+    (segment_output (alone zeros_stream) ≡ (0x3f ∷ [], Good ones_padded))
+    × (segment_output (one_of_two level zeros_stream 0 start (Some (begun 0 2)))
+    ≡ ([], Good no_pads))
+    × (segment_output (one_of_two level zeros_stream 1 (begun 0 2) None)
+    ≡ (0x0f ∷ [], Good ones_padded))
+
+-- a piece with all there is, one without room for another MCU, and a stream without a start
+abbrev pub pieces_are_made : Type 0
+pieces_are_made =
+    let s = alone zeros_stream in
+    (next_piece 1 s (first_progress s) ≡ AllOf (0x3f ∷ [], Good ones_padded))
+    × (piece 1 s (first_progress s) piece_room ≡ SomeOf [] 1 (first_progress s))
+    × (next_piece 1 (alone []) (first_progress (alone [])) ≡ AllOf (faulty [] StreamBad))
+
+-- the first fault of each kind
+abbrev pub faults_are_told : Type 0
+faults_are_told =
+    (segment_output (alone (0 ∷ 0 ∷ 1 ∷ [])) ≡ faulty (0x3f ∷ []) StreamBad)
+    × (segment_output (alone (0xff ∷ 0 ∷ 0 ∷ [])) ≡ faulty [] StreamBad)
+    × (segment_output (alone []) ≡ faulty [] StreamBad)
+    × (segment_output (alone ones_stream) ≡ faulty [] BlockCount)
+    × (segment_output (alone dc_outside_stream) ≡ faulty [] DcRange)
+    × (segment_output (alone dc_large_stream) ≡ faulty [] DiffRange)
+    × (segment_output (alone dc_one_stream) ≡ faulty [] NoCode)
+    × (segment_output (one_of_two level zeros_stream 0 start (Some (begun 0 3)))
+    ≡ faulty [] (Seam (begun 0 2) (begun 0 3)))
+
+-- containers of files, and one whose segments don't meet
+abbrev pub containers_are_joined : Type 0
+containers_are_joined =
+    (meaning_of (grey_plan 1) least_parts
+    ≡ record { bytes = grey_header 8 ++ 0x3f ∷ image_end; verdict = Restored })
+    × (meaning_of (grey_plan 2) byteless_parts
+    ≡ record { bytes = grey_header 16 ++ 0x0f ∷ image_end; verdict = Restored })
+    × (meaning_of (grey_plan 2)
+    (record byteless_parts { handovers = start ∷ begun 0 3 ∷ [] })
+    ≡ record {
+      bytes = grey_header 16;
+      verdict = Faulty (record { segment = 0; cause = Seam (begun 0 2) (begun 0 3) });
+    })
+
+-- four MCUs of two bits each, which no pad bit follows
+abbrev pub ones_plan : PlanFields
+ones_plan =
+    record (grey_plan 4) {
+      components = record { id = 1; h = 1; v = 1; dc = ones.dc; ac = ones.ac } ∷ [];
+    }
+
+-- two segments of two of them, and a pad bit
+abbrev pub ones_parts : Bool → BoxParts
+ones_parts pad = record {
+  version = First;
+  pads = Same pad;
+  header = [];
+  trailer = image_end;
+  handovers = start ∷ begun 0xf0 4 ∷ [];
+  streams = replicate 2 (0 ∷ 0 ∷ 0 ∷ 0 ∷ []);
+}
+
+-- a pad bit that no bit needs is 1
+abbrev pub pad_is_spelled : Type 0
+pad_is_spelled =
+    (meaning_of ones_plan (ones_parts true)
+    ≡ record { bytes = 0xff ∷ 0x00 ∷ image_end; verdict = Restored })
+    × (meaning_of ones_plan (ones_parts false)
+    ≡ record { bytes = 0xff ∷ 0x00 ∷ image_end; verdict = PadSpelled })
+
+-- two intervals of one MCU that pad different bits, or the same; their pad bits by a list
+abbrev pub mixed : ℕ → Meaning
+mixed list =
+    meaning_of (record (grey_plan 2) { interval = 1 })
+    (record byteless_parts {
+      version = Second;
+      pads = Listed (list ∷ []);
+      handovers = start ∷ record start { restarts = 1 } ∷ [];
+    })
+
+-- what it stands for, the bytes of the second interval being these
+abbrev pub with_last : ℕ → ℕ → Verdict → Meaning
+with_last first last verdict = record {
+  bytes = grey_header 16 ++ first ∷ 0xff ∷ 0xd0 ∷ last ∷ image_end;
+  verdict = verdict;
+}
+
+-- a list has both bits
+abbrev pub lists_are_spelled : Type 0
+lists_are_spelled =
+    (mixed 0x80 ≡ with_last 0x3f 0x00 Restored) × (mixed 0x40 ≡ with_last 0x00 0x3f Restored)
+    × (mixed 0xc0 ≡ with_last 0x3f 0x3f PadSpelled)
+    × (mixed 0x00 ≡ with_last 0x00 0x00 PadSpelled)

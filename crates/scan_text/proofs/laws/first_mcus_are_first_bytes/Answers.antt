@@ -1,5 +1,0 @@
-use Rattle.scan_text.proofs.DoneBytes.{done_whole, done_in_parts, done_in_order}
-use Rattle.scan_text.proofs.laws.first_mcus_are_first_bytes.Goals as goal
-
-pub returns : goal.returns
-returns c = record { whole = done_whole; parts = done_in_parts; order = done_in_order }

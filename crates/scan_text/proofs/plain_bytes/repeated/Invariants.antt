@@ -1,6 +1,0 @@
-use Rattle.std.proofs.Common.{◌≡◌}
-use Rattle.scan_text.specs.PlainScans.{slots_times}
-use Rattle.scan_text.proofs.plain_bytes.repeated.Given as goal
-
-abbrev pub invariant-loop-i : goal.invariant-loop-i
-invariant-loop-i l = l.all.items ≡ slots_times l.i l.slots

@@ -1,5 +1,0 @@
-use Rattle.segment_meaning.proofs.GoodSegments.{good_has_its_stream}
-use Rattle.segment_meaning.proofs.laws.good_segments_have_their_stream.Goals as goal
-
-pub returns : goal.returns
-returns c = good_has_its_stream

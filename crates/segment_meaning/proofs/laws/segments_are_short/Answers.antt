@@ -1,5 +1,0 @@
-use Rattle.segment_meaning.proofs.ShortSegments.{segment_is_short}
-use Rattle.segment_meaning.proofs.laws.segments_are_short.Goals as goal
-
-pub returns : goal.returns
-returns c = segment_is_short
