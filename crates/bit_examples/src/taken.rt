@@ -8,12 +8,12 @@ const MARKED: &[u8] = &[0x3c, 0xff, 0xd0];
 
 const PLAIN: &[u8] = &[0x12, 0x34, 0x56, 0x78, 0x9a, 0xbc, 0xde, 0xf0];
 
-// No number of sixteen bits: the bytes end, or a marker stands there.
+// No number of sixteen bits: the bytes end, or a marker is there.
 const CUT: u32 = 0x1_0000;
 
 const MARKER: u32 = 0x2_0000;
 
-// The bytes, the place and the bits left out there; how many bits are taken, three times, and what comes of each; the
+// The bytes, the place and the bits left out there; how many bits are read, three times, and the answer to each; the
 // place of the last bit.
 type Takes<'a> = (&'a [u8], usize, [u8; 4], [u32; 3], usize);
 
@@ -90,7 +90,7 @@ fn bits_and_rests(rt: HostRuntime) {
     assert!(rt; bit_in.place() == 2);
 }
 
-// The bytes, the place and the bits left out there, how many bits are taken first, and the next nine bits then.
+// The bytes, the place and the bits left out there, how many bits are read first, and the next nine bits then.
 type Peek<'a> = (&'a [u8], usize, u8, u8, u16);
 
 const PEEKS: &[Peek<'static>] = &[
@@ -119,7 +119,7 @@ fn peeks(rt: HostRuntime) {
     }
 }
 
-// Whether these are the next nine bits, before units are fetched and after, and the reader stands where it stood.
+// Whether these are the next nine bits, before units are fetched and after, and the reader is where it was.
 fn is_peeked(bit_in: &mut BitIn, peeked: u16) -> bool {
     let (left, place, next) = (bit_in.left(), bit_in.place(), bit_in.next_place());
     if bit_in.peek9() != peeked {
@@ -132,7 +132,7 @@ fn is_peeked(bit_in: &mut BitIn, peeked: u16) -> bool {
         && bit_in.next_place() == next
 }
 
-// What is taken from bytes that were fetched ahead, and where the reader stands after each bit of them.
+// What is read from bytes that were fetched ahead, and where the reader is after each bit of them.
 #[test]
 fn places_of_fetched_units(rt: HostRuntime) {
     let bytes: &[u8] = &[0x12, 0x34, 0x56, 0x78, 0x9a, 0xbc, 0xde, 0xff, 0x00, 0x80];
@@ -146,7 +146,7 @@ fn places_of_fetched_units(rt: HostRuntime) {
     assert!(rt; bit_in.bit() == Err(BitFault::Cut { place: 10 }));
 }
 
-// Whether the reader stands after this bit: the eighth unit has a stuffed byte.
+// Whether the reader is after this bit: the eighth unit has a stuffed byte.
 fn stands_after(bit_in: &BitIn, bit: usize) -> bool {
     let unit = bit / 8;
     let next = if unit < 7 {

@@ -1,4 +1,4 @@
--- Bits between two cursors, and the units in which they stand (ITU-T T.81, B.1.1.5, C.3).
+-- Law: the bits between two cursors, and the units that hold them (ITU-T T.81, B.1.1.5, C.3).
 use Rattle.std.specs.Prelude.{ℕ, ◌≡◌, ◌+◌, ◌*◌, ◌<◌, ◌≤◌, Bool, List, ◌++◌, length, drop, Ok}
 use Rattle.std.specs.List.{AllByRecursion}
 use Rattle.bit_list.specs.Bits.{IsByte, bits_of, stuffed}
@@ -10,7 +10,7 @@ pub record IsWithin (cursor : Cursor) : Type 0 where
   pub skip : cursor.skip ≡ 0
 
 -- The bits between two cursors (own): what was left at the first one and the bits of the units after it are these bits
--- and what is left at the second one, which stands after these units.
+-- and what is left at the second one, which is after these units.
 pub record Spans (bytes : List ℕ) (from : Cursor) (bits : List Bool) (to : Cursor) : Type 0 where
   pub units : List ℕ
   pub are_bytes : AllByRecursion IsByte units
@@ -19,14 +19,14 @@ pub record Spans (bytes : List ℕ) (from : Cursor) (bits : List Bool) (to : Cur
   pub place : to.next ≡ from.next + length (stuffed units)
   pub within : IsWithin to
 
--- n bits that are taken stand in the units between (own)
+-- n bits that are read are those of the units between (own)
 abbrev pub TakenStand : Type 0
 TakenStand =
     (n : ℕ) (bytes : List ℕ) (from to : Cursor) (bits : List Bool) → AllByRecursion IsByte bytes
     → IsWithin from → bits_at n bytes from ≡ Ok (bits, to)
     → Spans bytes from bits to × (length bits ≡ n)
 
--- and bits that stand in units are taken, where less than a unit is left of these (own)
+-- and the bits of units are read, if less than a unit is left of these (own)
 abbrev pub StandingAreTaken : Type 0
 StandingAreTaken =
     (units rest bytes : List ℕ) (from : Cursor) (bits more : List Bool) → from.skip ≡ 0
@@ -35,7 +35,7 @@ StandingAreTaken =
     → (to : Cursor) × (bits_at (length bits) bytes from ≡ Ok (bits, to)) × (to.left ≡ more)
     × (to.skip ≡ 0) × (to.next ≡ from.next + length (stuffed units))
 
--- bits that are taken after the first few of a unit are those taken from within it (own)
+-- bits that are read after the first few of a unit are those read from within it (own)
 abbrev pub TakenFromWithin : Type 0
 TakenFromWithin =
     (n skip place : ℕ) (bytes : List ℕ) (prefix : List Bool) (at : Cursor) → 0 < n → 0 < skip

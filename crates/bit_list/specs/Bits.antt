@@ -1,4 +1,4 @@
--- Numbers as bits, and bits as bytes, the highest bit first (ITU-T T.81, F.1.2.3 and C.3).
+-- Statement: numbers as bits, and bits as bytes, the highest bit first (ITU-T T.81, F.1.2.3 and C.3).
 use Rattle.std.specs.Prelude.{ℕ, zero, suc, ◌+◌, ◌-◌, ◌*◌, ◌%◌, ◌<◌, Bool, List, [], ◌∷◌, ◌++◌, length, flat_map, fold, replicate, ◌==◌, if◌then◌else◌}
 use Rattle.std.specs.Int.{bit_at}
 

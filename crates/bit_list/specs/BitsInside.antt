@@ -1,4 +1,4 @@
--- How bits are kept in a byte and in a word, and what always holds of them (own).
+-- View: how bits are kept in a byte and in a word, and what always holds of them (own).
 use Rattle.std.specs.Prelude.{◌≡◌, ℕ, ◌+◌, ◌-◌, ◌*◌, ◌/◌, ◌%◌, ◌^◌, ◌<◌, ◌≤◌, ◌≢◌, List, length, slice_index_or, Ok, nat_lt, if◌then◌else◌}
 use Rattle.bit_list.specs.Bits.{low_bits}
 use Rattle.bit_list.specs.Units.{Cursor, unit_at}
@@ -24,9 +24,8 @@ pub record IsWindow (w : Window) : Type 0 where
   pub bits : IsKept 8 w.number w.count
   pub skip : w.skip ≤ 7
 
--- The cursor before the low bits of a word, so many of them (own): those of a unit begun, and whole units after them,
--- up to a place. From the place `first` on each unit is one byte; the last bit before them is one of the unit at
--- `last`.
+-- The cursor before the `count` low bits of a word (own): those of a unit begun, and whole units after them, up to the
+-- place `end`. From the place `first` on each unit is one byte; the last bit before them is one of the unit at `last`.
 abbrev pub cursor_at : ℕ → ℕ → ℕ → ℕ → ℕ → ℕ → Cursor
 cursor_at word skip last first end count =
     record {
@@ -36,7 +35,7 @@ cursor_at word skip last first end count =
       next = end - count / 8;
     }
 
--- the whole units among the low bits of a word stand before a place, a byte each (own)
+-- the whole units among the `count` low bits of a word are those before the place `end`, a byte each (own)
 abbrev pub AreUnits : List ℕ → ℕ → ℕ → ℕ → Type 0
 AreUnits bytes word end count =
     (i : ℕ) → i < count / 8
@@ -54,7 +53,7 @@ pub record IsFetched (bytes : List ℕ) (f : Fetched) : Type 0 where
   pub run : f.first + f.count / 8 ≤ f.end
   pub units : AreUnits bytes f.word f.end f.count
 
--- six bytes stand at a place, each a unit (own)
+-- there are six bytes at a place, each a unit (own)
 pub record ArePlain (bytes : List ℕ) (place : ℕ) : Type 0 where
   pub within : place + 6 ≤ length bytes
   pub first : slice_index_or bytes place 0 ≢ 255

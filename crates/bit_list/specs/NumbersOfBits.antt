@@ -1,4 +1,4 @@
--- Numbers from their bits: what is kept as a number is what its bits give back (own).
+-- Law: a number is what its bits give back (own).
 use Rattle.std.specs.Prelude.{◌≡◌, ℕ, zero, suc, ◌+◌, ◌*◌, ◌/◌, ◌%◌, ◌^◌, ◌<◌, Bool, ◌==◌, if◌then◌else◌, List, length, fold, refl}
 use Rattle.std.proofs.Common.{sym, ap, ap₂, ◌∙◌, arith}
 use Rattle.std.proofs.Math.Nat.{pow-suc}

@@ -1,4 +1,4 @@
--- The room of a piece (own).
+-- View: the room of a piece (own).
 use Rattle.std.specs.Prelude.{ℕ}
 
 -- how many bytes a piece has room for

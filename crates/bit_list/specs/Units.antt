@@ -1,5 +1,5 @@
--- The units of coded bytes, and the bits that are read from them (ITU-T T.81, B.1.1.5 and C.3). A unit is a byte
--- other than 0xff, or 0xff and the zero that was stuffed after it.
+-- Statement: the units of coded bytes, and the bits that are read from them (ITU-T T.81, B.1.1.5 and C.3). A unit is
+-- a byte other than 0xff, or 0xff and the zero that was stuffed after it.
 use Rattle.std.specs.Prelude.{ℕ, zero, suc, ◌+◌, Bool, false, List, [], ◌∷◌, length, drop, Result, Ok, Err, slice_index_or, ◌==◌, if◌then◌else◌}
 use Rattle.bit_list.specs.Bits.{low_bits}
 use Rattle.bit_list.specs.declared.fault.BitFault.{BitFault}
@@ -23,8 +23,8 @@ unit_of end place (byte ∷ next ∷ rest) =
 unfoldable pub unit_at : List ℕ → ℕ → Result (ℕ × ℕ) BitFault
 unit_at bytes place = unit_of (length bytes) place (drop place bytes)
 
--- where a reader of bits stands (own): the bits that are left of the unit at `last`, how many bits of the next unit
--- were taken before, the place of the unit of the last bit that was taken, and the place of the next unit
+-- where a reader of bits is (own): the bits that are left of the unit at `last`, how many bits of the next unit are
+-- skipped, the place of the unit of the last bit that was read, and the place of the next unit
 pub record Cursor : Type 0 where
   pub left : List Bool
   pub skip : ℕ
@@ -63,7 +63,7 @@ bits_at (suc n) bytes cursor =
     and_then (bit_at bytes cursor)
     (λ first. and_then (bits_at n bytes first.1) (λ more. Ok (first.0 ∷ more.0, more.1)))
 
--- what a reader sees: the bytes, and where it stands in them (own)
+-- what a reader sees: the bytes, and where it is in them (own)
 pub record Reading : Type 0 where
   pub bytes : List ℕ
   pub cursor : Cursor

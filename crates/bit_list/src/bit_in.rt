@@ -8,7 +8,7 @@ ghost use Rattle.bit_list.specs.Peeked.{peeked};
 use crate::fault::BitFault;
 use std::marker::Model;
 
-// The bits that are left of a unit, and where the units stand.
+// The bits that are left of a unit, and the places of the units.
 #[derive(Clone, Copy)]
 struct Window {
     // The bits as a number.
@@ -23,14 +23,14 @@ struct Window {
     next: usize,
 }
 
-// Bits that were fetched ahead, and where their units stand.
+// Bits that were fetched ahead, and the places of their units.
 #[derive(Clone, Copy)]
 struct Fetched {
     // The bits are its low ones.
     word: u64,
     // How many they are.
     count: u8,
-    // How many bits of the next unit are left out, where there are no bits.
+    // How many bits of the next unit are left out, if there are no bits.
     skip: u8,
     // The place of the unit of the last bit before the unit at `first`.
     last: usize,
@@ -80,7 +80,7 @@ impl<'a> BitIn<'a> {
         }
     }
 
-    /// Takes `n` bits, the highest first. After a fault it stands where it stood.
+    /// Reads `n` bits, the highest first. A fault changes nothing.
     #[inline]
     pub fn take(&mut self, n: u8) -> Result<u16, BitFault>
         requires { n ≤ 16 }
@@ -98,7 +98,7 @@ impl<'a> BitIn<'a> {
         self.fetch_and_take(n)
     }
 
-    // The same where a unit has to be fetched first.
+    // The same if a unit must be fetched first.
     #[inline(never)]
     fn fetch_and_take(&mut self, n: u8) -> Result<u16, BitFault>
         requires { n ≤ 16 }
@@ -114,7 +114,7 @@ impl<'a> BitIn<'a> {
         Ok(number)
     }
 
-    /// Takes one bit. After a fault it stands where it stood.
+    /// Reads one bit. A fault changes nothing.
     #[inline]
     pub fn bit(&mut self) -> Result<bool, BitFault>
         ensures ok { IfOk result
@@ -149,7 +149,7 @@ impl<'a> BitIn<'a> {
         peek_by_units(self.bytes, self.at)
     }
 
-    /// Takes the bits that are left of a unit begun, and answers their number and how many they are.
+    /// Reads the bits that are left of a unit begun, and answers their number and how many they are.
     pub fn rest_of_byte(&mut self) -> (u8, u8)
         ensures count { result.1 ≡ length self.old.cursor.left }
         ensures number { result.0 ≡ number_of self.old.cursor.left }
@@ -187,7 +187,7 @@ impl<'a> BitIn<'a> {
         (window.number, window.count)
     }
 
-    /// The place of the unit of the last bit that was taken; before the first, where it began.
+    /// The place of the unit of the last bit that was read; before the first bit, the place at which reading began.
     #[inline]
     pub fn place(&self) -> usize
         ensures { result ≡ self.now.cursor.last }
@@ -348,7 +348,7 @@ fn fetch(bytes: &[u8], at: &mut Fetched)
     at.end += 1;
 }
 
-// Whether six bytes stand at a place, and none is 0xff.
+// Whether there are six bytes at a place, and none is 0xff.
 #[inline(always)]
 fn are_plain(bytes: &[u8], place: usize) -> bool
     ensures { IsTrue result → ArePlain bytes.now place }

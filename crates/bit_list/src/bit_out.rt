@@ -92,7 +92,7 @@ impl BitOut {
         true
     }
 
-    /// Puts a marker (ITU-T T.81, B.1.1.2), where no byte is begun.
+    /// Puts a marker (ITU-T T.81, B.1.1.2), if no byte is begun.
     pub fn mark(&mut self, code: u8, out: &mut Piece)
         requires whole { self.old ≡ [] }
         requires room { length out.old + 2 ≤ piece_room }

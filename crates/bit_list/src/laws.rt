@@ -6,7 +6,7 @@ ghost use Rattle.bit_list.specs.Units.{Cursor};
 ghost use Rattle.bit_list.specs.BitLaws.{IsTakenAgain, IsTakenInParts, ArePeeked, PeekedAreAsMany};
 ghost use Rattle.bit_list.specs.BitSpans.{TakenStand, StandingAreTaken, TakenFromWithin, StuffedAreFew};
 
-/// Bits that were put as whole bytes, stuffed, among other bytes, are taken again, and the next unit is the one
+/// Bits that were put as whole bytes, stuffed, among other bytes, are read again, and the next unit is the one
 /// after them.
 pub fn put_is_taken_again()
     ensures { (bits : List Bool) (prefix rest : List ℕ) → length bits % 8 ≡ 0
@@ -35,18 +35,18 @@ pub fn eight_bits_a_byte()
         → (length begun + length (padding begun bit)) % 8 ≡ 0 }
 {}
 
-/// To take some bits is to take the first of them, and then the others.
+/// To read some bits is to read the first of them, and then the others.
 pub fn taken_in_parts()
     ensures { (m n : ℕ) (bytes : List ℕ) (cursor : Cursor) → IsTakenInParts m n bytes cursor }
 {}
 
-/// As many bytes were stuffed in one way only.
+/// Stuffed bytes determine the bytes, given how many they were.
 pub fn stuffed_has_one_reading()
     ensures { (a b x y : List ℕ) → stuffed a ++ x ≡ stuffed b ++ y → length a ≡ length b → (a ≡ b)
         × (x ≡ y) }
 {}
 
-/// Bytes that stand end to end are stuffed each for itself.
+/// Bytes and then others are stuffed each for themselves.
 pub fn stuffed_of_parts()
     ensures { (a b : List ℕ) → stuffed (a ++ b) ≡ stuffed a ++ stuffed b }
 {}
@@ -66,8 +66,8 @@ pub fn bits_are_bytes()
     ensures begun { (bits : List Bool) → length bits % 8 ≡ 0 → begun_after [] bits ≡ [] }
 {}
 
-/// Bits that are taken stand in the units between the two cursors, bits that stand there are taken, also from within a
-/// unit, and stuffed bytes are at most twice as many.
+/// The bits that are read are those of the units between the two cursors, those that are there are read, also from
+/// within a unit, and stuffed bytes are at most twice as many.
 pub fn bits_stand_in_units()
     ensures stand { TakenStand }
     ensures taken { StandingAreTaken }
@@ -75,8 +75,8 @@ pub fn bits_stand_in_units()
     ensures few { StuffedAreFew }
 {}
 
-/// Bits that are taken are the first of those that are peeked, then come those that are peeked next, and as many are
-/// peeked as are wanted.
+/// The bits that a peek gives are those that are read next, and then those that a peek after them gives. It gives N
+/// bits if it is asked for N.
 pub fn peeked_bits_are_taken()
     ensures first { ArePeeked }
     ensures many { PeekedAreAsMany }

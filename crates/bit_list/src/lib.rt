@@ -4,11 +4,11 @@
 //!     10111111  11111101              the bytes that they complete
 //!
 //!     bf    ff        d8    3f        coded bytes
-//!     bf    ff 00     d8    3f        stuffed: after 0xff stands a zero, so that no marker shows
+//!     bf    ff 00     d8    3f        stuffed: a zero after 0xff, so that no marker shows
 //!     ^     ^         ^     ^         the places of the units: what each coded byte became
 //!
 //! A byte begun waits in `BitOut`, whole bytes go to a `Piece`. `BitIn` reads units, from any bit on, several at once,
-//! and stops where the end of the bytes or a marker is due. What the bits mean is left to others.
+//! and stops at the end of the bytes or at a marker. Not handled here: what the bits mean (see `huff_table`).
 #![tactic(auto)]
 
 mod bit_in;

@@ -1,4 +1,4 @@
-// Bytes on their way out, in memory that is taken once.
+// Bytes on their way out, in memory that is allocated once.
 ghost use Rattle.std.specs.Prelude.{◌≡◌, ◌+◌, ◌-◌, ◌<◌, ◌≤◌, [], ◌∷◌, ◌++◌, length, take, IfOk};
 ghost use Rattle.bit_list.specs.Pieces.{piece_room};
 
@@ -8,7 +8,7 @@ use std::marker::Model;
 /// How many bytes a piece has room for: `piece_room` in clauses.
 pub const ROOM: usize = 8_192;
 
-/// Up to `ROOM` bytes, in memory that is taken once.
+/// Up to `ROOM` bytes, in memory that is allocated once.
 ///
 /// Clauses see the list of the bytes.
 #[derive(Drop)]
@@ -30,7 +30,7 @@ impl Model for Piece {
 }
 
 impl Piece {
-    /// No bytes yet. The one error is want of memory.
+    /// No bytes yet. The one error is out of memory.
     pub fn new(alloc: Global) -> Result<Piece, AllocError>
         ensures { IfOk result (λ p. p ≡ []) }
     {
@@ -67,14 +67,14 @@ impl Piece {
         &self.room[..self.used]
     }
 
-    /// Lets all bytes go.
+    /// Drops all bytes.
     pub fn clear(&mut self)
         ensures { self.new ≡ [] }
     {
         self.used = 0;
     }
 
-    /// Lets all bytes but the first ones go.
+    /// Drops all bytes but the first ones.
     pub fn back_to(&mut self, len: usize)
         requires { len ≤ length self.old }
         ensures { self.new ≡ take len self.old }

@@ -1,4 +1,5 @@
--- The 64 quantized coefficients of a block in natural order (ITU-T T.81, A.3.4), and how large each may be.
+-- Statement: the 64 quantized coefficients of a block in natural order, and how large each may be (ITU-T T.81,
+-- A.3.4).
 use Rattle.std.specs.Prelude.{◌≡◌, ℕ, ◌<◌, ◌≤◌, ◌==◌, List, length, ℤ, pos, unsigned_abs, slice_index_or, if◌then◌else◌}
 
 -- the largest magnitude of an AC coefficient: ten bits with samples of 8 bits (F.1.2.2, Table F.2)

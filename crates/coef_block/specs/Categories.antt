@@ -1,4 +1,4 @@
--- Categories of differences and coefficients (ITU-T T.81, F.1.2.1.2, F.1.2.2.1).
+-- Statement: categories of differences and coefficients (ITU-T T.81, F.1.2.1.2, F.1.2.2.1).
 use Rattle.std.specs.Prelude.{ℕ, length}
 use Rattle.std.specs.Int.Digits.{digits_of}
 

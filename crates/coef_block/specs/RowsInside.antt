@@ -1,4 +1,4 @@
--- What the fields of rows keep (own).
+-- View: what the fields of rows keep (own).
 use Rattle.std.specs.Prelude.{◌≡◌, ℕ, ◌<◌, ◌^◌, length, slice_index}
 use Rattle.coef_block.specs.TwoRows.{Extents, TwoRows, offset, block_count}
 use Rattle.coef_block.specs.declared.rows.Rows.TheInside.{Inside}

@@ -1,5 +1,5 @@
--- The blocks of two MCU rows by component, block row and block column (ITU-T T.81, A.2.3), and a block's neighbours
--- among them (own).
+-- Statement: the blocks of two MCU rows by component, block row and block column (ITU-T T.81, A.2.3), and a block's
+-- neighbours among them (own).
 use Rattle.std.specs.Prelude.{◌≡◌, ℕ, zero, suc, ◌+◌, ◌*◌, ◌-◌, Bool, false, if◌then◌else◌, List, ◌++◌, length, replicate, get_or, set, slice_index, ℤ, pos, Option, Some, None}
 
 -- how many blocks of each component, by its index in the frame, an MCU or an MCU row is wide and high; 0 after the
@@ -25,7 +25,7 @@ offset e (suc component) = offset e component + width e component * height e com
 abbrev pub block_count : Extents → ℕ
 block_count e = offset e 4
 
--- where a block stands among them: component after component, each row by row
+-- the index of a block among them: component after component, each row by row
 abbrev pub index_in : Extents → ℕ → ℕ → ℕ → ℕ
 index_in e component row column = offset e component + (row * width e component + column)
 
@@ -33,14 +33,14 @@ index_in e component row column = offset e component + (row * width e component 
 abbrev pub no_block : List ℤ
 no_block = replicate 64 (pos 0)
 
--- the blocks of this MCU row and of the one before, of `extents` each; `started` tells whether there was one before
+-- the blocks of this MCU row and of the one before, of `extents` each; `started` says whether there was one before
 pub record TwoRows : Type 0 where
   pub extents : Extents
   pub started : Bool
   pub before : List (List ℤ)
   pub here : List (List ℤ)
 
--- where a component's lowest block of a block column stands
+-- the index of a component's lowest block of a block column
 abbrev pub lowest_in : Extents → ℕ → ℕ → ℕ
 lowest_in e component column = index_in e component (height e component - 1) column
 

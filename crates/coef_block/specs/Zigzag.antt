@@ -1,5 +1,5 @@
--- The zigzag order of a block's 64 coefficients (ITU-T T.81, A.3.6, Figure A.6). A natural position is 8 times the row
--- plus the column, both from 0; a zigzag index counts the positions along the figure's walk.
+-- Statement: the zigzag order of a block's 64 coefficients (ITU-T T.81, A.3.6, Figure A.6). A natural position is 8
+-- times the row plus the column, both from 0; a zigzag index counts the positions along the figure's walk.
 use Rattle.std.specs.Prelude.{ℕ, ◌+◌, ◌-◌, ◌*◌, ◌/◌, ◌%◌, Bool, true, ◌&&◌, ◌==◌, List, [], ◌∷◌, length, if◌then◌else◌}
 
 -- the natural position at each zigzag index (Figure A.6), a diagonal a line
@@ -44,7 +44,7 @@ abbrev pub position_after : ℕ → ℕ → ℕ
 position_after row column =
     if (row + column) % 2 == 0 then position_upward row column else position_downward row column
 
--- whether the walk, once it has come to a position, goes over these positions (Figure A.6)
+-- whether the walk from a position goes over these positions (Figure A.6)
 abbrev pub walks_from : ℕ → List ℕ → Bool
 walks_from position [] = true
 walks_from position (p ∷ ps) =

@@ -11,7 +11,7 @@
 //!     10 ..
 //!
 //! A natural position is 8 times the row plus the column. The number of bits of a coefficient or of a difference
-//! is its category (Table F.1). Coding those bits is left to others.
+//! is its category (Table F.1). Not handled here: coding those bits (see `scan_write`, `scan_decode`).
 //!
 //! `Rows` keeps the blocks of two MCU rows, and gives those above, to the left and diagonally of one.
 #![tactic(auto)]

@@ -7,7 +7,7 @@ use std::alloc::{AllocError, Global};
 use std::marker::Model;
 
 /// The blocks of this MCU row and of the one before, as a block's neighbours are looked up: component after component,
-/// each by block row within the MCU row and by block column. Memory is taken once, for both rows.
+/// each by block row within the MCU row and by block column. Memory for both rows is allocated once.
 ///
 /// Clauses see the `TwoRows`.
 #[derive(Drop)]
@@ -64,7 +64,7 @@ impl Rows {
         2 * self.here.len() as u64
     }
 
-    /// The next MCU row begins. The blocks of this one are those of the row before then.
+    /// The next MCU row begins. The blocks of this one are then those of the row before.
     pub fn next_row(&mut self)
         ensures extents { self.new.extents ≡ self.old.extents }
         ensures started { self.new.started ≡ true }
@@ -115,7 +115,7 @@ impl Rows {
         Some(&self.here[self.index(component, row, column - 1)])
     }
 
-    /// The block above the one to the left; `None` where one of the two isn't there.
+    /// The block above the one to the left; `None` if one of the two isn't there.
     #[inline]
     pub fn diagonal(&self, component: usize, row: u32, column: u32) -> Option<&Block>
         requires component { component < 4 }
@@ -142,7 +142,7 @@ impl Rows {
         self.here[index] = *block;
     }
 
-    // Where a block of an MCU row stands.
+    // The index of a block of an MCU row.
     #[inline]
     fn index(&self, component: usize, row: u32, column: u32) -> usize
         requires component { component < 4 }
@@ -168,7 +168,7 @@ fn four_of(numbers: &[u32]) -> [u32; 4]
     four
 }
 
-// How many blocks stand before each component's, and how many there are.
+// How many blocks there are before each component's, and how many there are in all.
 fn offsets_of(widths: &[u32; 4], heights: &[u32; 4]) -> ([usize; 4], usize)
     requires { block_count (record { widths = widths.now; heights = heights.now }) < 2 ^ 32 }
     ensures offsets { (component : ℕ) → component < 4 → slice_index result.0 component

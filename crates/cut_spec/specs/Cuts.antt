@@ -1,4 +1,4 @@
--- Which rows of MCUs are a segment's (own; docs/FORMAT.md).
+-- Statement: which rows of MCUs a segment has (docs/FORMAT.md, Segments).
 use Rattle.std.specs.Prelude.{ℕ, ◌+◌, ◌-◌, ◌*◌, ◌/◌, min}
 
 -- rows of `across` MCUs each, from one row to before another, cut into segments (own)
@@ -12,7 +12,7 @@ pub record Cut : Type 0 where
 abbrev pub row_of : Cut → ℕ → ℕ
 row_of cut i = cut.from + i * (cut.to - cut.from) / cut.segments
 
--- how many MCUs of the grid come before segment i (own)
+-- how many MCUs of the grid are before segment i (own)
 abbrev pub first_mcu : Cut → ℕ → ℕ
 first_mcu cut i = cut.across * row_of cut i
 

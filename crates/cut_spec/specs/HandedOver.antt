@@ -1,4 +1,4 @@
--- A reader and a writer of a scan that start from a handover, and what a reader hands over (own).
+-- Steps: a reader and a writer of a scan that start from a handover, and what a reader hands over (own).
 use Rattle.std.specs.Prelude.{ℕ, ◌-◌, ◌==◌, if◌then◌else◌, Bool, List, [], length, take, get_or, None, Result, Ok, Err}
 use Rattle.bit_list.specs.Bits.{low_bits}
 use Rattle.bit_list.specs.Units.{Cursor, starting, bits_at}
@@ -12,17 +12,17 @@ use Rattle.handover.specs.Handovers.{HandoverFields}
 use Rattle.handover.specs.PadSums.{no_pads}
 use Rattle.cut_spec.specs.RowHandovers.{spot_of}
 
--- the cursor after bits, or another one where they aren't there
+-- the cursor after bits, or another one if they aren't there
 abbrev pub cursor_or : Cursor → Result (List Bool × Cursor) BitFault → Cursor
 cursor_or other (Ok taken) = taken.1
 cursor_or other (Err fault) = other
 
--- within the unit at a place, after its first bits; before the unit, with these left out, where none is there (own)
+-- within the unit at a place, after its first bits; before the unit, with these left out, if none is there (own)
 abbrev pub cursor_from : List ℕ → ℕ → ℕ → Cursor
 cursor_from bytes place bits =
     cursor_or (starting place bits) (bits_at bits bytes (starting place 0))
 
--- a standing at a handover after `count` MCUs (own): the bits of the byte begun are taken from the unit at the place,
+-- a standing at a handover after `count` MCUs (own): the bits of the byte begun are read from the unit at the place,
 -- and no pad bit was read
 abbrev pub standing_from : List ℕ → HandoverFields → ℕ → ℕ → Standing
 standing_from bytes h count place = record {
@@ -51,13 +51,13 @@ writer_from shape pads h count = record {
   stop = None;
 }
 
--- the bits that were taken of a unit begun (own)
+-- the bits that were read of a unit begun (own)
 abbrev pub begun_in : List ℕ → Cursor → List Bool
 begun_in bytes cursor =
     if length cursor.left == 0 then []
     else take (8 - length cursor.left) (low_bits 8 (get_or bytes cursor.last 0))
 
--- the spot at which a writer of what was read stands (own)
+-- the spot of a writer of what was read (own)
 abbrev pub spot_in : List ℕ → Standing → Spot
 spot_in bytes at =
     record { begun = begun_in bytes at.cursor; before = at.before; count = at.count }

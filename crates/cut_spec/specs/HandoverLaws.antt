@@ -1,4 +1,4 @@
--- What holds of readers at handovers (own).
+-- Law: what holds of readers at handovers (docs/FORMAT.md, Segments).
 use Rattle.std.specs.Prelude.{ℕ, ◌≡◌, ◌+◌, ◌-◌, ◌<◌, ◌≤◌, Bool, List, Ok}
 use Rattle.scan_spec.specs.Slots.{Shape}
 use Rattle.scan_spec.specs.Scans.{Mcu, pad_at}
@@ -9,8 +9,8 @@ use Rattle.scan_spec.specs.ScanReading.{Standing, standing_at, mcus_at}
 use Rattle.cut_spec.specs.HandedOver.{spot_in, standing_from}
 use Rattle.cut_spec.specs.RowHandovers.{handover_at, mcus_between}
 
--- where a reader stands that has read a scan's first n MCUs: at what these hand over, and at the place of the first
--- byte that they don't complete
+-- where a reader is that has read a scan's first n MCUs: at what these hand over, and at the place of the first byte
+-- that they don't complete
 pub record StandsAt (shape : Shape) (pads : ℕ → Bool) (mcus : List Mcu) (bytes : List ℕ)
     (place n : ℕ) (at : Standing) : Type 0 where
   pub spot : spot_in bytes at ≡ spot_at shape pads mcus n

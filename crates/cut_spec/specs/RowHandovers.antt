@@ -1,4 +1,5 @@
--- What is handed over between two MCUs of a scan, and which bytes the MCUs before complete (own; docs/FORMAT.md).
+-- Statement: what is handed over between two MCUs of a scan, and which bytes the MCUs before complete
+-- (docs/FORMAT.md, Segments).
 use Rattle.std.specs.Prelude.{ℕ, ◌-◌, Bool, false, List, ◌++◌, length, take, drop, replicate, min}
 use Rattle.bit_list.specs.Bits.{low_bits, number_of}
 use Rattle.scan_spec.specs.Slots.{Shape}

@@ -1,4 +1,4 @@
--- Segments joined are the scan (own).
+-- Law: segments joined are the scan (docs/FORMAT.md, Segments).
 use Rattle.std.specs.Prelude.{ℕ, zero, suc, ◌≡◌, ◌+◌, ◌*◌, ◌<◌, ◌≤◌, Bool, List, [], ◌∷◌, length, flat_map, Ok}
 use Rattle.scan_spec.specs.Slots.{Shape}
 use Rattle.scan_spec.specs.Scans.{Mcu, AreMcus, scan_bytes}
@@ -23,7 +23,7 @@ abbrev pub slices : (ℕ → ℕ → List ℕ) → (ℕ → ℕ) → ℕ → ℕ
 slices slice cut i zero = []
 slices slice cut i (suc more) = slice (cut i) (cut (i + 1)) ∷ slices slice cut (i + 1) more
 
--- slices of a scan are the scan, whatever the cuts are, if none stands before an earlier one
+-- slices of a scan are the scan, whatever the cuts are, if none is before an earlier one
 abbrev pub JoinedAreTheScan : Type 0
 JoinedAreTheScan =
     (shape : Shape) (pads : ℕ → Bool) (mcus : List Mcu) (scan : List ℕ) (cut : ℕ → ℕ)
@@ -41,7 +41,7 @@ RowsAreCuts =
     → (first_mcu cut 0 ≡ 0) × (first_mcu cut cut.segments ≡ cut.across * cut.to)
     × ((i : ℕ) → i < cut.segments → first_mcu cut i ≤ first_mcu cut (i + 1))
 
--- and where there are no more segments than rows, each has an MCU
+-- and if there are no more segments than rows, each has an MCU
 abbrev pub EachHasRows : Type 0
 EachHasRows =
     (cut : Cut) (i : ℕ) → cut.from ≡ 0 → cut.segments ≤ cut.to → i < cut.segments
@@ -53,7 +53,7 @@ HandoverIsSpot =
     (shape : Shape) (spot : Spot) → length spot.begun < 8
     → spot_of (handover_of shape spot) spot.count ≡ spot
 
--- between two MCUs fewer than eight bits are begun, and as many MCUs came before as were put
+-- between two MCUs fewer than eight bits are begun, and the count of MCUs is that of those that were put
 abbrev pub SpotsAreBegun : Type 0
 SpotsAreBegun =
     (shape : Shape) (pads : ℕ → Bool) (mcus : List Mcu) (from to : Spot) (bytes : List ℕ)

@@ -1,4 +1,4 @@
--- Worked segments (own).
+-- Rows: worked segments (own).
 use Rattle.std.specs.Prelude.{ℕ, ◌≡◌, Bool, true, List, [], ◌∷◌, map, Ok}
 use Rattle.scan_spec.specs.Scans.{Mcu, no_dcs}
 use Rattle.scan_spec.specs.Spots.{first_spot, mcus_put, bytes_done}

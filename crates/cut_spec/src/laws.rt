@@ -12,7 +12,7 @@ pub fn segments_joined_are_the_scan()
     ensures each_has_rows { EachHasRows }
 {}
 
-/// A handover determines where a writer stands, and no byte is whole that a handover has.
+/// A handover determines a writer's spot, and the byte that it has is never whole.
 pub fn handovers_are_spots()
     ensures spot { HandoverIsSpot }
     ensures begun { SpotsAreBegun }

@@ -2,11 +2,12 @@
 //! starts from (this project's own).
 //!
 //!     scan      3f .. 5b a1 | 0c .. ff 00 | 9e ..     the bytes that a segment's bits complete
-//!     bits            ...101|00 ...     11|1..        what is begun goes on in the next segment
+//!     bits            ...101|00 ...     11|1..        a byte begun continues in the next segment
 //!     handover             101              11        its bits, the last DCs, the restart markers before
 //!
 //! These are definitions with their laws, for whatever reads or writes a segment of a scan: segments joined are the
-//! scan, and a segment is read from its handover alone. How a segment is coded is left to others.
+//! scan, and a segment is read from its handover alone. Not handled here: how a segment is coded (see
+//! `container_spec`).
 #![tactic(auto)]
 
 mod laws;

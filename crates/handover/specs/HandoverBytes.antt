@@ -1,4 +1,4 @@
--- The fourteen bytes of a handover, and back (this project's own; docs/FORMAT.md).
+-- Statement: the fourteen bytes of a handover, and back (docs/FORMAT.md, The container).
 use Rattle.std.specs.Prelude.{ℕ, ◌-◌, ◌%◌, ◌^◌, ◌<◌, ◌≡◌, Bool, ◌&&◌, ◌==◌, nat_le, List, [], ◌∷◌, ◌++◌, length, map, flat_map, drop, slice_index, ℤ, unsigned_abs, IsTrue}
 use Rattle.std.specs.Int.{w16, cast_unsigned, cast_signed}
 use Rattle.std.specs.List.{AllByRecursion, list_all}

@@ -1,4 +1,4 @@
--- A handover's fields as the program keeps them, and back (this project's own).
+-- View: a handover's fields as the program keeps them, and back (own).
 use Rattle.handover.specs.Handovers.{HandoverFields}
 use Rattle.handover.specs.declared.handover.Handover.TheInside.{Inside}
 

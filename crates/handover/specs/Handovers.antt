@@ -1,4 +1,4 @@
--- What a segment of a scan starts from, by its fields (this project's own).
+-- Statement: what a segment of a scan starts from, by its fields (docs/FORMAT.md, Segments).
 use Rattle.std.specs.Prelude.{ℕ, ◌-◌, ◌%◌, ◌^◌, ◌<◌, ◌≤◌, ◌≡◌, List, length, replicate, All, ℤ, pos}
 use Rattle.coef_block.specs.Block.{IsDc}
 

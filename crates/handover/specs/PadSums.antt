@@ -1,4 +1,4 @@
--- What restart intervals were padded with (this project's own; docs/FORMAT.md).
+-- Statement: what restart intervals were padded with (docs/FORMAT.md, Pad bits).
 use Rattle.std.specs.Prelude.{false, ◌||◌}
 use Rattle.handover.specs.declared.pads.PadSum.{PadSum}
 

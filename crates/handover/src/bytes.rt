@@ -24,7 +24,7 @@ impl Handover {
         bytes
     }
 
-    /// The handover with these bytes; none where they are no handover's: more than 7 bits are begun, a bit after them
+    /// The handover with these bytes; none if they are no handover's: more than 7 bits are begun, a bit after them
     /// isn't 0, or a predictor is -32768.
     pub fn from_bytes(bytes: &[u8; 14]) -> Option<Handover>
         ensures some { IfSome result (λ h. h ≡ handover_in bytes.now) }

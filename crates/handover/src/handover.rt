@@ -88,7 +88,7 @@ impl Handover {
         self.preds
     }
 
-    /// How many restart markers come before.
+    /// How many restart markers there are before.
     pub fn restarts(&self) -> u32
         ensures { result ≡ self.now.restarts }
     {

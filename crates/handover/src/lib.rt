@@ -1,11 +1,11 @@
 //! Where a segment of a scan starts, and how it ends (this project's own).
 //!
 //!     .. b7 ff 00 | 10100... |  a byte begun: partial 0xa0, bits 3
-//!                    ^ the segment goes on with this bit
+//!                    ^ the segment continues with this bit
 //!
 //! A scan is cut into segments so that several workers decode it. What one of them leaves to the next is a
-//! `Handover`. An `Outcome` says how the segment's stream ended, and what its restart intervals were padded with. Which
-//! bits and bytes a segment has is left to others.
+//! `Handover`. An `Outcome` says how the segment's stream ended, and what its restart intervals were padded with. Not
+//! handled here: which bits and bytes a segment has (see `cut_spec`).
 #![tactic(auto)]
 
 mod bytes;

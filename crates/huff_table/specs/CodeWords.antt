@@ -1,4 +1,4 @@
--- The code words of a Huffman table (ITU-T T.81, Annex C).
+-- Statement: the code words of a Huffman table (ITU-T T.81, Annex C).
 use Rattle.std.specs.Prelude.{ℕ, ◌+◌, ◌-◌, ◌^◌, Bool, ◌&&◌, List, [], ◌∷◌, ◌++◌, length, replicate, sum_by, Option, option_map, ◌==◌}
 use Rattle.std.specs.List.{find}
 use Rattle.bit_list.specs.Bits.{low_bits, number_of}
@@ -10,14 +10,13 @@ pub record CodeWord : Type 0 where
   pub size : ℕ
   pub code : ℕ
 
--- how many bits each code word has, in turn, where the first count is of this size and each further one of the next
--- (C.2)
+-- how many bits each code word has, in turn, if the first count is of this size and each further one of the next (C.2)
 abbrev pub sizes_from : ℕ → List ℕ → List ℕ
 sizes_from size [] = []
 sizes_from size (count ∷ counts) = replicate count size ++ sizes_from (size + 1) counts
 
 -- How many words of a size begin with one of the code words of these sizes. The next code word is the first word after
--- them: one more than the last of its size, with zeros appended where it is longer (C.2).
+-- them: one more than the last of its size, with zeros appended if it is longer (C.2).
 abbrev pub taken : List ℕ → ℕ → ℕ
 taken sizes size = sum_by (λ earlier. 2 ^ (size - earlier)) sizes
 

@@ -1,4 +1,4 @@
--- How the code words of a table are kept by value (own).
+-- View: how the code words of a table are kept by value (own).
 use Rattle.std.specs.Prelude.{◌≡◌, List, fold, replicate, slice_set}
 use Rattle.jpeg_marker.specs.HuffmanTables.{TableFields, IsTable}
 use Rattle.jpeg_marker.specs.AcceptedPlans.{AreBytes}

@@ -1,4 +1,4 @@
--- The code words of one size, in turn: what the code goes over (own).
+-- Steps: the code words of one size after another, as the code goes over them (own).
 use Rattle.std.specs.Prelude.{ℕ, ◌+◌, ◌-◌, ◌*◌, List, [], ◌∷◌, ◌++◌, take, drop, Option, None, nat_le, slice_get, if◌then◌else◌}
 use Rattle.huff_table.specs.CodeWords.{CodeWord}
 

@@ -1,4 +1,4 @@
--- The tables of each component of a plan (own).
+-- Statement: the tables of each component of a plan (ITU-T T.81, B.2.3), and how they are kept (own).
 use Rattle.std.specs.Prelude.{◌≡◌, ◌-◌, ◌≤◌, ◌++◌, List, length, take, replicate, get_or}
 use Rattle.std.specs.List.{AllByRecursion}
 use Rattle.jpeg_marker.specs.HuffmanTables.{no_table}
@@ -11,7 +11,7 @@ use Rattle.huff_table.specs.declared.plan_codes.PlanCodes.TheInside.{Inside}
 abbrev pub tables_of : Component → ComponentCodes
 tables_of c = record { dc = c.dc; ac = c.ac }
 
--- a component without tables, where none is (own)
+-- what is kept if there is no component (own)
 abbrev pub no_codes : ComponentCodes
 no_codes = record { dc = no_table; ac = no_table }
 
@@ -23,7 +23,7 @@ filled all = all ++ replicate (4 - length all) (get_or all 0 no_codes)
 abbrev pub components_of : Inside → List ComponentCodes
 components_of p = take p.count p.components
 
--- nothing else stands after the last one, so that the components determine what is kept
+-- there is nothing else after the last one, so that the components determine what is kept
 pub record AreComponents (p : Inside) : Type 0 where
   pub few : length (components_of p) ≤ 4
   pub long : length (components_of p) ≡ p.count

@@ -1,4 +1,5 @@
--- The values of code words of at most nine bits, by the next nine bits (own; F.2.2.3 finds them bit by bit).
+-- View: the values of code words of at most nine bits, kept by the next nine bits (own; F.2.2.3 finds them bit by
+-- bit).
 use Rattle.std.specs.Prelude.{ℕ, zero, suc, ◌+◌, Bool, List, map, take, Option, Some, None}
 use Rattle.std.specs.List.{range_with_len}
 use Rattle.bit_list.specs.Bits.{low_bits}
@@ -15,7 +16,7 @@ abbrev pub short_or : Option ℕ → ℕ → ShortWord → ShortWord
 short_or (Some value) size longer = record { value = value; size = size }
 short_or None size longer = longer
 
--- the first of so many sizes, from one on, of which the first of these bits are a code word (own)
+-- the first size from `size` on, of at most `more` of them, of which the first of these bits are a code word (own)
 unfoldable pub short_from : TableFields → List Bool → ℕ → ℕ → ShortWord
 short_from table bits size zero = no_short
 short_from table bits size (suc more) =

@@ -1,4 +1,5 @@
--- A table of the standard with its code words (ITU-T T.81, Table K.3): categories of DC differences of luminance.
+-- Rows: a table of the standard with its code words: categories of DC differences of luminance (ITU-T T.81, Table
+-- K.3).
 use Rattle.std.specs.Prelude.{ℕ, List, [], ◌∷◌}
 use Rattle.jpeg_marker.specs.HuffmanTables.{TableFields}
 use Rattle.huff_table.specs.CodeWords.{CodeWord}

@@ -85,8 +85,8 @@ impl Codes {
         Some((word.code, word.size))
     }
 
-    /// The value whose code word nine bits begin with, as a number, and how many bits that word has: none where no
-    /// word of at most nine bits does.
+    /// The value whose code word nine bits begin with, as a number, and how many bits that word has: none if they
+    /// begin with no word of at most nine bits.
     #[inline]
     pub fn quick(&self, index: u16) -> Option<(u8, u8)>
         requires { index < 512 }
@@ -104,8 +104,8 @@ impl Codes {
         Some((found.value, found.size))
     }
 
-    /// Takes the value whose code word stands next. A fault leaves the input after the bits that were looked at, 16
-    /// at most.
+    /// Reads the next code word, and answers its value. A fault leaves the input after the bits that were read, 16 at
+    /// most.
     #[inline(always)]
     pub fn next(&self, input: &mut BitIn) -> Result<u8, CodeFault>
         ensures ok { IfOk result

@@ -1,15 +1,15 @@
-// Why no value can be taken.
+// Why no value can be read.
 ghost use Rattle.huff_table.specs.declared.fault.CodeFault.TheVariants.{Bits};
 ghost use Rattle.std.specs.Prelude.{◌≡◌};
 
 use bit_list::BitFault;
 
-/// Why no value can be taken.
+/// Why no value can be read.
 #[derive(Clone, Copy, Debug, PartialEq, Eq)]
 pub enum CodeFault {
     /// A bit that is due isn't there.
     Bits(BitFault),
-    /// The sixteen bits due are no code word, and no first ones of them are; `place` is that of the last one's unit.
+    /// The sixteen bits due don't begin with a code word; `place` is that of the last one's unit.
     NoWord { place: usize },
 }
 

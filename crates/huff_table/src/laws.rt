@@ -20,7 +20,7 @@ pub fn words_are_values()
         → ((word_of table value ≡ Some bits) ↔ (value_of table bits ≡ Some value)) }
 {}
 
-/// A code word that stands next is taken for its value, and what is taken for a value is its code word.
+/// If a code word is next, its value is read; and if a value is read, its code word was next.
 pub fn a_word_is_read()
     ensures { (table : TableFields) (bytes : List ℕ) (from to : Cursor) (value : ℕ) → IsTable table
         → ((value_at table bytes from ≡ Ok (value, to))
@@ -28,7 +28,7 @@ pub fn a_word_is_read()
         × (bits_at (length word) bytes from ≡ Ok (word, to)))) }
 {}
 
-/// A fault comes exactly where sixteen bits are due that are no code word, or fewer and then one that isn't there.
+/// A fault is answered exactly if the next sixteen bits begin with no code word, or fewer do and then no bit is there.
 pub fn a_fault_is_no_word()
     ensures { (table : TableFields) (bytes : List ℕ) (from : Cursor) (fault : CodeFault)
         → IsTable table

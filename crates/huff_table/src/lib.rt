@@ -7,9 +7,9 @@
 //!                                         zeros appended
 //!     |-------------|------|---|---|      what begins with each of them, among all words of one length
 //!
-//! `Codes` gives a value's code word, and takes the value whose word stands next in a scan's bits: a word of at most
-//! nine bits by a table, a longer one bit by bit. It takes no memory.
-//! What values mean is left to others.
+//! `Codes` gives a value's code word, and reads the value of the next word of a scan's bits: a word of at most nine
+//! bits by a table, a longer one bit by bit. It allocates nothing.
+//! Not handled here: what values mean (see `scan_spec`).
 #![tactic(auto)]
 
 mod codes;

@@ -1,6 +1,6 @@
 // Code words as they are kept.
 
-/// A code word as a number, and how many bits it has: none where a value has no word.
+/// A code word as a number, and how many bits it has: none if a value has no word.
 #[derive(Clone, Copy)]
 pub(crate) struct Word {
     pub(crate) code: u16,
@@ -10,7 +10,7 @@ pub(crate) struct Word {
 /// No code word.
 pub(crate) const NONE: Word = Word { code: 0, size: 0 };
 
-/// A value and how many bits its code word has, at most nine: none where nine bits begin with no such word.
+/// A value and how many bits its code word has, at most nine: none if nine bits begin with no such word.
 #[derive(Clone, Copy)]
 pub(crate) struct ShortWord {
     pub(crate) value: u8,

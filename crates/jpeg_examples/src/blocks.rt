@@ -66,7 +66,7 @@ fn first_and_last_coefficient(rt: HostRuntime) {
     assert!(rt; kept != block);
 }
 
-// The DC of a block that may be there; 0 where it isn't.
+// The DC of a block that may be there; 0 if it isn't.
 fn dc_of(block: Option<&Block>) -> i16 {
     match block {
         Some(block) => block.get(0),

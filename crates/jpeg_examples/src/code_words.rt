@@ -154,7 +154,7 @@ fn are_both_read(codes: &Codes) -> bool {
         && codes.word(0) == Some((1, 1))
 }
 
-// Nine bits, and what is found by them: where there are two words, and where there is one.
+// Nine bits, and what is found by them: if there are two words, and if there is one.
 const NINE_BITS: &[(u16, Option<(u8, u8)>, Option<(u8, u8)>)] = &[
     (0, Some((0xf0, 1)), Some((7, 1))),
     (255, Some((0xf0, 1)), Some((7, 1))),
@@ -182,7 +182,7 @@ const MARKER_AT_1: Result<u8, CodeFault> = Err(CodeFault::Bits(BitFault::MarkerI
     place: 1,
 }));
 
-// The last symbols of a scan, where fewer than nine bits are left, and what comes then, by Table K.5: words of eight
+// The last symbols of a scan, if fewer than nine bits are left, and what follows them, by Table K.5: words of eight
 // bits and of four, of nine and of ten with eight bits there, and of twelve across a stuffed byte.
 const LAST: &[(&[u8], [Result<u8, CodeFault>; 3])] = &[
     (&[0xf8], [Ok(0x07), CUT_AT_1, CUT_AT_1]),

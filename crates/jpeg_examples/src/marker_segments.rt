@@ -3,7 +3,7 @@ use jpeg_marker::{Plan, read_header};
 use std::alloc::Global;
 use std::process::Abort;
 
-// The bytes of segments, one after the other. `own` is what stands for OWN.
+// The bytes of segments, one after the other. `own` is put for OWN.
 pub(crate) fn joined(rt: &impl Abort, alloc: Global, segments: &[usize], own: &[u8]) -> Vec<u8> {
     let mut bytes = Vec::new(alloc);
     for number in segments {

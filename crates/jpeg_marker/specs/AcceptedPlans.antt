@@ -1,4 +1,4 @@
--- What holds of the plan of every header that is taken (ITU-T T.81, B.2).
+-- Law: what holds of the plan of every header that is accepted (ITU-T T.81, B.2).
 use Rattle.std.specs.Prelude.{ℕ, ◌<◌, ◌≤◌, List, ◌++◌, length, take}
 use Rattle.std.specs.List.{AllByRecursion}
 use Rattle.jpeg_marker.specs.HuffmanTables.{IsTable}
@@ -25,7 +25,7 @@ pub record HasPlan (bytes : List ℕ) (plan : PlanFields) : Type 0 where
   pub within : plan.header_length ≤ length bytes
   pub alone : (rest : List ℕ) → Accepts (take plan.header_length bytes ++ rest) plan
 
--- every header that is taken has such a plan
+-- every accepted header has such a plan
 abbrev pub AcceptedHasPlan : Type 0
 AcceptedHasPlan =
     (bytes : List ℕ) (plan : PlanFields) → AreBytes bytes → Accepts bytes plan

@@ -1,4 +1,4 @@
--- What stands where there is no component (own).
+-- View: what is kept after the last component (own).
 use Rattle.jpeg_marker.specs.HuffmanTables.{no_table}
 use Rattle.jpeg_marker.specs.declared.component.Component.{Component}
 

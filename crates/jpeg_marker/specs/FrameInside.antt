@@ -1,4 +1,4 @@
--- A frame by its fields, and what holds of them (own).
+-- View: a frame by its fields, and what holds of them (own).
 use Rattle.std.specs.Prelude.{◌≡◌, length, take}
 use Rattle.jpeg_marker.specs.Frames.{FrameFields, IsFrame}
 use Rattle.jpeg_marker.specs.declared.frame.Frame.TheInside.{Inside}

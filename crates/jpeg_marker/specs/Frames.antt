@@ -1,4 +1,4 @@
--- The frame of a header (ITU-T T.81, B.2.2).
+-- Statement: the frame of a header (ITU-T T.81, B.2.2).
 use Rattle.std.specs.Prelude.{ℕ, ◌+◌, ◌*◌, ◌/◌, ◌%◌, ◌≤◌, Bool, not, List, [], ◌∷◌, length, drop, map, sum_by, flat_map, get_or, ◌==◌, ◌&&◌, ◌||◌, nat_lt, nat_le, Option, Some, None, if◌then◌else◌, IsTrue}
 use Rattle.std.specs.List.{list_all}
 use Rattle.jpeg_marker.specs.declared.refusal.HeaderRefusal.{HeaderRefusal}

@@ -1,5 +1,5 @@
--- Which segments a header may have, and where it stops being one (ITU-T T.81, B.1.1, B.2). Places are
--- offsets of bytes from the file's first.
+-- Statement: which segments a header may have, and where bytes stop being a header (ITU-T T.81, B.1.1, B.2). Places
+-- are offsets of bytes from the file's first.
 use Rattle.std.specs.Prelude.{ℕ, ◌+◌, ◌≡◌, List, [], ◌∷◌, ◌++◌, length, flat_map, ◌==◌, nat_lt, not, Option, Some, None, if◌then◌else◌, unwrap_or, IsTrue}
 use Rattle.jpeg_marker.specs.declared.refusal.HeaderRefusal.{HeaderRefusal}
 use Rattle.jpeg_marker.specs.declared.refusal.HeaderRefusal.TheVariants.{HeaderCut, MarkerBad, NotBaseline, LengthBad}
@@ -18,12 +18,12 @@ interval_fault at body = if length body == 2 then None else Some (LengthBad at)
 abbrev pub intervals_in : Segment → List ℕ
 intervals_in s = if s.code == 0xdd then number_at s.body ∷ [] else []
 
--- the restart interval of the last segment that gives one, and 0 where none does (B.2.4.4)
+-- the restart interval of the last segment that gives one, and 0 if none does (B.2.4.4)
 abbrev pub interval_of : List Segment → ℕ
 interval_of segments = unwrap_or (last_of (flat_map intervals_in segments)) 0
 
 -- The first check that a segment with this code and body fails after a frame, if any, and with some tables,
--- its length at a place. What no check speaks of is passed.
+-- its length at a place. A segment of another code passes.
 abbrev pub body_fault : Option FrameFields → (ℕ → ℕ → Option TableFields) → ℕ → ℕ → List ℕ
     → Option HeaderRefusal
 body_fault frame table at code body =
@@ -37,16 +37,16 @@ body_fault frame table at code body =
 abbrev pub fault_of : List Segment → ℕ → Segment → Option HeaderRefusal
 fault_of before at s = body_fault (frame_of before) (table_of before) at s.code s.body
 
--- where a segment's length stands after the segments before it
+-- the place of a segment's length after the segments before it
 abbrev pub length_place : List Segment → Segment → ℕ
 length_place before s = length (header_text before) + s.fill + 2
 
--- a segment that may stand after those before it
+-- a segment that may follow those before it
 pub record IsGood (before : List Segment) (s : Segment) : Type 0 where
   pub whole : IsWhole s
   pub checked : fault_of before (length_place before s) s ≡ None
 
--- each of the segments may stand after those before it, of which some came already
+-- each of the segments may follow those before it, of which `before` are the first
 abbrev pub AreGoodAfter : List Segment → List Segment → Type 0
 AreGoodAfter before [] = Unit {0}
 AreGoodAfter before (s ∷ segments) = IsGood before s × AreGoodAfter (before ++ s ∷ []) segments
@@ -87,7 +87,7 @@ stuck_after place (byte ∷ bytes) =
     if byte == 0xff then stuck_after (place + 1) bytes
     else or_else (code_fault place byte) (length_fault (place + 1) bytes)
 
--- What keeps a whole segment from standing at a place, if anything does: no byte, or none of 0xff.
+-- Why there is no whole segment at a place, if there is none: no byte, or none of 0xff.
 abbrev pub stuck_at : ℕ → List ℕ → Option HeaderRefusal
 stuck_at place [] = Some HeaderCut
 stuck_at place (byte ∷ bytes) =

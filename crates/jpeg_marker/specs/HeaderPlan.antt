@@ -1,4 +1,4 @@
--- The headers that are taken, with what they say, and why others are refused (ITU-T T.81, B.2.1).
+-- Statement: the headers that are accepted, with what they say, and why others are refused (ITU-T T.81, B.2.1).
 use Rattle.std.specs.Prelude.{ℕ, ◌≡◌, ◌≢◌, ◌⊎◌, List, [], ◌∷◌, ◌++◌, length, take, Option, Some}
 use Rattle.jpeg_marker.specs.declared.refusal.HeaderRefusal.{HeaderRefusal}
 use Rattle.jpeg_marker.specs.declared.refusal.HeaderRefusal.TheVariants.{NotJpeg}
@@ -29,8 +29,8 @@ pub record Accepts (bytes : List ℕ) (plan : PlanFields) : Type 0 where
   pub text : bytes ≡ header_text (before ++ scan ∷ []) ++ rest
   pub says : plan_of before scan ≡ Some plan
 
--- the bytes go on after some good segments, none of them a scan's, and there no whole segment stands, or one
--- that fails a check
+-- after some good segments, none of them a scan's, the bytes continue with no whole segment, or with one that fails
+-- a check
 abbrev pub IsStuck : List Segment → List ℕ → HeaderRefusal → Type 0
 IsStuck before rest refusal =
     (stuck_at (length (header_text before)) rest ≡ Some refusal)

@@ -1,4 +1,4 @@
--- Why a header is refused, by number, and what a check of the code says (own).
+-- Statement: the refusals of headers by number (docs/JPEG.md, Headers), and the first of two.
 use Rattle.std.specs.Prelude.{ℕ, Option, Some, None, Result, Ok, Err}
 use Rattle.jpeg_marker.specs.declared.refusal.HeaderRefusal.{HeaderRefusal}
 use Rattle.jpeg_marker.specs.declared.refusal.HeaderRefusal.TheVariants.{NotJpeg, HeaderCut, MarkerBad, NotBaseline, LengthBad, FrameTwice, PrecisionBad, SizeZero, ComponentsBad, TableBad, NoFrame, MultiScan, ScanParams, NoTable, TooManyBlocks}
@@ -21,7 +21,7 @@ number_of ScanParams = 13
 number_of NoTable = 14
 number_of TooManyBlocks = 15
 
--- the refusal that a check came to, if any
+-- the refusal that a check answers, if any
 abbrev pub fault_in : {A : Type 0} → Result A HeaderRefusal → Option HeaderRefusal
 fault_in (Ok found) = None
 fault_in (Err refusal) = Some refusal

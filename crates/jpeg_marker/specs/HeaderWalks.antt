@@ -1,4 +1,4 @@
--- What the walk over segments knows on its way (own).
+-- Steps: what is known of the segments between two of them (own).
 use Rattle.std.specs.Prelude.{ℕ, ◌≡◌, List, ◌++◌, length}
 use Rattle.jpeg_marker.specs.MarkerSegments.{Segment, header_text}
 use Rattle.jpeg_marker.specs.HuffmanTables.{tables_of}
@@ -13,7 +13,7 @@ pub record Knows (found : Definitions) (segments : List Segment) : Type 0 where
   pub tables : Holds found.tables (tables_of segments)
   pub interval : found.interval ≡ interval_of segments
 
--- the walk has come to a place, after good segments without a scan
+-- the walk is at a place, after good segments without a scan
 pub record Walked (bytes rest : List ℕ) (place : ℕ) (found : Definitions) : Type 0 where
   pub segments : List Segment
   pub passed : ArePassed segments

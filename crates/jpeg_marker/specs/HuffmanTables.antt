@@ -1,10 +1,9 @@
--- The tables that segments define (ITU-T T.81, B.2.4.2).
+-- Statement: the tables that segments define (ITU-T T.81, B.2.4.2).
 use Rattle.std.specs.Prelude.{ℕ, zero, suc, ◌+◌, ◌*◌, ◌/◌, ◌%◌, ◌^◌, ◌≡◌, ◌≤◌, Bool, true, not, List, [], ◌∷◌, length, take, drop, sum, filter, flat_map, replicate, ◌==◌, ◌&&◌, Option, option_map, if◌then◌else◌, nat_eq}
 use Rattle.std.specs.List.{list_any, IsDistinct}
 use Rattle.jpeg_marker.specs.MarkerSegments.{Segment, last_of}
 
--- how many code words there are of each length from 1 to 16, and the values that they stand for, by
--- rising length
+-- how many code words there are of each length from 1 to 16, and the values that they stand for, by rising length
 pub record TableFields : Type 0 where
   pub counts : List ℕ
   pub values : List ℕ
@@ -55,7 +54,7 @@ latest class number tables =
 abbrev pub table_of : List Segment → ℕ → ℕ → Option TableFields
 table_of segments class number = latest class number (tables_of segments)
 
--- no value stands twice
+-- no value occurs twice
 abbrev pub distinct : List ℕ → Bool
 distinct [] = true
 distinct (x ∷ xs) = not (list_any (nat_eq x) xs) && distinct xs

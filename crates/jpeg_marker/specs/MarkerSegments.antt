@@ -1,4 +1,4 @@
--- Marker segments and the bytes that spell them (ITU-T T.81, B.1.1). Clauses are the standard's.
+-- Statement: marker segments and the bytes that spell them (ITU-T T.81, B.1.1). Clauses are the standard's.
 use Rattle.std.specs.Prelude.{ℕ, ◌+◌, ◌*◌, ◌/◌, ◌%◌, ◌^◌, ◌<◌, Bool, List, [], ◌∷◌, ◌++◌, length, replicate, flat_map, ◌==◌, ◌||◌, nat_le, ◌&&◌, Option, Some, None, fold, IsTrue}
 
 -- A marker segment: how many further bytes of 0xff fill the place before its marker (B.1.1.2), the
@@ -12,7 +12,7 @@ pub record Segment : Type 0 where
 abbrev pub two_bytes : ℕ → List ℕ
 two_bytes n = n / 256 ∷ n % 256 ∷ []
 
--- the number in the first two bytes, the high one first, and 0 where there are fewer
+-- the number in the first two bytes, the high one first, and 0 if there are fewer
 abbrev pub number_at : List ℕ → ℕ
 number_at [] = 0
 number_at (high ∷ []) = 0
@@ -33,7 +33,7 @@ is_other_process code =
     (nat_le 0xc1 code && nat_le code 0xc3) || (nat_le 0xc5 code && nat_le code 0xcf) || code == 0xdc
     || code == 0xde || code == 0xdf
 
--- what may stand in a header: SOF0, DHT, SOS, DQT, DRI, an application's segment and a comment (Table B.1)
+-- the codes that a header may have: SOF0, DHT, SOS, DQT, DRI, an application's segment and a comment (Table B.1)
 abbrev pub is_known : ℕ → Bool
 is_known code =
     code == 0xc0 || code == 0xc4 || code == 0xda || code == 0xdb || code == 0xdd

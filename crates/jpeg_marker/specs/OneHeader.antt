@@ -1,4 +1,4 @@
--- Bytes say one thing (ITU-T T.81, B.1.1, B.2.1).
+-- Law: bytes have one header, or none and one refusal (ITU-T T.81, B.1.1, B.2.1).
 use Rattle.std.specs.Prelude.{ℕ, ◌≡◌, List, [], ◌∷◌, ◌++◌}
 use Rattle.jpeg_marker.specs.declared.refusal.HeaderRefusal.{HeaderRefusal}
 use Rattle.jpeg_marker.specs.MarkerSegments.{Segment, header_text}

@@ -1,4 +1,4 @@
--- A plan by its fields, and what holds of them (own).
+-- View: a plan by its fields, and what holds of them (own).
 use Rattle.std.specs.Prelude.{◌-◌, ◌≡◌, ◌++◌, length, take, replicate}
 use Rattle.jpeg_marker.specs.Plans.{PlanFields, IsPlan}
 use Rattle.jpeg_marker.specs.Components.{no_component}
@@ -15,7 +15,7 @@ plan_fields p = record {
   blocks = p.blocks;
 }
 
--- no component stands after the last one, so that the components determine what is kept
+-- there is no component after the last one, so that the components determine what is kept
 pub record IsPlanInside (p : Inside) : Type 0 where
   pub plan : IsPlan (plan_fields p)
   pub long : length (take p.count p.components) ≡ p.count

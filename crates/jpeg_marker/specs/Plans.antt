@@ -1,4 +1,4 @@
--- What a header says in the end (ITU-T T.81, A.1.1, A.2, B.2.3).
+-- Statement: what a header says as a whole (ITU-T T.81, A.1.1, A.2, B.2.3).
 use Rattle.std.specs.Prelude.{ℕ, ◌+◌, ◌-◌, ◌*◌, ◌/◌, ◌%◌, ◌≡◌, ◌≤◌, max, fold, Bool, true, false, not, List, [], ◌∷◌, length, drop, take, map, sum_by, get_or, ◌==◌, ◌&&◌, ◌||◌, nat_lt, nat_le, Option, Some, None, option_map, if◌then◌else◌, IsTrue}
 use Rattle.std.specs.List.{list_all}
 use Rattle.jpeg_marker.specs.declared.refusal.HeaderRefusal.{HeaderRefusal}
@@ -81,11 +81,11 @@ components_of table (p ∷ parts) (s ∷ selectors) =
 abbrev pub largest : (FrameComponent → ℕ) → List FrameComponent → ℕ
 largest factor parts = fold (λ most p. max most (factor p)) 1 parts
 
--- MCUs that cover these samples, each as wide, or as high, as that many blocks of eight samples (A.2.4)
+-- MCUs that cover these samples, each as wide, or as high, as `blocks` blocks of eight samples (A.2.4)
 abbrev pub cover : ℕ → ℕ → ℕ
 cover samples blocks = (samples + (8 * blocks - 1)) / (8 * blocks)
 
--- MCUs across and down: of one block where there is one component (A.2.2), else as A.2.3 has them
+-- MCUs across: of one block if there is one component (A.2.2), else as A.2.3 has them
 abbrev pub across_of : FrameFields → ℕ
 across_of f = cover f.width (if length f.parts == 1 then 1 else largest (λ p. p.h) f.parts)
 
@@ -101,7 +101,7 @@ blocks_in_mcu parts = if length parts == 1 then 1 else sum_by area parts
 abbrev pub blocks_of : FrameFields → ℕ
 blocks_of f = across_of f * down_of f * blocks_in_mcu f.parts
 
--- the most blocks of a grid that is taken (own)
+-- the most blocks of a grid that is accepted (own)
 abbrev pub most_blocks : ℕ
 most_blocks = 16777216
 

@@ -1,4 +1,4 @@
--- What is checked of a segment of tables (ITU-T T.81, B.2.4.2).
+-- Statement: what is checked of a segment of tables (ITU-T T.81, B.2.4.2).
 use Rattle.std.specs.Prelude.{ℕ, Bool, zero, suc, ◌+◌, ◌/◌, ◌%◌, ◌^◌, List, [], ◌∷◌, length, take, sum, Option, Some, None, nat_lt, nat_le, ◌&&◌, ◌||◌, if◌then◌else◌}
 use Rattle.jpeg_marker.specs.declared.refusal.HeaderRefusal.{HeaderRefusal}
 use Rattle.jpeg_marker.specs.declared.refusal.HeaderRefusal.TheVariants.{LengthBad, TableBad}

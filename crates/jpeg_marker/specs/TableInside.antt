@@ -1,4 +1,4 @@
--- A table by its fields, and what holds of them (own).
+-- View: a table by its fields, and what holds of them (own).
 use Rattle.std.specs.Prelude.{◌-◌, ◌≡◌, ◌++◌, length, take, replicate}
 use Rattle.jpeg_marker.specs.HuffmanTables.{TableFields, IsTable}
 use Rattle.jpeg_marker.specs.declared.table.RawTable.TheInside.{Inside}
@@ -7,7 +7,7 @@ use Rattle.jpeg_marker.specs.declared.table.RawTable.TheInside.{Inside}
 abbrev pub fields_of : Inside → TableFields
 fields_of t = record { counts = t.counts; values = take t.length t.values }
 
--- zeros stand after the last value, so that the values determine what is kept
+-- after the last value there are zeros, so that the values determine what is kept
 pub record AreFields (t : Inside) : Type 0 where
   pub table : IsTable (fields_of t)
   pub long : length (take t.length t.values) ≡ t.length

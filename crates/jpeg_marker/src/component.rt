@@ -15,7 +15,7 @@ pub struct Component {
 }
 
 impl Component {
-    /// What stands where there is no component.
+    /// What is kept after the last component.
     pub(crate) fn none() -> Component
         ensures { result ≡ no_component }
     {

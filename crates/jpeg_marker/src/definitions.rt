@@ -1,4 +1,4 @@
-// What the segments before a scan say.
+// What the segments before a scan say (ITU-T T.81, B.2.4).
 ghost use Rattle.std.specs.Prelude.{ℕ, ◌≡◌, ◌≢◌, ◌≤◌, ◌<◌, ◌+◌, ◌^◌, ◌++◌, ◌∷◌, [], List, length, OnOk, Some};
 ghost use Rattle.jpeg_marker.specs.HeaderRefusals.{fault_in};
 ghost use Rattle.jpeg_marker.specs.MarkerSegments.{Segment};
@@ -23,7 +23,7 @@ pub(crate) struct Definitions {
 }
 
 impl Definitions {
-    /// What no segment says.
+    /// Before any segment.
     pub(crate) fn new() -> Definitions
         ensures { Knows result [] }
     {
@@ -34,7 +34,7 @@ impl Definitions {
         }
     }
 
-    /// Takes what a segment says that is no scan's, its length at a place.
+    /// Adds what a segment says that is no scan's. Its length is at place `at`.
     pub(crate) fn take(&mut self, code: u8, body: &[u8], at: usize) -> Result<(), HeaderRefusal>
         requires other { code ≢ 0xda }
         requires room { at + 2 + length body.now < 2 ^ 64 }
@@ -53,7 +53,7 @@ impl Definitions {
     }
 }
 
-// Takes the first frame.
+// Adds the first frame.
 fn take_frame(frame: &mut Option<Frame>, body: &[u8], at: usize) -> Result<(), HeaderRefusal>
     ensures fault { fault_in result ≡ frame_fault frame.old at body.now }
     ensures taken { OnOk result (frame.new ≡ Some (frame_at body.now)) }
@@ -65,7 +65,7 @@ fn take_frame(frame: &mut Option<Frame>, body: &[u8], at: usize) -> Result<(), H
     Ok(())
 }
 
-// Takes a restart interval.
+// Adds a restart interval.
 fn take_interval(interval: &mut u16, body: &[u8], at: usize) -> Result<(), HeaderRefusal>
     ensures fault { fault_in result ≡ interval_fault at body.now }
     ensures taken { OnOk result (interval.new ≡ number_at body.now) }

@@ -56,7 +56,7 @@ ghost use Rattle.jpeg_marker.specs.MarkerSegments.{number_at};
 ghost use Rattle.jpeg_marker.specs.HeaderRefusals.{fault_in};
 ghost use Rattle.jpeg_marker.specs.Frames.{frame_at, frame_fault, numbers_fault, parts_of, is_sampled, area, fit_an_mcu, are_components};
 
-/// The first frame, from what its length counts, with its length at a place.
+/// Parses a frame header (SOF0). `body` is what follows the length field, which is at place `at`.
 pub(crate) fn read_frame(body: &[u8], at: usize) -> Result<Frame, HeaderRefusal>
     ensures fault { fault_in result ≡ frame_fault None at body.now }
     ensures found { IfOk result (λ frame. frame ≡ frame_at body.now) }
@@ -131,7 +131,7 @@ fn list_parts(fields: &[u8]) -> Listed
     Listed { parts, ids, count }
 }
 
-// Whether these can be a frame's components, where the identifiers are theirs.
+// Whether these can be a frame's components, given their identifiers.
 fn are_components(parts: &[FrameComponent], ids: &[u8]) -> bool
     requires few { length parts.now ≤ 4 }
     requires theirs { ids.now ≡ map (λ p. p.id) parts.now }

@@ -50,7 +50,7 @@ pub fn header_has_one_plan()
     ensures apart { NeverBoth }
 {}
 
-/// The plan of every header that is taken is one that `Plan` keeps. Its components have tables, the header is no longer
+/// The plan of every accepted header is one that `Plan` keeps. Its components have tables, the header is no longer
 /// than the bytes, and the header alone determines the plan, whatever follows it.
 pub fn an_accepted_header_has_a_plan()
     ensures { AcceptedHasPlan }

@@ -3,8 +3,8 @@
 //!     FF D8 | FF E0 ..      | FF C0 ..  | FF C4 ..            | FF DD ..  | FF DA .. | coded bytes
 //!     start | passed unread | the frame | tables, any segment | restarts  | the scan | not looked at
 //!
-//! `read_header` gives the plan, or the first check that fails and where. It takes no memory. What the
-//! coded bytes mean, and which code words a table stands for, is left to others.
+//! `read_header` gives the plan, or the first check that fails and where. It allocates nothing. Not handled
+//! here: what the coded bytes mean (see `scan_decode`), and the code words of a table (see `huff_table`).
 #![tactic(auto)]
 
 mod component;

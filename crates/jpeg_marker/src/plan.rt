@@ -1,4 +1,4 @@
-// What a header says in the end.
+// What a header says as a whole.
 use crate::component::Component;
 use crate::frame::Frame;
 use crate::grid::{across, blocks_in_mcu, down};

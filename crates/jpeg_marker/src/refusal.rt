@@ -8,11 +8,11 @@ pub enum HeaderRefusal {
     NotJpeg,
     /// The bytes end before the scan's segment does.
     HeaderCut,
-    /// What stands there is no marker of a header.
+    /// No marker of a header is at the place where one is due.
     MarkerBad { place: usize },
     /// A marker of another process than baseline.
     NotBaseline { code: u8 },
-    /// The length that stands there isn't one that the segment can have.
+    /// The length at the place isn't one that the segment can have.
     LengthBad { place: usize },
     /// A second frame.
     FrameTwice,
@@ -22,7 +22,7 @@ pub enum HeaderRefusal {
     SizeZero,
     /// No components or too many, two with one identifier, or a sampling factor out of its range.
     ComponentsBad,
-    /// The table that begins there isn't one.
+    /// The bytes at the place are no table.
     TableBad { place: usize },
     /// A scan before the frame.
     NoFrame,

@@ -13,8 +13,8 @@ use crate::plan::Plan;
 use crate::refusal::HeaderRefusal;
 use crate::table::RawTable;
 
-/// The plan of a header that ends with a scan, from what its length counts, with its length at a place and
-/// the header's end at another.
+/// Parses a scan header (SOS), and gives the plan of the header that ends with it. `body` is what follows the
+/// length field, which is at place `at`; the header ends at place `end`.
 pub(crate) fn read_scan(
     frame: &Option<Frame>,
     tables: &[Option<RawTable>; 8],

@@ -6,7 +6,7 @@ use std::marker::Model;
 #[derive(Clone, Copy)]
 pub struct RawTable {
     counts: [u8; 16],
-    // Zeros follow the last.
+    // Zeros after the last.
     values: [u8; 256],
     length: usize,
 }
@@ -95,7 +95,7 @@ fn first_values(values: &[u8], count: usize) -> &[u8]
     &values[..count]
 }
 
-/// Whether no value stands twice.
+/// Whether no value occurs twice.
 pub(crate) fn distinct(values: &[u8]) -> bool
     ensures value { result ≡ distinct values.now }
     ensures few { IsTrue result → length values.now ≤ 256 }

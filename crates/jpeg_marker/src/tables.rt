@@ -17,8 +17,8 @@ struct Entry {
     length: usize,
 }
 
-/// Puts each table of a segment at the place of its class and number, four numbers to a class. The
-/// segment's length stands at a place.
+/// Parses a segment of tables (DHT), and keeps each at the index of its class and number, four numbers to a
+/// class. `body` is what follows the length field, which is at place `at`.
 pub(crate) fn read_tables(
     tables: &mut [Option<RawTable>; 8],
     body: &[u8],

@@ -1,4 +1,4 @@
--- The ends in memory, as contracts see them (this project's own).
+-- View: the source and the sink in memory, as contracts see them (own).
 use Rattle.std.specs.Prelude.{◌≡◌, ℕ, ◌+◌, ◌-◌, ◌^◌, ◌<◌, ◌≤◌, List, [], min, length, drop, Contains, count_by, nat_le, if◌then◌else◌, ◌==◌}
 use Rattle.std.specs.List.{common_prefix_len}
 
@@ -10,7 +10,7 @@ pub record Supply : Type 0 where
   pub calls : ℕ
 
 -- a sink in memory: the bytes held, its room, the most that a call takes, the numbers of the calls that fail, the calls
--- made, and the writes refused for want of room
+-- made, and the writes refused since there was no room
 pub record Store : Type 0 where
   pub held : List ℕ
   pub room : ℕ
@@ -24,7 +24,7 @@ pub record Match : Type 0 where
   pub rest : List ℕ
   pub agreed : ℕ
 
--- how many of these numbers of calls have come
+-- how many of these numbers are of calls that were made
 abbrev pub past_calls : List ℕ → ℕ → ℕ
 past_calls fails calls = count_by (λ call. nat_le call calls) fails
 
@@ -44,7 +44,7 @@ StoreFull sink = sink.refused ≡ 2 ^ 64 - 1
 abbrev pub counted : ℕ → ℕ
 counted count = min (count + 1) (2 ^ 64 - 1)
 
--- the call after this many is one that fails; past the last number none is
+-- the call after `calls` others is one that fails; past the last number none is
 abbrev pub FailsNext : List ℕ → ℕ → Type 0
 FailsNext fails calls = (calls < 2 ^ 64 - 1) × Contains fails (calls + 1)
 
@@ -52,11 +52,11 @@ FailsNext fails calls = (calls < 2 ^ 64 - 1) × Contains fails (calls + 1)
 abbrev pub Refuses : Store → List ℕ → Type 0
 Refuses sink bytes = (0 < length bytes) × (sink.room ≤ length sink.held)
 
--- how many bytes a read into so much room gives
+-- how many bytes a read into `room` bytes gives
 abbrev pub given : Supply → ℕ → ℕ
 given source room = min source.piece (min room (length source.left))
 
--- how many of the bytes a write takes
+-- how many of the bytes a write accepts
 abbrev pub accepted : Store → List ℕ → ℕ
 accepted sink bytes = min sink.piece (min (length bytes) (sink.room - length sink.held))
 
@@ -64,7 +64,7 @@ accepted sink bytes = min sink.piece (min (length bytes) (sink.room - length sin
 abbrev pub shared_prefix : List ℕ → List ℕ → ℕ
 shared_prefix xs ys = common_prefix_len (λ x y. x == y) xs ys
 
--- once these bytes came too: after the first that differs none agrees
+-- after these bytes too: after the first that differs none agrees
 abbrev pub after_bytes : Match → List ℕ → Match
 after_bytes old bytes =
     let same = shared_prefix old.rest bytes in

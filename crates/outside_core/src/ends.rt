@@ -1,25 +1,25 @@
-// What is asked of the outside.
+// What the program asks of sources, sinks and watchers.
 ghost use Rattle.std.specs.Prelude.{◌≡◌, ℕ, ◌<◌, ◌≤◌, Option, List, length, take, drop, IfOk, OnOk, OnErr};
 ghost use Rattle.std.specs.Io.KnownBytes.{Appends, Consumes, IsAtEnd, Keeps};
 ghost use Rattle.outside_core.specs.Faults.{Rose};
 
-/// An end failed. What went wrong is the end's to count, and nobody else's to know.
+/// A source or a sink failed. It counts the failure; its caller doesn't learn what went wrong.
 #[derive(Clone, Copy, Debug, PartialEq, Eq)]
 pub struct Failed;
 
 /// Where bytes come from.
 pub trait Source {
-    /// The bytes left, where the source tells them.
+    /// The bytes left, if contracts see them.
     ghost left: { Self → Option (List ℕ) };
 
     /// How often it has failed: it rises at a failure alone, and never falls.
     ghost faults: { Self → ℕ };
 
-    /// The count stands at its last value. Never, where it has none.
+    /// The count is at its last value. Never, if it has none.
     ghost full: { Self → Type 0 };
 
-    /// Moves the first `n` bytes left to the start of `buf` and answers `n`, which is 0 only where `buf` is empty
-    /// or nothing is left.
+    /// Moves the first `n` bytes left to the start of `buf` and answers `n`, which is 0 only if `buf` is empty or
+    /// nothing is left.
     fn read(&mut self, buf: &mut [u8]) -> Result<usize, Failed>
         ensures count { IfOk result (λ n. n ≤ length buf.old) }
         ensures moved { IfOk result (λ n.
@@ -34,13 +34,13 @@ pub trait Source {
 
 /// Where bytes go.
 pub trait Sink {
-    /// The bytes held, where the sink tells them.
+    /// The bytes held, if contracts see them.
     ghost held: { Self → Option (List ℕ) };
 
     /// How often it has failed: it rises at a failure alone, and never falls.
     ghost faults: { Self → ℕ };
 
-    /// The count stands at its last value. Never, where it has none.
+    /// The count is at its last value. Never, if it has none.
     ghost full: { Self → Type 0 };
 
     /// Appends the first `n` of the bytes and answers `n`, at least 1 for a piece that isn't empty.
@@ -55,19 +55,20 @@ pub trait Sink {
         ensures lasting { faults self.old ≤ faults self.new };
 }
 
-/// Is told what the threads of a decode are about to do. It promises nothing, and may hold its caller.
+/// A hook for tests: the threads of a decode call it before and after they act. It promises nothing, and may block
+/// its caller.
 pub trait Gate {
-    /// A worker, before each piece that it puts.
+    /// A worker calls it before each piece that it puts.
     fn before_put(&self, segment: u8);
 
-    /// A worker, after each put was answered.
+    /// A worker calls it after the answer to each put.
     fn after_put(&self, segment: u8);
 
-    /// The emitter, before it asks for a segment of its own.
+    /// The emitter calls it before it asks for a segment of its own.
     fn before_own(&self, segment: u8);
 }
 
-/// Lets all pass.
+/// Blocks no caller.
 #[derive(Clone, Copy)]
 pub struct OpenGate;
 

@@ -1,11 +1,11 @@
-//! The ends of the outside: what is read, what is written, and what watches.
+//! Sources and sinks: what is read, what is written, and what watches.
 //!
 //!     Source --read_all--> bytes          bytes --write_all--> Sink
 //!
-//! Each end is a trait with a written meaning: the bytes that a source has left and that a sink holds, where
-//! they tell them, and a count of faults that never falls. An error of an end comes only where its count rose,
-//! so a clause that rests on it refuses a body that gives up by itself. The ends in memory are here; those over
-//! standard input and output are the program's.
+//! Each is a trait with a written meaning: the bytes that a source has left and that a sink holds, if contracts
+//! see them, and a count of faults that never falls. A source or a sink answers an error only if its count rose,
+//! so a clause that rests on it refuses a body that gives up by itself. A source and a sink in memory are here.
+//! Not handled here: stdin and stdout (see `standard_streams`).
 #![tactic(auto)]
 
 mod ends;

@@ -1,4 +1,4 @@
-// A source and a sink in memory, whose calls fail where a test wants them to.
+// A source and a sink in memory, whose calls fail if a test wants them to.
 ghost use Rattle.std.specs.Prelude.{◌≡◌, ◌<◌, ◌≤◌, ◌↔◌, Some, [], ◌++◌, length, take, drop, IsErr, IfOk, OnOk, OnErr, IsTrue, ◌⊎◌};
 ghost use Rattle.std.specs.Io.KnownBytes.{Appends, Consumes, IsAtEnd, Keeps};
 ghost use Rattle.outside_core.specs.Faults.{Rose, Never};
@@ -92,7 +92,7 @@ impl<'a> Source for MemSource<'a> {
 }
 
 /// A sink in memory. It takes its room at once and at most `piece` bytes a call, fails at the calls that `fails`
-/// numbers, counted from 1, and counts a fault where a write finds no room left.
+/// numbers, counted from 1, and counts a fault if a write finds no room left.
 #[derive(Drop)]
 pub struct MemSink<'a> {
     held: Vec<u8>,
@@ -175,7 +175,7 @@ impl<'a> Sink for MemSink<'a> {
         ensures unfailed { OnOk result (store_faults self.new ≡ store_faults self.old) }
         ensures lasting { store_faults self.old ≤ store_faults self.new }
 
-        // It fails at the numbered calls and for want of room, and else never.
+        // It fails at the numbered calls and if there is no room, and else never.
         ensures fails { IsErr result
             ↔ (FailsNext self.old.fails self.old.calls ⊎ Refuses self.old bytes.now) }
         ensures takes { IfOk result (λ n. n ≡ accepted self.old bytes.now) }
@@ -206,7 +206,7 @@ impl<'a> Sink for MemSink<'a> {
     }
 }
 
-// Counts a call, and tells whether it is one that fails. Past the last number of a call none does.
+// Counts a call, and answers whether it is one that fails. Past the last number of a call none does.
 fn count_call(calls: &mut u64, fails: &[u64]) -> bool
     ensures counts { calls.new ≡ counted calls.old }
     ensures fails { IsTrue result ↔ FailsNext fails.now calls.old }

@@ -31,18 +31,18 @@ const FIRST_PIECE: usize = 1 << 16;
 /// All that a source has left, at most `limit` bytes. It is read into the room of the result itself, in pieces that
 /// grow, and asked for no more once it gave a byte past the limit.
 pub fn read_all<S: Source>(alloc: Global, source: &mut S, limit: u64) -> Result<Vec<u8>, ReadAll>
-    // All that was left is taken, and nothing is left.
+    // All that was left is read, and nothing is left.
     ensures whole { IfOk result (λ bytes.
         Consumes (S.left source.old) (S.left source.new) bytes.items) }
     ensures end { OnOk result (IsAtEnd (S.left source.new)) }
     ensures within { IfOk result (λ bytes. length bytes.items ≤ limit) }
 
-    // One byte past the limit was taken, and none after it.
+    // One byte past the limit was read, and none after it.
     ensures too_long { IsErrOf result ReadAll.TooLong
         → ((taken : List ℕ) × (length taken ≡ limit + 1)
         × Consumes (S.left source.old) (S.left source.new) taken) }
 
-    // More than the limit is never taken for a whole.
+    // More than the limit is never answered as the whole.
     ensures never_cut { IfSome (S.left source.old) (λ bytes. limit < length bytes → IsErr result) }
 
     ensures read_fault { IsErrOf result ReadAll.ReadFault
@@ -52,7 +52,7 @@ pub fn read_all<S: Source>(alloc: Global, source: &mut S, limit: u64) -> Result<
     ensures unfailed { ¬ IsErrOf result ReadAll.ReadFault → S.faults source.new
         ≡ S.faults source.old }
 
-    // Whatever comes, no more than a prefix is gone, at most one byte past the limit.
+    // In every case only a prefix was read, at most one byte past the limit.
     ensures prefix { (taken : List ℕ) × (length taken ≤ limit + 1)
         × Consumes (S.left source.old) (S.left source.new) taken }
     ensures lasting { S.faults source.old ≤ S.faults source.new }
@@ -112,7 +112,7 @@ fn put<K: Sink>(sink: &mut K, bytes: &[u8], written: usize) -> Result<usize, Wri
     }
 }
 
-// Makes the buffer longer where all of it is filled, at most to one byte past the limit.
+// Makes the buffer longer if all of it is filled, at most to one byte past the limit.
 fn make_room(bytes: &mut Vec<u8>, filled: usize, limit: u64) -> Result<(), ReadAll>
     requires in_range { filled ≤ length bytes.old.items }
     requires below { filled ≤ limit }

@@ -1,4 +1,4 @@
-// Ends that never fail: a source over a slice, and a sink that compares what comes with a slice.
+// A source over a slice, and a sink that compares what it gets with a slice. Neither ever fails.
 ghost use Rattle.std.specs.Prelude.{◌≡◌, ◌<◌, ◌≤◌, Some, None, length, take, drop, min, IfOk, OnOk, OnErr};
 ghost use Rattle.std.specs.Io.KnownBytes.{Appends, Consumes, IsAtEnd, Keeps};
 ghost use Rattle.outside_core.specs.Faults.{Rose, Never, no_faults};
@@ -47,7 +47,7 @@ impl<'a> Source for NeverSource<'a> {
         ensures unfailed { OnOk result (no_faults self.new ≡ no_faults self.old) }
         ensures lasting { no_faults self.old ≤ no_faults self.new }
 
-        // It gives all that there is room for.
+        // It gives as many bytes as there is room for.
         ensures gives { result ≡ Ok (min (length buf.old) (length self.old)) }
         ensures after { IfOk result (λ n. self.new ≡ drop n self.old) }
     {
@@ -111,7 +111,7 @@ impl<'a> Sink for Compare<'a> {
         ensures unfailed { OnOk result (no_faults self.new ≡ no_faults self.old) }
         ensures lasting { no_faults self.old ≤ no_faults self.new }
 
-        // It takes all, and counts what agrees.
+        // It accepts all bytes, and counts those that agree.
         ensures takes { result ≡ Ok (length bytes.now) }
         ensures after { self.new ≡ after_bytes self.old bytes.now }
     {

@@ -1,4 +1,4 @@
--- The MCUs of a sample, each number of them drawn after the one before (own; docs/SAMPLE.md).
+-- Statement: the MCUs of a sample, each drawn after the one before (docs/SAMPLE.md, The file).
 use Rattle.std.specs.Prelude.{ℕ, zero, suc, ◌+◌, ◌%◌, List, [], ◌∷◌, replicate, ℤ, pos, ◌-ℤ◌, slice_index, slice_set}
 use Rattle.coef_block.specs.Zigzag.{zigzag}
 use Rattle.scan_spec.specs.Scans.{Mcu}

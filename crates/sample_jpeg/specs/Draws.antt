@@ -1,4 +1,5 @@
--- The generator that a sample is drawn from (own; docs/SAMPLE.md): a linear congruence modulo 2^64.
+-- Statement: the generator that a sample is drawn from, a linear congruence modulo 2^64 (docs/SAMPLE.md, The
+-- generator).
 use Rattle.std.specs.Prelude.{ℕ, ◌+◌, ◌*◌, ◌/◌, ◌%◌, ◌^◌}
 
 -- the state after a draw

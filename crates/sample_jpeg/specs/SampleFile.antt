@@ -1,4 +1,4 @@
--- The file that a seed and a size give (own; docs/SAMPLE.md).
+-- Statement: the file that a seed and a size give, and what holds of it (docs/SAMPLE.md, The file).
 use Rattle.std.specs.Prelude.{ℕ, ◌*◌, ◌≤◌, Bool, true, List, [], ◌∷◌, ◌++◌, length, replicate, Ok, Err}
 use Rattle.std.specs.List.{AllByRecursion}
 use Rattle.bit_list.specs.Bits.{IsByte}
@@ -18,7 +18,7 @@ end_of_image = 0xff ∷ 0xd9 ∷ []
 abbrev pub sample_mcus : ℕ → Extent → List Mcu
 sample_mcus seed e = (drawn_mcus (e.columns * e.rows) seed).value
 
--- bytes where there are any
+-- bytes, if there are any
 abbrev pub bytes_or_none : Bytes → List ℕ
 bytes_or_none (Ok bytes) = bytes
 bytes_or_none (Err stop) = []

@@ -1,5 +1,6 @@
--- The header of a sample (ITU-T T.81, B.2): a frame of three components without subsampling, one table of each class
--- with every symbol that a baseline scan may need, and restart intervals of one row of MCUs where they are wanted.
+-- Statement: the header of a sample (docs/SAMPLE.md, The file; ITU-T T.81, B.2): a frame of three components without
+-- subsampling, one table of each class with every symbol that a baseline scan may need, and, if the sample has
+-- restarts, an interval of one row of MCUs.
 use Rattle.std.specs.Prelude.{ℕ, ◌*◌, ◌-◌, ◌%◌, ◌≤◌, Bool, ◌&&◌, ◌||◌, ◌==◌, nat_le, if◌then◌else◌, List, [], ◌∷◌, ◌++◌, filter, length, replicate}
 use Rattle.std.specs.List.{range_with_len}
 use Rattle.jpeg_marker.specs.HuffmanTables.{TableFields}
@@ -44,7 +45,7 @@ frame_segment e = segment 0xc0 (8 ∷ two_bytes (8 * e.rows) ++ two_bytes (8 * e
 abbrev pub table_segment : ℕ → TableFields → Segment
 table_segment class_and_number t = segment 0xc4 (class_and_number ∷ t.counts ++ t.values)
 
--- DRI, where there are restarts: an interval is a row of MCUs (B.2.4.4)
+-- DRI, if there are restarts: an interval is a row of MCUs (B.2.4.4)
 abbrev pub interval_segments : Extent → List Segment
 interval_segments e = if e.restarts then segment 0xdd (two_bytes e.columns) ∷ [] else []
 

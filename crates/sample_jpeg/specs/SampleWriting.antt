@@ -1,4 +1,4 @@
--- How the scan of a sample is written MCU by MCU (own).
+-- Steps: how the scan of a sample is written MCU by MCU (own).
 use Rattle.std.specs.Prelude.{ℕ, ◌≡◌, ◌+◌, ◌<◌, ◌≤◌, true, List, [], ◌∷◌, ◌++◌, length, ℤ, unsigned_abs, None, Ok}
 use Rattle.std.specs.List.{AllByRecursion}
 use Rattle.scan_spec.specs.Pads.{Same}

@@ -90,7 +90,7 @@ fn put_table(
     Ok(())
 }
 
-// DRI, where there are restarts: an interval is a row of MCUs.
+// DRI, if there are restarts: an interval is a row of MCUs.
 fn put_interval(file: &mut Vec<u8>, extent: &Extent) -> Result<(), AllocError>
     ensures { OnOk result (file.new.items
         ≡ file.old.items ++ flat_map segment_text (interval_segments extent.now)) }

@@ -1,8 +1,8 @@
 // What holds of every sample.
 ghost use Rattle.sample_jpeg.specs.SampleFile.{SamplesAreFiles};
 
-/// Every sample is a file that is taken: a header that is accepted, the scan of its MCUs with pad bits of ones, and the
-/// marker that ends an image; of at most 40,000,000 bytes.
+/// Every sample is a file that is accepted: a header, the scan of its MCUs with pad bits of ones, and the marker that
+/// ends an image; of at most 40,000,000 bytes.
 pub fn samples_are_files()
     ensures { SamplesAreFiles }
 {}

@@ -4,7 +4,7 @@
 //!     seed --Draws--> blocks --Writer::mcu--> pieces --> file
 //!
 //! The same seed and size give the same file on every machine. Which one is `sample_file` in `specs/`; that every
-//! such file is one that is taken is the law `samples_are_files`.
+//! such file is accepted is the law `samples_are_files`.
 #![tactic(auto)]
 
 mod draws;

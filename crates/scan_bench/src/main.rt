@@ -1,7 +1,7 @@
 //! `scan_bench read TIMES` and `scan_bench both TIMES`, for `bench/scan`: reads a JPEG file on standard input, and
-//! then its scan TIMES times; with `both` it writes each MCU again too, and what it writes has to be the scan. Prints
-//! the bytes of the scan and its MCUs. Ends with 1 where the file is refused or doesn't come back, with 2 where the
-//! words are others.
+//! then its scan TIMES times; with `both` it writes each MCU again too, and what it writes must be the scan. Prints
+//! the bytes of the scan and its MCUs. Exits with 1 if the file is refused or isn't written again, and with 2 if the
+//! arguments are others.
 #![tactic(auto)]
 
 mod pass;

@@ -92,7 +92,7 @@ pub(crate) fn both(
     })
 }
 
-// Writes an MCU, where one is due and there is room for it.
+// Writes an MCU, if one is due and there is room for it.
 fn put(writer: &mut Writer, mcu: &[Block], piece: &mut Piece) -> Option<()> {
     if writer.at_end() {
         return None;
@@ -106,7 +106,7 @@ fn put(writer: &mut Writer, mcu: &[Block], piece: &mut Piece) -> Option<()> {
     writer.mcu(mcu, piece).ok()
 }
 
-// What follows the bytes of a piece, where they are the next ones. The piece is empty then.
+// What follows the bytes of a piece, if they are the next ones. The piece is empty then.
 fn after<'a>(bytes: &'a [u8], piece: &mut Piece) -> Option<&'a [u8]> {
     let rest = bytes.strip_prefix(piece.bytes())?;
     piece.clear();

@@ -1,4 +1,4 @@
--- The steps of a reader in the midst of a block (own).
+-- Steps: the steps of a reader within a block (own).
 use Rattle.std.specs.Prelude.{ℕ, ◌≡◌, ◌≤◌, ◌+◌, ◌-◌, Bool, List, ◌++◌, length, replicate, ℤ, pos, Result}
 use Rattle.bit_list.specs.Units.{Cursor}
 use Rattle.jpeg_marker.specs.HuffmanTables.{TableFields}
@@ -18,7 +18,7 @@ step_symbol steps.Loose = reading.Loose
 step_symbol steps.Unknown = reading.Unknown
 
 -- the coefficients below a zigzag index were read, the others are zeros still, and what is read after the first ones
--- is what the whole comes to; `symbols` more of them are enough
+-- is what the whole gives; `symbols` more of them are enough
 pub record Going (whole : Result (List ℤ × Cursor) ScanRefusal) (table : TableFields)
     (bytes : List ℕ) (block : List ℤ) (index : ℕ) (loose : Bool)
     (cursor : Cursor) : Type 0 where

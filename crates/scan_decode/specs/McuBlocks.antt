@@ -1,4 +1,4 @@
--- The blocks of an MCU, as a reader keeps and reads them (own).
+-- Steps: the blocks of an MCU, as a reader keeps and reads them (own).
 use Rattle.std.specs.Prelude.{List, ◌++◌, ℤ, Result, Ok, Err}
 use Rattle.bit_list.specs.Units.{Cursor}
 use Rattle.scan_spec.specs.ScanReading.{and_then, BlocksRead}

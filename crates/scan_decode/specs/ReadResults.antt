@@ -1,4 +1,4 @@
--- What a call answers, with where it leaves the input, as the definitions of a scan have it (own).
+-- Steps: what a call answers, with the cursor after it, as the definitions of a scan have it (own).
 use Rattle.std.specs.Prelude.{ℕ, List, [], ◌∷◌, ℤ, false, Result, Ok, Err}
 use Rattle.bit_list.specs.Units.{Cursor}
 use Rattle.huff_table.specs.declared.plan_codes.ComponentCodes.{ComponentCodes}
@@ -23,12 +23,12 @@ coded_at codes before bytes cursor =
     and_then (dc_at codes.dc before bytes cursor)
     (λ dc. prefixed_values (dc.0 ∷ []) (acs_at 63 codes.ac 63 false bytes dc.1))
 
--- an MCU that a call put elsewhere, and where the reader stands after it
+-- an MCU that a call put elsewhere, and where the reader is after it
 abbrev pub mcu_read : {A B C : Type 0} → Result A ScanRefusal → B → C → Result (B × C) ScanRefusal
 mcu_read (Ok done) values at = Ok (values, at)
 mcu_read (Err refusal) values at = Err refusal
 
--- where the reader stands after the end of an interval
+-- where the reader is after the end of an interval
 abbrev pub standing_read : {A C : Type 0} → Result A ScanRefusal → C → Result C ScanRefusal
 standing_read (Ok done) at = Ok at
 standing_read (Err refusal) at = Err refusal

@@ -1,11 +1,11 @@
--- What a reader stands for, and what always holds of it (own).
+-- View: a reader's fields as a reader of the definitions, and what always holds of them (own).
 use Rattle.std.specs.Prelude.{◌≡◌, ◌^◌, ◌<◌, ◌≤◌}
 use Rattle.std.specs.List.{All}
 use Rattle.coef_block.specs.Block.{IsDc}
 use Rattle.scan_spec.specs.ScanCalls.{ScanReader}
 use Rattle.scan_decode.specs.declared.reader.Reader.TheInside.{Inside}
 
--- the scan, its bytes, where the reader stands in them, and its refusal
+-- the scan, its bytes, where the reader is in them, and its refusal
 abbrev pub reader_of : Inside → ScanReader
 reader_of r = record {
   shape = r.shape;

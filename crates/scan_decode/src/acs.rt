@@ -58,7 +58,7 @@ fn step_of(left: usize, loose: bool, symbol: u8) -> Step
     Step::Value { zeros, size }
 }
 
-// What one symbol tells.
+// What one symbol says.
 #[inline(always)]
 fn go_on(codes: &Codes, input: &mut BitIn, block: &mut Block, at: At) -> Result<At, ScanRefusal>
     requires some { 0 < at.index }

@@ -19,7 +19,7 @@ pub(crate) fn after_bits(bytes: &[u8], place: usize, bits: u8) -> BitIn
     }
 }
 
-/// The bits that were taken of a unit begun: as a byte, zeros after them, and how many they are.
+/// The bits that were read of a unit begun: as a byte, zeros after them, and how many they are.
 pub(crate) fn byte_begun(bytes: &[u8], input: &BitIn) -> (u8, u8)
     ensures partial { result.0 ≡ partial_byte (begun_in bytes.now input.now.cursor) }
     ensures bits { result.1 ≡ length (begun_in bytes.now input.now.cursor) }

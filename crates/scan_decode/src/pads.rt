@@ -1,4 +1,4 @@
-// What stands after the MCUs of an interval.
+// What follows the MCUs of an interval.
 ghost use Rattle.std.specs.Prelude.{◌≡◌, ◌≤◌, Some, None};
 ghost use Rattle.bit_list.specs.Bits.{low_bits};
 ghost use Rattle.scan_spec.specs.ScanReading.{pad_of, restart_at};

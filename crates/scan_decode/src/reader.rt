@@ -22,9 +22,9 @@ use jpeg_marker::Plan;
 use scan_spec::{ScanRefusal, ScanShape};
 use std::marker::Model;
 
-/// A scan that is read MCU by MCU (ITU-T T.81, F.2.2). It keeps the first refusal, and takes no memory.
+/// A scan that is read MCU by MCU (ITU-T T.81, F.2.2). It keeps the first refusal, and allocates nothing.
 ///
-/// Clauses see the scan's shape, its bytes, where the reader stands, and its refusal.
+/// Clauses see the scan's shape, its bytes, where the reader is, and its refusal.
 #[derive(Drop)]
 pub struct Reader<'a> {
     shape: ScanShape,
@@ -96,8 +96,8 @@ impl<'a> Reader<'a> {
     }
 
     /// Reads the next MCU into `out`, a block for each of its blocks (A.2.3), in natural order. Refused with the first
-    /// item that doesn't stand or can't stand there, by its place; that refusal is answered from then on, and the MCU
-    /// isn't counted. On a refusal `out` holds nothing of worth.
+    /// item that is missing or wrong, by its place; that refusal is answered from then on, and the MCU isn't counted.
+    /// On a refusal `out` holds nothing of worth.
     pub fn next_mcu(&mut self, out: &mut [Block]) -> Result<(), ScanRefusal>
         requires more { self.old.at.count < self.old.shape.mcus }
         requires room { length out.old ≡ length self.old.shape.slots }
@@ -131,8 +131,8 @@ impl<'a> Reader<'a> {
         self.count == self.shape.mcus()
     }
 
-    /// The place from which bytes are needed to go on: that of the unit whose bits were read in part, or else of the
-    /// next one.
+    /// The place from which bytes are needed to continue: that of the unit whose bits were read in part, or else of
+    /// the next one.
     pub fn place(&self) -> usize
         ensures { result ≡ resume_place self.now.at.cursor }
     {
@@ -243,7 +243,7 @@ impl<'a> Reader<'a> {
     }
 }
 
-// How many MCUs come before a row of MCUs.
+// How many MCUs there are before a row of MCUs.
 fn mcus_before(plan: &Plan, row: u32) -> u32
     requires { row < plan.now.down }
     ensures value { result ≡ plan.now.across * row }

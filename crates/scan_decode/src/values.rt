@@ -8,7 +8,7 @@ use bit_list::BitIn;
 use huff_table::Codes;
 use scan_spec::{ScanRefusal, extend};
 
-/// The symbol whose code word stands next.
+/// The symbol of the next code word.
 #[inline(always)]
 pub(crate) fn symbol(codes: &Codes, input: &mut BitIn) -> Result<u8, ScanRefusal>
     ensures is { at_cursor result input.new.cursor
@@ -21,7 +21,7 @@ pub(crate) fn symbol(codes: &Codes, input: &mut BitIn) -> Result<u8, ScanRefusal
     }
 }
 
-/// The value of a category whose bits stand next.
+/// The value that the next bits spell in a category.
 #[inline]
 pub(crate) fn extended(size: u8, input: &mut BitIn) -> Result<i32, ScanRefusal>
     requires { size ≤ 11 }

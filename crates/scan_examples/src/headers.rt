@@ -3,7 +3,7 @@ use jpeg_marker::{Plan, read_header};
 use std::alloc::Global;
 use std::process::Abort;
 
-// A frame, a DC table and an AC table, by their numbers, and after how many MCUs a restart comes, 0 if there is none.
+// A frame, a DC table and an AC table, by their numbers, and how many MCUs a restart interval has, 0 if there is none.
 pub(crate) type Header = [usize; 4];
 
 // The bytes of a header.
@@ -52,7 +52,7 @@ fn ac_table(rt: &impl Abort, table: usize) -> &'static [u8] {
     AC_TABLES[table]
 }
 
-// A restart after so many MCUs.
+// A restart after `interval` MCUs.
 fn restarts(rt: &impl Abort, interval: usize) -> &'static [u8] {
     assert!(rt; interval < RESTARTS.len());
     RESTARTS[interval]

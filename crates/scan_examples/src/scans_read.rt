@@ -12,8 +12,8 @@ use scan_decode::Reader;
 use scan_spec::{MOST_SLOTS, ScanRefusal};
 use std::process::Abort;
 
-// The coefficients that aren't 0, how many blocks there are, what is told after each MCU, and how many bytes the scan
-// has. Told is `.` if the MCU ends no interval, `-` if it ends one that pads no bit, and else the pad bit.
+// The coefficients that aren't 0, how many blocks there are, a byte for each MCU, and how many bytes the scan has. The
+// byte is `.` if the MCU ends no interval, `-` if it ends one that pads no bit, and else the pad bit.
 type Read<'a> = (&'a [Value], usize, &'a [u8], usize);
 
 // The segments of a header, the bytes after it, and what is read.
@@ -119,7 +119,7 @@ fn is_read(rt: &impl Abort, plan: &Plan, bytes: &[u8], place: usize, wanted: Rea
     reader.at_end() && seen == count && reader.end().checked_sub(place) == Some(length)
 }
 
-// Whether this is told after an MCU.
+// Whether the reader says this after an MCU.
 fn tells(reader: &Reader, pad: u8) -> bool {
     reader.ends_interval() == (pad != b'.') && reader.pad() == bit_of(pad)
 }
@@ -280,7 +280,7 @@ fn scans_are_refused(rt: HostRuntime) {
     }
 }
 
-// Whether the refusal comes, and comes again.
+// Whether the refusal is answered, and answered again.
 fn is_refused(
     rt: &impl Abort,
     plan: &Plan,

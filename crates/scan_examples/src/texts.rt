@@ -214,7 +214,7 @@ fn scan_bytes(
     plain_scan(alloc, slots, mcus, interval, blocks, pad)
 }
 
-// The slots of an MCU, as the plain program takes them.
+// The slots of an MCU, as the plain program is given them.
 fn slots_of(rt: &impl Abort, alloc: Global, shape: &ScanShape) -> Vec<Slot> {
     let (components, indexes) = shape.slots();
     let mut slots = Vec::new(alloc);

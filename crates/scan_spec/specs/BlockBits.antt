@@ -1,4 +1,4 @@
--- The bits of a block (ITU-T T.81, F.1.2). Where they end too soon, the cause that comes first in writing order.
+-- Statement: the bits of a block (ITU-T T.81, F.1.2). If it has none, the cause that comes first in writing order.
 use Rattle.std.specs.Prelude.{ℕ, zero, suc, ◌+◌, ◌*◌, ◌/◌, ◌%◌, Bool, List, [], ◌∷◌, ◌++◌, drop, map, ℤ, pos, ◌-ℤ◌, unsigned_abs, Option, Some, None, Result, Ok, Err, slice_index_or, nat_lt, ◌==◌, if◌then◌else◌}
 use Rattle.coef_block.specs.Block.{most_difference}
 use Rattle.coef_block.specs.Categories.{category}

@@ -1,4 +1,4 @@
--- Worked blocks (own).
+-- Rows: worked blocks (ITU-T T.81, Tables K.3 and K.5; own).
 use Rattle.std.specs.Prelude.{◌≡◌, true, false, List, [], ◌∷◌, ◌++◌, ℤ, pos, negsuc, replicate, Ok, Err}
 use Rattle.jpeg_marker.specs.HuffmanTables.{TableFields}
 use Rattle.huff_table.specs.StandardTable.{table_k3}

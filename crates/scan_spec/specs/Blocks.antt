@@ -1,4 +1,4 @@
--- The bits of blocks in the order of their MCUs (ITU-T T.81, A.2.3, F.1.1.5.1).
+-- Statement: the bits of blocks in the order of their MCUs (ITU-T T.81, A.2.3, F.1.1.5.1).
 use Rattle.std.specs.Prelude.{List, [], ◌∷◌, ℤ, pos, Ok, slice_set, slice_index_or}
 use Rattle.scan_spec.specs.BlockBits.{Text, then_text, coefficient_at, block_text}
 use Rattle.scan_spec.specs.declared.slot.Slot.{Slot}

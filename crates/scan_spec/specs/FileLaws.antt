@@ -1,4 +1,5 @@
--- Files by their parts (ITU-T T.81, B.2.1): a header, a scan, and what follows it.
+-- Statement: a file by its parts, a header, a scan and what follows it (ITU-T T.81, B.2.1), and what holds of all
+-- files.
 use Rattle.std.specs.Prelude.{ℕ, ◌≡◌, ◌≤◌, Bool, List, ◌++◌, length, drop}
 use Rattle.std.specs.List.{AllByRecursion}
 use Rattle.bit_list.specs.Bits.{IsByte}
@@ -9,7 +10,7 @@ use Rattle.scan_spec.specs.ShapeInside.{most_slots}
 use Rattle.scan_spec.specs.Scans.{Mcu, IsScan}
 use Rattle.scan_spec.specs.ScanLaws.{IsShape}
 
--- a header that is taken gives the shape of a scan, of ten blocks in an MCU at most
+-- an accepted header gives the shape of a scan, of ten blocks in an MCU at most
 abbrev pub AcceptedIsShape : Type 0
 AcceptedIsShape =
     (bytes : List ℕ) (plan : PlanFields) → AllByRecursion IsByte bytes → Accepts bytes plan

@@ -1,5 +1,5 @@
--- The items of a scan, one after the other, and where they stop (ITU-T T.81, B.2.1, F.1.2, F.2.2): code words, bits of
--- categories, pad bits and restart markers.
+-- Statement: the items of a scan, one after the other, and where they stop (ITU-T T.81, B.2.1, F.1.2, F.2.2): code
+-- words, bits of categories, pad bits and restart markers.
 use Rattle.std.specs.Prelude.{ℕ, ◌≡◌, ◌+◌, ◌-◌, Bool, true, false, ◌==◌, nat_le, if◌then◌else◌, List, [], ◌∷◌, ◌++◌, length, ℤ, ◌+ℤ◌, unsigned_abs, slice_set, Option, Some, None, unwrap_or, Ok, Err}
 use Rattle.bit_list.specs.Units.{Cursor, starting, bits_at}
 use Rattle.coef_block.specs.Block.{most_dc}
@@ -20,7 +20,7 @@ use Rattle.scan_spec.specs.declared.refusal.ScanRefusal.TheVariants as refusals
 
 -- The item that is due (own). In a slot: the word of a DC's category; the bits of a DC of a category; the word of a
 -- symbol, by how many coefficients are left and whether F0 came before it; the bits of a coefficient, by how many are
--- left after it and its category. The pad bits of an interval, its marker, or none. After an item that can't stand
+-- left after it and its category. The pad bits of an interval, its marker, or none. After an item that can't be
 -- there: its refusal.
 pub data Due : Type 0 where
   DcWord : Slot → Due
@@ -33,7 +33,7 @@ pub data Due : Type 0 where
   Wrong : (ℕ → ScanRefusal) → Due
 
 -- so far (own): the further slots of this MCU, the last DC of each component in this interval, how many MCUs came
--- before, and the pad bits of the intervals before, 1 where one pads none
+-- before, and the pad bits of the intervals before, 1 if one pads none
 pub record Run : Type 0 where
   pub slots : List Slot
   pub before : List ℤ
@@ -121,12 +121,12 @@ pub data Item : Type 0 where
   Coded : List Bool → Item
   Restart : Item
 
--- a word stands at a cursor, and another one after it
+-- a word is at the cursor `at`, and the cursor `next` follows it
 abbrev pub IsWord : TableFields → List ℕ → Cursor → List Bool → ℕ → Cursor → Type 0
 IsWord table bytes at word value next =
     (word_of table value ≡ Some word) × (bits_at (length word) bytes at ≡ Ok (word, next))
 
--- an item of what is due stands from a cursor to another, and then this is due
+-- from a cursor to another there is an item of what is due, and then `after` is due
 abbrev pub Stands : Shape → List ℕ → Run → Due → Cursor → Item → Stage → Cursor → Type 0
 Stands shape bytes run (DcWord slot) at (Coded word) after next =
     (size : ℕ) × IsWord slot.codes.dc bytes at word size next
@@ -148,14 +148,14 @@ Stands shape bytes run Marker at Restart after next =
     × (next ≡ starting place 0) × (after ≡ mcu_due shape run)
 Stands shape bytes run due at item after next = ⊥
 
--- items stand one after the other, each of them due
+-- items are there one after the other, each of them due
 abbrev pub Path : Shape → List ℕ → Stage → Cursor → List Item → Stage → Cursor → Type 0
 Path shape bytes stage at [] last end = (stage ≡ last) × (at ≡ end)
 Path shape bytes stage at (item ∷ items) last end =
     (after : Stage) × (next : Cursor) × Stands shape bytes stage.run stage.due at item after next
     × Path shape bytes after next items last end
 
--- an item is due and doesn't stand, or the one before can't stand there
+-- the item that is due isn't there, or the one before can't be there
 abbrev pub IsStuck : Shape → List ℕ → Run → Due → Cursor → ScanRefusal → Type 0
 IsStuck shape bytes run (DcWord slot) at refusal =
     (fault : CodeFault) × IsFaultAt slot.codes.dc bytes at fault × (refusal ≡ code_refusal fault)
@@ -180,7 +180,7 @@ pub record Refuses (shape : Shape) (bytes : List ℕ) (place : ℕ)
   pub path : Path shape bytes (first_stage shape) (starting place 0) items last end
   pub stuck : IsStuck shape bytes last.run last.due end refusal
 
--- from a place on they go on until the scan is over; these are the pad bits of its intervals, 1 where one pads none,
+-- from a place on they continue until the scan is over; these are the pad bits of its intervals, 1 if one pads none,
 -- and the place after it
 pub record Ends (shape : Shape) (bytes : List ℕ) (place : ℕ) (pads : List Bool)
     (after : ℕ) : Type 0 where

@@ -1,4 +1,4 @@
--- Worked pad bits (own).
+-- Rows: worked pad bits (own).
 use Rattle.std.specs.Prelude.{◌≡◌, Bool, true, false, [], ◌∷◌, map, replicate}
 use Rattle.handover.specs.declared.pads.PadSum.{PadSum}
 use Rattle.scan_spec.specs.BlockRows.{level}
@@ -28,7 +28,7 @@ summed =
     × (intervals_sum (Listed (0x80 ∷ [])) 0 (6 ∷ 6 ∷ []) ≡ sum_of true true false)
     × (intervals_sum (Listed (0x80 ∷ [])) 0 (6 ∷ 0 ∷ []) ≡ sum_of false true true)
 
--- how pad bits are told, and ways to tell them that are refused
+-- how pad bits are said, and ways to say them that are refused
 abbrev pub spelled : Type 0
 spelled =
     (spelling_of (true ∷ false ∷ []) (sum_of true true false) ≡ Listed (0x80 ∷ []))

@@ -1,4 +1,5 @@
--- The pad bits of a scan's restart intervals as they are told to a writer, and what they come to (own; docs/FORMAT.md).
+-- Statement: the pad bits of a scan's restart intervals as they are given to a writer, and what they come to
+-- (docs/FORMAT.md, Pad bits).
 use Rattle.std.specs.Prelude.{ℕ, zero, suc, ◌+◌, ◌-◌, ◌*◌, ◌/◌, ◌<◌, Bool, true, false, not, ◌&&◌, if◌then◌else◌, List, [], ◌∷◌, length, get_or, ◌==◌}
 use Rattle.bit_list.specs.Bits.{bits_of, bytes_after}
 use Rattle.handover.specs.PadSums.{no_pads, pads_with}
@@ -30,7 +31,7 @@ abbrev pub HasBit : PadBits → ℕ → Type 0
 HasBit (Same bit) n = Unit {0}
 HasBit (Listed bytes) n = n < 8 * length bytes
 
--- how many restart intervals there are, one where there are no restarts
+-- how many restart intervals there are, one if there are no restarts
 abbrev pub interval_count : Shape → ℕ
 interval_count shape = interval_number shape (shape.mcus - 1) + 1
 
@@ -52,7 +53,7 @@ abbrev pub is_listed : PadBits → Bool
 is_listed (Same bit) = false
 is_listed (Listed bytes) = true
 
--- what interval n comes to: the bit that it pads, or where it pads `none`, whether it has a 0 in a list
+-- what interval n comes to: the bit that it pads, or, if it pads `none`, whether it has a 0 in a list
 abbrev pub interval_sum : PadBits → ℕ → Bool → PadSum
 interval_sum pads n none =
     if none then record no_pads { vain = is_listed pads && not (bit_for pads n) }
@@ -74,16 +75,16 @@ bits_sum (zero ∷ counts) (pad ∷ pads) = bits_sum counts pads
 bits_sum (suc count ∷ counts) (pad ∷ pads) =
     pads_with (interval_sum (Same pad) 0 false) (bits_sum counts pads)
 
--- how pad bits with this list are told, by what they come to: as the list if two intervals pad with different bits,
+-- how pad bits with this list are said, by what they come to: as the list if two intervals pad with different bits,
 -- else as the one bit, which is 1 if no bit of 0 is padded
 abbrev pub told_by : List ℕ → PadSum → PadBits
 told_by list sum = if sum.zero && sum.one then Listed list else Same (not sum.zero)
 
--- how the pad bits of a file are told
+-- how the pad bits of a file are said
 abbrev pub spelling_of : List Bool → PadSum → PadBits
 spelling_of pads sum = told_by (pad_list pads) sum
 
--- whether what was padded is told so: a bit of 0 was padded with, both bits of a list were, and no 0 of it is in vain
+-- whether what was padded is said so: a bit of 0 was padded with, both bits of a list were, and no 0 of it is in vain
 abbrev pub is_spelled : PadBits → PadSum → Bool
 is_spelled (Same true) sum = true
 is_spelled (Same false) sum = sum.zero

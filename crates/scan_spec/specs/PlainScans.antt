@@ -1,4 +1,4 @@
--- What the plain program for a whole scan is given, and what it puts (own).
+-- Steps: what the plain program for a whole scan is given, and what it puts (own).
 use Rattle.std.specs.Prelude.{ℕ, zero, suc, Bool, if◌then◌else◌, List, [], ◌∷◌, ◌++◌, take, drop, ℤ}
 use Rattle.scan_spec.specs.Slots.{Shape}
 use Rattle.scan_spec.specs.Scans.{Mcu, restart_marker}

@@ -1,4 +1,4 @@
--- What the plain program does with a list of bits (own).
+-- Steps: what the plain program does with a list of bits (own).
 use Rattle.std.specs.Prelude.{◌≡◌, Bool, List, ◌++◌, Result, Ok, Err}
 use Rattle.scan_spec.specs.BlockBits.{Text, prefixed}
 use Rattle.scan_spec.specs.declared.plain.PlainError.{PlainError}

@@ -1,4 +1,4 @@
--- What a reader and a writer of a scan are, and what their calls answer (own).
+-- Steps: the states of a reader and a writer of a scan, and what their calls make of them (own).
 use Rattle.std.specs.Prelude.{ℕ, ◌≡◌, ◌+◌, ◌==◌, if◌then◌else◌, List, ◌++◌, length, map, ℤ, Option, Some, None, Result, Ok, Err}
 use Rattle.bit_list.specs.Bits.{begun_after}
 use Rattle.bit_list.specs.Units.{Cursor}
@@ -14,7 +14,7 @@ use Rattle.scan_spec.specs.ScanReading.{Standing, standing_at, in_zigzag, mcu_at
 use Rattle.scan_spec.specs.declared.refusal.ScanRefusal.{ScanRefusal}
 use Rattle.scan_spec.specs.declared.stop.WriteStop.{WriteStop}
 
--- a reader: the scan, the bytes, where it stands between two MCUs, and the refusal that it came to
+-- a reader: the scan, the bytes, where it is between two MCUs, and its refusal
 pub record ScanReader : Type 0 where
   pub shape : Shape
   pub bytes : List ℕ
@@ -30,16 +30,16 @@ reader_at shape bytes place = record {
   stop = None;
 }
 
--- the place from which bytes are needed to go on (own): that of a unit whose bits were taken in part, or else of the
--- next one
+-- the place from which bytes are needed to continue (own): that of a unit whose bits were read in part, or else of
+-- the next one
 abbrev pub resume_place : Cursor → ℕ
 resume_place cursor = if length cursor.left == 0 then cursor.next else cursor.last
 
--- in the midst of an MCU: neither it nor its pad bits are counted
+-- within an MCU: neither it nor its pad bits are counted
 abbrev pub stopped_at : Standing → Standing → Standing
 stopped_at old new = record old { cursor = new.cursor; before = new.before }
 
--- the next MCU; or the refusal that it comes to, in the midst of an MCU that isn't counted
+-- the next MCU was read; or it is refused, and isn't counted
 abbrev pub McuIsReadOn : {A : Type 0} → ScanReader → Result A ScanRefusal → ScanReader
     → List (List ℤ)
     → Type 0

@@ -1,4 +1,4 @@
--- What holds of every scan (own).
+-- Law: what holds of every scan (ITU-T T.81, B.2.1, F.1.2, F.2.2).
 use Rattle.std.specs.Prelude.{ℕ, ◌≡◌, ◌+◌, ◌*◌, ◌<◌, ◌≤◌, Bool, List, ◌++◌, length, take, drop, map, unwrap_or, slice_set, slice_index, Ok, Err, ℤ}
 use Rattle.std.specs.List.{AllByRecursion}
 use Rattle.bit_list.specs.Bits.{IsByte}
@@ -31,7 +31,7 @@ pub record IsShape (shape : Shape) : Type 0 where
   pub slots : AllByRecursion IsSlot shape.slots
   pub mcus : 0 < shape.mcus
 
--- bytes go on at a place with a scan, and then at another one
+-- bytes have a scan from a place up to another
 pub record Begins (shape : Shape) (mcus : List Mcu) (pads : List Bool) (bytes : List ℕ)
     (place after : ℕ) : Type 0 where
   pub scan : List ℕ
@@ -63,7 +63,7 @@ TextsAreShort =
     → blocks_text slots before blocks ≡ Ok bits
     → length bits ≤ 1665 * length blocks
 
--- bits stand from a cursor to another
+-- these are the bits from a cursor to another
 abbrev pub Stand : List ℕ → Cursor → List Bool → Cursor → Type 0
 Stand bytes from bits to = bits_at (length bits) bytes from ≡ Ok (bits, to)
 
@@ -75,7 +75,7 @@ IsBlockSpelled =
     → (block : List ℤ) × (bits : List Bool) × IsBlock block × (values ≡ in_zigzag block)
     × (block_text slot.codes (last_dc before slot) block ≡ Ok bits) × Stand bytes from bits to
 
--- a block whose bits stand there is read, whatever comes next
+-- a block whose bits are there is read, whatever follows
 abbrev pub IsBlockReadAgain : Type 0
 IsBlockReadAgain =
     (slot : Slot) (before block : List ℤ) (bytes : List ℕ) (bits : List Bool) (from to : Cursor)
@@ -91,7 +91,7 @@ AreBlocksSpelled =
     × (read.before ≡ dcs_after slots before mcu) × (blocks_text slots before mcu ≡ Ok bits)
     × Stand bytes from bits read.cursor
 
--- blocks of an MCU whose bits stand there are read
+-- blocks of an MCU whose bits are there are read
 abbrev pub AreBlocksReadAgain : Type 0
 AreBlocksReadAgain =
     (slots : List Slot) (before : List ℤ) (mcu : Mcu) (bytes : List ℕ) (bits : List Bool)
@@ -102,14 +102,14 @@ AreBlocksReadAgain =
     ≡ Ok (record { blocks = map in_zigzag mcu; before = dcs_after slots before mcu; cursor = to })
 
 -- a writer's spot and a reader's standing agree, the writer's next byte having its place here: the bits of the byte
--- begun are those that the reader took from there, and both have the same last DCs and count of MCUs
+-- begun are those that the reader read from there, and both have the same last DCs and count of MCUs
 pub record StandTogether (bytes : List ℕ) (place : ℕ) (spot : Spot) (at : Standing) : Type 0 where
   pub begun : length spot.begun < 8
   pub spans : Spans bytes (starting place 0) spot.begun at.cursor
   pub before : spot.before ≡ at.before
   pub count : spot.count ≡ at.count
 
--- an MCU that is read has the bytes that stand there, its interval's pad bit being the one that was read, if one was,
+-- an MCU that is read has the bytes that are there, its interval's pad bit being the one that was read, if one was,
 -- and both agree after it
 abbrev pub IsMcuSpelled : Type 0
 IsMcuSpelled =
@@ -122,7 +122,7 @@ IsMcuSpelled =
     × (drop place bytes ≡ text ++ drop (place + length text) bytes)
     × StandTogether bytes (place + length text) after next
 
--- an MCU whose bits stand at the cursor is read, and then its pad bits and marker, if they are due
+-- an MCU whose bits are at the cursor is read, and then its pad bits and marker, if they are due
 abbrev pub IsMcuReadAgain : Type 0
 IsMcuReadAgain =
     (shape : Shape) (bytes : List ℕ) (at : Standing) (mcu : Mcu) (bits : List Bool) (to : Cursor)
@@ -136,7 +136,7 @@ IsMcuReadAgain =
       cursor = to;
     })) (λ next. Ok (map in_zigzag mcu, next))
 
--- a scan that is read has the bytes that stand there
+-- a scan that is read has the bytes that are there
 abbrev pub IsSpelled : Type 0
 IsSpelled =
     (shape : Shape) (bytes : List ℕ) (place : ℕ) (blocks : List (List (List ℤ))) (end : Standing)
@@ -145,7 +145,7 @@ IsSpelled =
     → (mcus : List Mcu) × (blocks ≡ zigzag_of mcus)
     × Begins shape mcus (scan_pads shape bytes place) bytes place end.cursor.next
 
--- and a scan whose bytes stand there is read
+-- and a scan whose bytes are there is read
 abbrev pub IsReadAgain : Type 0
 IsReadAgain =
     (shape : Shape) (bytes : List ℕ) (place after : ℕ) (mcus : List Mcu) (pads : List Bool)
@@ -168,13 +168,13 @@ OneScan =
     → IsShape shape → IsScan shape mcus pads a → IsScan shape others bits b → a ++ x ≡ b ++ y
     → (mcus ≡ others) × (pads ≡ bits) × (a ≡ b) × (x ≡ y)
 
--- a scan that can't be read is refused for where its items stop
+-- a scan that can't be read is refused for the item at which it stops
 abbrev pub IsRefusalOfItems : Type 0
 IsRefusalOfItems =
     (shape : Shape) (bytes : List ℕ) (place : ℕ) (refusal : ScanRefusal) → IsShape shape
     → scan_at shape bytes place ≡ Err refusal → Refuses shape bytes place refusal
 
--- and the items of one that is read go on to its end
+-- and the items of one that is read continue to its end
 abbrev pub IsEndOfItems : Type 0
 IsEndOfItems =
     (shape : Shape) (bytes : List ℕ) (place : ℕ) (blocks : List (List (List ℤ))) (end : Standing)
@@ -188,7 +188,7 @@ OneOutcome =
     (refusal other : ScanRefusal) → IsShape shape → Refuses shape bytes place refusal
     → (Refuses shape bytes place other → refusal ≡ other) × (Ends shape bytes place pads after → ⊥)
 
--- no items that stand go on past those that stop, so that these are the longest list
+-- no items that are there continue past those that stop, so that these are the longest list
 abbrev pub IsLongest : Type 0
 IsLongest =
     (shape : Shape) (bytes : List ℕ) (place : ℕ) (items others : List Item) (last stage : Stage)

@@ -1,4 +1,5 @@
--- A scan read MCU by MCU, with the first fault (ITU-T T.81, B.2.1, F.1.1.5.1, F.2.2). Blocks are in zigzag order here.
+-- Statement: a scan read MCU by MCU, with the first fault (ITU-T T.81, B.2.1, F.1.1.5.1, F.2.2). Blocks are in zigzag
+-- order here.
 use Rattle.std.specs.Prelude.{ℕ, zero, suc, ◌+◌, ◌-◌, ◌/◌, ◌%◌, Bool, true, false, ◌&&◌, ◌==◌, nat_lt, nat_le, if◌then◌else◌, List, [], ◌∷◌, ◌++◌, length, drop, replicate, ℤ, pos, ◌+ℤ◌, unsigned_abs, slice_set, Option, Some, None, unwrap_or, Result, Ok, Err}
 use Rattle.bit_list.specs.Units.{Cursor, starting, bits_at}
 use Rattle.coef_block.specs.Block.{most_dc}
@@ -21,7 +22,7 @@ use Rattle.scan_spec.specs.declared.slot.Slot.{Slot}
 use Rattle.scan_spec.specs.declared.refusal.ScanRefusal.{ScanRefusal}
 use Rattle.scan_spec.specs.declared.refusal.ScanRefusal.TheVariants as refusals
 
--- what comes of a value, and a refusal as it is (own)
+-- what follows from a value, and a refusal as it is (own)
 abbrev pub and_then : {A B : Type 0} → Result A ScanRefusal → (A → Result B ScanRefusal)
     → Result B ScanRefusal
 and_then (Ok x) f = f x
@@ -37,12 +38,12 @@ abbrev pub code_refusal : CodeFault → ScanRefusal
 code_refusal (Bits fault) = bits_refusal fault
 code_refusal (NoWord place) = refusals.CodeBad place
 
--- a fault as the refusal that it comes to (own)
+-- a fault as its refusal (own)
 abbrev pub refused_as : {A F : Type 0} → (F → ScanRefusal) → Result A F → Result A ScanRefusal
 refused_as refusal (Ok x) = Ok x
 refused_as refusal (Err fault) = Err (refusal fault)
 
--- the symbol whose code word stands at a cursor (F.2.2.3)
+-- the symbol of the code word at a cursor (F.2.2.3)
 abbrev pub symbol_at : TableFields → List ℕ → Cursor → Result (ℕ × Cursor) ScanRefusal
 symbol_at table bytes cursor = refused_as code_refusal (value_at table bytes cursor)
 
@@ -57,7 +58,7 @@ abbrev pub within_dc : ℤ → Cursor → Result (ℤ × Cursor) ScanRefusal
 within_dc dc cursor =
     if nat_le (unsigned_abs dc) most_dc then Ok (dc, cursor) else Err (refusals.DcRange cursor.last)
 
--- the difference of a category whose bits stand at a cursor (F.2.2.1, Table F.1)
+-- the difference of a category, by its bits at a cursor (F.2.2.1, Table F.1)
 abbrev pub difference_at : List ℕ → ℕ × Cursor → Result (ℤ × Cursor) ScanRefusal
 difference_at bytes size =
     if nat_le size.0 11 then extended_at size.0 bytes size.1
@@ -69,9 +70,9 @@ dc_at table before bytes cursor =
     and_then (symbol_at table bytes cursor)
     (λ size. and_then (difference_at bytes size) (λ more. within_dc (before +ℤ more.0) more.1))
 
--- what a symbol says where `left` coefficients are left (F.2.2.2, Figure F.13): a value of a category after some
--- zeros, sixteen zeros, the end of the block; or it can't stand there: its coefficients pass the last one, the end
--- stands after sixteen zeros (own), or no block has the symbol
+-- what a symbol says if `left` coefficients are left (F.2.2.2, Figure F.13): a value of a category after some zeros,
+-- sixteen zeros, the end of the block; or it can't be there: its coefficients pass the last one, the end is after
+-- sixteen zeros (own), or no block has the symbol
 pub data Symbol : Type 0 where
   Value : ℕ → ℕ → Symbol
   Sixteen : Symbol
@@ -170,7 +171,7 @@ pad_of None bits = None
 pad_of (Some pad) [] = Some pad
 pad_of (Some pad) (bit ∷ bits) = pad_of (pad_with pad bit) bits
 
--- between two MCUs (own): the cursor, the last DC of each component in this interval, how many MCUs came before, and
+-- between two MCUs (own): the cursor, the last DC of each component in this interval, how many MCUs are before, and
 -- the pad bit of the interval that the last of them ended, if it ended one that has any
 pub record Standing : Type 0 where
   pub cursor : Cursor
@@ -191,8 +192,8 @@ padded_or None cursor = Err (refusals.MixedPad cursor.last)
 abbrev pub pads_at : Cursor → Result (Option Bool × Cursor) ScanRefusal
 pads_at cursor = padded_or (pad_of (Some None) cursor.left) cursor
 
--- the place after the marker of interval n, which begins the bytes from a place on, without fill bytes (own); `end` is
--- where they end (E.1.4)
+-- the place after the marker of interval n, with which the bytes from a place on begin, without fill bytes (own); `end`
+-- is where they end (E.1.4)
 abbrev pub restart_of : ℕ → ℕ → ℕ → List ℕ → Result ℕ ScanRefusal
 restart_of end place n [] = Err (refusals.ScanCut end)
 restart_of end place n (byte ∷ []) =
@@ -204,7 +205,7 @@ restart_of end place n (byte ∷ code ∷ rest) =
 unfoldable pub restart_at : List ℕ → ℕ → ℕ → Result ℕ ScanRefusal
 restart_at bytes n place = restart_of (length bytes) place n (drop place bytes)
 
--- after the pad bits of an interval: the scan is over, or its marker stands there
+-- after the pad bits of an interval: the scan is over, or the interval's marker is there
 abbrev pub after_pads : Shape → List ℕ → ℕ → Option Bool × Cursor → Result Standing ScanRefusal
 after_pads shape bytes count padded =
     if count + 1 == shape.mcus
@@ -244,7 +245,7 @@ mcus_at (suc count) shape bytes at =
     (λ first. and_then (mcus_at count shape bytes first.1)
     (λ more. Ok (first.0 ∷ more.0, more.1)))
 
--- the pad bit of the interval that the last MCU ended, 1 where that pads none; no bit where it ended none (own)
+-- the pad bit of the interval that the last MCU ended, 1 if that pads none; no bit if it ended none (own)
 abbrev pub pad_told : Shape → Standing → List Bool
 pad_told shape at = if is_closed shape at.count then unwrap_or at.pad true ∷ [] else []
 
@@ -260,7 +261,7 @@ pads_told zero shape bytes at = []
 pads_told (suc count) shape bytes at =
     pads_after shape (mcu_at shape bytes at) (λ next. pads_told count shape bytes next)
 
--- the pad bits of the scan that stands at a place, one for each interval
+-- the pad bits of the scan at a place, one for each interval
 abbrev pub scan_pads : Shape → List ℕ → ℕ → List Bool
 scan_pads shape bytes place = pads_told shape.mcus shape bytes (standing_at place)
 
@@ -285,10 +286,10 @@ sum_told zero shape bytes at = no_pads
 sum_told (suc count) shape bytes at =
     sum_after shape (mcu_at shape bytes at) (λ next. sum_told count shape bytes next)
 
--- and those of the scan that stands at a place
+-- and those of the scan at a place
 abbrev pub scan_sum : Shape → List ℕ → ℕ → PadSum
 scan_sum shape bytes place = sum_told shape.mcus shape bytes (standing_at place)
 
--- the scan that stands at a place
+-- the scan at a place
 abbrev pub scan_at : Shape → List ℕ → ℕ → Result (List (List (List ℤ)) × Standing) ScanRefusal
 scan_at shape bytes place = mcus_at shape.mcus shape bytes (standing_at place)

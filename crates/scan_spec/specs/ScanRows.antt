@@ -1,4 +1,4 @@
--- Worked scans, written and read (own).
+-- Rows: worked scans, written and read (own).
 use Rattle.std.specs.Prelude.{ℕ, ◌≡◌, true, false, List, [], ◌∷◌, map, pos, replicate, Some, Ok, Err}
 use Rattle.jpeg_marker.specs.HuffmanTables.{no_table}
 use Rattle.jpeg_marker.specs.declared.component.Component.{Component}

@@ -1,4 +1,5 @@
--- The bytes of a scan (ITU-T T.81, A.2, B.1.1.5, B.2.1, E.1.4, F.1.2.3): restart intervals with markers between them.
+-- Statement: the bytes of a scan, restart intervals with markers between them (ITU-T T.81, A.2, B.1.1.5, B.2.1,
+-- E.1.4, F.1.2.3).
 use Rattle.std.specs.Prelude.{ℕ, ◌≡◌, ◌+◌, ◌%◌, Bool, true, not, ◌&&◌, ◌==◌, if◌then◌else◌, List, [], ◌∷◌, ◌++◌, length, map, get_or, replicate, flat_map, ℤ, pos, Result, Ok, Err}
 use Rattle.std.specs.List.{AllByRecursion, onto_first}
 use Rattle.bit_list.specs.Bits.{bytes_after, begun_after, padding, stuffed}
@@ -38,7 +39,7 @@ restart_marker n = 0xff ∷ (0xd0 + n % 8) ∷ []
 abbrev pub ends_interval : ℕ → ℕ → Bool
 ends_interval interval count = not (interval == 0) && count % interval == 0
 
--- MCUs in restart intervals, `before` being how many MCUs come before (B.2.4.4)
+-- MCUs in restart intervals, `before` being how many MCUs are before (B.2.4.4)
 abbrev pub intervals_after : ℕ → ℕ → List Mcu → List (List Mcu)
 intervals_after interval before [] = []
 intervals_after interval before (mcu ∷ mcus) =
@@ -99,7 +100,7 @@ pad_bits_of (Err stop) = 0
 abbrev pub pad_counts : List Slot → List (List Mcu) → List ℕ
 pad_counts slots intervals = map (λ interval. pad_bits_of (mcus_bits slots interval)) intervals
 
--- a pad bit for each interval, by how many bits of each it fills up: 1 where there are none (own)
+-- a pad bit for each interval, by how many bits of each it fills up: 1 if there are none (own)
 abbrev pub ArePads : List ℕ → List Bool → Type 0
 ArePads [] [] = Unit {0}
 ArePads [] (pad ∷ pads) = ⊥
@@ -110,7 +111,7 @@ ArePads (count ∷ counts) (pad ∷ pads) = (count ≡ 0 → pad ≡ true) × Ar
 abbrev pub pad_at : List Bool → ℕ → Bool
 pad_at pads n = get_or pads n true
 
--- MCUs and a pad bit for each restart interval, which is 1 where the interval pads none, as a scan of these bytes (own)
+-- MCUs and a pad bit for each restart interval, which is 1 if the interval pads none, as a scan of these bytes (own)
 pub record IsScan (shape : Shape) (mcus : List Mcu) (pads : List Bool)
     (scan : List ℕ) : Type 0 where
   pub grid : AreMcus shape mcus

@@ -1,4 +1,5 @@
--- How a scan's shape is kept: its slots as components by their index in the frame, and the code words of each (own).
+-- View: how a scan's shape is kept: its slots as components by their index in the frame, and the code words of each
+-- (own).
 use Rattle.std.specs.Prelude.{ℕ, ◌+◌, ◌<◌, ◌≤◌, List, [], ◌∷◌, ◌++◌, length, map, take, replicate, get_or}
 use Rattle.std.specs.List.{All}
 use Rattle.jpeg_marker.specs.Frames.{area}
@@ -24,7 +25,7 @@ indexes_from index [] = []
 indexes_from index (c ∷ components) =
     replicate (area (part_of c)) index ++ indexes_from (index + 1) components
 
--- the component of each block of an MCU: one block where there is one component (A.2.2, A.2.3)
+-- the component of each block of an MCU: one block if there is one component (A.2.2, A.2.3)
 abbrev pub component_indexes : List Component → List ℕ
 component_indexes [] = []
 component_indexes (c ∷ []) = 0 ∷ []

@@ -1,4 +1,4 @@
--- The blocks of an MCU, and the MCUs of a scan (ITU-T T.81, A.2, B.2.3, B.2.4.4).
+-- Statement: the blocks of an MCU, and the MCUs of a scan (ITU-T T.81, A.2, B.2.3, B.2.4.4).
 use Rattle.std.specs.Prelude.{ℕ, ◌+◌, ◌*◌, List, [], ◌∷◌, ◌++◌, replicate}
 use Rattle.jpeg_marker.specs.Frames.{area}
 use Rattle.jpeg_marker.specs.Plans.{PlanFields, part_of}
@@ -16,14 +16,14 @@ slots_from index [] = []
 slots_from index (c ∷ components) =
     replicate (area (part_of c)) (slot_of index c) ++ slots_from (index + 1) components
 
--- the blocks of an MCU in their order: one where there is one component, whatever its sampling (A.2.2, A.2.3)
+-- the blocks of an MCU in their order: one if there is one component, whatever its sampling (A.2.2, A.2.3)
 abbrev pub slots_of : List Component → List Slot
 slots_of [] = []
 slots_of (c ∷ []) = slot_of 0 c ∷ []
 slots_of (c ∷ d ∷ components) = slots_from 0 (c ∷ d ∷ components)
 
 -- what a scan is made of (own): the blocks of an MCU, how many MCUs there are, and how many MCUs a restart interval
--- has, 0 where there are no restarts (B.2.4.4)
+-- has, 0 if there are no restarts (B.2.4.4)
 pub record Shape : Type 0 where
   pub slots : List Slot
   pub mcus : ℕ

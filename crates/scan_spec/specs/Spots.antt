@@ -1,4 +1,5 @@
--- A scan's bytes MCU by MCU, from any of them on (ITU-T T.81, B.2.1, E.1.4, F.1.2.3): what a writer puts at a time.
+-- Statement: a scan's bytes MCU by MCU, from any of them on: what a writer puts at a time (ITU-T T.81, B.2.1, E.1.4,
+-- F.1.2.3).
 use Rattle.std.specs.Prelude.{ℕ, ◌+◌, ◌/◌, Bool, ◌||◌, ◌==◌, if◌then◌else◌, List, [], ◌∷◌, ◌++◌, length, take, ℤ, Result, Ok, Err}
 use Rattle.bit_list.specs.Bits.{bytes_after, begun_after, padding, stuffed}
 use Rattle.scan_spec.specs.BlockBits.{Text}
@@ -8,7 +9,7 @@ use Rattle.scan_spec.specs.Scans.{Mcu, no_dcs, ends_interval, restart_marker}
 use Rattle.scan_spec.specs.declared.stop.WriteStop.{WriteStop}
 
 -- between two MCUs (own): the bits of a byte begun, at most 7, the last DC of each component in this interval, and how
--- many MCUs came before
+-- many MCUs are before
 pub record Spot : Type 0 where
   pub begun : List Bool
   pub before : List ℤ
@@ -22,11 +23,11 @@ first_spot = record { begun = []; before = no_dcs; count = 0 }
 abbrev pub is_closed : Shape → ℕ → Bool
 is_closed shape count = count == shape.mcus || ends_interval shape.interval count
 
--- the number of the interval of the MCU that comes after `count` others, from 0; without restarts there is one interval
+-- the number of the interval of the MCU after `count` others, from 0; without restarts there is one interval
 abbrev pub interval_number : Shape → ℕ → ℕ
 interval_number shape count = if shape.interval == 0 then 0 else count / shape.interval
 
--- the marker after the MCU that comes after `count` others and ends an interval; none after the last MCU (B.2.1)
+-- the marker after the MCU that follows `count` others and ends an interval; none after the last MCU (B.2.1)
 abbrev pub marker_after : Shape → ℕ → List ℕ
 marker_after shape count =
     if count + 1 == shape.mcus then [] else restart_marker (interval_number shape count)
@@ -85,12 +86,12 @@ mcus_put shape pads spot (mcu ∷ mcus) =
 abbrev pub put_first : Shape → (ℕ → Bool) → List Mcu → ℕ → Put
 put_first shape pads mcus n = mcus_put shape pads first_spot (take n mcus)
 
--- how many bytes were put, none where a cause stops them
+-- how many bytes were put, none if a cause stops them
 abbrev pub count_in : Put → ℕ
 count_in (Ok made) = length made.0
 count_in (Err stop) = 0
 
--- the spot after them, the first one where a cause stops them
+-- the spot after them, the first one if a cause stops them
 abbrev pub spot_in : Put → Spot
 spot_in (Ok made) = made.1
 spot_in (Err stop) = first_spot

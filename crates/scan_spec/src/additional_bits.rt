@@ -5,8 +5,8 @@ ghost use Rattle.coef_block.specs.Block.{most_difference};
 ghost use Rattle.coef_block.specs.Categories.{category};
 ghost use Rattle.scan_spec.specs.ValueBits.{mag, extend};
 
-/// The number that the additional bits of a value spell: its own, or where it is negative the one less counted from
-/// all ones (F.1.2.1). `size` is the value's category, 11 at most.
+/// The number that the additional bits of a value spell: the value itself, or if it is negative all ones less its
+/// magnitude (F.1.2.1). `size` is the value's category, 11 at most.
 #[inline(always)]
 pub fn value_bits(value: i32, size: u8) -> u16
     requires small { unsigned_abs value ≤ most_difference }
@@ -37,7 +37,7 @@ pub fn extend(bits: u16, size: u8) -> i32
 }
 
 // How much less than its bits spell a value is: all ones where the first bit is a zero, and else nothing. It takes no
-// branch, since that bit can't be foretold.
+// branch, since that bit can't be predicted.
 #[inline(always)]
 fn less(bits: u16, size: u8) -> u16
     requires some { 0 < size }

@@ -11,7 +11,7 @@ ghost use Rattle.scan_spec.specs.ScanLaws.{IsPutInParts, IsBlockSpelled, IsBlock
 ghost use Rattle.scan_spec.specs.FileLaws.{AcceptedIsShape, OneFile};
 ghost use Rattle.scan_spec.specs.declared.slot.Slot.{Slot};
 
-/// EXTEND turns additional bits back into their value, and a value's bits are those it is read from (Figure F.12).
+/// EXTEND turns additional bits back into their value, and a value's bits are those that it is read from (Figure F.12).
 pub fn values_are_bits()
     ensures value { (value : ℤ) → extend (mag value) ≡ value }
     ensures bits { (bits : List Bool) → mag (extend bits) ≡ bits }
@@ -77,8 +77,8 @@ pub fn zigzag_determines_blocks()
     ensures set { IsSetInZigzag }
 {}
 
-/// Blocks that are read have the bits that stand there; blocks whose bits stand there are read, whatever comes next. A
-/// block has at most 1,665 bits.
+/// Blocks that are read have the bits that are there; blocks whose bits are there are read, whatever follows. A block
+/// has at most 1,665 bits.
 pub fn blocks_are_text()
     ensures block { IsBlockSpelled }
     ensures block_again { IsBlockReadAgain }
@@ -87,8 +87,8 @@ pub fn blocks_are_text()
     ensures short { TextsAreShort }
 {}
 
-/// A scan that is read has the bytes that stand there, a scan whose bytes stand there is read, and so bytes determine
-/// the MCUs, the pad bit of each interval, what these come to, and the trailer.
+/// A scan that is read has the bytes that are there, a scan whose bytes are there is read, and so bytes determine the
+/// MCUs, the pad bit of each interval, what these come to, and the trailer.
 pub fn scans_are_text()
     ensures mcu { IsMcuSpelled }
     ensures mcu_again { IsMcuReadAgain }
@@ -98,7 +98,7 @@ pub fn scans_are_text()
     ensures one { OneScan }
 {}
 
-/// A header that is taken gives the shape of a scan. A file determines its header's plan, its MCUs, the pad bit of each
+/// An accepted header gives the shape of a scan. A file determines its header's plan, its MCUs, the pad bit of each
 /// of its intervals and what follows the scan.
 pub fn a_file_has_one_reading()
     ensures shape { AcceptedIsShape }

@@ -27,7 +27,7 @@ impl<'a> Pads<'a> {
         }
     }
 
-    /// What an interval comes to that pads its bit, or where it pads `none`, whose bit is in vain.
+    /// What an interval comes to that pads its bit, or, if it pads `none`, whose bit is in vain.
     pub fn sum(&self, interval: u32, none: bool) -> PadSum
         requires { HasBit (pads_given self.now) interval }
         ensures { result ≡ interval_sum (pads_given self.now) interval none }
@@ -47,7 +47,7 @@ impl<'a> Pads<'a> {
         }
     }
 
-    /// How the pad bits of a file are told whose intervals come to this, given the list of them.
+    /// How a container says the pad bits of a file whose intervals come to `sum`, given the list of them.
     pub fn told(list: &'a [u8], sum: &PadSum) -> Pads<'a>
         ensures { pads_given result ≡ told_by list.now sum.now }
     {
@@ -58,7 +58,7 @@ impl<'a> Pads<'a> {
         }
     }
 
-    /// Whether the pad bits of a file are told so whose intervals came to this.
+    /// Whether these say the pad bits of a file whose intervals come to `sum` as `encode` does.
     pub fn is_spelled(&self, sum: &PadSum) -> bool
         ensures { result ≡ is_spelled (pads_given self.now) sum.now }
     {

@@ -116,7 +116,7 @@ fn put_acs(codes: &Codes, block: &Block, bits: &mut Vec<bool>) -> Result<(), Pla
     put_word(codes, 0x00, bits)
 }
 
-// A coefficient and the zeros before it; answers how many zeros stand before the next one.
+// A coefficient and the zeros before it; answers how many zeros there are before the next one.
 fn put_next(codes: &Codes, zeros: u8, value: i32, bits: &mut Vec<bool>) -> Result<u8, PlainError>
     requires value { IsAc value }
     requires zeros { zeros ≤ 63 }

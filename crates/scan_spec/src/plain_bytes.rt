@@ -12,7 +12,7 @@ use coef_block::Block;
 use std::alloc::{AllocError, Global};
 
 /// The bytes of a scan (ITU-T T.81, B.2.1, E.1.4, F.1.2.3): the definition as a program. `slots` are those of one MCU,
-/// `blocks` those of all `mcus` MCUs, one MCU after the other; `interval` is in MCUs, 0 where there are no restarts.
+/// `blocks` those of all `mcus` MCUs, one MCU after the other; `interval` is in MCUs, 0 if there are no restarts.
 pub fn plain_scan(
     alloc: Global,
     slots: &[Slot],
@@ -46,7 +46,7 @@ pub fn plain_scan(
     Ok(bytes)
 }
 
-// How many MCUs the next interval has, `done` being how many come before it (B.2.4.4).
+// How many MCUs the next interval has, `done` being how many there are before it (B.2.4.4).
 fn next_count(mcus: u32, interval: u32, done: u32) -> u32
     requires { done < mcus }
     ensures some { 1 ≤ result }

@@ -1,6 +1,6 @@
 // Why a scan is refused.
 
-/// Why a scan is refused: the item that is due doesn't stand, or the last one can't stand there. Places are offsets of
+/// Why a scan is refused: the item that is due isn't there, or the last one can't be there. Places are offsets of
 /// bytes from 0.
 #[derive(Clone, Copy, Debug, PartialEq, Eq)]
 pub enum ScanRefusal {

@@ -93,7 +93,7 @@ impl ScanShape {
         count == self.mcus || (self.interval != 0 && count % self.interval == 0)
     }
 
-    /// The number of the interval of the MCU that comes after `count` others, from 0; 0 where there are no restarts.
+    /// The number of the interval of the MCU after `count` others, from 0; 0 if there are no restarts.
     #[inline]
     pub fn interval_number(&self, count: u32) -> u32
         ensures { result ≡ interval_number self.now count }

@@ -1,4 +1,4 @@
-// Where a block stands in an MCU.
+// A block's slot in an MCU.
 use huff_table::ComponentCodes;
 
 /// A block of an MCU: its component's index in the frame, from 0 to 3, and the code words of that component's tables

@@ -1,4 +1,4 @@
--- Texts that are appended to what was put out (own).
+-- Steps: texts that are appended to what was put out (own).
 use Rattle.std.specs.Prelude.{◌≡◌, Bool, List, Result, Ok, Err}
 use Rattle.scan_spec.specs.BlockBits.{Text, prefixed}
 use Rattle.scan_spec.specs.declared.stop.WriteStop.{WriteStop}

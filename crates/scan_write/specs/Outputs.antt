@@ -1,4 +1,4 @@
--- What was put out, bits in a byte begun and stuffed bytes, and the room for more (own).
+-- Steps: what was put out, bits of a byte begun and stuffed bytes, and the room for more (own).
 use Rattle.std.specs.Prelude.{ℕ, ◌+◌, ◌*◌, ◌/◌, ◌<◌, ◌≤◌, Bool, List, ◌++◌, length}
 use Rattle.bit_list.specs.Bits.{bytes_after, begun_after, stuffed}
 use Rattle.bit_list.specs.Pieces.{piece_room}

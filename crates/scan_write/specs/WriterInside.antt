@@ -1,4 +1,5 @@
--- What a writer stands for, what always holds of it, and how it goes over an MCU (own).
+-- View: a writer's fields as a writer of the definitions, what always holds of them, and what they are after an MCU
+-- (own).
 use Rattle.std.specs.Prelude.{ℕ, ◌≡◌, ◌^◌, ◌<◌, ◌≤◌, true, List, ◌++◌, Result, Ok, Err}
 use Rattle.std.specs.List.{All}
 use Rattle.coef_block.specs.Block.{IsDc}
@@ -29,7 +30,7 @@ pub record IsWriter (w : Inside) : Type 0 where
   pub size : w.shape.mcus < 2 ^ 32
   pub pads : is_long_for w.shape (pads_given w.pads) ≡ true
 
--- an MCU's bytes were appended, or some bytes, where it has a stop, and the writer is as before
+-- an MCU's bytes were appended, or some bytes, if it has a stop, and the writer is as before
 abbrev pub McuIsTried : {A : Type 0} → ScanWriter → Mcu → List ℕ → Result A WriteStop → ScanWriter
     → List ℕ → Type 0
 McuIsTried old mcu out (Ok done) new out_new = McuIsPutOn old mcu out (Ok done) new out_new

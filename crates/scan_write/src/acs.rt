@@ -43,7 +43,7 @@ pub(crate) fn acs(
     word(codes, END_OF_BLOCK, output, out)
 }
 
-// The next coefficient after zeros. Answers how many zeros stand before the one after it.
+// The next coefficient after zeros. Answers how many zeros there are before the one after it.
 #[inline(always)]
 fn go_on(
     codes: &Codes,

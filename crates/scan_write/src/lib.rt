@@ -5,8 +5,9 @@
 //!     3f         ff d0    3f
 //!     --- mcu ----------  --- mcu --
 //!
-//! What each call writes is stated by the definitions of `scan_spec`. It takes no memory: bytes go to a piece with room
-//! for `mcu_room()` more of them, and a byte begun waits for the next MCU. Reading is `scan_decode`'s.
+//! What each call writes is stated by the definitions of `scan_spec`. It allocates nothing: bytes go to a piece with
+//! room for `mcu_room()` more of them, and a byte begun waits for the next MCU. Not handled here: reading (see
+//! `scan_decode`).
 #![tactic(auto)]
 
 mod acs;

@@ -1,11 +1,11 @@
-// What stands after the MCUs of an interval.
+// What follows the MCUs of an interval.
 ghost use Rattle.std.specs.Prelude.{◌≡◌, ◌+◌, ◌≤◌, [], ◌++◌, length};
 ghost use Rattle.bit_list.specs.Pieces.{piece_room};
 ghost use Rattle.scan_spec.specs.Scans.{restart_marker};
 
 use bit_list::{BitOut, Piece};
 
-/// The marker of an interval (ITU-T T.81, E.1.4), where no byte is begun.
+/// The marker of an interval (ITU-T T.81, E.1.4), if no byte is begun.
 #[inline]
 pub(crate) fn restart(number: u32, output: &mut BitOut, out: &mut Piece)
     requires whole { output.old ≡ [] }

@@ -59,7 +59,7 @@ pub(crate) fn value(
     Ok(())
 }
 
-// Two codes, one after the other: at once where that is sixteen bits at most.
+// Two codes, one after the other: at once if that is sixteen bits at most.
 #[inline(always)]
 fn put_both(code: u16, count: u8, next: u16, size: u8, output: &mut BitOut, out: &mut Piece)
     requires count { count ≤ 16 }

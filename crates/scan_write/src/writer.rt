@@ -32,7 +32,7 @@ pub fn mcu_room() -> usize
     4_168
 }
 
-/// A scan that is written MCU by MCU (ITU-T T.81, F.1.2). It keeps the first stop, and takes no memory.
+/// A scan that is written MCU by MCU (ITU-T T.81, F.1.2). It keeps the first stop, and allocates nothing.
 ///
 /// Clauses see the scan's shape, its pad bits, the spot after the last MCU, what was padded, and the stop.
 #[derive(Drop)]
@@ -111,7 +111,7 @@ impl<'a> Writer<'a> {
     }
 
     /// Appends the bytes of the next MCU, given its blocks in their order (A.2.3): those that its bits complete, and
-    /// where an interval or the scan ends, the padded byte, and the marker, if another interval follows. An MCU that
+    /// if an interval or the scan ends, the padded byte, and the marker, if another interval follows. An MCU that
     /// has no bits is stopped by the first cause in writing order: then none of its bytes are there, and that stop is
     /// answered from then on.
     pub fn mcu(&mut self, blocks: &[Block], out: &mut Piece) -> Result<(), WriteStop>
