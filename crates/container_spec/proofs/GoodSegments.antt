@@ -5,8 +5,7 @@ use Rattle.std.specs.List.{AllByRecursion}
 use Rattle.std.proofs.lemmas.Slice.Eq.{bytes_eq-Decides}
 use Rattle.coef_block.specs.Block.{IsBlock}
 use Rattle.scan_spec.specs.Blocks.{blocks_text}
-use Rattle.scan_spec.specs.Pads.{bit_for}
-use Rattle.scan_spec.specs.ScanCalls.{text_sum}
+use Rattle.scan_spec.specs.Pads.{bit_for, text_sum}
 use Rattle.scan_spec.specs.Scans.{Mcu, IsMcu}
 use Rattle.scan_spec.specs.Spots.{Spot, prefixed_put, then_put, mcu_put, mcus_put, spot_in}
 use Rattle.scan_spec.specs.declared.stop.WriteStop.{WriteStop}

@@ -2,8 +2,7 @@
 use Rattle.std.proofs.Common.{◌≡◌, ℕ, List, [], ◌∷◌, ◌++◌, length, Ok, refl, sym, ap, ap₂, subst, ◌∙◌, append_assoc, append-nil, ℤ}
 use Rattle.std.specs.List.{AllByRecursion}
 use Rattle.scan_spec.specs.Blocks.{blocks_text}
-use Rattle.scan_spec.specs.Pads.{bit_for}
-use Rattle.scan_spec.specs.ScanCalls.{text_sum}
+use Rattle.scan_spec.specs.Pads.{bit_for, text_sum}
 use Rattle.scan_spec.specs.Scans.{Mcu, IsMcu}
 use Rattle.scan_spec.specs.Spots.{Spot, mcu_put, mcus_put, spot_in}
 use Rattle.handover.specs.PadSums.{pads_with}

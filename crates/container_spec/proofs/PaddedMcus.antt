@@ -8,8 +8,7 @@ use Rattle.handover.specs.PadSums.{no_pads, pads_with}
 use Rattle.handover.specs.declared.pads.PadSum.{PadSum}
 use Rattle.scan_spec.specs.BlockBits.{Text}
 use Rattle.scan_spec.specs.Blocks.{blocks_text, dcs_after}
-use Rattle.scan_spec.specs.Pads.{PadBits, bit_for, interval_sum, intervals_sum}
-use Rattle.scan_spec.specs.ScanCalls.{text_sum}
+use Rattle.scan_spec.specs.Pads.{PadBits, bit_for, interval_sum, intervals_sum, text_sum}
 use Rattle.scan_spec.specs.Scans.{Mcu, no_dcs, ends_interval, intervals_after, intervals_of, pad_counts, IsMcu, AreMcus}
 use Rattle.scan_spec.specs.Slots.{Shape}
 use Rattle.scan_spec.specs.Spots.{Spot, first_spot, interval_number, mcus_put, mcu_put, put_text, then_put, spot_in}

@@ -2,8 +2,7 @@
 use Rattle.std.proofs.Common.{◌≡◌, ℕ, Bool, true, false, List, [], ◌∷◌, ◌++◌, Ok, Err, refl, sym, ap, ◌∙◌}
 use Rattle.std.specs.Prelude.{◌||◌}
 use Rattle.scan_spec.specs.Blocks.{blocks_text}
-use Rattle.scan_spec.specs.Pads.{PadBits, bit_for}
-use Rattle.scan_spec.specs.ScanCalls.{text_sum}
+use Rattle.scan_spec.specs.Pads.{PadBits, bit_for, text_sum}
 use Rattle.scan_spec.specs.Scans.{Mcu}
 use Rattle.scan_spec.specs.Slots.{Shape}
 use Rattle.scan_spec.specs.Spots.{Spot, Put, prefixed_put, then_put, mcu_put, mcus_put, spot_in}

@@ -6,8 +6,7 @@ use Rattle.coef_block.specs.TwoRows.{block_count}
 use Rattle.scan_spec.specs.Blocks.{blocks_text}
 use Rattle.scan_spec.specs.Slots.{Shape}
 use Rattle.scan_spec.specs.Scans.{Mcu, IsMcu, AreMcus, scan_bytes}
-use Rattle.scan_spec.specs.Pads.{PadBits, bit_for}
-use Rattle.scan_spec.specs.ScanCalls.{text_sum}
+use Rattle.scan_spec.specs.Pads.{PadBits, bit_for, text_sum}
 use Rattle.scan_spec.specs.Spots.{Spot, mcu_put, mcus_put, spot_in}
 use Rattle.scan_spec.specs.ScanLaws.{IsShape}
 use Rattle.handover.specs.Handovers.{HandoverFields, IsHandover}

@@ -3,8 +3,7 @@ use Rattle.std.specs.Prelude.{ℕ, zero, suc, if◌then◌else◌, List, [], ◌
 use Rattle.scan_spec.specs.Slots.{Shape}
 use Rattle.scan_spec.specs.Scans.{Mcu}
 use Rattle.scan_spec.specs.Spots.{Spot, mcu_put}
-use Rattle.scan_spec.specs.Pads.{PadBits, bit_for}
-use Rattle.scan_spec.specs.ScanCalls.{padded_after}
+use Rattle.scan_spec.specs.Pads.{PadBits, bit_for, padded_after}
 use Rattle.scan_spec.specs.declared.stop.WriteStop.{WriteStop}
 use Rattle.scan_spec.specs.declared.stop.WriteStop.TheVariants as stops
 use Rattle.handover.specs.Handovers.{HandoverFields}

@@ -5,7 +5,9 @@ use Rattle.std.proofs.lemmas.Bool.{eqb-true}
 use Rattle.scan_spec.specs.Slots.{Shape}
 use Rattle.scan_spec.specs.Scans.{Mcu, IsMcu}
 use Rattle.scan_spec.specs.Spots.{Spot, Put, interval_number, prefixed_put, then_put, mcu_put, mcus_put}
-use Rattle.scan_spec.specs.ScanReading.{Standing, in_zigzag, mcu_at, mcus_at, pads_told}
+use Rattle.scan_spec.specs.ScanReading.{Standing, mcu_at, mcus_at}
+use Rattle.scan_spec.specs.BlockBits.{in_zigzag}
+use Rattle.scan_spec.specs.ScanPads.{pads_told}
 use Rattle.scan_spec.specs.ScanLaws.{IsShape, zigzag_of}
 use Rattle.scan_spec.proofs.Intervals.{Agrees}
 use Rattle.scan_spec.proofs.PadsTold.{Follows}

@@ -3,12 +3,12 @@ use Rattle.std.proofs.Common.{◌≡◌, ℕ, ◌+◌, ◌≤◌, Bool, true, fa
 use Rattle.bit_list.specs.Bits.{bytes_after, begun_after, stuffed}
 use Rattle.bit_list.specs.Units.{Cursor, starting}
 use Rattle.bit_list.proofs.Cursors.{bits_left}
-use Rattle.scan_spec.specs.BlockBits.{Text}
+use Rattle.scan_spec.specs.BlockBits.{Text, in_zigzag}
 use Rattle.scan_spec.specs.Blocks.{blocks_text, dcs_after}
 use Rattle.scan_spec.specs.Slots.{Shape}
 use Rattle.scan_spec.specs.Scans.{Mcu, restart_marker, ends_interval, IsMcu}
 use Rattle.scan_spec.specs.Spots.{Spot, interval_number, put_text, mcu_put}
-use Rattle.scan_spec.specs.ScanReading.{BlocksRead, Standing, in_zigzag, mcu_at}
+use Rattle.scan_spec.specs.ScanReading.{BlocksRead, Standing, mcu_at}
 use Rattle.scan_spec.specs.ScanLaws.{IsShape}
 use Rattle.scan_spec.proofs.BitsTaken.{Takes, takes_then, is_fine}
 use Rattle.scan_spec.proofs.BlocksTaken.{blocks_read}

@@ -6,7 +6,9 @@ use Rattle.scan_spec.specs.Blocks.{blocks_text, dcs_after}
 use Rattle.scan_spec.specs.Slots.{Shape}
 use Rattle.scan_spec.specs.Scans.{restart_marker, ends_interval}
 use Rattle.scan_spec.specs.Spots.{interval_number}
-use Rattle.scan_spec.specs.ScanReading.{BlocksRead, blocks_at, Standing, in_zigzag, mcu_at, mcus_at, pads_told}
+use Rattle.scan_spec.specs.ScanReading.{BlocksRead, blocks_at, Standing, mcu_at, mcus_at}
+use Rattle.scan_spec.specs.BlockBits.{in_zigzag}
+use Rattle.scan_spec.specs.ScanPads.{pads_told}
 use Rattle.scan_spec.specs.ScanLaws.{IsShape}
 use Rattle.scan_spec.proofs.BitsTaken.{is_fine, both_fine, fine}
 use Rattle.scan_spec.proofs.BlocksTaken.{blocks_read, blocks_again}

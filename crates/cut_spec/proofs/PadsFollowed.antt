@@ -4,7 +4,8 @@ use Rattle.std.specs.Prelude.{unwrap_or}
 use Rattle.scan_spec.specs.Slots.{Shape}
 use Rattle.scan_spec.specs.Scans.{ends_interval}
 use Rattle.scan_spec.specs.Spots.{interval_number}
-use Rattle.scan_spec.specs.ScanReading.{BlocksRead, Standing, mcu_at, pad_told, pads_told}
+use Rattle.scan_spec.specs.ScanReading.{BlocksRead, Standing, mcu_at}
+use Rattle.scan_spec.specs.ScanPads.{pad_told, pads_told}
 use Rattle.scan_spec.proofs.BitsTaken.{is_fine}
 use Rattle.scan_spec.proofs.Intervals.{Agrees}
 use Rattle.scan_spec.proofs.PadsTold.{Follows, pads_more, no_pads_told, told_by}

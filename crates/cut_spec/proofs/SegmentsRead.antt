@@ -5,7 +5,8 @@ use Rattle.bit_list.specs.Units.{Cursor}
 use Rattle.scan_spec.specs.Slots.{Shape}
 use Rattle.scan_spec.specs.Scans.{Mcu, IsMcu, pad_at}
 use Rattle.scan_spec.specs.Spots.{Spot, Put, first_spot, interval_number, prefixed_put, then_put, mcus_put, put_first, count_in, spot_in, bytes_done}
-use Rattle.scan_spec.specs.ScanReading.{Standing, standing_at, mcus_at, pads_told}
+use Rattle.scan_spec.specs.ScanReading.{Standing, standing_at, mcus_at}
+use Rattle.scan_spec.specs.ScanPads.{pads_told}
 use Rattle.scan_spec.specs.ScanLaws.{IsShape, Begins, zigzag_of}
 use Rattle.scan_spec.proofs.Parts.{put_in_parts}
 use Rattle.scan_spec.proofs.BitsTaken.{fine}

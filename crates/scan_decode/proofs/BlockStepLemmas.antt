@@ -6,7 +6,9 @@ use Rattle.std.proofs.lemmas.List.{length-replicate, length-set, replicate-appen
 use Rattle.bit_list.specs.Units.{Cursor}
 use Rattle.coef_block.specs.Zigzag.{zigzag}
 use Rattle.jpeg_marker.specs.HuffmanTables.{TableFields}
-use Rattle.scan_spec.specs.ScanReading.{and_then, in_zigzag, symbol_at, extended_at, Symbol, Value, Sixteen, End, symbol_of, prefixed_values, by_symbol, acs_at}
+use Rattle.scan_spec.specs.ScanReading.{and_then, symbol_at, extended_at, prefixed_values, by_symbol, acs_at}
+use Rattle.scan_spec.specs.BlockBits.{in_zigzag}
+use Rattle.scan_spec.specs.ScanSymbols.{Symbol, Value, Sixteen, End, symbol_of}
 use Rattle.scan_spec.specs.declared.refusal.ScanRefusal.{ScanRefusal}
 use Rattle.scan_spec.proofs.AcsRead.{Means, means}
 use Rattle.scan_spec.proofs.ZigzagLaws.{set_in_zigzag}

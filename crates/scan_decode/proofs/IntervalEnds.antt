@@ -7,7 +7,8 @@ use Rattle.bit_list.proofs.LowBits.{bits_again}
 use Rattle.scan_spec.specs.Slots.{Shape}
 use Rattle.scan_spec.specs.Spots.{interval_number}
 use Rattle.scan_spec.specs.Scans.{no_dcs}
-use Rattle.scan_spec.specs.ScanReading.{and_then, pad_of, padded_or, pads_at, after_pads, restart_at, Standing}
+use Rattle.scan_spec.specs.ScanReading.{and_then, padded_or, pads_at, after_pads, Standing}
+use Rattle.scan_spec.specs.ScanSymbols.{pad_of, restart_at}
 use Rattle.scan_spec.specs.declared.refusal.ScanRefusal.{ScanRefusal}
 use Rattle.scan_spec.specs.declared.refusal.ScanRefusal.TheVariants as refusals
 

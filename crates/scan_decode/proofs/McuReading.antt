@@ -4,12 +4,12 @@ use Rattle.std.proofs.lemmas.List.{drop_all, take_all, get_or_read}
 use Rattle.std.specs.Int.{w16}
 use mir.Val.{to_z, of_z}
 use Rattle.huff_table.specs.PlanWords.{no_codes}
-use Rattle.scan_spec.specs.BlockBits.{coefficient_at}
+use Rattle.scan_spec.specs.BlockBits.{coefficient_at, in_zigzag}
 use Rattle.scan_spec.proofs.SignedValues.{kept_half}
 use Rattle.bit_list.specs.Units.{Cursor}
 use Rattle.huff_table.specs.declared.plan_codes.ComponentCodes.{ComponentCodes}
 use Rattle.scan_spec.specs.Blocks.{last_dc}
-use Rattle.scan_spec.specs.ScanReading.{and_then, in_zigzag, dcs_after_read, block_at, blocks_at, BlocksRead}
+use Rattle.scan_spec.specs.ScanReading.{and_then, dcs_after_read, block_at, blocks_at, BlocksRead}
 use Rattle.scan_spec.specs.declared.refusal.ScanRefusal.{ScanRefusal}
 use Rattle.scan_spec.specs.declared.slot.Slot.{Slot}
 use Rattle.scan_decode.specs.ReadResults.{coded_at}

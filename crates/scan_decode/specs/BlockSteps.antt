@@ -2,8 +2,10 @@
 use Rattle.std.specs.Prelude.{ℕ, ◌≡◌, ◌≤◌, ◌+◌, ◌-◌, Bool, List, ◌++◌, length, replicate, ℤ, pos, Result}
 use Rattle.bit_list.specs.Units.{Cursor}
 use Rattle.jpeg_marker.specs.HuffmanTables.{TableFields}
-use Rattle.scan_spec.specs.ScanReading.{in_zigzag, prefixed_values, acs_at, Symbol}
-use Rattle.scan_spec.specs.ScanReading as reading
+use Rattle.scan_spec.specs.ScanReading.{prefixed_values, acs_at}
+use Rattle.scan_spec.specs.BlockBits.{in_zigzag}
+use Rattle.scan_spec.specs.ScanSymbols.{Symbol}
+use Rattle.scan_spec.specs.ScanSymbols as reading
 use Rattle.scan_spec.specs.declared.refusal.ScanRefusal.{ScanRefusal}
 use Rattle.scan_decode.specs.declared.acs.Step.{Step}
 use Rattle.scan_decode.specs.declared.acs.Step.TheVariants as steps

@@ -1,8 +1,9 @@
 // The AC coefficients of a block.
 ghost use Rattle.std.specs.Prelude.{◌≡◌, ◌≤◌, ◌<◌, ◌-◌, List, ℤ, ◌∷◌, [], Bool, true, false, length, replicate, pos, Result, Err, IfOk, IfErr};
 ghost use Rattle.bit_list.specs.Units.{Cursor};
-ghost use Rattle.scan_spec.specs.BlockBits.{coefficient_at, ac_values};
-ghost use Rattle.scan_spec.specs.ScanReading.{in_zigzag, prefixed_values, acs_at, symbol_of};
+ghost use Rattle.scan_spec.specs.BlockBits.{coefficient_at, ac_values, in_zigzag};
+ghost use Rattle.scan_spec.specs.ScanReading.{prefixed_values, acs_at};
+ghost use Rattle.scan_spec.specs.ScanSymbols.{symbol_of};
 ghost use Rattle.scan_decode.specs.ReadResults.{values_at_cursor};
 ghost use Rattle.scan_decode.specs.BlockSteps.{Going, step_symbol};
 ghost use Rattle.scan_spec.specs.declared.refusal.ScanRefusal.{ScanRefusal as Refusal};

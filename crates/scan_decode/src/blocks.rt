@@ -2,7 +2,8 @@
 ghost use Rattle.std.specs.Prelude.{◌≡◌, ◌≤◌, ◌<◌, length, map, unsigned_abs};
 ghost use Rattle.std.specs.List.{All};
 ghost use Rattle.coef_block.specs.Block.{IsDc};
-ghost use Rattle.scan_spec.specs.ScanReading.{in_zigzag, blocks_at};
+ghost use Rattle.scan_spec.specs.ScanReading.{blocks_at};
+ghost use Rattle.scan_spec.specs.BlockBits.{in_zigzag};
 ghost use Rattle.scan_spec.specs.ShapeInside.{slot_in};
 ghost use Rattle.scan_decode.specs.McuBlocks.{blocks_read};
 

@@ -1,7 +1,7 @@
 // What follows the MCUs of an interval.
 ghost use Rattle.std.specs.Prelude.{◌≡◌, ◌≤◌, Some, None};
 ghost use Rattle.bit_list.specs.Bits.{low_bits};
-ghost use Rattle.scan_spec.specs.ScanReading.{pad_of, restart_at};
+ghost use Rattle.scan_spec.specs.ScanSymbols.{pad_of, restart_at, pad_with};
 
 use scan_spec::ScanRefusal;
 
@@ -18,8 +18,6 @@ pub(crate) fn pads(number: u8, count: u8) -> Option<Option<bool>>
     }
     Some(known)
 }
-
-ghost use Rattle.scan_spec.specs.ScanReading.{pad_with};
 
 fn matched(pad: Option<bool>, bit: bool) -> Option<Option<bool>>
     ensures { result ≡ pad_with pad bit }

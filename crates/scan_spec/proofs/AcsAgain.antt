@@ -12,7 +12,8 @@ use Rattle.huff_table.proofs.WordReading.{word_is_read}
 use Rattle.coef_block.specs.Categories.{category as size}
 use Rattle.scan_spec.specs.ValueBits.{mag, extend}
 use Rattle.scan_spec.specs.BlockBits.{Text, then_text, coded_word, word_text, value_text, zeros_text, coefficient_text, ac_text}
-use Rattle.scan_spec.specs.ScanReading.{and_then, code_refusal, bits_refusal, refused_as, symbol_at, extended_at, Symbol, Value, Sixteen, End, Past, Unknown, symbol_of, symbol_of_none, prefixed_values, by_symbol, acs_at}
+use Rattle.scan_spec.specs.ScanReading.{and_then, refused_as, symbol_at, extended_at, prefixed_values, by_symbol, acs_at}
+use Rattle.scan_spec.specs.ScanSymbols.{code_refusal, bits_refusal, Symbol, Value, Sixteen, End, Past, Unknown, symbol_of, symbol_of_none}
 use Rattle.scan_spec.specs.declared.refusal.ScanRefusal.{ScanRefusal}
 use Rattle.scan_spec.specs.declared.stop.WriteStop.{WriteStop}
 use Rattle.scan_spec.specs.declared.stop.WriteStop.TheVariants.{NoCode}

@@ -16,7 +16,8 @@ use Rattle.huff_table.proofs.Lookup.{value_there}
 use Rattle.coef_block.specs.Categories.{category as size}
 use Rattle.scan_spec.specs.ValueBits.{mag, extend}
 use Rattle.scan_spec.specs.BlockBits.{Text, then_text, word_text, value_text, zeros_text, ac_text}
-use Rattle.scan_spec.specs.ScanReading.{and_then, code_refusal, bits_refusal, refused_as, symbol_at, extended_at, Symbol, Value, Sixteen, End, Past, Loose, Unknown, symbol_of, symbol_of_none, prefixed_values, by_symbol, acs_at}
+use Rattle.scan_spec.specs.ScanReading.{and_then, refused_as, symbol_at, extended_at, prefixed_values, by_symbol, acs_at}
+use Rattle.scan_spec.specs.ScanSymbols.{code_refusal, bits_refusal, Symbol, Value, Sixteen, End, Past, Loose, Unknown, symbol_of, symbol_of_none}
 use Rattle.scan_spec.specs.declared.refusal.ScanRefusal.{ScanRefusal}
 use Rattle.scan_spec.specs.declared.refusal.ScanRefusal.TheVariants as refusals
 use Rattle.scan_spec.proofs.ValueLemmas.{bits_again_of_value, length-mag, size_below}

@@ -12,9 +12,9 @@ use Rattle.bit_list.specs.Units.{Cursor}
 use Rattle.jpeg_marker.specs.HuffmanTables.{TableFields, IsTable}
 use Rattle.coef_block.specs.Categories.{category as size}
 use Rattle.scan_spec.specs.ValueBits.{mag}
-use Rattle.scan_spec.specs.BlockBits.{Text, then_text, coefficient_at, ac_values, ac_text, dc_text, block_text}
+use Rattle.scan_spec.specs.BlockBits.{Text, then_text, coefficient_at, ac_values, ac_text, dc_text, block_text, in_zigzag}
 use Rattle.scan_spec.specs.Blocks.{last_dc, dcs_after_block, dcs_after, blocks_text}
-use Rattle.scan_spec.specs.ScanReading.{and_then, symbol_at, extended_at, within_dc, difference_at, dc_at, prefixed_values, acs_at, in_zigzag, block_at, BlocksRead, dcs_after_read, blocks_at}
+use Rattle.scan_spec.specs.ScanReading.{and_then, symbol_at, extended_at, within_dc, difference_at, dc_at, prefixed_values, acs_at, block_at, BlocksRead, dcs_after_read, blocks_at}
 use Rattle.scan_spec.specs.ScanLaws.{IsSlot, IsBlockSpelled, AreBlocksSpelled}
 use Rattle.scan_spec.specs.declared.slot.Slot.{Slot}
 use Rattle.scan_spec.specs.declared.refusal.ScanRefusal.{ScanRefusal}

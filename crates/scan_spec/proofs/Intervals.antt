@@ -11,7 +11,8 @@ use Rattle.bit_list.specs.NumbersOfBits.{length-low_bits}
 use Rattle.bit_list.proofs.Wholes.{bytes_after-bits_of, bits_of-bytes_after, begun_count}
 use Rattle.bit_list.proofs.Spanning.{stand, standing}
 use Rattle.scan_spec.specs.Scans.{padded, interval_bytes, restart_marker}
-use Rattle.scan_spec.specs.ScanReading.{pad_of, padded_or, pads_at, restart_of, restart_at}
+use Rattle.scan_spec.specs.ScanReading.{padded_or, pads_at}
+use Rattle.scan_spec.specs.ScanSymbols.{pad_of, restart_of, restart_at}
 use Rattle.scan_spec.specs.declared.refusal.ScanRefusal.{ScanRefusal}
 use Rattle.scan_spec.specs.declared.refusal.ScanRefusal.TheVariants as refusals
 use Rattle.scan_spec.proofs.BitsTaken.{Takes, fine, not_refused, is_fine, both_fine}

@@ -13,7 +13,7 @@ use Rattle.scan_spec.specs.Blocks.{last_dc}
 use Rattle.scan_spec.specs.Slots.{Shape}
 use Rattle.scan_spec.specs.Spots.{is_closed, interval_number}
 use Rattle.scan_spec.specs.Scans.{no_dcs}
-use Rattle.scan_spec.specs.ScanReading.{code_refusal, bits_refusal, Symbol, Value, Sixteen, End, Past, Loose, Unknown, symbol_of, pad_of, restart_at}
+use Rattle.scan_spec.specs.ScanSymbols.{code_refusal, bits_refusal, Symbol, Value, Sixteen, End, Past, Loose, Unknown, symbol_of, pad_of, restart_at}
 use Rattle.scan_spec.specs.Items.{Due, DcWord, DcBits, AcWord, AcBits, Pads, Marker, Over, Wrong, Run, Stage, slots_due, mcu_due, mcu_over, after_slots, block_over, size_over, dc_over, acs_due, symbol_over, pads_over, Item, Coded, Restart, IsWord, Stands, Path, IsStuck, first_stage, Refuses, Ends}
 use Rattle.scan_spec.specs.ScanLaws.{IsSlot, IsShape}
 use Rattle.scan_spec.specs.declared.slot.Slot.{Slot}

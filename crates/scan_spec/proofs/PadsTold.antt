@@ -5,7 +5,8 @@ use Rattle.std.proofs.Math.Seq.{get_or-append_seam}
 use Rattle.scan_spec.specs.Slots.{Shape}
 use Rattle.scan_spec.specs.Scans.{ends_interval, pad_at}
 use Rattle.handover.specs.PadSums.{no_pads, pads_with}
-use Rattle.scan_spec.specs.ScanReading.{Standing, mcu_at, pad_told, pads_after, pads_told, pad_sum, sum_ended, sum_after, sum_told}
+use Rattle.scan_spec.specs.ScanReading.{Standing, mcu_at}
+use Rattle.scan_spec.specs.ScanPads.{pad_told, pads_after, pads_told, pad_sum, sum_ended, sum_after, sum_told}
 use Rattle.scan_spec.specs.declared.refusal.ScanRefusal.{ScanRefusal}
 
 -- bits from interval n on are these

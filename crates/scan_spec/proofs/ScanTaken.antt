@@ -14,7 +14,10 @@ use Rattle.scan_spec.specs.Pads.{Same, interval_sum, bits_sum}
 use Rattle.scan_spec.specs.Slots.{Shape}
 use Rattle.scan_spec.specs.Scans.{Mcu, no_dcs, mcus_bits, restart_marker, ends_interval, intervals_after, intervals_of, intervals_bytes, scan_bytes, IsMcu, ArePads, pad_at, IsScan, pad_bits_of, pad_counts}
 use Rattle.scan_spec.specs.Spots.{interval_number}
-use Rattle.scan_spec.specs.ScanReading.{and_then, in_zigzag, BlocksRead, blocks_at, Standing, standing_at, pads_at, restart_at, after_mcu, mcu_at, mcus_at, pad_told, pads_told, scan_pads, pad_sum, sum_told, scan_sum, scan_at}
+use Rattle.scan_spec.specs.ScanReading.{and_then, BlocksRead, blocks_at, Standing, standing_at, pads_at, after_mcu, mcu_at, mcus_at, scan_at}
+use Rattle.scan_spec.specs.BlockBits.{in_zigzag}
+use Rattle.scan_spec.specs.ScanSymbols.{restart_at}
+use Rattle.scan_spec.specs.ScanPads.{pad_told, pads_told, scan_pads, pad_sum, sum_told, scan_sum}
 use Rattle.scan_spec.specs.ScanLaws.{IsShape, Begins, zigzag_of, IsSpelled, IsReadAgain, IsSummed, OneScan}
 use Rattle.scan_spec.specs.declared.slot.Slot.{Slot}
 use Rattle.scan_spec.specs.declared.refusal.ScanRefusal.{ScanRefusal}

@@ -5,8 +5,7 @@ use Rattle.std.proofs.lemmas.Bool.{eqb-true, cases_eq, agree_below_at}
 use Rattle.std.proofs.lemmas.Bool.Decides.{nat_tests}
 use Rattle.std.proofs.lemmas.List.{drop_all, get_or-map, get_or-set_same, get_or-set_other, length-set}
 use Rattle.coef_block.specs.Zigzag.{zigzag}
-use Rattle.scan_spec.specs.BlockBits.{coefficient_at, ac_values}
-use Rattle.scan_spec.specs.ScanReading.{in_zigzag}
+use Rattle.scan_spec.specs.BlockBits.{coefficient_at, ac_values, in_zigzag}
 use Rattle.scan_spec.specs.ScanLaws.{ZigzagDetermines, IsSetInZigzag}
 
 -- so many numbers from one on

@@ -76,3 +76,7 @@ unfoldable pub block_text : ComponentCodes → ℤ → List ℤ → Text
 block_text codes before block =
     then_text (dc_text codes.dc before (coefficient_at block 0))
     (ac_text codes.ac 0 (ac_values block))
+
+-- a block in zigzag order (A.3.6)
+abbrev pub in_zigzag : List ℤ → List ℤ
+in_zigzag block = coefficient_at block 0 ∷ ac_values block

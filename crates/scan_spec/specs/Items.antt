@@ -13,7 +13,7 @@ use Rattle.scan_spec.specs.Blocks.{last_dc}
 use Rattle.scan_spec.specs.Slots.{Shape}
 use Rattle.scan_spec.specs.Scans.{no_dcs}
 use Rattle.scan_spec.specs.Spots.{is_closed, interval_number}
-use Rattle.scan_spec.specs.ScanReading.{Symbol, Value, Sixteen, End, Past, Loose, Unknown, symbol_of, pad_of, restart_at, bits_refusal, code_refusal}
+use Rattle.scan_spec.specs.ScanSymbols.{Symbol, Value, Sixteen, End, Past, Loose, Unknown, symbol_of, pad_of, restart_at, bits_refusal, code_refusal}
 use Rattle.scan_spec.specs.declared.slot.Slot.{Slot}
 use Rattle.scan_spec.specs.declared.refusal.ScanRefusal.{ScanRefusal}
 use Rattle.scan_spec.specs.declared.refusal.ScanRefusal.TheVariants as refusals

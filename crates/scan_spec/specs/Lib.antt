@@ -8,7 +8,9 @@ pub mod ShapeInside
 pub mod Scans
 pub mod Spots
 pub mod Pads
+pub mod ScanSymbols
 pub mod ScanReading
+pub mod ScanPads
 pub mod Items
 pub mod ScanLaws
 pub mod ScanRows

@@ -1,12 +1,14 @@
 -- Statement: the pad bits of a scan's restart intervals as they are given to a writer, and what they come to
 -- (docs/FORMAT.md, Pad bits).
-use Rattle.std.specs.Prelude.{ℕ, zero, suc, ◌+◌, ◌-◌, ◌*◌, ◌/◌, ◌<◌, Bool, true, false, not, ◌&&◌, if◌then◌else◌, List, [], ◌∷◌, length, get_or, ◌==◌}
-use Rattle.bit_list.specs.Bits.{bits_of, bytes_after}
+use Rattle.std.specs.Prelude.{ℕ, zero, suc, ◌+◌, ◌-◌, ◌*◌, ◌/◌, ◌<◌, Bool, true, false, not, ◌&&◌, if◌then◌else◌, List, [], ◌∷◌, length, get_or, ◌==◌, Ok, Err}
+use Rattle.bit_list.specs.Bits.{bits_of, bytes_after, begun_after}
 use Rattle.handover.specs.PadSums.{no_pads, pads_with}
 use Rattle.handover.specs.declared.pads.PadSum.{PadSum}
-use Rattle.scan_spec.specs.Scans.{padded}
+use Rattle.scan_spec.specs.BlockBits.{Text}
+use Rattle.scan_spec.specs.Blocks.{blocks_text}
+use Rattle.scan_spec.specs.Scans.{Mcu, padded}
 use Rattle.scan_spec.specs.Slots.{Shape}
-use Rattle.scan_spec.specs.Spots.{interval_number}
+use Rattle.scan_spec.specs.Spots.{Spot, is_closed, interval_number}
 use Rattle.scan_spec.specs.declared.pads.Pads.{Pads}
 use Rattle.scan_spec.specs.declared.pads.Pads.TheVariants as given
 
@@ -89,3 +91,17 @@ abbrev pub is_spelled : PadBits → PadSum → Bool
 is_spelled (Same true) sum = true
 is_spelled (Same false) sum = sum.zero
 is_spelled (Listed bytes) sum = sum.zero && (sum.one && not sum.vain)
+
+-- what the pad bits after an MCU's text come to, if it ends an interval (F.1.2.3)
+abbrev pub text_sum : Shape → PadBits → Spot → Text → PadSum
+text_sum shape pads spot (Ok bits) =
+    if is_closed shape (spot.count + 1)
+    then interval_sum pads (interval_number shape spot.count)
+    (length (begun_after spot.begun bits) == 0)
+    else no_pads
+text_sum shape pads spot (Err stop) = no_pads
+
+-- and what those before come to with it
+abbrev pub padded_after : Shape → PadBits → Spot → Mcu → PadSum → PadSum
+padded_after shape pads spot mcu padded =
+    pads_with padded (text_sum shape pads spot (blocks_text shape.slots spot.before mcu))

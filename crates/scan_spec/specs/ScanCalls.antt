@@ -1,16 +1,14 @@
 -- Steps: the states of a reader and a writer of a scan, and what their calls make of them (own).
-use Rattle.std.specs.Prelude.{ℕ, ◌≡◌, ◌+◌, ◌==◌, if◌then◌else◌, List, ◌++◌, length, map, ℤ, Option, Some, None, Result, Ok, Err}
-use Rattle.bit_list.specs.Bits.{begun_after}
+use Rattle.std.specs.Prelude.{ℕ, ◌≡◌, ◌==◌, if◌then◌else◌, List, ◌++◌, length, map, ℤ, Option, Some, None, Result, Ok, Err}
 use Rattle.bit_list.specs.Units.{Cursor}
-use Rattle.handover.specs.PadSums.{no_pads, pads_with}
+use Rattle.handover.specs.PadSums.{no_pads}
 use Rattle.handover.specs.declared.pads.PadSum.{PadSum}
-use Rattle.scan_spec.specs.BlockBits.{Text}
-use Rattle.scan_spec.specs.Blocks.{blocks_text}
+use Rattle.scan_spec.specs.BlockBits.{in_zigzag}
 use Rattle.scan_spec.specs.Slots.{Shape}
 use Rattle.scan_spec.specs.Scans.{Mcu}
-use Rattle.scan_spec.specs.Spots.{Spot, first_spot, is_closed, interval_number, mcu_put}
-use Rattle.scan_spec.specs.Pads.{PadBits, bit_for, interval_sum}
-use Rattle.scan_spec.specs.ScanReading.{Standing, standing_at, in_zigzag, mcu_at}
+use Rattle.scan_spec.specs.Spots.{Spot, first_spot, mcu_put}
+use Rattle.scan_spec.specs.Pads.{PadBits, bit_for, padded_after}
+use Rattle.scan_spec.specs.ScanReading.{Standing, standing_at, mcu_at}
 use Rattle.scan_spec.specs.declared.refusal.ScanRefusal.{ScanRefusal}
 use Rattle.scan_spec.specs.declared.stop.WriteStop.{WriteStop}
 
@@ -73,20 +71,6 @@ writer_of shape pads = record {
   padded = no_pads;
   stop = None;
 }
-
--- what the pad bits after an MCU's text come to, if it ends an interval (F.1.2.3)
-abbrev pub text_sum : Shape → PadBits → Spot → Text → PadSum
-text_sum shape pads spot (Ok bits) =
-    if is_closed shape (spot.count + 1)
-    then interval_sum pads (interval_number shape spot.count)
-    (length (begun_after spot.begun bits) == 0)
-    else no_pads
-text_sum shape pads spot (Err stop) = no_pads
-
--- and what those before come to with it
-abbrev pub padded_after : Shape → PadBits → Spot → Mcu → PadSum → PadSum
-padded_after shape pads spot mcu padded =
-    pads_with padded (text_sum shape pads spot (blocks_text shape.slots spot.before mcu))
 
 -- an MCU's bytes were appended, or none of them
 abbrev pub McuIsPutOn : {A : Type 0} → ScanWriter → Mcu → List ℕ → Result A WriteStop → ScanWriter

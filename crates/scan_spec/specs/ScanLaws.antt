@@ -7,13 +7,14 @@ use Rattle.bit_list.specs.BitSpans.{Spans}
 use Rattle.coef_block.specs.Block.{IsBlock}
 use Rattle.coef_block.specs.Zigzag.{zigzag}
 use Rattle.jpeg_marker.specs.HuffmanTables.{IsTable}
-use Rattle.scan_spec.specs.BlockBits.{block_text}
+use Rattle.scan_spec.specs.BlockBits.{block_text, in_zigzag}
 use Rattle.scan_spec.specs.Blocks.{last_dc, dcs_after, blocks_text}
 use Rattle.scan_spec.specs.Slots.{Shape}
 use Rattle.scan_spec.specs.Pads.{bits_sum}
 use Rattle.scan_spec.specs.Scans.{Mcu, Bytes, IsMcu, AreMcus, IsScan, intervals_of, pad_counts, scan_bytes}
 use Rattle.scan_spec.specs.Spots.{Spot, Put, first_spot, interval_number, then_put, mcu_put, mcus_put, put_first, bytes_done, spot_at}
-use Rattle.scan_spec.specs.ScanReading.{and_then, Standing, in_zigzag, block_at, BlocksRead, blocks_at, after_mcu, mcu_at, scan_at, scan_pads, scan_sum}
+use Rattle.scan_spec.specs.ScanReading.{and_then, Standing, block_at, BlocksRead, blocks_at, after_mcu, mcu_at, scan_at}
+use Rattle.scan_spec.specs.ScanPads.{scan_pads, scan_sum}
 use Rattle.scan_spec.specs.Items.{Item, Stage, Path, IsStuck, first_stage, Refuses, Ends}
 use Rattle.scan_spec.specs.declared.slot.Slot.{Slot}
 use Rattle.scan_spec.specs.declared.refusal.ScanRefusal.{ScanRefusal}

@@ -1,23 +1,17 @@
--- Statement: a scan read MCU by MCU, with the first fault (ITU-T T.81, B.2.1, F.1.1.5.1, F.2.2). Blocks are in zigzag
--- order here.
-use Rattle.std.specs.Prelude.{ℕ, zero, suc, ◌+◌, ◌-◌, ◌/◌, ◌%◌, Bool, true, false, ◌&&◌, ◌==◌, nat_lt, nat_le, if◌then◌else◌, List, [], ◌∷◌, ◌++◌, length, drop, replicate, ℤ, pos, ◌+ℤ◌, unsigned_abs, slice_set, Option, Some, None, unwrap_or, Result, Ok, Err}
+-- Steps: a scan read from a cursor on, MCU by MCU, with the first fault (ITU-T T.81, B.2.1, F.1.1.5.1, F.2.2). Blocks
+-- are in zigzag order here.
+use Rattle.std.specs.Prelude.{ℕ, zero, suc, ◌+◌, ◌-◌, Bool, true, false, ◌==◌, nat_le, if◌then◌else◌, List, [], ◌∷◌, ◌++◌, replicate, ℤ, pos, ◌+ℤ◌, unsigned_abs, slice_set, Option, Some, None, Result, Ok, Err}
 use Rattle.bit_list.specs.Units.{Cursor, starting, bits_at}
 use Rattle.coef_block.specs.Block.{most_dc}
-use Rattle.bit_list.specs.declared.fault.BitFault.{BitFault}
-use Rattle.bit_list.specs.declared.fault.BitFault.TheVariants.{Cut, MarkerInScan}
 use Rattle.huff_table.specs.Decoding.{value_at}
-use Rattle.huff_table.specs.declared.fault.CodeFault.{CodeFault}
-use Rattle.huff_table.specs.declared.fault.CodeFault.TheVariants.{Bits, NoWord}
 use Rattle.jpeg_marker.specs.HuffmanTables.{TableFields}
-use Rattle.handover.specs.PadSums.{no_pads, pads_with}
-use Rattle.handover.specs.declared.pads.PadSum.{PadSum}
 use Rattle.scan_spec.specs.ValueBits.{extend}
-use Rattle.scan_spec.specs.BlockBits.{coefficient_at, ac_values}
+use Rattle.scan_spec.specs.BlockBits.{coefficient_at}
 use Rattle.scan_spec.specs.Blocks.{last_dc}
 use Rattle.scan_spec.specs.Slots.{Shape}
 use Rattle.scan_spec.specs.Scans.{no_dcs}
 use Rattle.scan_spec.specs.Spots.{is_closed, interval_number}
-use Rattle.scan_spec.specs.Pads.{Same, interval_sum}
+use Rattle.scan_spec.specs.ScanSymbols.{bits_refusal, code_refusal, Symbol, Value, Sixteen, End, Past, Loose, Unknown, symbol_of, pad_of, restart_at}
 use Rattle.scan_spec.specs.declared.slot.Slot.{Slot}
 use Rattle.scan_spec.specs.declared.refusal.ScanRefusal.{ScanRefusal}
 use Rattle.scan_spec.specs.declared.refusal.ScanRefusal.TheVariants as refusals
@@ -27,16 +21,6 @@ abbrev pub and_then : {A B : Type 0} → Result A ScanRefusal → (A → Result 
     → Result B ScanRefusal
 and_then (Ok x) f = f x
 and_then (Err refusal) f = Err refusal
-
--- the refusal of a bit that isn't there (own)
-abbrev pub bits_refusal : BitFault → ScanRefusal
-bits_refusal (Cut place) = refusals.ScanCut place
-bits_refusal (MarkerInScan place) = refusals.MarkerInScan place
-
--- the refusal of a code word that isn't there (own)
-abbrev pub code_refusal : CodeFault → ScanRefusal
-code_refusal (Bits fault) = bits_refusal fault
-code_refusal (NoWord place) = refusals.CodeBad place
 
 -- a fault as its refusal (own)
 abbrev pub refused_as : {A F : Type 0} → (F → ScanRefusal) → Result A F → Result A ScanRefusal
@@ -69,32 +53,6 @@ unfoldable pub dc_at : TableFields → ℤ → List ℕ → Cursor → Result (�
 dc_at table before bytes cursor =
     and_then (symbol_at table bytes cursor)
     (λ size. and_then (difference_at bytes size) (λ more. within_dc (before +ℤ more.0) more.1))
-
--- what a symbol says if `left` coefficients are left (F.2.2.2, Figure F.13): a value of a category after some zeros,
--- sixteen zeros, the end of the block; or it can't be there: its coefficients pass the last one, the end is after
--- sixteen zeros (own), or no block has the symbol
-pub data Symbol : Type 0 where
-  Value : ℕ → ℕ → Symbol
-  Sixteen : Symbol
-  End : Symbol
-  Past : Symbol
-  Loose : Symbol
-  Unknown : Symbol
-
--- a symbol with no category (Table F.2: 00 and F0 alone)
-abbrev pub symbol_of_none : ℕ → Bool → ℕ → Symbol
-symbol_of_none left loose zeros =
-    if zeros == 0 then (if loose then Loose else End)
-    else if zeros == 15 then (if nat_le left 16 then Past else Sixteen)
-    else Unknown
-
--- a symbol, by the coefficients left and whether sixteen zeros came before it (F.2.2.2)
-abbrev pub symbol_of : ℕ → Bool → ℕ → Symbol
-symbol_of left loose symbol =
-    if symbol % 16 == 0 then symbol_of_none left loose (symbol / 16)
-    else if nat_lt 10 (symbol % 16) then Unknown
-    else if nat_le left (symbol / 16) then Past
-    else Value (symbol / 16) (symbol % 16)
 
 -- the coefficients after a symbol: by how many are left, and whether the symbol was sixteen zeros
 abbrev pub Going : Type 0
@@ -129,10 +87,6 @@ acs_at (suc symbols) table left loose bytes cursor =
     (λ more last at. acs_at symbols table more last bytes at) left bytes symbol.1
     (symbol_of left loose symbol.0))
 
--- a block in zigzag order (A.3.6)
-abbrev pub in_zigzag : List ℤ → List ℤ
-in_zigzag block = coefficient_at block 0 ∷ ac_values block
-
 -- a block in a slot (F.2.2.1, F.2.2.2)
 unfoldable pub block_at : Slot → List ℤ → List ℕ → Cursor → Result (List ℤ × Cursor) ScanRefusal
 block_at slot before bytes cursor =
@@ -157,20 +111,6 @@ blocks_at (slot ∷ slots) before bytes cursor =
     (λ block. and_then (blocks_at slots (dcs_after_read before slot block.0) bytes block.1)
     (λ more. Ok (record more { blocks = block.0 ∷ more.blocks })))
 
--- the pad bit with one more, if they are equal (own)
-abbrev pub pad_with : Option Bool → Bool → Option (Option Bool)
-pad_with None bit = Some (Some bit)
-pad_with (Some true) true = Some (Some true)
-pad_with (Some true) false = None
-pad_with (Some false) true = None
-pad_with (Some false) false = Some (Some false)
-
--- and with several
-abbrev pub pad_of : Option (Option Bool) → List Bool → Option (Option Bool)
-pad_of None bits = None
-pad_of (Some pad) [] = Some pad
-pad_of (Some pad) (bit ∷ bits) = pad_of (pad_with pad bit) bits
-
 -- between two MCUs (own): the cursor, the last DC of each component in this interval, how many MCUs are before, and
 -- the pad bit of the interval that the last of them ended, if it ended one that has any
 pub record Standing : Type 0 where
@@ -191,19 +131,6 @@ padded_or None cursor = Err (refusals.MixedPad cursor.last)
 -- the bits that are left of the unit are pad bits (F.1.2.3)
 abbrev pub pads_at : Cursor → Result (Option Bool × Cursor) ScanRefusal
 pads_at cursor = padded_or (pad_of (Some None) cursor.left) cursor
-
--- the place after the marker of interval n, with which the bytes from a place on begin, without fill bytes (own); `end`
--- is where they end (E.1.4)
-abbrev pub restart_of : ℕ → ℕ → ℕ → List ℕ → Result ℕ ScanRefusal
-restart_of end place n [] = Err (refusals.ScanCut end)
-restart_of end place n (byte ∷ []) =
-    if byte == 255 then Err (refusals.ScanCut end) else Err (refusals.RestartBad place)
-restart_of end place n (byte ∷ code ∷ rest) =
-    if byte == 255 && code == 0xd0 + n % 8 then Ok (place + 2) else Err (refusals.RestartBad place)
-
--- the place after the marker of interval n at a place (E.1.4)
-unfoldable pub restart_at : List ℕ → ℕ → ℕ → Result ℕ ScanRefusal
-restart_at bytes n place = restart_of (length bytes) place n (drop place bytes)
 
 -- after the pad bits of an interval: the scan is over, or the interval's marker is there
 abbrev pub after_pads : Shape → List ℕ → ℕ → Option Bool × Cursor → Result Standing ScanRefusal
@@ -244,51 +171,6 @@ mcus_at (suc count) shape bytes at =
     and_then (mcu_at shape bytes at)
     (λ first. and_then (mcus_at count shape bytes first.1)
     (λ more. Ok (first.0 ∷ more.0, more.1)))
-
--- the pad bit of the interval that the last MCU ended, 1 if that pads none; no bit if it ended none (own)
-abbrev pub pad_told : Shape → Standing → List Bool
-pad_told shape at = if is_closed shape at.count then unwrap_or at.pad true ∷ [] else []
-
--- the pad bits of an MCU that was read and of those after it
-abbrev pub pads_after : Shape → Result (List (List ℤ) × Standing) ScanRefusal
-    → (Standing → List Bool) → List Bool
-pads_after shape (Ok first) more = pad_told shape first.1 ++ more first.1
-pads_after shape (Err refusal) more = []
-
--- the pad bits of the intervals that the next `count` MCUs end, in their order
-unfoldable pub pads_told : ℕ → Shape → List ℕ → Standing → List Bool
-pads_told zero shape bytes at = []
-pads_told (suc count) shape bytes at =
-    pads_after shape (mcu_at shape bytes at) (λ next. pads_told count shape bytes next)
-
--- the pad bits of the scan at a place, one for each interval
-abbrev pub scan_pads : Shape → List ℕ → ℕ → List Bool
-scan_pads shape bytes place = pads_told shape.mcus shape bytes (standing_at place)
-
--- what the pad bit of an interval comes to, if it pads one (own)
-abbrev pub pad_sum : Option Bool → PadSum
-pad_sum None = no_pads
-pad_sum (Some bit) = interval_sum (Same bit) 0 false
-
--- and of the interval that the last MCU ended, if it ended one
-abbrev pub sum_ended : Shape → Standing → PadSum
-sum_ended shape at = if is_closed shape at.count then pad_sum at.pad else no_pads
-
--- of an MCU that was read and of those after it
-abbrev pub sum_after : Shape → Result (List (List ℤ) × Standing) ScanRefusal
-    → (Standing → PadSum) → PadSum
-sum_after shape (Ok first) more = pads_with (sum_ended shape first.1) (more first.1)
-sum_after shape (Err refusal) more = no_pads
-
--- what the intervals come to that the next `count` MCUs end
-unfoldable pub sum_told : ℕ → Shape → List ℕ → Standing → PadSum
-sum_told zero shape bytes at = no_pads
-sum_told (suc count) shape bytes at =
-    sum_after shape (mcu_at shape bytes at) (λ next. sum_told count shape bytes next)
-
--- and those of the scan at a place
-abbrev pub scan_sum : Shape → List ℕ → ℕ → PadSum
-scan_sum shape bytes place = sum_told shape.mcus shape bytes (standing_at place)
 
 -- the scan at a place
 abbrev pub scan_at : Shape → List ℕ → ℕ → Result (List (List (List ℤ)) × Standing) ScanRefusal

@@ -7,7 +7,8 @@ use Rattle.scan_spec.specs.BlockRows.{level, level_table}
 use Rattle.scan_spec.specs.Slots.{Shape, slots_of}
 use Rattle.scan_spec.specs.Scans.{Mcu, no_dcs, scan_bytes, intervals_of, pad_counts, pad_at}
 use Rattle.scan_spec.specs.Spots.{first_spot, mcu_put, mcus_put, put_first, bytes_done, spot_at}
-use Rattle.scan_spec.specs.ScanReading.{scan_at, scan_pads}
+use Rattle.scan_spec.specs.ScanReading.{scan_at}
+use Rattle.scan_spec.specs.ScanPads.{scan_pads}
 use Rattle.scan_spec.specs.Items.{Refuses}
 use Rattle.scan_spec.specs.declared.slot.Slot.{Slot}
 use Rattle.scan_spec.specs.declared.refusal.ScanRefusal.TheVariants.{ScanCut, MarkerInScan, MixedPad, LooseZeros, RunPast, RestartBad}

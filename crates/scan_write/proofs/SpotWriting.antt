@@ -8,8 +8,8 @@ use Rattle.scan_spec.specs.BlockBits.{Text}
 use Rattle.scan_spec.specs.Blocks.{blocks_text, dcs_after}
 use Rattle.handover.specs.PadSums.{no_pads, pads_with}
 use Rattle.handover.specs.declared.pads.PadSum.{PadSum}
-use Rattle.scan_spec.specs.Pads.{bit_for, interval_sum}
-use Rattle.scan_spec.specs.ScanCalls.{ScanWriter, text_sum, padded_after, McuIsPutOn}
+use Rattle.scan_spec.specs.Pads.{bit_for, interval_sum, text_sum, padded_after}
+use Rattle.scan_spec.specs.ScanCalls.{ScanWriter, McuIsPutOn}
 use Rattle.scan_spec.specs.Scans.{Mcu, no_dcs}
 use Rattle.scan_spec.specs.Spots.{Spot, interval_number, is_closed, marker_after, put_bits, put_text, mcu_put}
 use Rattle.scan_spec.specs.declared.stop.WriteStop.{WriteStop}

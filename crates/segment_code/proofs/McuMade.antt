@@ -6,8 +6,8 @@ use Rattle.bool_coder.specs.BoolReading.{IsReading}
 use Rattle.adapt_bins.specs.Events.{bools_of}
 use Rattle.adapt_bins.specs.GotEvents.{HasGot, GetsEvents}
 use Rattle.adapt_bins.specs.declared.get.Get.{Get}
-use Rattle.scan_spec.specs.Pads.{PadBits, bit_for}
-use Rattle.scan_spec.specs.ScanCalls.{ScanWriter, McuIsPut, McuIsPutOn, padded_after}
+use Rattle.scan_spec.specs.Pads.{PadBits, bit_for, padded_after}
+use Rattle.scan_spec.specs.ScanCalls.{ScanWriter, McuIsPut, McuIsPutOn}
 use Rattle.scan_spec.specs.Scans.{Mcu}
 use Rattle.scan_spec.specs.Slots.{Shape}
 use Rattle.scan_spec.specs.Spots.{Spot, Put, mcu_put}

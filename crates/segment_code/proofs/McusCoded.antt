@@ -10,7 +10,8 @@ use Rattle.adapt_bins.specs.declared.put.Put.{Put}
 use Rattle.scan_spec.specs.Scans.{Mcu}
 use Rattle.scan_spec.specs.ScanCalls.{ScanReader}
 use Rattle.scan_spec.specs.ScanLaws.{zigzag_of}
-use Rattle.scan_spec.specs.ScanReading.{in_zigzag, mcu_at}
+use Rattle.scan_spec.specs.ScanReading.{mcu_at}
+use Rattle.scan_spec.specs.BlockBits.{in_zigzag}
 use Rattle.block_spec.specs.Grid.{Grid}
 use Rattle.block_spec.specs.SegmentEvents.{segment_events}
 use Rattle.block_code.specs.SegmentUnderWay.{UnderWay, HoldsUpTo, PutsMore}

@@ -6,7 +6,8 @@ use Rattle.handover.specs.declared.pads.PadSum.{PadSum}
 use Rattle.scan_spec.specs.Slots.{Shape}
 use Rattle.scan_spec.specs.Spots.{is_closed}
 use Rattle.scan_spec.specs.ScanCalls.{ScanReader}
-use Rattle.scan_spec.specs.ScanReading.{Standing, mcu_at, mcus_at, pad_told, pads_told, pad_sum, sum_ended, sum_told}
+use Rattle.scan_spec.specs.ScanReading.{Standing, mcu_at, mcus_at}
+use Rattle.scan_spec.specs.ScanPads.{pad_told, pads_told, pad_sum, sum_ended, sum_told}
 use Rattle.scan_spec.proofs.BitsTaken.{both_fine}
 use Rattle.scan_spec.proofs.PadsTold.{pads_more, no_pads_told, sums_more, no_sum_told}
 use Rattle.scan_spec.proofs.ScanTaken.{mcus_fine, no_mcus}

@@ -6,7 +6,8 @@ use Rattle.scan_spec.specs.Slots.{Shape}
 use Rattle.scan_spec.specs.Scans.{no_dcs}
 use Rattle.scan_spec.specs.Spots.{is_closed, interval_number}
 use Rattle.scan_spec.specs.ScanCalls.{ScanReader, McuIsRead, McuIsReadOn}
-use Rattle.scan_spec.specs.ScanReading.{Standing, BlocksRead, and_then, after_mcu, after_pads, pads_at, restart_at, mcu_at, mcus_at}
+use Rattle.scan_spec.specs.ScanReading.{Standing, BlocksRead, and_then, after_mcu, after_pads, pads_at, mcu_at, mcus_at}
+use Rattle.scan_spec.specs.ScanSymbols.{restart_at}
 use Rattle.scan_spec.specs.declared.refusal.ScanRefusal.{ScanRefusal}
 use Rattle.scan_spec.proofs.BitsTaken.{then_fine, is_fine, both_fine}
 use Rattle.scan_spec.proofs.ScanTaken.{mcu_fine, mcus_fine, no_mcus}

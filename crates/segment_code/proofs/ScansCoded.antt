@@ -15,7 +15,8 @@ use Rattle.jpeg_marker.specs.HeaderPlan.{Accepts}
 use Rattle.scan_spec.specs.Slots.{shape_of}
 use Rattle.scan_spec.specs.Scans.{Mcu, IsMcu}
 use Rattle.scan_spec.specs.ScanLaws.{zigzag_of}
-use Rattle.scan_spec.specs.ScanReading.{in_zigzag, scan_at}
+use Rattle.scan_spec.specs.ScanReading.{scan_at}
+use Rattle.scan_spec.specs.BlockBits.{in_zigzag}
 use Rattle.scan_spec.specs.Items.{Refuses}
 use Rattle.scan_spec.specs.declared.slot.Slot.{Slot}
 use Rattle.scan_spec.specs.declared.refusal.ScanRefusal.{ScanRefusal}

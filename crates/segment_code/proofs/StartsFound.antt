@@ -12,7 +12,8 @@ use Rattle.scan_spec.specs.Scans.{Mcu, pad_at}
 use Rattle.scan_spec.specs.Spots.{Spot, bytes_done}
 use Rattle.scan_spec.specs.ScanCalls.{ScanReader, reader_at, resume_place}
 use Rattle.scan_spec.specs.ScanLaws.{Begins, IsShape}
-use Rattle.scan_spec.specs.ScanReading.{Standing, scan_at, scan_pads}
+use Rattle.scan_spec.specs.ScanReading.{Standing, scan_at}
+use Rattle.scan_spec.specs.ScanPads.{scan_pads}
 use Rattle.scan_spec.proofs.ScanTaken.{spelled, summed_again}
 use Rattle.scan_spec.proofs.PlanShapes.{accepted_is_shape}
 use Rattle.handover.specs.Handovers.{HandoverFields}

@@ -3,7 +3,7 @@ use Rattle.std.specs.Prelude.{ℕ, Bool, List, [], ◌++◌}
 use Rattle.handover.specs.PadSums.{no_pads, pads_with}
 use Rattle.handover.specs.declared.pads.PadSum.{PadSum}
 use Rattle.scan_spec.specs.ScanCalls.{ScanReader}
-use Rattle.scan_spec.specs.ScanReading.{pads_told, sum_told}
+use Rattle.scan_spec.specs.ScanPads.{pads_told, sum_told}
 
 -- a bit for each interval, 1 where it pads none, and what the intervals come to
 pub record FoundPads : Type 0 where

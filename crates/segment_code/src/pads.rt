@@ -3,7 +3,7 @@ ghost use Rattle.std.specs.Prelude.{◌≡◌, ◌++◌, [], ◌∷◌, unwrap_o
 ghost use Rattle.handover.specs.PadSums.{pads_with};
 ghost use Rattle.segment_code.specs.FoundPads.{none_found};
 ghost use Rattle.scan_spec.specs.Pads.{pad_list};
-ghost use Rattle.scan_spec.specs.ScanReading.{pad_sum};
+ghost use Rattle.scan_spec.specs.ScanPads.{pad_sum};
 
 use handover::PadSum;
 use std::alloc::{AllocError, Global};

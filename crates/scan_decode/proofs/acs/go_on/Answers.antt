@@ -1,6 +1,7 @@
 use Rattle.std.proofs.Common.{ap₂, get_or, ◌+◌, ◌-◌, false, ◌≡◌, ◌∙◌, ℕ, List, ℤ, set, sym, ap, subst, Ok, Err, arith}
 use Rattle.std.proofs.lemmas.Result.{err_from_is_err_and}
-use Rattle.scan_spec.specs.ScanReading.{extended_at, Past, Loose, Unknown}
+use Rattle.scan_spec.specs.ScanReading.{extended_at}
+use Rattle.scan_spec.specs.ScanSymbols.{Past, Loose, Unknown}
 use Rattle.scan_spec.specs.declared.refusal.ScanRefusal.TheVariants as refusals
 use Rattle.coef_block.specs.Zigzag.{zigzag}
 use Rattle.scan_decode.specs.BlockSteps.{Going}

@@ -4,7 +4,8 @@ use Rattle.std.proofs.lemmas.List.Elements.{All-set}
 use Rattle.std.proofs.lemmas.Result.{err_from_is_err_and}
 use Rattle.std.specs.Int.{w16}
 use mir.Val.{to_z, of_z}
-use Rattle.scan_spec.specs.ScanReading.{in_zigzag, dcs_after_read, blocks_at}
+use Rattle.scan_spec.specs.ScanReading.{dcs_after_read, blocks_at}
+use Rattle.scan_spec.specs.BlockBits.{in_zigzag}
 use Rattle.scan_spec.proofs.SignedValues.{kept_half}
 use Rattle.scan_spec.specs.ShapeInside.{slot_in}
 use Rattle.scan_decode.specs.McuBlocks.{after_prefix}

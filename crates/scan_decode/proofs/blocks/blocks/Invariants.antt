@@ -1,6 +1,7 @@
 use Rattle.std.proofs.Common.{◌≡◌, ◌≤◌, take, drop, map, length, unsigned_abs}
 use Rattle.std.specs.List.{All}
-use Rattle.scan_spec.specs.ScanReading.{in_zigzag, blocks_at}
+use Rattle.scan_spec.specs.ScanReading.{blocks_at}
+use Rattle.scan_spec.specs.BlockBits.{in_zigzag}
 use Rattle.scan_spec.specs.ShapeInside.{slot_in}
 use Rattle.scan_decode.specs.McuBlocks.{after_prefix}
 use Rattle.scan_decode.proofs.blocks.blocks.Given as goal

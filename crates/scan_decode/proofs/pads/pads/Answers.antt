@@ -1,6 +1,6 @@
 use Rattle.std.proofs.Common.{◌-◌, ◌∙◌, Option, Bool, sym, ap, arith}
 use Rattle.bit_list.specs.Bits.{low_bits}
-use Rattle.scan_spec.specs.ScanReading.{pad_of}
+use Rattle.scan_spec.specs.ScanSymbols.{pad_of}
 use Rattle.scan_decode.proofs.PadBits.{pads_next}
 use Rattle.scan_decode.proofs.pads.pads.Goals as goal
 

@@ -6,7 +6,9 @@ use Rattle.scan_spec.specs.BlockBits.{block_text, dc_text, ac_text, ac_values, v
 use Rattle.scan_spec.specs.Blocks.{blocks_text, dcs_after}
 use Rattle.scan_spec.specs.Scans.{mcus_bits, intervals_bytes, scan_bytes, no_dcs}
 use Rattle.scan_spec.specs.Spots.{mcu_put, mcus_put}
-use Rattle.scan_spec.specs.ScanReading.{dc_at, acs_at, block_at, blocks_at, restart_at, mcu_at, mcus_at, pads_told}
+use Rattle.scan_spec.specs.ScanReading.{dc_at, acs_at, block_at, blocks_at, mcu_at, mcus_at}
+use Rattle.scan_spec.specs.ScanSymbols.{restart_at}
+use Rattle.scan_spec.specs.ScanPads.{pads_told}
 use Rattle.scan_spec.specs.Items.{Coded, Stage, Due, DcBits, AcWord, Wrong}
 use Rattle.scan_spec.specs.declared.slot.Slot.{Slot}
 use Rattle.scan_spec.specs.declared.refusal.ScanRefusal.TheVariants.{LooseZeros}

@@ -2,7 +2,8 @@ use Rattle.std.proofs.Common.{rules, ◌≡◌, ◌≤◌, ◌+◌, [], ◌∷�
 use Rattle.std.specs.Prelude.{Bool, true, Option, Ok, Err, None, unwrap_or}
 use Rattle.std.proofs.lemmas.Result.{err_from_is_err_and}
 use Rattle.handover.specs.PadSums.{pads_with}
-use Rattle.scan_spec.specs.ScanReading.{in_zigzag, pad_sum}
+use Rattle.scan_spec.specs.BlockBits.{in_zigzag}
+use Rattle.scan_spec.specs.ScanPads.{pad_sum}
 use Rattle.scan_spec.specs.Slots.{Shape}
 use Rattle.scan_spec.specs.Spots.{is_closed}
 use Rattle.segment_code.specs.FoundPads.{pads_through}

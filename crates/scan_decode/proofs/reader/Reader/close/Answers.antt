@@ -3,7 +3,8 @@ use Rattle.std.proofs.lemmas.Result.{err_from_is_err_and}
 use Rattle.bit_list.specs.Units.{Cursor, Reading, starting}
 use Rattle.scan_spec.specs.ScanCalls.{ScanReader}
 use Rattle.scan_spec.specs.Scans.{no_dcs}
-use Rattle.scan_spec.specs.ScanReading.{and_then, pads_at, after_pads, restart_at}
+use Rattle.scan_spec.specs.ScanReading.{and_then, pads_at, after_pads}
+use Rattle.scan_spec.specs.ScanSymbols.{restart_at}
 use Rattle.scan_spec.specs.declared.refusal.ScanRefusal.TheVariants as refusals
 use Rattle.scan_decode.specs.ReaderInside.{reader_of}
 use Rattle.scan_decode.proofs.IntervalEnds.{Next, mixed, padded, scan_over, no_restart, begins}

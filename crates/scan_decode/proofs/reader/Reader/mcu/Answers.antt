@@ -2,7 +2,8 @@ use Rattle.std.proofs.Common.{◌≡◌, ◌+◌, List, ℕ, None, Ok, Err, map,
 use Rattle.std.proofs.lemmas.Result.{err_from_is_err_and}
 use Rattle.scan_spec.specs.declared.slot.Slot.{Slot}
 use Rattle.scan_spec.specs.ScanCalls.{ScanReader}
-use Rattle.scan_spec.specs.ScanReading.{and_then, in_zigzag, blocks_at, BlocksRead, mcu_at, pads_at, after_pads}
+use Rattle.scan_spec.specs.ScanReading.{and_then, blocks_at, BlocksRead, mcu_at, pads_at, after_pads}
+use Rattle.scan_spec.specs.BlockBits.{in_zigzag}
 use Rattle.scan_decode.specs.ReadResults.{mcu_read, standing_read}
 use Rattle.scan_decode.specs.ReaderInside.{reader_of}
 use Rattle.scan_decode.proofs.Standings.{no_blocks, goes_on, closes_here}
