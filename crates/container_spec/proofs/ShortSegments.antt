@@ -20,8 +20,8 @@ use Rattle.handover.specs.Handovers.{HandoverFields, IsHandover, start}
 use Rattle.handover.specs.HandoverBytes.{handover_bytes}
 use Rattle.handover.specs.declared.outcome.StreamCause.{StreamCause}
 use Rattle.cut_spec.specs.RowHandovers.{handover_of}
-use Rattle.scan_write.specs.Outputs.{block_bits, mcu_room}
-use Rattle.scan_write.proofs.OutputLemmas.{begun_few, bits_spent}
+use Rattle.scan_spec.specs.TextBounds.{block_bits, mcu_room}
+use Rattle.scan_spec.proofs.SpentBits.{begun_few, bits_spent}
 use Rattle.block_spec.specs.ReadingLaws.{HaveGiven}
 use Rattle.container_spec.specs.ScanStream.{blocks_stream, starts}
 use Rattle.container_spec.specs.Segments.{SegmentFields, Progress, Output, first_progress, progress_after, stream_ending, ending_by, ending, after_step, mcu_step, mcus_output}

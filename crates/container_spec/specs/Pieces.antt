@@ -1,7 +1,7 @@
 -- What one step gives of a segment: a piece of its bytes (own).
 use Rattle.std.specs.Prelude.{ℕ, zero, suc, ◌+◌, nat_lt, if◌then◌else◌, List, [], ◌++◌, length, Result, Ok, Err}
 use Rattle.bit_list.specs.Pieces.{piece_room}
-use Rattle.scan_write.specs.Outputs.{mcu_room}
+use Rattle.scan_spec.specs.TextBounds.{mcu_room}
 use Rattle.handover.specs.declared.outcome.StreamCause.{StreamCause}
 use Rattle.container_spec.specs.ScanStream.{starts}
 use Rattle.container_spec.specs.Segments.{SegmentFields, Progress, Output, stopped, with_prefix, ending, mcu_step, mcus_output}

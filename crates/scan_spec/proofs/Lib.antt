@@ -16,6 +16,7 @@ pub mod ItemsRead
 pub mod ItemsOnce
 pub mod PutWhole
 pub mod BitsTaken
+pub mod SpentBits
 pub mod AcsRead
 pub mod AcsAgain
 pub mod ZigzagLaws

@@ -1,6 +1,7 @@
 pub mod ValueBits
 pub mod BlockBits
 pub mod Blocks
+pub mod TextBounds
 pub mod PlainWriting
 pub mod BlockRows
 pub mod Slots

@@ -2,7 +2,8 @@
 ghost use Rattle.std.specs.Prelude.{◌+◌, ◌*◌, ◌<◌, ◌≤◌, List, ℤ, ◌∷◌, IfOk, IfErr, OnOk};
 ghost use Rattle.coef_block.specs.Block.{IsAc};
 ghost use Rattle.scan_spec.specs.BlockBits.{Text, zeros_text, coefficient_text, ac_text, ac_values};
-ghost use Rattle.scan_write.specs.Outputs.{OutputState, output_of, quarters, HasRoom, word_bits, coefficient_bits, ac_bits, IsBegun};
+ghost use Rattle.scan_write.specs.Outputs.{OutputState, output_of, HasRoom, IsBegun};
+ghost use Rattle.scan_spec.specs.TextBounds.{quarters, word_bits, coefficient_bits, ac_bits};
 ghost use Rattle.scan_write.specs.Appending.{IsWritten, HasAppended, IsStopped};
 
 use crate::values::{value, word};

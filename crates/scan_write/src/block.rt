@@ -2,7 +2,8 @@
 ghost use Rattle.std.specs.Prelude.{◌≡◌, ◌+◌, ◌≤◌, IfOk};
 ghost use Rattle.coef_block.specs.Block.{IsDc};
 ghost use Rattle.scan_spec.specs.BlockBits.{coefficient_at, block_text};
-ghost use Rattle.scan_write.specs.Outputs.{output_of, quarters, HasRoom, block_bits, IsBegun};
+ghost use Rattle.scan_write.specs.Outputs.{output_of, HasRoom, IsBegun};
+ghost use Rattle.scan_spec.specs.TextBounds.{quarters, block_bits};
 ghost use Rattle.scan_write.specs.Appending.{IsWritten};
 
 use crate::acs::acs;

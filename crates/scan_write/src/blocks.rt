@@ -4,7 +4,8 @@ ghost use Rattle.std.specs.List.{All};
 ghost use Rattle.coef_block.specs.Block.{IsDc};
 ghost use Rattle.scan_spec.specs.Blocks.{blocks_text, dcs_after};
 ghost use Rattle.scan_spec.specs.ShapeInside.{slot_in};
-ghost use Rattle.scan_write.specs.Outputs.{output_of, quarters, HasRoom, block_bits, IsBegun};
+ghost use Rattle.scan_write.specs.Outputs.{output_of, HasRoom, IsBegun};
+ghost use Rattle.scan_spec.specs.TextBounds.{quarters, block_bits};
 ghost use Rattle.scan_write.specs.Appending.{IsWritten};
 
 use crate::block::block;

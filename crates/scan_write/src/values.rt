@@ -4,7 +4,8 @@ ghost use Rattle.bit_list.specs.Bits.{low_bits};
 ghost use Rattle.coef_block.specs.Block.{most_difference};
 ghost use Rattle.coef_block.specs.Categories.{category};
 ghost use Rattle.scan_spec.specs.BlockBits.{word_text, value_text};
-ghost use Rattle.scan_write.specs.Outputs.{output_of, appended, quarters, HasRoom, word_bits, IsBegun};
+ghost use Rattle.scan_write.specs.Outputs.{output_of, appended, HasRoom, IsBegun};
+ghost use Rattle.scan_spec.specs.TextBounds.{quarters, word_bits};
 ghost use Rattle.scan_write.specs.Appending.{IsWritten};
 
 use bit_list::{BitOut, Piece};

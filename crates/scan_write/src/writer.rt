@@ -10,7 +10,7 @@ ghost use Rattle.scan_spec.specs.Scans.{no_dcs};
 ghost use Rattle.scan_spec.specs.ShapeInside.{most_slots};
 ghost use Rattle.scan_spec.specs.Slots.{shape_of};
 ghost use Rattle.scan_spec.specs.Spots.{interval_number, marker_after};
-ghost use Rattle.scan_write.specs.Outputs.{mcu_room};
+ghost use Rattle.scan_spec.specs.TextBounds.{mcu_room};
 ghost use Rattle.cut_spec.specs.HandedOver.{writer_from};
 ghost use Rattle.cut_spec.specs.RowHandovers.{handover_of, markers_before};
 ghost use Rattle.scan_write.specs.WriterInside.{McuIsTried};

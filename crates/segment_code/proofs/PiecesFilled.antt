@@ -3,7 +3,7 @@ use Rattle.std.proofs.Common.{◌≡◌, ℕ, zero, suc, ◌+◌, ◌-◌, ◌<�
 use Rattle.std.specs.Prelude.{⊤, nat_lt, not, ◌&&◌}
 use Rattle.std.proofs.lemmas.Bool.Decides.{nat_tests}
 use Rattle.bit_list.specs.Pieces.{piece_room}
-use Rattle.scan_write.specs.Outputs.{mcu_room}
+use Rattle.scan_spec.specs.TextBounds.{mcu_room}
 use Rattle.handover.specs.declared.outcome.StreamCause.{StreamCause}
 use Rattle.container_spec.specs.Segments.{SegmentFields, Progress, stopped, with_prefix, ending, mcu_step}
 use Rattle.container_spec.specs.Pieces.{Made, SomeOf, AllOf, made_with_prefix, made_after, piece}

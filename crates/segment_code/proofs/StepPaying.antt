@@ -2,7 +2,7 @@
 use Rattle.std.proofs.Common.{◌≡◌, ℕ, zero, suc, ◌+◌, ◌<◌, ◌≤◌, Bool, true, false, if◌then◌else◌, List, [], ◌++◌, length, Result, Ok, Err, refl, sym, ap, ◌∙◌, arith}
 use Rattle.std.specs.Prelude.{nat_lt}
 use Rattle.bit_list.specs.Pieces.{piece_room}
-use Rattle.scan_write.specs.Outputs.{mcu_room}
+use Rattle.scan_spec.specs.TextBounds.{mcu_room}
 use Rattle.handover.specs.declared.outcome.Outcome.{Outcome}
 use Rattle.handover.specs.declared.outcome.StreamCause.{StreamCause}
 use Rattle.handover.specs.declared.outcome.StreamCause.TheVariants.{StreamBad}

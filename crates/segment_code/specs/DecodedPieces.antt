@@ -1,7 +1,7 @@
 -- What one step of a decoder of segments goes through (own).
 use Rattle.std.specs.Prelude.{ℕ, ◌≡◌, ◌+◌, ◌-◌, ◌≤◌, Bool, true, not, ◌&&◌, nat_lt, if◌then◌else◌, List, [], ◌++◌, length, bytes_eq, Option, Some, None, Result, Ok, Err}
 use Rattle.bit_list.specs.Pieces.{piece_room}
-use Rattle.scan_write.specs.Outputs.{mcu_room}
+use Rattle.scan_spec.specs.TextBounds.{mcu_room}
 use Rattle.handover.specs.Handovers.{HandoverFields}
 use Rattle.handover.specs.HandoverBytes.{handover_bytes}
 use Rattle.handover.specs.declared.outcome.Outcome.TheVariants.{Good, Bad}

@@ -1,7 +1,7 @@
 // Segments decoded one after another, each in steps.
 ghost use Rattle.std.specs.Prelude.{◌≡◌, ◌+◌, ◌-◌, ◌*◌, ◌<◌, ◌≤◌, ◌^◌, ℕ, List, [], length, slice_get, bytes_eq, true, false, IfOk, OnOk};
 ghost use Rattle.bit_list.specs.Pieces.{piece_room};
-ghost use Rattle.scan_write.specs.Outputs.{mcu_room};
+ghost use Rattle.scan_spec.specs.TextBounds.{mcu_room};
 ghost use Rattle.handover.specs.declared.outcome.Outcome.{Outcome};
 ghost use Rattle.container_spec.specs.Meanings.{segment_in};
 ghost use Rattle.container_spec.specs.ScanStream.{grid_of, starts};

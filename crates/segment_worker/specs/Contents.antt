@@ -1,7 +1,7 @@
 -- What the board of a container is for (own).
 use Rattle.std.specs.Prelude.{ℕ, ◌*◌, ◌^◌, ◌≤◌, List, length, map}
 use Rattle.handover.specs.declared.outcome.Outcome.{Outcome}
-use Rattle.scan_write.specs.Outputs.{mcu_room}
+use Rattle.scan_spec.specs.TextBounds.{mcu_room}
 use Rattle.board_core.specs.BoardInvariants.{bytes_at}
 use Rattle.box_format.specs.Seen.{BoxSeen}
 use Rattle.container_spec.specs.Segments.{Output}

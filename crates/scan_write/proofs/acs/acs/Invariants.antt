@@ -1,6 +1,7 @@
 use Rattle.std.proofs.Common.{◌-◌, ◌+◌, ◌*◌, ◌<◌, ◌≤◌, drop, length}
 use Rattle.scan_spec.specs.BlockBits.{ac_text, ac_values}
-use Rattle.scan_write.specs.Outputs.{output_of, quarters, coefficient_bits}
+use Rattle.scan_write.specs.Outputs.{output_of}
+use Rattle.scan_spec.specs.TextBounds.{quarters, coefficient_bits}
 use Rattle.scan_write.specs.Appending.{HasAppended}
 use Rattle.scan_write.proofs.acs.acs.Given as goal
 

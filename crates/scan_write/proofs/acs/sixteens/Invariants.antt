@@ -1,6 +1,7 @@
 use Rattle.std.proofs.Common.{◌-◌, ◌+◌, ◌*◌, ◌<◌, ◌≤◌, length}
 use Rattle.scan_spec.specs.BlockBits.{zeros_text}
-use Rattle.scan_write.specs.Outputs.{output_of, quarters, word_bits}
+use Rattle.scan_write.specs.Outputs.{output_of}
+use Rattle.scan_spec.specs.TextBounds.{quarters, word_bits}
 use Rattle.scan_write.specs.Appending.{HasAppended}
 use Rattle.scan_write.proofs.acs.sixteens.Given as goal
 

@@ -2,7 +2,8 @@ use Rattle.std.proofs.Common.{◌≡◌, ◌≤◌, ◌<◌, ◌+◌, ◌*◌, m
 use Rattle.std.specs.List.{All}
 use Rattle.scan_spec.specs.Blocks.{blocks_text, dcs_after}
 use Rattle.scan_spec.specs.ShapeInside.{slot_in}
-use Rattle.scan_write.specs.Outputs.{output_of, quarters, block_bits}
+use Rattle.scan_write.specs.Outputs.{output_of}
+use Rattle.scan_spec.specs.TextBounds.{quarters, block_bits}
 use Rattle.scan_write.specs.Appending.{HasAppended}
 use Rattle.scan_write.proofs.blocks.blocks.Given as goal
 

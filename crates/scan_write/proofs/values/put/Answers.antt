@@ -1,8 +1,8 @@
 use Rattle.std.proofs.Common.{◌<◌, Bool, List, length, sym, ap₂, subst, arith}
 use Rattle.bit_list.specs.Bits.{low_bits}
 use Rattle.bit_list.specs.NumbersOfBits.{length-low_bits}
-use Rattle.scan_write.specs.Outputs.{quarters}
-use Rattle.scan_write.proofs.OutputLemmas.{begun_few, bits_spent}
+use Rattle.scan_spec.specs.TextBounds.{quarters}
+use Rattle.scan_spec.proofs.SpentBits.{begun_few, bits_spent}
 use Rattle.scan_write.proofs.values.put.Goals as goal
 
 pub returns-clause-begun : goal.returns-clause-begun
