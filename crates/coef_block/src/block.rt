@@ -4,8 +4,14 @@ ghost use Rattle.coef_block.specs.Block.{IsCoefficient, IsBlock};
 
 use std::marker::Model;
 
+/// The largest magnitude of a DC coefficient: `most_dc` in clauses.
+pub const MOST_DC: u32 = 32_767;
+
+/// The largest magnitude of a DC difference (ITU-T T.81, Table F.1): `most_difference` in clauses.
+pub const MOST_DIFFERENCE: u32 = 2_047;
+
 /// 64 quantized DCT coefficients, by natural position: 8 times the row plus the column (ITU-T T.81, A.3.4). The first,
-/// the DC coefficient, is within 32767 of 0, and each other, an AC coefficient, within 1023.
+/// the DC coefficient, is within `MOST_DC` of 0, and each other, an AC coefficient, within 1023.
 ///
 /// Clauses see the list of the coefficients.
 #[derive(Clone, Copy, Debug, PartialEq, Eq)]

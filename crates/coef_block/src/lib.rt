@@ -21,7 +21,7 @@ mod category;
 mod rows;
 mod zigzag;
 
-pub use block::Block;
+pub use block::{Block, MOST_DC, MOST_DIFFERENCE};
 pub use category::size;
 pub use rows::Rows;
 pub use zigzag::{

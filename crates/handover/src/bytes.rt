@@ -6,9 +6,7 @@ ghost use Rattle.handover.specs.HandoverBytes.{are_sound, handover_bytes, handov
 
 use crate::handover::Handover;
 use byteorder::{BigEndian, ByteOrder};
-
-// The largest magnitude of a DC.
-const MOST_DC: u16 = 32_767;
+use coef_block::MOST_DC;
 
 impl Handover {
     /// The fourteen bytes: the byte begun, its bits, four predictors of two bytes in two's complement, the restart
@@ -73,5 +71,7 @@ fn is_blank(partial: u8, bits: u8) -> bool
 fn are_dcs(preds: &[i16; 4]) -> bool
     ensures { result ≡ list_all (λ dc. nat_le (unsigned_abs dc) most_dc) preds.now }
 {
-    preds.iter().all(|dc| dc.unsigned_abs() <= MOST_DC)
+    preds
+        .iter()
+        .all(|dc| u32::from(dc.unsigned_abs()) <= MOST_DC)
 }

@@ -6,6 +6,7 @@ ghost use Rattle.scan_decode.specs.ReadResults.{at_cursor};
 
 use crate::values::{extended, symbol};
 use bit_list::BitIn;
+use coef_block::MOST_DC;
 use huff_table::Codes;
 use scan_spec::ScanRefusal;
 
@@ -26,7 +27,7 @@ pub(crate) fn dc(codes: &Codes, before: i16, input: &mut BitIn) -> Result<i16, S
     }
     let difference = extended(size, input)?;
     let dc = i32::from(before) + difference;
-    if dc.unsigned_abs() > 32767 {
+    if dc.unsigned_abs() > MOST_DC {
         return Err(ScanRefusal::DcRange {
             place: input.place(),
         });

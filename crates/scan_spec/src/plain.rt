@@ -13,7 +13,7 @@ ghost use Rattle.scan_spec.specs.declared.plain.PlainError.TheVariants.{NoMemory
 use crate::additional_bits::value_bits;
 use crate::slot::Slot;
 use crate::stop::WriteStop;
-use coef_block::{Block, natural_position, size};
+use coef_block::{Block, MOST_DIFFERENCE, natural_position, size};
 use huff_table::{Codes, ComponentCodes};
 use std::alloc::{AllocError, Global};
 
@@ -95,7 +95,7 @@ fn put_dc(codes: &Codes, before: i32, dc: i32, bits: &mut Vec<bool>) -> Result<(
     ensures { IsWritten result bits.old.items bits.new.items (dc_text codes.now before dc) }
 {
     let difference = dc - before;
-    if difference.unsigned_abs() > 2047 {
+    if difference.unsigned_abs() > MOST_DIFFERENCE {
         return Err(PlainError::Stop(WriteStop::DiffRange));
     }
     put_value(codes, size(difference), difference, bits)

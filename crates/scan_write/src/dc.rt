@@ -8,12 +8,9 @@ ghost use Rattle.scan_write.specs.Appending.{IsWritten};
 
 use crate::values::value;
 use bit_list::{BitOut, Piece};
-use coef_block::size;
+use coef_block::{MOST_DIFFERENCE, size};
 use huff_table::Codes;
 use scan_spec::WriteStop;
-
-// The largest magnitude of a difference (ITU-T T.81, Table F.1): `most_difference` in clauses.
-const MOST_DIFFERENCE: u32 = 2_047;
 
 /// The DC after the one before (ITU-T T.81, F.1.2.1).
 #[inline]

@@ -25,13 +25,13 @@ returns-in_err-difference-clause-is c =
     rw (p.1, p.2) (no_difference c.args.codes.now c.args.before c.args.input.now.bytes c.args.input.now.cursor c.symbol.new.input.cursor c.in_ok-size.size _ c.in_ok-size.ensures.is c.if-size-gt11.false
     (subst (λ (bytes : List ℕ). Err c.in_err-difference.field-0.0 ≡ extended_at c.in_ok-size.size bytes c.symbol.new.input.cursor) c.symbol.ensures.bytes c.in_err-difference.ensures.is))
 
-pub returns-then-unsigned_abs-gt32767-clause-is : goal.returns-then-unsigned_abs-gt32767-clause-is
-returns-then-unsigned_abs-gt32767-clause-is c =
+pub returns-then-unsigned_abs-gt-MOST_DC-clause-is : goal.returns-then-unsigned_abs-gt-MOST_DC-clause-is
+returns-then-unsigned_abs-gt-MOST_DC-clause-is c =
     let v = c.in_ok-difference.difference in
     let there = subst (λ (bytes : List ℕ). Ok (v, c.extended.new.input.cursor) ≡ extended_at c.in_ok-size.size bytes c.symbol.new.input.cursor) c.symbol.ensures.bytes c.in_ok-difference.ensures.is in
     let sum = dc_sum c.args.before v c.from.result c.requires (few_bits c.in_ok-size.size v c.if-size-gt11.false c.in_ok-difference.ensures.small) (c.from.ensures ∙ kept_half c.args.before c.requires) in
-    let large : 32767 < unsigned_abs (c.args.before +ℤ v) = omega (arith, c.unsigned_abs.ensures.value ∙ ap unsigned_abs sum, c.if-unsigned_abs-gt32767.true) in
-    ap (λ (n : ℕ). Err (refusals.DcRange n)) c.place-then-unsigned_abs-gt32767.ensures
+    let large : 32767 < unsigned_abs (c.args.before +ℤ v) = omega (arith, c.unsigned_abs.ensures.value ∙ ap unsigned_abs sum, c.if-unsigned_abs-gt-MOST_DC.true) in
+    ap (λ (n : ℕ). Err (refusals.DcRange n)) c.place-then-unsigned_abs-gt-MOST_DC.ensures
     ∙ large_dc c.args.codes.now c.args.before c.args.input.now.bytes c.args.input.now.cursor c.symbol.new.input.cursor c.extended.new.input.cursor c.in_ok-size.size v c.in_ok-size.ensures.is c.if-size-gt11.false there large
 
 pub returns-clause-is : goal.returns-clause-is
@@ -39,6 +39,6 @@ returns-clause-is c =
     let v = c.in_ok-difference.difference in
     let there = subst (λ (bytes : List ℕ). Ok (v, c.extended.new.input.cursor) ≡ extended_at c.in_ok-size.size bytes c.symbol.new.input.cursor) c.symbol.ensures.bytes c.in_ok-difference.ensures.is in
     let sum = dc_sum c.args.before v c.from.result c.requires (few_bits c.in_ok-size.size v c.if-size-gt11.false c.in_ok-difference.ensures.small) (c.from.ensures ∙ kept_half c.args.before c.requires) in
-    let small : unsigned_abs (c.args.before +ℤ v) ≤ 32767 = omega (arith, c.unsigned_abs.ensures.value ∙ ap unsigned_abs sum, c.if-unsigned_abs-gt32767.false) in
+    let small : unsigned_abs (c.args.before +ℤ v) ≤ 32767 = omega (arith, c.unsigned_abs.ensures.value ∙ ap unsigned_abs sum, c.if-unsigned_abs-gt-MOST_DC.false) in
     ap (λ (z : ℤ). Ok (z, c.extended.new.input.cursor)) (ap (λ (z : ℤ). to_z w16 (of_z w16 z)) sum ∙ kept_half (c.args.before +ℤ v) small)
     ∙ dc_there c.args.codes.now c.args.before c.args.input.now.bytes c.args.input.now.cursor c.symbol.new.input.cursor c.extended.new.input.cursor c.in_ok-size.size v c.in_ok-size.ensures.is c.if-size-gt11.false there small
