@@ -9,6 +9,7 @@ use Rattle.coef_block.specs.Zigzag.{zigzag}
 use Rattle.jpeg_marker.specs.HuffmanTables.{IsTable}
 use Rattle.scan_spec.specs.BlockBits.{block_text, in_zigzag}
 use Rattle.scan_spec.specs.Blocks.{last_dc, dcs_after, blocks_text}
+use Rattle.scan_spec.specs.TextBounds.{block_bits}
 use Rattle.scan_spec.specs.Slots.{Shape}
 use Rattle.scan_spec.specs.Pads.{bits_sum}
 use Rattle.scan_spec.specs.Scans.{Mcu, Bytes, IsMcu, AreMcus, IsScan, intervals_of, pad_counts, scan_bytes}
@@ -56,13 +57,13 @@ IsSetInZigzag =
     → in_zigzag (slice_set block (slice_index zigzag index) value)
     ≡ slice_set (in_zigzag block) index value
 
--- the bits of blocks are few: 16 and 11 of a DC, 16 and 10 of each other coefficient
+-- the bits of blocks are few
 abbrev pub TextsAreShort : Type 0
 TextsAreShort =
     (slots : List Slot) (before : List ℤ) (blocks : List (List ℤ)) (bits : List Bool)
     → AllByRecursion IsSlot slots → AllByRecursion IsBlock blocks
     → blocks_text slots before blocks ≡ Ok bits
-    → length bits ≤ 1665 * length blocks
+    → length bits ≤ block_bits * length blocks
 
 -- these are the bits from a cursor to another
 abbrev pub Stand : List ℕ → Cursor → List Bool → Cursor → Type 0
