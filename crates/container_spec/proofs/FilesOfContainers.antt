@@ -16,7 +16,7 @@ use Rattle.scan_spec.specs.Scans.{AreMcus, IsScan, pad_counts, pad_at, intervals
 use Rattle.scan_spec.specs.ScanLaws.{bytes_in}
 use Rattle.scan_spec.specs.Slots.{Shape, shape_of}
 use Rattle.scan_spec.specs.Spots.{first_spot, mcus_put, spot_in}
-use Rattle.scan_spec.specs.FileLaws.{IsFileOf}
+use Rattle.scan_spec.specs.FileParts.{IsFileOf}
 use Rattle.scan_spec.proofs.PadSpelling.{CanTell, kept, kept_are, kept_agree, told_again}
 use Rattle.scan_spec.proofs.PadsAlike.{pads_alike, intervals_are}
 use Rattle.scan_spec.proofs.PutWhole.{put_whole}

@@ -3,7 +3,7 @@ use Rattle.std.specs.Prelude.{ℕ, ◌≡◌, ◌+◌, ◌<◌, ◌^◌, Bool, t
 use Rattle.std.specs.List.{AllByRecursion}
 use Rattle.bit_list.specs.Bits.{IsByte}
 use Rattle.jpeg_marker.specs.Plans.{PlanFields}
-use Rattle.scan_spec.specs.FileLaws.{IsFileOf}
+use Rattle.scan_spec.specs.FileParts.{IsFileOf}
 use Rattle.scan_spec.specs.Slots.{shape_of}
 use Rattle.scan_spec.specs.Scans.{Mcu, intervals_of, pad_counts, pad_at}
 use Rattle.scan_spec.specs.Pads.{PadBits, bits_sum, spelling_of}

@@ -4,7 +4,7 @@ use Rattle.std.specs.List.{AllByRecursion}
 use Rattle.bit_list.specs.Bits.{IsByte}
 use Rattle.jpeg_marker.specs.Plans.{PlanFields}
 use Rattle.scan_spec.specs.TextBounds.{mcu_room}
-use Rattle.scan_spec.specs.FileLaws.{IsFileOf}
+use Rattle.scan_spec.specs.FileParts.{IsFileOf}
 use Rattle.scan_spec.specs.Pads.{bits_sum}
 use Rattle.scan_spec.specs.Scans.{Mcu, intervals_of, pad_counts}
 use Rattle.scan_spec.specs.Slots.{shape_of}

@@ -3,7 +3,8 @@ use Rattle.std.proofs.Common.{◌≡◌, ℕ, zero, suc, ◌+◌, ◌-◌, ◌<�
 use Rattle.std.specs.List.{AllByRecursion}
 use Rattle.jpeg_marker.specs.declared.component.Component.{Component}
 use Rattle.huff_table.specs.BuiltCodes.{AreTables}
-use Rattle.huff_table.specs.PlanWords.{tables_of, no_codes, filled, AreComponents}
+use Rattle.huff_table.specs.PlanWords.{no_codes, filled, AreComponents}
+use Rattle.huff_table.specs.ComponentTables.{tables_of}
 use Rattle.huff_table.specs.declared.plan_codes.ComponentCodes.{ComponentCodes}
 use Rattle.std.proofs.lemmas.List.{take_more, take_all, take-append-le, map-append, length-take, length-map}
 

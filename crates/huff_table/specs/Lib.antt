@@ -4,5 +4,6 @@ pub mod Decoding
 pub mod Levels
 pub mod ShortWords
 pub mod CodesInside
+pub mod ComponentTables
 pub mod PlanWords
 pub mod BuiltCodes

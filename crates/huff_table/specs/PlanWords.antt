@@ -1,15 +1,10 @@
--- Statement: the tables of each component of a plan (ITU-T T.81, B.2.3), and how they are kept (own).
+-- View: how the tables of each component of a plan are kept (own).
 use Rattle.std.specs.Prelude.{◌≡◌, ◌-◌, ◌≤◌, ◌++◌, List, length, take, replicate, get_or}
 use Rattle.std.specs.List.{AllByRecursion}
 use Rattle.jpeg_marker.specs.HuffmanTables.{no_table}
-use Rattle.jpeg_marker.specs.declared.component.Component.{Component}
 use Rattle.huff_table.specs.BuiltCodes.{AreTables}
 use Rattle.huff_table.specs.declared.plan_codes.ComponentCodes.{ComponentCodes}
 use Rattle.huff_table.specs.declared.plan_codes.PlanCodes.TheInside.{Inside}
-
--- the two tables of a component (B.2.3)
-abbrev pub tables_of : Component → ComponentCodes
-tables_of c = record { dc = c.dc; ac = c.ac }
 
 -- what is kept if there is no component (own)
 abbrev pub no_codes : ComponentCodes

@@ -39,7 +39,7 @@ impl Model for PlanCodes {
 
 ghost use Rattle.std.specs.List.{AllByRecursion};
 ghost use Rattle.huff_table.specs.BuiltCodes.{AreTables};
-ghost use Rattle.huff_table.specs.PlanWords.{tables_of};
+ghost use Rattle.huff_table.specs.ComponentTables.{tables_of};
 
 impl ComponentCodes {
     /// The code words of a component's tables.

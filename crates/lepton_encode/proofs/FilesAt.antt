@@ -5,7 +5,7 @@ use Rattle.bit_list.specs.Bits.{IsByte}
 use Rattle.jpeg_marker.specs.Plans.{PlanFields}
 use Rattle.jpeg_marker.proofs.HeadersTaken.{accepted_has_plan}
 use Rattle.handover.specs.Handovers.{HandoverFields}
-use Rattle.scan_spec.specs.FileLaws.{IsFileOf}
+use Rattle.scan_spec.specs.FileParts.{IsFileOf}
 use Rattle.scan_spec.specs.Pads.{PadBits}
 use Rattle.box_format.specs.Parts.{BoxParts, IsBox, box_bytes}
 use Rattle.box_format.specs.Versions.{layout_of}

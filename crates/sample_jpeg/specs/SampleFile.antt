@@ -2,7 +2,7 @@
 use Rattle.std.specs.Prelude.{ℕ, ◌*◌, ◌≤◌, Bool, true, List, [], ◌∷◌, ◌++◌, length, replicate, Ok, Err}
 use Rattle.std.specs.List.{AllByRecursion}
 use Rattle.bit_list.specs.Bits.{IsByte}
-use Rattle.scan_spec.specs.FileLaws.{IsFileOf}
+use Rattle.scan_spec.specs.FileParts.{IsFileOf}
 use Rattle.scan_spec.specs.Scans.{Bytes, Mcu, scan_bytes}
 use Rattle.scan_spec.specs.Slots.{shape_of}
 use Rattle.scan_spec.specs.Pads.{interval_count}

@@ -1,6 +1,6 @@
 // One pass over a scan.
 ghost use Rattle.std.specs.Prelude.{◌≡◌, map};
-ghost use Rattle.huff_table.specs.PlanWords.{tables_of};
+ghost use Rattle.huff_table.specs.ComponentTables.{tables_of};
 
 use bit_list::Piece;
 use coef_block::Block;

@@ -4,7 +4,7 @@ ghost use Rattle.scan_spec.specs.ScanCalls.{McuIsRead, reader_at, resume_place, 
 ghost use Rattle.scan_spec.specs.Slots.{shape_of};
 ghost use Rattle.scan_spec.specs.Spots.{is_closed};
 ghost use Rattle.scan_spec.specs.ShapeInside.{most_slots};
-ghost use Rattle.huff_table.specs.PlanWords.{tables_of};
+ghost use Rattle.huff_table.specs.ComponentTables.{tables_of};
 ghost use Rattle.scan_spec.specs.ScanReading.{and_then, mcu_at, pads_at, after_pads};
 ghost use Rattle.scan_spec.specs.BlockBits.{in_zigzag};
 ghost use Rattle.scan_spec.specs.Scans.{no_dcs};

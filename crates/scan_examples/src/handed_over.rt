@@ -1,6 +1,6 @@
 // Rows of MCUs that are read, and written, from what those before hand over.
 ghost use Rattle.std.specs.Prelude.{◌≡◌, ◌*◌, ◌<◌, map};
-ghost use Rattle.huff_table.specs.PlanWords.{tables_of};
+ghost use Rattle.huff_table.specs.ComponentTables.{tables_of};
 ghost use Rattle.scan_spec.specs.Slots.{shape_of};
 ghost use Rattle.cut_spec.specs.RowHandovers.{markers_before};
 

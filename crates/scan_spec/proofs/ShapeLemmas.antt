@@ -7,7 +7,8 @@ use Rattle.std.proofs.lemmas.List.Elements.{All-append, All-replicate, All-nil}
 use Rattle.jpeg_marker.specs.Frames.{area}
 use Rattle.jpeg_marker.specs.Plans.{part_of}
 use Rattle.jpeg_marker.specs.declared.component.Component.{Component}
-use Rattle.huff_table.specs.PlanWords.{tables_of, no_codes}
+use Rattle.huff_table.specs.PlanWords.{no_codes}
+use Rattle.huff_table.specs.ComponentTables.{tables_of}
 use Rattle.huff_table.specs.declared.plan_codes.ComponentCodes.{ComponentCodes}
 use Rattle.scan_spec.specs.Slots.{Shape, slot_of, slots_from, slots_of}
 use Rattle.scan_spec.specs.ShapeInside.{slot_in, indexes_from, component_indexes}

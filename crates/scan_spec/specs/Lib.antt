@@ -17,5 +17,6 @@ pub mod ScanLaws
 pub mod ScanRows
 pub mod PadRows
 pub mod ScanCalls
+pub mod FileParts
 pub mod FileLaws
 pub mod PlainScans

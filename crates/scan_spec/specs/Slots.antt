@@ -3,7 +3,7 @@ use Rattle.std.specs.Prelude.{ℕ, ◌+◌, ◌*◌, List, [], ◌∷◌, ◌++�
 use Rattle.jpeg_marker.specs.Frames.{area}
 use Rattle.jpeg_marker.specs.Plans.{PlanFields, part_of}
 use Rattle.jpeg_marker.specs.declared.component.Component.{Component}
-use Rattle.huff_table.specs.PlanWords.{tables_of}
+use Rattle.huff_table.specs.ComponentTables.{tables_of}
 use Rattle.scan_spec.specs.declared.slot.Slot.{Slot}
 
 -- a block of a component, by the component's index in the frame

@@ -3,7 +3,7 @@ ghost use Rattle.std.specs.Prelude.{◌≡◌, ◌≤◌, ◌+◌, ◌++◌, ◌
 ghost use Rattle.std.specs.List.{All};
 ghost use Rattle.jpeg_marker.specs.Frames.{are_components};
 ghost use Rattle.jpeg_marker.specs.Plans.{part_of};
-ghost use Rattle.huff_table.specs.PlanWords.{tables_of};
+ghost use Rattle.huff_table.specs.ComponentTables.{tables_of};
 ghost use Rattle.scan_spec.specs.Slots.{shape_of};
 ghost use Rattle.scan_spec.specs.Spots.{is_closed, interval_number};
 ghost use Rattle.scan_spec.specs.ShapeInside.{slot_in, component_indexes, most_slots};

@@ -2,7 +2,7 @@
 ghost use Rattle.std.specs.Prelude.{◌≡◌, ◌+◌, ◌*◌, ◌<◌, ◌≤◌, ◌==◌, ◌++◌, [], true, length, map};
 ghost use Rattle.bit_list.specs.Bits.{bytes_after, padding, stuffed};
 ghost use Rattle.bit_list.specs.Pieces.{piece_room};
-ghost use Rattle.huff_table.specs.PlanWords.{tables_of};
+ghost use Rattle.huff_table.specs.ComponentTables.{tables_of};
 ghost use Rattle.handover.specs.PadSums.{pads_with};
 ghost use Rattle.scan_spec.specs.Pads.{pads_given, bit_for, interval_sum, is_long_for};
 ghost use Rattle.scan_spec.specs.ScanCalls.{McuIsPut, writer_of};

@@ -1,5 +1,5 @@
 use Rattle.std.proofs.Common.{◌≤◌, length, map, set, ap, ◌∙◌, arith}
-use Rattle.huff_table.specs.PlanWords.{tables_of}
+use Rattle.huff_table.specs.ComponentTables.{tables_of}
 use Rattle.huff_table.proofs.PlanComponents.{filled_so_far, filled_more, filled_all, first_is, prefix_is, all_set, are_components}
 use Rattle.huff_table.proofs.plan_codes.PlanCodes.build.Goals as goal
 

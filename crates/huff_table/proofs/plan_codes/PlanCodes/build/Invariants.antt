@@ -1,7 +1,8 @@
 use Rattle.std.proofs.Common.{◌≡◌, get_or}
 use Rattle.std.specs.List.{AllByRecursion}
 use Rattle.huff_table.specs.BuiltCodes.{AreTables}
-use Rattle.huff_table.specs.PlanWords.{tables_of, no_codes}
+use Rattle.huff_table.specs.PlanWords.{no_codes}
+use Rattle.huff_table.specs.ComponentTables.{tables_of}
 use Rattle.huff_table.proofs.PlanComponents.{filled_so_far}
 use Rattle.huff_table.proofs.plan_codes.PlanCodes.build.Given as goal
 

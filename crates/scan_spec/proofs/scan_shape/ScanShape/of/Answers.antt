@@ -1,5 +1,5 @@
 use Rattle.std.proofs.Common.{◌≡◌, length, map, ap, ap₂, ◌∙◌, take, ℕ, List, arith}
-use Rattle.huff_table.specs.PlanWords.{tables_of}
+use Rattle.huff_table.specs.ComponentTables.{tables_of}
 use Rattle.huff_table.specs.declared.plan_codes.ComponentCodes.{ComponentCodes}
 use Rattle.std.proofs.lemmas.List.{length-map}
 use Rattle.scan_spec.specs.Slots.{shape_of}
