@@ -10,7 +10,8 @@ use Rattle.std.proofs.lemmas.List.Elements.{recursion_from_All}
 use Rattle.byteorder.specs.Endian.{big_bytes, big_number}
 use Rattle.coef_block.specs.Block.{IsDc, most_dc}
 use Rattle.handover.specs.Handovers.{HandoverFields, IsHandover}
-use Rattle.handover.specs.HandoverBytes.{handover_bytes, handover_in, FieldsAreReadAgain, BytesAreSpelledAgain, TestIsExact}
+use Rattle.handover.specs.HandoverBytes.{handover_bytes, handover_in}
+use Rattle.handover.specs.OneSpelling.{FieldsAreReadAgain, BytesAreSpelledAgain, TestIsExact}
 
 -- ---- lists of four and of fourteen
 

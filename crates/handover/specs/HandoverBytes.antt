@@ -1,10 +1,10 @@
 -- Statement: the fourteen bytes of a handover, and back (docs/FORMAT.md, The container).
-use Rattle.std.specs.Prelude.{ℕ, ◌-◌, ◌%◌, ◌^◌, ◌<◌, ◌≡◌, Bool, ◌&&◌, ◌==◌, nat_le, List, [], ◌∷◌, ◌++◌, length, map, flat_map, drop, slice_index, ℤ, unsigned_abs, IsTrue}
+use Rattle.std.specs.Prelude.{ℕ, ◌-◌, ◌%◌, ◌^◌, Bool, ◌&&◌, ◌==◌, nat_le, List, [], ◌∷◌, ◌++◌, map, flat_map, drop, slice_index, ℤ, unsigned_abs}
 use Rattle.std.specs.Int.{w16, cast_unsigned, cast_signed}
-use Rattle.std.specs.List.{AllByRecursion, list_all}
+use Rattle.std.specs.List.{list_all}
 use Rattle.byteorder.specs.Endian.{big_bytes, big_number}
 use Rattle.coef_block.specs.Block.{most_dc}
-use Rattle.handover.specs.Handovers.{HandoverFields, IsHandover}
+use Rattle.handover.specs.Handovers.{HandoverFields}
 
 -- partial byte, bits, four predictors in two's complement, restart markers; the highest byte of a number first
 unfoldable pub handover_bytes : HandoverFields → List ℕ
@@ -34,19 +34,3 @@ are_sound partial bits preds =
 -- whether fields are a handover's
 abbrev pub is_handover : HandoverFields → Bool
 is_handover h = are_sound h.partial h.bits h.preds
-
--- the test finds a handover's fields good
-abbrev pub TestIsExact : Type 0
-TestIsExact = (h : HandoverFields) → IsHandover h → IsTrue (is_handover h)
-
--- a handover's bytes determine it
-abbrev pub FieldsAreReadAgain : Type 0
-FieldsAreReadAgain =
-    (h : HandoverFields) → IsHandover h
-    → (length (handover_bytes h) ≡ 14) × (handover_in (handover_bytes h) ≡ h)
-
--- and its fields its bytes
-abbrev pub BytesAreSpelledAgain : Type 0
-BytesAreSpelledAgain =
-    (bytes : List ℕ) → length bytes ≡ 14 → AllByRecursion (λ byte. byte < 256) bytes
-    → handover_bytes (handover_in bytes) ≡ bytes

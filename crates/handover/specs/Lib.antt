@@ -1,4 +1,5 @@
 pub mod Handovers
 pub mod HandoverBytes
+pub mod OneSpelling
 pub mod HandoverInside
 pub mod PadSums

@@ -1,5 +1,5 @@
 // What holds of all handovers.
-ghost use Rattle.handover.specs.HandoverBytes.{TestIsExact, FieldsAreReadAgain, BytesAreSpelledAgain};
+ghost use Rattle.handover.specs.OneSpelling.{TestIsExact, FieldsAreReadAgain, BytesAreSpelledAgain};
 
 /// A handover and its bytes determine each other.
 pub fn handovers_have_one_spelling()

@@ -17,7 +17,8 @@ use Rattle.container_spec.proofs.RestoredFiles.{container_is_restored}
 use Rattle.lepton_decode.specs.Ends.{Ends}
 use Rattle.lepton_decode.specs.declared.error.DecodeError.{DecodeError}
 use Rattle.lepton_decode.specs.declared.error.DecodeError.TheVariants.{WriteFault, Fault, PadSpelling}
-use Rattle.sample_jpeg.specs.SampleFile.{IsSample, sample_mcus, sample_pads, end_of_image}
+use Rattle.sample_jpeg.specs.SampleFile.{sample_mcus, sample_pads, end_of_image}
+use Rattle.sample_jpeg.specs.SampleLaw.{IsSample}
 use Rattle.sample_jpeg.specs.SampleHeader.{extent_of, sample_plan}
 use Rattle.sample_jpeg.proofs.SampleLaws.{samples}
 use Rattle.command_words.specs.declared.command.Command.TheVariants.{Sample}

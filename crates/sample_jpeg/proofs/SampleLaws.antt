@@ -11,7 +11,8 @@ use Rattle.scan_spec.specs.Spots.{first_spot}
 use Rattle.scan_spec.proofs.PlanShapes.{accepted_is_shape}
 use Rattle.scan_spec.proofs.PadsAlike.{pads_alike, intervals_are, ones_are, ones_agree}
 use Rattle.sample_jpeg.specs.declared.extent.Extent.{Extent}
-use Rattle.sample_jpeg.specs.SampleFile.{IsSample, SamplesAreFiles, bytes_or_none, end_of_image, sample_file, sample_mcus, sample_pads, sample_scan}
+use Rattle.sample_jpeg.specs.SampleFile.{bytes_or_none, end_of_image, sample_file, sample_mcus, sample_pads, sample_scan}
+use Rattle.sample_jpeg.specs.SampleLaw.{IsSample, SamplesAreFiles}
 use Rattle.sample_jpeg.specs.SampleHeader.{IsExtent, extent_of, sample_header, sample_plan}
 use Rattle.sample_jpeg.proofs.SampleHeaders.{sample_accepts, sample_header_bytes}
 use Rattle.sample_jpeg.proofs.SampleMcus.{AreBytes, all_both}

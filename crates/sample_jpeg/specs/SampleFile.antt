@@ -1,14 +1,11 @@
--- Statement: the file that a seed and a size give, and what holds of it (docs/SAMPLE.md, The file).
-use Rattle.std.specs.Prelude.{ℕ, ◌*◌, ◌≤◌, Bool, true, List, [], ◌∷◌, ◌++◌, length, replicate, Ok, Err}
-use Rattle.std.specs.List.{AllByRecursion}
-use Rattle.bit_list.specs.Bits.{IsByte}
-use Rattle.scan_spec.specs.FileParts.{IsFileOf}
+-- Statement: the file that a seed and a size give (docs/SAMPLE.md, The file).
+use Rattle.std.specs.Prelude.{ℕ, ◌*◌, Bool, true, List, [], ◌∷◌, ◌++◌, replicate, Ok, Err}
 use Rattle.scan_spec.specs.Scans.{Bytes, Mcu, scan_bytes}
 use Rattle.scan_spec.specs.Slots.{shape_of}
 use Rattle.scan_spec.specs.Pads.{interval_count}
 use Rattle.sample_jpeg.specs.DrawnMcus.{drawn_mcus}
 use Rattle.sample_jpeg.specs.declared.extent.Extent.{Extent}
-use Rattle.sample_jpeg.specs.SampleHeader.{IsExtent, extent_of, sample_header, sample_plan}
+use Rattle.sample_jpeg.specs.SampleHeader.{extent_of, sample_header, sample_plan}
 
 -- EOI (B.2.1)
 abbrev pub end_of_image : List ℕ
@@ -23,7 +20,7 @@ abbrev pub bytes_or_none : Bytes → List ℕ
 bytes_or_none (Ok bytes) = bytes
 bytes_or_none (Err stop) = []
 
--- the bytes of the scan, with pad bits of ones; the law below says that there are some
+-- the bytes of the scan, with pad bits of ones; the law of samples says that there are some
 abbrev pub sample_scan : ℕ → Extent → List ℕ
 sample_scan seed e =
     bytes_or_none (scan_bytes (shape_of (sample_plan e)) (λ n. true) (sample_mcus seed e))
@@ -37,15 +34,3 @@ sample_file seed columns rows =
 -- pad bits of ones, one for each restart interval
 abbrev pub sample_pads : Extent → List Bool
 sample_pads e = replicate (interval_count (shape_of (sample_plan e))) true
-
--- it is a file of its header, its MCUs and pad bits of ones, and below 64 MiB
-pub record IsSample (seed : ℕ) (e : Extent) (file : List ℕ) : Type 0 where
-  pub bytes : AllByRecursion IsByte file
-  pub is : IsFileOf file (sample_plan e) (sample_mcus seed e) (sample_pads e) end_of_image
-  pub short : length file ≤ 40000000
-
--- and this for every seed and size
-abbrev pub SamplesAreFiles : Type 0
-SamplesAreFiles =
-    (seed columns rows : ℕ) → IsExtent (extent_of seed columns rows)
-    → IsSample seed (extent_of seed columns rows) (sample_file seed columns rows)
