@@ -1,4 +1,4 @@
--- How a bin keeps its counts, and the probability that follows (own).
+-- View: how a bin keeps its counts, and the probability that follows (own).
 use Rattle.std.specs.Prelude.{◌≡◌, ◌≤◌}
 use Rattle.adapt_bins.specs.Counts.{Counts, counts, prob_of}
 use Rattle.adapt_bins.specs.declared.bins.Bin.TheInside.{Inside}

@@ -1,7 +1,7 @@
--- How a bin counts bits (own; docs/FORMAT.md).
+-- Statement: how a bin counts bits (docs/FORMAT.md, Bins).
 use Rattle.std.specs.Prelude.{ℕ, ◌+◌, ◌*◌, ◌/◌, ◌==◌, Bool, if◌then◌else◌}
 
--- how often each bit came; a count is from 1 to 255
+-- how often each bit occurred; a count is from 1 to 255
 pub record Counts : Type 0 where
   pub zeros : ℕ
   pub ones : ℕ
@@ -26,7 +26,7 @@ halved c = counts ((c.zeros + 1) / 2) ((c.ones + 1) / 2)
 abbrev pub seen : Counts → Bool → ℕ
 seen c bit = if bit then c.ones else c.zeros
 
--- halved where the count of a bit is 255
+-- halved if the count of a bit is 255
 abbrev pub with_room : Counts → Bool → Counts
 with_room c bit = if seen c bit == most_count then halved c else c
 
@@ -34,7 +34,7 @@ with_room c bit = if seen c bit == most_count then halved c else c
 abbrev pub raised : Counts → Bool → Counts
 raised c bit = if bit then counts c.zeros (c.ones + 1) else counts (c.zeros + 1) c.ones
 
--- a bit adds one to its count; where that count is 255, both are halved first
+-- a bit adds one to its count; if that count is 255, both are halved first
 abbrev pub counted : Counts → Bool → Counts
 counted c bit = raised (with_room c bit) bit
 

@@ -1,4 +1,5 @@
--- Events: bits, each in a bin, with the probabilities that the earlier events give them (own; docs/FORMAT.md).
+-- Statement: events, which are bits, each in a bin, and the probabilities that the earlier events give them
+-- (docs/FORMAT.md, Bins).
 use Rattle.std.specs.Prelude.{◌≡◌, ℕ, ◌<◌, ◌==◌, Bool, if◌then◌else◌, List, [], ◌∷◌, ◌++◌, length, fold, get_or}
 use Rattle.adapt_bins.specs.Counts.{Counts, unseen, counted, prob_of}
 

@@ -1,17 +1,17 @@
--- What `Get` does with events (own).
+-- Steps: what `Get` does with events (own).
 use Rattle.std.specs.Prelude.{◌≡◌, ℕ, Bool, List, [], ◌++◌, length, refl}
 use Rattle.std.proofs.Common.{◌∙◌, append_assoc, sym, subst, append-nil}
 use Rattle.bool_coder.specs.BoolReading.{Reads}
 use Rattle.adapt_bins.specs.Events.{HasCounted, bools_of}
 use Rattle.adapt_bins.specs.declared.get.Get.{Get}
 
--- the bins have counted these events, and the decoder has taken them from the bytes
+-- the bins have counted these events, and the decoder has read them from the bytes
 pub record HasGot (s : Get) (bytes : List ℕ) (events : List (ℕ × Bool)) : Type 0 where
   pub bins : HasCounted s.bins events
   pub source : s.decoder.bytes ≡ bytes
   pub reads : Reads (bools_of events) s.decoder
 
--- as many bins have gone on by these events, with the same bytes
+-- the same number of bins has continued by these events, with the same bytes
 pub record GetsEvents (s : Get) (events : List (ℕ × Bool)) (t : Get) : Type 0 where
   pub room : length t.bins ≡ length s.bins
   pub on : (bytes : List ℕ) (earlier : List (ℕ × Bool))

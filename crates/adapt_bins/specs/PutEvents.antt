@@ -1,4 +1,4 @@
--- What `Put` and `PutLocal` do with events (own).
+-- Steps: what `Put` and `PutLocal` do with events (own).
 use Rattle.std.specs.Prelude.{◌≡◌, ℕ, Bool, List, [], ◌++◌, length, Some, refl}
 use Rattle.std.proofs.Common.{◌∙◌, append_assoc, sym, ap, subst, append-nil}
 use Rattle.bool_coder.specs.BoolStream.{coded}
@@ -11,7 +11,7 @@ pub record HasPut (s : Put) (events : List (ℕ × Bool)) : Type 0 where
   pub bins : HasCounted s.bins.now events
   pub encoder : s.encoder.now ≡ Some (coded (bools_of events))
 
--- the same bins and encoder have gone on by these events
+-- the same bins and encoder have continued by these events
 pub record PutsEvents (s : Put) (events : List (ℕ × Bool)) (t : Put) : Type 0 where
   pub same_bins : t.bins.ghost_name ≡ s.bins.ghost_name
   pub same_encoder : t.encoder.ghost_name ≡ s.encoder.ghost_name
@@ -43,7 +43,7 @@ pub record LocalHasPut (s : PutLocal) (events : List (ℕ × Bool)) : Type 0 whe
   pub bins : HasCounted s.bins events
   pub encoder : s.encoder ≡ Some (coded (bools_of events))
 
--- as many owned bins and the owned encoder have gone on by these events
+-- the same number of owned bins and the owned encoder have continued by these events
 pub record LocalPuts (s : PutLocal) (events : List (ℕ × Bool)) (t : PutLocal) : Type 0 where
   pub room : length t.bins ≡ length s.bins
   pub on : (earlier : List (ℕ × Bool))

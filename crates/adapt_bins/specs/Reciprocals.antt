@@ -1,4 +1,4 @@
--- Reciprocals of sums of two counts, by which a division is a product (own).
+-- View: what a table of reciprocals holds: those of sums of two counts, by which a division is a product (own).
 use Rattle.std.specs.Prelude.{ℕ, ◌+◌, ◌-◌, ◌/◌, ◌==◌, ◌&&◌, Bool, true, List, [], ◌∷◌}
 
 -- one, in the units of a reciprocal: 2 to the 26

@@ -7,16 +7,16 @@ use std::alloc::{AllocError, Global};
 use std::marker::Model;
 use std::mem::replace;
 
-/// The largest count. Where that of a bit stands there, both are halved before it rises.
+/// The largest count. If the count of a bit is as large, both are halved before it rises.
 const MOST_COUNT: u8 = 255;
 
-/// How often each bit came in one context, as two counts from 1 to 255. Both begin at 1. Where the count of a bit that
-/// comes is 255, both are halved first, so that later bits weigh more.
+/// How often each bit occurred in one context, as two counts from 1 to 255. Both begin at 1. If the count of the next
+/// bit is 255, both are halved first, so that later bits weigh more.
 #[derive(Clone, Copy)]
 pub struct Bin {
     zeros: u8,
     ones: u8,
-    // The probability of a zero, kept so that it is at hand when the next bit comes.
+    // The probability of a zero, kept so that it is at hand for the next bit.
     prob: u8,
 }
 
@@ -71,7 +71,7 @@ impl Bin {
     }
 }
 
-// Both counts, halved where that of the bit can't rise.
+// Both counts, halved if that of the bit can't rise.
 #[inline(always)]
 fn room_for(zeros: u8, ones: u8, bit: bool) -> (u8, u8)
     requires zeros { 1 ≤ zeros }
@@ -151,7 +151,7 @@ impl Model for Bins {
 }
 
 impl Bins {
-    /// As many bins, before the first bit of each. The one error is want of memory.
+    /// `n` bins, before the first bit of each. The one error is out of memory.
     pub fn new(alloc: Global, n: usize) -> Result<Bins, AllocError>
         ensures { IfOk result (λ b. b ≡ replicate n unseen) }
     {
@@ -171,7 +171,7 @@ impl Bins {
         }
     }
 
-    /// Begins again: as many bins, before the first bit of each.
+    /// Begins again: the same number of bins, before the first bit of each.
     pub fn fresh(&mut self)
         ensures { self.new ≡ replicate (length self.old) unseen }
     {

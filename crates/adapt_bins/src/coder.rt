@@ -19,8 +19,8 @@ pub trait Coder {
     /// What holds after a stop.
     ghost stopped: { Self → Type 0 };
 
-    /// Codes the next bit in a bin, and answers it. One that is given the bits codes `bit`; one that gets them takes no
-    /// notice of it.
+    /// Codes the next bit in a bin, and returns it. A coder that is given the bits codes `bit`; one that gets them
+    /// ignores it.
     fn code(&mut self, bin: usize, bit: Option<bool>) -> Result<bool, Self::Stop>
         requires { bin < room self.old }
         ensures coded { IfOk result (λ b. codes self.old ((bin, b) ∷ []) self.new) }

@@ -12,7 +12,7 @@ use bool_coder::Decoder;
 #[derive(Clone, Copy)]
 pub enum Never {}
 
-/// Gets bits from a stream: each is taken with the probability that its bin had before, and counted there. It owns its
+/// Gets bits from a stream: each is read with the probability that its bin had before, and counted there. It owns its
 /// bins and its decoder.
 #[derive(Drop)]
 pub struct Get<'b> {
@@ -21,8 +21,8 @@ pub struct Get<'b> {
 }
 
 impl<'b> Get<'b> {
-    /// Goes on with bins and a decoder. `fresh` says that fresh bins and a decoder at its start have taken no events so
-    /// far.
+    /// Continues with bins and a decoder. `fresh` says that fresh bins and a decoder at its start have read no events
+    /// so far.
     pub fn new(bins: Bins, decoder: Decoder<'b>) -> Get<'b>
         ensures bins { result.bins ≡ bins }
         ensures decoder { result.decoder ≡ decoder.entry }
@@ -32,8 +32,8 @@ impl<'b> Get<'b> {
         Get { bins, decoder }
     }
 
-    /// Moves the coder out, and leaves one with no bins. Its state stays in registers while a local value has it; behind a
-    /// reference all of it is loaded again after each store to a bin.
+    /// Moves the coder out, and leaves one with no bins. Its state stays in registers while a local value has it;
+    /// behind a reference all of it is loaded again after each store to a bin.
     #[inline(always)]
     pub fn moved(&mut self) -> Get<'b>
         ensures value { result ≡ self.old }
@@ -46,7 +46,7 @@ impl<'b> Get<'b> {
         }
     }
 
-    /// Begins again at another stream, with as many fresh bins. It takes no memory.
+    /// Begins again at another stream, with the same number of fresh bins. It allocates no memory.
     pub fn restart(&mut self, decoder: Decoder<'b>)
         ensures bins { self.new.bins ≡ replicate (length self.old.bins) unseen }
         ensures decoder { self.new.decoder ≡ decoder.entry }
@@ -56,7 +56,7 @@ impl<'b> Get<'b> {
         self.decoder = decoder;
     }
 
-    /// Whether the bytes are the stream of the bits that were taken, and nothing more.
+    /// Whether the bytes are the stream of the bits that were read, and nothing more.
     pub fn exact(&self) -> bool
         ensures { (bools : List (ℕ × Bool)) → Reads bools self.now.decoder
             → (IsTrue result ↔ (self.now.decoder.bytes ≡ stream (coded bools))) }
@@ -69,7 +69,7 @@ impl Coder for Get<'_> {
     ghost use Rattle.std.specs.Prelude.{false, length, ⊤};
     ghost use Rattle.adapt_bins.specs.GotEvents.{GetsEvents, gets_none, gets_joined};
 
-    // Past the end of the bytes come zero bits, so that there is always a next bit.
+    // Past the end of the bytes all bits are zeros, so that there is always a next bit.
     type Stop = Never;
 
     ghost room = { λ s. length s.bins };
@@ -86,7 +86,7 @@ impl Coder for Get<'_> {
 
     ghost keeps = { λ s t es p. p.room };
 
-    /// Takes the bit.
+    /// Reads the bit.
     #[inline(always)]
     fn code(&mut self, bin: usize, _bit: Option<bool>) -> Result<bool, Never> {
         let bit = self.decoder.take(self.bins.prob(bin));

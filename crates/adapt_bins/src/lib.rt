@@ -1,4 +1,4 @@
-//! Bins: how often each bit came in a context, and the probability that follows (own; docs/FORMAT.md).
+//! Bins: how often each bit occurred in a context, and the probability that follows (docs/FORMAT.md).
 //!
 //!     bit, bin --> Put:  prob of the bin --> Encoder --> stream
 //!                        count the bit
@@ -8,7 +8,9 @@
 //!
 //! A bin has two counts from 1 to 255. The probability of a zero is the share of its zeros, as parts of 256. Both sides
 //! count alike, so that a bit is read with the probability that it was written with. `Coder` is what both have in
-//! common, so that what codes a block is written once. Which bin a bit has is left to `coef_context`.
+//! common, so that what codes a block is written once.
+//!
+//! Not handled here: which bin a bit has (see `coef_context`).
 #![tactic(auto)]
 
 mod bins;

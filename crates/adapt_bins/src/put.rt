@@ -16,7 +16,7 @@ pub struct Put<'a> {
 }
 
 impl<'a> Put<'a> {
-    /// Goes on with bins and an encoder. `fresh` says that fresh bins and a new encoder have coded no events so far.
+    /// Continues with bins and an encoder. `fresh` says that fresh bins and a new encoder have coded no events so far.
     pub fn new(bins: &'a mut Bins, encoder: &'a mut Encoder) -> Put<'a>
         ensures same_bins { result.bins.ghost_name ≡ bins.entry.ghost_name }
         ensures same_encoder { result.encoder.ghost_name ≡ encoder.entry.ghost_name }
@@ -75,7 +75,7 @@ impl Coder for Put<'_> {
     ghost use Rattle.std.specs.Prelude.{true, length, None, ◌≡◌};
     ghost use Rattle.adapt_bins.specs.PutEvents.{PutsEvents, puts_none, puts_joined};
 
-    // The one stop is want of memory. The encoder is then spent.
+    // The one stop is out of memory. The encoder is then spent.
     type Stop = AllocError;
 
     ghost room = { λ s. length s.bins.now };
@@ -92,7 +92,7 @@ impl Coder for Put<'_> {
 
     ghost keeps = { λ s t es p. p.room };
 
-    /// Codes the bit, or a zero where none is given.
+    /// Codes the bit, or a zero if none is given.
     #[inline(always)]
     fn code(&mut self, bin: usize, bit: Option<bool>) -> Result<bool, AllocError> {
         let bit = bit.unwrap_or(false);

@@ -4,7 +4,7 @@ use bool_coder::Encoder;
 use std::alloc::AllocError;
 
 /// The bins and the encoder of a `Put`, owned: `Put::moved`. In a local value the encoder's state stays in registers;
-/// behind references all of it is loaded again after each store to a bin.
+/// through references all of it is loaded again after each store to a bin.
 #[derive(Drop)]
 pub struct PutLocal {
     pub(crate) bins: Bins,
@@ -15,7 +15,7 @@ impl Coder for PutLocal {
     ghost use Rattle.std.specs.Prelude.{true, length, None, ◌≡◌};
     ghost use Rattle.adapt_bins.specs.PutEvents.{LocalPuts, local_none, local_joined};
 
-    // The one stop is want of memory. The encoder is then spent.
+    // The one stop is out of memory. The encoder is then spent.
     type Stop = AllocError;
 
     ghost room = { λ s. length s.bins };
@@ -32,7 +32,7 @@ impl Coder for PutLocal {
 
     ghost keeps = { λ s t es p. p.room };
 
-    /// Codes the bit, or a zero where none is given.
+    /// Codes the bit, or a zero if none is given.
     #[inline(always)]
     fn code(&mut self, bin: usize, bit: Option<bool>) -> Result<bool, AllocError> {
         let bit = bit.unwrap_or(false);

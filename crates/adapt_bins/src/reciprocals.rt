@@ -5,7 +5,7 @@ ghost use Rattle.adapt_bins.specs.Reciprocals.{reciprocal, unit, most_sum};
 /// A reciprocal is in units of 2 to the minus 26.
 const UNIT_BITS: u32 = 26;
 
-/// The reciprocal of each sum of two counts, from 0 to 510, rounded up; that of 0 isn't used. A proof takes an entry
+/// The reciprocal of each sum of two counts, from 0 to 510, rounded up; that of 0 isn't used. A proof gets an entry
 /// from `reciprocal`.
 const RECIPROCALS: [u32; 511] = [
     0, 67108864, 33554432, 22369622, 16777216, 13421773, 11184811, 9586981, 8388608, 7456541,

@@ -1,4 +1,4 @@
--- Where the bins of a value begin (own; docs/FORMAT.md).
+-- View: where the bins of a value begin (docs/FORMAT.md, Bins).
 use Rattle.std.specs.Prelude.{ℕ, ◌+◌, ◌-◌, ◌≤◌}
 use Rattle.coef_context.specs.BinNumbers.{rows_from}
 use Rattle.coef_context.specs.Runs.{dc_sizes, dc_low_bits}
@@ -18,7 +18,7 @@ bins_at bases = record {
   low = λ size bit. bases.lows + rows_from 1 (size - 2) + bit;
 }
 
--- all bins of a value with as many steps as a residue are there (own)
+-- all bins of a value with the steps of a residue are there (own)
 pub record AreBases (bases : BinBases) : Type 0 where
   pub steps : bases.steps + dc_sizes ≤ bin_count
   pub signs : bases.signs + dc_sizes ≤ bin_count

@@ -1,4 +1,4 @@
--- The parts of a block in the order of their events (own; docs/FORMAT.md).
+-- View: the parts of a block in the order of their events (docs/FORMAT.md, The events of a block).
 use Rattle.std.specs.Prelude.{ℕ, ◌≡◌, ◌++◌, Bool, true, false, List, length, ℤ, ◌-ℤ◌}
 use Rattle.std.specs.List.{AllByRecursion}
 use Rattle.block_spec.specs.Values.{nonzeros, values_events}

@@ -1,4 +1,4 @@
--- What the fields of a grid keep (own).
+-- View: what the fields of a grid hold (own).
 use Rattle.std.specs.Prelude.{◌≡◌, ℕ, ◌^◌, ◌<◌, ◌≤◌, slice_index}
 use Rattle.coef_block.specs.TwoRows.{Extents, block_count, offset}
 use Rattle.block_spec.specs.Grid.{Grid}

@@ -1,4 +1,4 @@
--- The blocks around one, without where they lie in memory (own).
+-- View: the blocks around one, without where they lie in memory (own).
 use Rattle.std.specs.Prelude.{option_map, ◌↔◌, IsSome}
 use Rattle.block_spec.specs.Around.{Around}
 use Rattle.block_code.specs.declared.neighbours.Neighbours.{Neighbours}
@@ -11,6 +11,6 @@ around_of neighbours = record {
   diagonal = option_map (λ block. block.now) neighbours.diagonal;
 }
 
--- the diagonal block is there exactly where both others are (own)
+-- the diagonal block is there exactly if both others are (own)
 abbrev pub HasCorner : Around → Type 0
 HasCorner around = IsSome around.diagonal ↔ (IsSome around.above × IsSome around.left)

@@ -1,4 +1,4 @@
--- Coefficients put into a block (own).
+-- Steps: coefficients put into a block (own).
 use Rattle.std.specs.Prelude.{ℕ, ◌<◌, List, [], ◌∷◌, ℤ, set}
 
 -- the natural position of an AC coefficient (T.81 A.3.4)

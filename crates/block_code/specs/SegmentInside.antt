@@ -1,4 +1,4 @@
--- What the fields of a segment's rows keep (own).
+-- View: what the fields of a segment's rows hold (own).
 use Rattle.std.specs.Prelude.{◌<◌}
 use Rattle.block_spec.specs.Grid.{IsGrid}
 use Rattle.block_spec.specs.HeldRows.{FitsGrid}

@@ -1,5 +1,5 @@
--- A segment under way, between two MCUs (own): its grid, the rows in which neighbours are looked up, and what was
--- coded.
+-- Steps: a segment under way, between two MCUs: its grid, the rows in which neighbours are looked up, and what was
+-- coded (own).
 use Rattle.std.specs.Prelude.{◌≡◌, ℕ, ◌+◌, ◌*◌, ◌<◌, Bool, List, ◌++◌, ℤ, length, Err}
 use Rattle.std.specs.List.{AllByRecursion}
 use Rattle.coef_block.specs.Block.{IsBlock}
@@ -35,7 +35,7 @@ pub record PutsMore (old : Put) (g : Grid) (done : List (List ℤ)) (new : Put)
   pub are : segment_events g (done ++ more) ≡ segment_events g done ++ events
   pub puts : PutsEvents old events new
 
--- after these blocks the events of more blocks were taken, and each is a block (own)
+-- after these blocks the events of more blocks were read, and each is a block (own)
 pub record GetsMore (old : Get) (g : Grid) (done : List (List ℤ)) (new : Get)
     (more : List (List ℤ)) : Type 0 where
   pub events : List (ℕ × Bool)
@@ -43,7 +43,7 @@ pub record GetsMore (old : Get) (g : Grid) (done : List (List ℤ)) (new : Get)
   pub gets : GetsEvents old events new
   pub blocks : AllByRecursion IsBlock more
 
--- after these blocks fewer than an MCU's were taken, and then the events of a fault (own)
+-- after these blocks fewer than an MCU's were read, and then the events of a fault (own)
 pub record GetsFault (old : Get) (g : Grid) (done : List (List ℤ)) (new : Get)
     (cause : BlockFault) : Type 0 where
   pub more : List (List ℤ)

@@ -1,4 +1,4 @@
--- How large the values of a block are (own).
+-- Statement: how large the values of a block are (ITU-T T.81, F.1.2.2; docs/FORMAT.md, The events of a block).
 use Rattle.std.specs.Prelude.{ℕ, ◌<◌, ◌≤◌, ℤ}
 use Rattle.coef_context.specs.Runs.{ac_sizes, dc_sizes}
 use Rattle.block_spec.specs.Values.{category_of}

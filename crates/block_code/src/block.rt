@@ -36,8 +36,8 @@ fn neighbours_in(rows: &Rows, component: usize, row: u32, column: u32) -> Neighb
 
 /// Puts the events of a block into a stream. `row` counts the component's block rows within the MCU row, and `column`
 /// its block columns; the rows hold the blocks around. The class is 0 for the frame's first component and 1 for the
-/// others. The one error is want of memory, and the encoder is then spent. `rows` stays as it is: storing the block
-/// is left to the caller.
+/// others. The one error is out of memory, and the encoder is then spent. `rows` stays as it is: the caller stores the
+/// block.
 pub fn put_block(
     coder: &mut Put,
     class: u8,
@@ -67,10 +67,10 @@ pub fn put_block(
     Ok(())
 }
 
-/// Takes the events of a block from a stream, with the same places and class as `put_block`. No block comes of them
-/// with `BlockCount` where the six bits of the inner count are above 49, and nothing after them is taken; and with
-/// `DcRange` where all events of a block were taken, and its prediction and residue make no DC, which is within 32767
-/// of 0. Past the stream's end come zero bits.
+/// Reads the events of a block from a stream, with the same places and class as `put_block`. It fails with `BlockCount`
+/// if the six bits of the inner count are above 49, and then reads nothing after them; and with `DcRange` if all events
+/// of a block were read, and its prediction and residue make no DC, which is within 32767 of 0. Past the stream's end
+/// all bits are zeros.
 pub fn get_block(
     coder: &mut Get,
     class: u8,

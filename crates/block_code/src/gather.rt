@@ -7,7 +7,7 @@ ghost use Rattle.block_code.specs.ValueRanges.{IsAc};
 
 use coef_block::Block;
 
-/// Writes the coefficients at natural positions into `out`, as many as there are positions.
+/// Writes the coefficients at natural positions into `out`, one for each position.
 pub(crate) fn gather_values(block: &Block, positions: &[u8], out: &mut [i32])
     requires positions { AllByRecursion IsAcPosition positions.now }
     requires length { length out.old ≡ length positions.now }

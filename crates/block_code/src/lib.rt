@@ -1,4 +1,4 @@
-//! Blocks and MCUs as events in a stream, there and back (own; docs/FORMAT.md).
+//! Blocks and MCUs as events in a stream, there and back (docs/FORMAT.md).
 //!
 //!     put_block:  block --> Parts --> code_parts --> Put --> stream
 //!     get_block:  block <-- Parts <-- code_parts <-- Get <-- stream
@@ -10,11 +10,12 @@
 //!                                           residue       the DC less its prediction
 //!
 //! One body codes the parts of a block in that order, as the events of `block_spec` say: with `Put` it is given each
-//! bit, and with `Get` it takes each. A bit's bin follows from the blocks around and from earlier bits of the block.
+//! bit, and with `Get` it gets each. A bit's bin follows from the blocks around and from earlier bits of the block.
 //! `SegmentRows` keeps two MCU rows of blocks, so that `put_mcu` and `get_mcu` find the blocks around each.
 //!
-//! Bins and their probabilities are `adapt_bins`', the stream `bool_coder`'s, the prediction `dc_predict`'s. How many
-//! MCUs there are, and that a stream has ended, is left to those who call.
+//! Bins and their probabilities are `adapt_bins`', the stream `bool_coder`'s, the prediction `dc_predict`'s.
+//!
+//! Not handled here: how many MCUs there are, and that a stream has ended (see `segment_code`).
 #![tactic(auto)]
 
 mod bands;

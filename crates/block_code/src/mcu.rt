@@ -38,8 +38,8 @@ impl Model for SegmentRows {
 }
 
 impl SegmentRows {
-    /// Before the first MCU of a segment. Memory is taken here alone, for two MCU rows of blocks; the one error is want
-    /// of it.
+    /// Before the first MCU of a segment. Memory is allocated here alone, for two MCU rows of blocks; the one error is
+    /// out of memory.
     pub fn new(alloc: Global, grid: McuGrid) -> Result<SegmentRows, AllocError>
         requires { IsGrid grid }
         ensures grid { IfOk result (λ segment. segment.grid ≡ grid) }
@@ -55,7 +55,7 @@ impl SegmentRows {
         })
     }
 
-    /// Before the first MCU of another segment of the grid. It takes no memory.
+    /// Before the first MCU of another segment of the grid. It allocates no memory.
     pub fn restart(&mut self)
         ensures grid { self.new.grid ≡ self.old.grid }
         ensures held { HoldsUpTo self.new [] }
@@ -82,7 +82,7 @@ impl SegmentRows {
 }
 
 /// Puts the events of the next MCU's blocks into a stream, in their order (ITU-T T.81, A.2.3): component after
-/// component, each row after row. The rows keep the blocks. The one error is want of memory, and the encoder is then
+/// component, each row after row. The rows keep the blocks. The one error is out of memory, and the encoder is then
 /// spent.
 pub fn put_mcu(
     coder: &mut Put,
@@ -110,9 +110,9 @@ pub fn put_mcu(
     Ok(())
 }
 
-/// Takes the events of the next MCU's blocks from a stream, in their order, and writes the blocks to `out`. The rows
-/// keep them. Ends at the first block with a fault, whose causes are those of `get_block`; the segment can't go on
-/// then.
+/// Reads the events of the next MCU's blocks from a stream, in their order, and writes the blocks to `out`. The rows
+/// keep them. It stops at the first block with a fault, whose causes are those of `get_block`; the segment can't
+/// continue then.
 pub fn get_mcu(
     coder: &mut Get,
     segment: &mut SegmentRows,

@@ -1,4 +1,4 @@
-// Where the blocks of an MCU stand.
+// Where the blocks of an MCU are.
 ghost use Rattle.std.specs.Prelude.{ℕ, ◌≡◌, ◌<◌, ◌≤◌, ◌*◌, ◌^◌, length, slice_index};
 ghost use Rattle.coef_block.specs.TwoRows.{block_count, width};
 ghost use Rattle.block_spec.specs.Grid.{component_of, cell_in};
@@ -102,7 +102,7 @@ impl McuGrid {
     }
 
     /// The component, the block row within the MCU row and the block column of a block, by its index in its MCU, which
-    /// stands after `before` others of its MCU row.
+    /// has `before` others before it in its MCU row.
     #[inline]
     pub(crate) fn cell(&self, before: u32, index: usize) -> (usize, u32, u32)
         requires before { before < self.now.across }

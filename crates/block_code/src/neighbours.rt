@@ -14,7 +14,7 @@ use coef_block::Block;
 use dc_predict::predict;
 
 /// The blocks above, to the left and diagonally (above and left) of one, of the same component and segment. The
-/// diagonal one is there where both others are.
+/// diagonal one is there if both others are.
 #[derive(Clone, Copy)]
 pub struct Neighbours<'a> {
     pub above: Option<&'a Block>,
@@ -31,7 +31,7 @@ pub(crate) fn bits_of(n: u32) -> u8
     (32 - n.leading_zeros()) as u8
 }
 
-// The magnitude of an AC coefficient, by its natural position; 0 where the block isn't there.
+// The magnitude of an AC coefficient, by its natural position; 0 if the block isn't there.
 #[inline(always)]
 fn magnitude(block: Option<&Block>, position: usize) -> u32
     requires some { 0 < position }
@@ -46,7 +46,7 @@ fn magnitude(block: Option<&Block>, position: usize) -> u32
 }
 
 /// The weight of an inner coefficient, by its natural position, from 0 to 10: how many bits the mean of the magnitudes
-/// around has, where those above and left count 13 parts of 32 each, and the diagonal one 6.
+/// around has, of which those above and left count 13 parts of 32 each, and the diagonal one 6.
 #[inline(always)]
 #[tactic(auto, using(crate::proofs::Weights::few_bits))]
 pub(crate) fn inner_weight(neighbours: Neighbours, position: usize) -> u8

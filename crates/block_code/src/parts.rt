@@ -66,7 +66,7 @@ impl Parts {
         parts
     }
 
-    /// The block with these parts, or `DcRange` where the prediction and the residue make no DC.
+    /// The block with these parts, or `DcRange` if the prediction and the residue make no DC.
     pub(crate) fn block(&self, prediction: i32) -> Result<Block, BlockFault>
         requires parts { AreParts self.now }
         requires prediction { IsDc prediction }

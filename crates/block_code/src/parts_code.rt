@@ -1,4 +1,4 @@
-// The parts of a block in the order of their events, given or taken by one body.
+// The parts of a block in the order of their events, put or got by one body.
 ghost use Rattle.std.specs.Prelude.{◌≡◌, ℕ, Bool, ◌<◌, ◌≤◌, ◌+◌, ◌-◌, ◌++◌, IfOk, OnOk, OnErr, IfSome, IsTrue, IsOk, length, true, false, List, MatchResult, option_map};
 ghost use Rattle.std.specs.List.{AllByRecursion};
 ghost use Rattle.coef_context.specs.Runs.{edge_values, inner_values, spreads};
@@ -31,8 +31,8 @@ const INNER_COUNT_TOP: u32 = 64;
 /// How many steps the size of a residue has.
 const DC_STEPS: u8 = 16;
 
-/// Codes the parts of a block, from the inner count on. Answers false where the six bits of the count are above 49;
-/// nothing is taken after them then.
+/// Codes the parts of a block, from the inner count on. Returns false if the six bits of the count are above 49, and
+/// then codes nothing after them.
 #[inline(always)]
 pub(crate) fn code_parts<C: Coder>(
     coder: &mut C,

@@ -40,8 +40,7 @@ pub(crate) trait Band {
         ensures bases { AreBases result };
 }
 
-// The value at a place: nothing is coded where none remains, and the step 0 is left out where all that are left are
-// not 0.
+// The value at a place: nothing is coded if none remains, and the step 0 is left out if all that are left are not 0.
 #[inline(always)]
 fn code_one<C: Coder, B: Band>(
     coder: &mut C,

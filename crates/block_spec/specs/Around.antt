@@ -1,5 +1,5 @@
--- What the blocks around one say of it (own; docs/FORMAT.md): weights of its coefficients, a guess at its count, the
--- prediction of its DC.
+-- Statement: what the blocks around one say of it: weights of its coefficients, a guess at its count, the prediction of
+-- its DC (docs/FORMAT.md, The events of a block).
 use Rattle.std.specs.Prelude.{ℕ, ◌+◌, ◌*◌, ◌/◌, ◌&&◌, nat_le, ◌%◌, List, [], ◌∷◌, filter, map, ℤ, pos, unsigned_abs, slice_index_or, Option, Some, None, option_map, IfSome}
 use Rattle.coef_block.specs.Block.{IsBlock}
 use Rattle.coef_block.specs.Categories.{category}
@@ -39,7 +39,7 @@ column_positions = map (λ row. 8 * row) row_positions
 unfoldable pub values_in : List ℕ → List ℤ → List ℤ
 values_in positions block = map (value_at block) positions
 
--- the magnitude of a coefficient, 0 where the block isn't there (own)
+-- the magnitude of a coefficient, 0 if the block isn't there (own)
 abbrev pub magnitude : Option (List ℤ) → ℕ → ℕ
 magnitude None position = 0
 magnitude (Some block) position = unsigned_abs (value_at block position)

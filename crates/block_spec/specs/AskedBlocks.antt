@@ -1,4 +1,5 @@
--- What bits tell of a block, one after another (own; docs/FORMAT.md): the events of a block, the other way round.
+-- Statement: the block that bits give, one after another: its events, the other way round
+-- (docs/FORMAT.md, The events of a block).
 use Rattle.std.specs.Prelude.{ℕ, zero, suc, ◌+◌, ◌-◌, ◌*◌, ◌^◌, ◌==◌, nat_lt, nat_le, Bool, true, false, if◌then◌else◌, List, [], ◌∷◌, replicate, ℤ, pos, ◌+ℤ◌, ◌-ℤ◌, unsigned_abs, slice_set, Result, Ok, Err}
 use Rattle.coef_block.specs.Block.{most_dc}
 use Rattle.coef_block.specs.Categories.{category}

@@ -1,8 +1,8 @@
--- A value that bits tell, each asked for in a bin that follows from the bits before it (own; docs/FORMAT.md). An event
--- is a bin and a bit.
+-- Statement: a value that bits give, each asked for in a bin that follows from the bits before it
+-- (docs/FORMAT.md, The events of a block). An event is a bin and a bit.
 use Rattle.std.specs.Prelude.{ℕ, Bool, List, [], ◌∷◌, ◌++◌}
 
--- a value that is told, or a bin whose bit says how to go on (own)
+-- a value that is known, or a bin whose bit says what follows (own)
 pub data Asked (A : Type 0) : Type 0 where
   Told : A → Asked A
   Ask : ℕ → (Bool → Asked A) → Asked A
@@ -16,7 +16,7 @@ then_ask (Ask bin next) more = Ask bin (λ bit. then_ask (next bit) more)
 abbrev pub Giver : Type 0
 Giver = List (ℕ × Bool) → ℕ → Bool
 
--- the value that the bits given after earlier events tell, and all events (own)
+-- the value that the bits given after earlier events make, and all events (own)
 unfoldable pub told_by : {A : Type 0} → Giver → List (ℕ × Bool) → Asked A → A × List (ℕ × Bool)
 told_by giver earlier (Told x) = (x, earlier)
 told_by giver earlier (Ask bin next) =

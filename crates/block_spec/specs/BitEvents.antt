@@ -1,4 +1,4 @@
--- The events of the bits of a number (own; docs/FORMAT.md). An event is a bin and a bit.
+-- Statement: the events of the bits of a number (docs/FORMAT.md, The events of a block). An event is a bin and a bit.
 use Rattle.std.specs.Prelude.{ℕ, ◌+◌, ◌/◌, ◌%◌, ◌==◌, Bool, true, List, [], ◌∷◌, ◌++◌, zero, suc}
 
 -- the `count` low bits of a number, highest first (own): the lowest has the index `from`, and a bit's bin follows from

@@ -1,4 +1,5 @@
--- The events of a block (own; docs/FORMAT.md): the inner count, the inner coefficients, both edges, the DC.
+-- Statement: the events of a block: the inner count, the inner coefficients, both edges, the DC
+-- (docs/FORMAT.md, The events of a block).
 use Rattle.std.specs.Prelude.{◌<◌, ℕ, Bool, true, false, List, ◌++◌, ℤ, ◌-ℤ◌, slice_index}
 use Rattle.coef_block.specs.Categories.{category}
 use Rattle.coef_context.specs.BinNumbers.{bin_number}

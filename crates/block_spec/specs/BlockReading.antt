@@ -1,4 +1,4 @@
--- The blocks that bytes give as a segment's stream (own; docs/FORMAT.md), as a function of the bytes.
+-- Statement: the blocks that bytes give as a segment's stream, as a function of the bytes (docs/FORMAT.md, The stream).
 use Rattle.std.specs.Prelude.{ℕ, zero, suc, Bool, List, [], ◌∷◌, ◌++◌, length, ℤ, Result, Ok, Err}
 use Rattle.bool_coder.specs.BoolStream.{coded}
 use Rattle.bool_coder.specs.BoolReading.{next_bit}
@@ -20,7 +20,7 @@ block_read g bytes blocks =
     (told_by (bit_given bytes) (segment_events g blocks)
     (asked_block (class_of cell.component) (around_in g blocks cell))).0
 
--- what comes of a value, and a fault as it is (own)
+-- what a function makes of a value, and a fault as it is (own)
 abbrev pub and_then : {A B E : Type 0} → Result A E → (A → Result B E) → Result B E
 and_then (Ok x) f = f x
 and_then (Err fault) f = Err fault

@@ -1,4 +1,4 @@
--- The blocks of a segment in the order of its MCUs (ITU-T T.81, A.2.3), and where each stands.
+-- Statement: the blocks of a segment in the order of its MCUs, and the cell of each (ITU-T T.81, A.2.3).
 use Rattle.std.specs.Prelude.{ℕ, zero, suc, ◌+◌, ◌*◌, ◌-◌, ◌/◌, ◌%◌, ◌<◌, nat_lt, if◌then◌else◌, List, ℤ, Option, Some, None, slice_index_or}
 use Rattle.coef_block.specs.TwoRows.{Extents, width, height, offset, block_count, index_in, no_block}
 
@@ -12,7 +12,7 @@ pub record IsGrid (g : Grid) : Type 0 where
   pub across : 0 < g.across
   pub mcu : 0 < block_count g.mcu
 
--- where a block stands: the MCU row, the component, the block row within the MCU row, the component's block column
+-- the cell of a block: the MCU row, the component, the block row within the MCU row, the component's block column
 -- (T.81 A.2.3)
 pub record Cell : Type 0 where
   pub mcu_row : ℕ
@@ -27,17 +27,17 @@ pub record IsCell (g : Grid) (p : Cell) : Type 0 where
   pub in_width : p.column < g.across * width g.mcu p.component
   pub some : 0 < width g.mcu p.component
 
--- how many MCUs come before a cell's (T.81 A.2.3)
+-- how many MCUs are before a cell's (T.81 A.2.3)
 abbrev pub mcus_before : Grid → ℕ → ℕ → ℕ → ℕ
 mcus_before g r component column = r * g.across + column / width g.mcu component
 
--- how many blocks come before the one in this MCU row, component, row and column (T.81 A.2.3)
+-- how many blocks are before the one in this MCU row, component, row and column (T.81 A.2.3)
 abbrev pub index_at : Grid → ℕ → ℕ → ℕ → ℕ → ℕ
 index_at g r component row column =
     mcus_before g r component column * block_count g.mcu
     + index_in g.mcu component row (column % width g.mcu component)
 
--- how many blocks come before the one in a cell (T.81 A.2.3)
+-- how many blocks are before the one in a cell (T.81 A.2.3)
 abbrev pub index_of : Grid → Cell → ℕ
 index_of g p = index_at g p.mcu_row p.component p.row p.column
 

@@ -1,4 +1,4 @@
--- When two MCU rows hold the blocks of a segment's list (own).
+-- View: which blocks of a segment's list two MCU rows hold (own).
 use Rattle.std.specs.Prelude.{◌≡◌, ℕ, suc, ◌*◌, ◌<◌, nat_lt, true, List, ℤ, length, get_or}
 use Rattle.coef_block.specs.TwoRows.{Extents, width, height, block_count, index_in, no_block, TwoRows, above_in, left_in, diagonal_in}
 use Rattle.block_spec.specs.Around.{Around}
@@ -31,7 +31,7 @@ pub record HoldBlocks (rows : TwoRows) (g : Grid) (blocks : List (List ℤ)) (r 
   pub before : (p : Cell) → IsCell g p → suc p.mcu_row ≡ r
       → row_block rows.extents rows.before p ≡ block_at g blocks p
 
--- what the rows are when the next MCU row begins; nothing is known of its blocks (own)
+-- what the rows are when the next MCU row begins, of whose blocks nothing is known (own)
 pub record IsNextRow (rows : TwoRows) (next : TwoRows) : Type 0 where
   pub extents : next.extents ≡ rows.extents
   pub started : next.started ≡ true

@@ -1,4 +1,5 @@
--- What is read of a block (own; docs/FORMAT.md): the block whose events were coded, or why there is none.
+-- Steps: what is read of a block: the block whose events were coded, or why there is none
+-- (docs/FORMAT.md, The events of a block).
 use Rattle.std.specs.Prelude.{ℕ, ◌<◌, ◌≤◌, Bool, List, ◌++◌, ℤ, ◌+ℤ◌, Result, Ok, Err}
 use Rattle.coef_block.specs.Block.{IsBlock, IsDc}
 use Rattle.block_spec.specs.Values.{category_of}
@@ -31,7 +32,7 @@ pub record IsDcRange (codes : List (ℕ × Bool) → Type 0) (class : ℕ) (arou
   pub outside : IsDc (prediction around +ℤ residue) → ⊥
   pub coded : codes (residue_events class around block residue)
 
--- what is read where these events were coded (own)
+-- what is read if these events were coded (own)
 abbrev pub IsRead : (List (ℕ × Bool) → Type 0) → ℕ → Around → Result (List ℤ) BlockFault → Type 0
 IsRead codes class around (Ok block) = IsBlock block × codes (block_events class around block)
 IsRead codes class around (Err BlockCount) = IsBlockCount codes class around

@@ -1,4 +1,4 @@
--- What holds of the blocks that bytes give (own).
+-- Law: what holds of the blocks that bytes give (own).
 use Rattle.std.specs.Prelude.{◌≡◌, ℕ, ◌<◌, List, ◌++◌, length, ℤ, Result, Ok, Err}
 use Rattle.std.specs.List.{AllByRecursion}
 use Rattle.coef_block.specs.Block.{IsBlock}

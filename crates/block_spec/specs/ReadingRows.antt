@@ -1,4 +1,4 @@
--- Blocks that bytes give, worked by hand (own; docs/FORMAT.md).
+-- Rows: blocks that bytes give, worked by hand (docs/FORMAT.md, The stream).
 use Rattle.std.specs.Prelude.{ℕ, List, [], ◌∷◌, ℤ, slice_set}
 use Rattle.coef_block.specs.TwoRows.{no_block, extents_of}
 use Rattle.block_spec.specs.Grid.{Grid}

@@ -1,4 +1,4 @@
--- The events of a segment (own; docs/FORMAT.md), from its whole list of blocks.
+-- Statement: the events of a segment, from its whole list of blocks (docs/FORMAT.md, The events of a block).
 use Rattle.std.specs.Prelude.{ℕ, zero, suc, ◌==◌, if◌then◌else◌, Bool, List, [], ◌++◌, length, ℤ, option_map, slice_index_or}
 use Rattle.std.specs.Option.{option_and_then}
 use Rattle.coef_block.specs.TwoRows.{no_block}

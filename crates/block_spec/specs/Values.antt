@@ -1,4 +1,4 @@
--- The events of a value and of a list of values (own; docs/FORMAT.md).
+-- Statement: the events of a value and of a list of values (docs/FORMAT.md, The events of a block).
 use Rattle.std.specs.Prelude.{ℕ, zero, suc, ◌+◌, ◌-◌, ◌^◌, ◌==◌, Bool, false, if◌then◌else◌, nat_lt, List, [], ◌∷◌, ◌++◌, length, ℤ, pos, unsigned_abs, int_lt}
 use Rattle.coef_block.specs.Categories.{category}
 use Rattle.block_spec.specs.BitEvents.{bits_events, ones}
@@ -14,8 +14,8 @@ pub record ValueBins : Type 0 where
   pub sign : ℕ → ℕ
   pub low : ℕ → ℕ → ℕ
 
--- a category in steps from the first on (own): a one for each step below it, and a zero at its own where there is such
--- a step
+-- a category in steps from the first on (own): a one for each step below it, and a zero at its own if there is such a
+-- step
 abbrev pub step_events : (ℕ → ℕ) → ℕ → ℕ → ℕ → List (ℕ × Bool)
 step_events bin first steps s =
     ones bin first (s - first) ++ (if nat_lt s steps then (bin s, false) ∷ [] else [])
@@ -46,8 +46,8 @@ abbrev pub nonzeros : List ℤ → ℕ
 nonzeros [] = 0
 nonzeros (x ∷ xs) = (if is_zero x then 0 else 1) + nonzeros xs
 
--- one value of ten steps (own): nothing where no value that is not 0 remains; the step 0 is left out where as many
--- remain as places are left
+-- one value of ten steps (own): nothing if no value that is not 0 remains; the step 0 is left out if as many remain as
+-- places are left
 abbrev pub one_events : ValueBins → ℕ → ℕ → ℤ → List (ℕ × Bool)
 one_events bins remain places x =
     if remain == 0 then [] else value_events bins (if remain == places then 1 else 0) 10 x

@@ -1,4 +1,4 @@
--- Segments worked by hand (own; docs/FORMAT.md).
+-- Rows: segments worked by hand (docs/FORMAT.md, The events of a block).
 use Rattle.std.specs.Prelude.{ℕ, Bool, true, false, List, [], ◌∷◌, ◌++◌, map, replicate, ℤ, negsuc, slice_set, Some}
 use Rattle.coef_block.specs.TwoRows.{no_block, extents_of}
 use Rattle.bool_coder.specs.BoolStream.{coded, stream}
@@ -50,11 +50,11 @@ probs g blocks = map (λ (b : ℕ × Bool). b.0) (bools_of (segment_events g blo
 abbrev pub stream_of : Grid → List (List ℤ) → List ℕ
 stream_of g blocks = stream (coded (bools_of (segment_events g blocks)))
 
--- what two blocks of zeros have: each of 13 bins comes twice (own)
+-- what two blocks of zeros have: each of 13 bins twice (own)
 abbrev pub probs_of_two_blocks : List ℕ
 probs_of_two_blocks = replicate 13 128 ++ replicate 13 170
 
--- what six blocks of zeros have: the 13 bins of the first class come four times, those of the second twice (own)
+-- what six blocks of zeros have: the 13 bins of the first class four times, those of the second twice (own)
 abbrev pub probs_of_six_blocks : List ℕ
 probs_of_six_blocks =
     replicate 13 128 ++ replicate 13 170 ++ replicate 13 192 ++ replicate 13 204

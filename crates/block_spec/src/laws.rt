@@ -20,7 +20,7 @@ pub fn predictions_are_in_range()
     ensures { (around : Around) → AreAround around → IsDc (prediction around) }
 {}
 
-/// Two blocks are one, or their events come apart at a bit.
+/// Two blocks are one, or their events differ at a bit.
 pub fn one_block()
     ensures { (class : ℕ) (around : Around) (a b : List ℤ)
         → IsBlock a → IsBlock b → AreAround around
@@ -36,7 +36,7 @@ pub fn one_answer()
         → r ≡ s }
 {}
 
-/// The blocks of a list stand in cells, each in one.
+/// The blocks of a list have cells, each its own.
 pub fn cells_of_blocks()
     ensures index { (g : Grid) (n : ℕ) → IsGrid g → index_of g (cell_at g n) ≡ n }
     ensures cell { (g : Grid) (p : Cell) → IsGrid g → IsCell g p → cell_at g (index_of g p) ≡ p }

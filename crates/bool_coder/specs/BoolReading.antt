@@ -1,5 +1,5 @@
--- What bytes give under a list of probs (RFC 6386, section 7.3), over whole numbers of any size, and what contracts
--- see of a decoder.
+-- Statement: what bytes give under a list of probs, over whole numbers of any size, and what contracts see of a decoder
+-- (RFC 6386, section 7.3).
 use Rattle.std.specs.Prelude.{◌≡◌, ℕ, ◌+◌, ◌-◌, ◌*◌, ◌/◌, ◌%◌, ◌^◌, ◌<◌, Bool, List, [], ◌∷◌, length, map, min, nat_le, slice_index}
 use Rattle.std.specs.Int.Digits.{number_from_digits}
 use Rattle.std.specs.List.{AllByRecursion}
@@ -9,7 +9,7 @@ use Rattle.bool_coder.specs.BoolStream.{Interval, opening, split, after, coded, 
 unfoldable pub first_bits : List ℕ → ℕ → ℕ
 first_bits bytes count = number_from_digits 256 bytes * 2 ^ count / 2 ^ (8 * length bytes)
 
--- a one where the bits that were looked at, less the bottom, are at least the split (7.3)
+-- a one if the bits that were looked at, less the bottom, are at least the split (7.3)
 abbrev pub next_bit : List ℕ → Interval → ℕ → Bool
 next_bit bytes i prob = nat_le (split i.range prob) (first_bits bytes (8 + i.shifts) - i.bottom)
 
@@ -29,7 +29,7 @@ abbrev pub Starts : List ℕ → Type 0
 Starts bytes = (0 < length bytes) × (slice_index bytes 0 < 255)
 
 -- a decoder (own): `offset` is the number of the bits that were looked at, less the bottom; `position` is a bit offset,
--- the shifts so far, and stands still one past the last one that matters
+-- the shifts so far, and grows no longer one past the last one that matters
 pub record Seen : Type 0 where
   pub bytes : List ℕ
   pub offset : ℕ
@@ -45,7 +45,7 @@ end_position bytes = 8 * (length bytes - 1) + 1
 abbrev pub seen_bit : Seen → ℕ → Bool
 seen_bit seen prob = nat_le (split seen.range prob) seen.offset
 
--- a decoder after one more bool: as many more bits are looked at as the range was doubled
+-- a decoder after one more bool: a bit more is looked at for each time that the range was doubled
 unfoldable pub seen_after : Seen → ℕ → Seen
 seen_after seen prob =
     let i =
@@ -59,7 +59,7 @@ seen_after seen prob =
       position = min i.shifts (end_position seen.bytes);
     }
 
--- the decoder has taken these bools
+-- the decoder has read these bools
 pub record Reads (bools : List (ℕ × Bool)) (seen : Seen) : Type 0 where
   pub given : IsReading seen.bytes bools
   pub range : seen.range ≡ (coded bools).range

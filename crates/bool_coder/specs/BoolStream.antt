@@ -1,5 +1,5 @@
--- The stream of a list of bools (RFC 6386, section 7), over whole numbers of any size. A bool comes with its prob: of
--- 256 parts, how many stand for a zero. The end of a stream is this project's own: the flush of RFC 6386 isn't used.
+-- Statement: the stream of a list of bools, over whole numbers of any size (RFC 6386, section 7, but for the flush at
+-- its end: docs/FORMAT.md, The stream). A bool has a prob: how many of 256 parts stand for a zero.
 use Rattle.std.specs.Prelude.{ℕ, zero, suc, ◌+◌, ◌-◌, ◌*◌, ◌/◌, ◌^◌, ◌<◌, ◌≤◌, Bool, true, false, List, fold, nat_lt, if◌then◌else◌}
 use Rattle.std.specs.Int.{bytes_high_first}
 

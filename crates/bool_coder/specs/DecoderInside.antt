@@ -1,4 +1,4 @@
--- How the decoder keeps what it looks at: the offset, and the next bits of the bytes after it, in a word (own).
+-- View: how the decoder keeps what it looks at: the offset, and the next bits of the bytes after it, in a word (own).
 use Rattle.std.specs.Prelude.{◌≡◌, ℕ, ◌+◌, ◌-◌, ◌*◌, ◌/◌, ◌%◌, ◌^◌, ◌<◌, ◌≤◌, List, length, min}
 use Rattle.std.specs.Int.Digits.{AllBelowBase}
 use Rattle.bool_coder.specs.BoolReading.{Seen, first_bits, end_position}

@@ -1,4 +1,4 @@
--- How the encoder keeps an interval: the bottom's whole bytes, and the bits after them in a word (own).
+-- View: how the encoder keeps an interval: the bottom's whole bytes, and the bits after them in a word (own).
 use Rattle.std.specs.Prelude.{ℕ, ◌+◌, ◌-◌, ◌*◌, ◌^◌, ◌<◌, ◌≤◌, Option, Some, None, List, length, if◌then◌else◌}
 use Rattle.std.specs.Int.Digits.{number_from_digits}
 use Rattle.bool_coder.specs.BoolStream.{Interval, IsOnLine}

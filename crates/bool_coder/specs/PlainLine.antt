@@ -1,4 +1,4 @@
--- How the plain program keeps an interval, and what it may rest on between two bools (own).
+-- View: how the plain program keeps an interval, and what holds of it between two bools (own).
 use Rattle.std.specs.Prelude.{◌≤◌}
 use Rattle.bool_coder.specs.BoolStream.{Interval, IsOnLine}
 use Rattle.bool_coder.specs.declared.plain.Line.{Line}

@@ -4,10 +4,10 @@
 //!                   less the bottom: offset     |             |
 //!                  [------------------- value ---------------]
 //!
-//! A bool is a one where the offset is at least the split, and a one takes the split off. The word has the offset and
+//! A bool is a one if the offset is at least the split, and a one takes the split off. The word has the offset and
 //! the next bits as one number, so that nothing is shifted but the split: a bool that doubles the range moves the
-//! border. Four bytes are fetched where fewer next bits are left than a bool may take. Past the end of the bytes come
-//! zero bits.
+//! border. Four bytes are fetched if fewer next bits are left than a bool may need. Past the end of the bytes all bits
+//! are zeros.
 ghost use Rattle.std.specs.Prelude.{◌≡◌, ◌↔◌, ◌⊎◌, ℕ, Bool, ◌+◌, ◌-◌, ◌*◌, ◌/◌, ◌%◌, ◌^◌, ◌<◌, ◌≤◌, List, [], ◌∷◌, ◌++◌, length, nat_le, slice_index, IsSome, IsNone, IfSome, IfNone, IsTrue};
 ghost use Rattle.std.specs.List.{AllByRecursion};
 ghost use Rattle.bool_coder.specs.BoolStream.{IsBool, chosen, coded, split, stream};
@@ -17,14 +17,14 @@ ghost use Rattle.bool_coder.specs.DecoderInside.{seen_in, IsWindow};
 use crate::encoder::{doublings, split_of};
 use std::marker::Model;
 
-/// The most that one bool shifts: where fewer bits are left, four bytes are fetched.
+/// The most that one bool shifts: if fewer bits are left, four bytes are fetched.
 const MOST: u32 = 7;
 
-/// A stream on its way back to bools. Clauses see the bytes and where the decoder stands in them.
+/// A stream on its way back to bools. Clauses see the bytes and the decoder's place in them.
 #[derive(Drop)]
 pub struct Decoder<'a> {
     bytes: &'a [u8],
-    // How many bytes were fetched, zero bytes past the end too. It stands still some bytes past the end.
+    // How many bytes were fetched, zero bytes past the end too. It no longer grows some bytes past the end.
     fetched: usize,
     // The offset, and after it the next bits.
     value: u64,
@@ -46,7 +46,7 @@ impl<'a> Model for Decoder<'a> {
 }
 
 impl<'a> Decoder<'a> {
-    /// Before the first bool (RFC 6386, 7.3). `None` where no list of bools has this stream, by its first byte alone:
+    /// Before the first bool (RFC 6386, 7.3). `None` if no list of bools has this stream, by its first byte alone:
     /// there is none, or it is 255.
     pub fn start(bytes: &'a [u8]) -> Option<Self>
         ensures some { IsSome result ↔ Starts bytes.now }
@@ -83,7 +83,7 @@ impl<'a> Decoder<'a> {
     }
 
     /// The next bool, whose probability of a zero is `prob` in 256, from 1 to 255 (RFC 6386, 7.3). Past the end of
-    /// the bytes it reads zero bits. `next` and `taken` are for a decoder that has taken a list of bools, `bit` and
+    /// the bytes it reads zero bits. `next` and `taken` are for a decoder that has read a list of bools, `bit` and
     /// `step` for any.
     #[inline(always)]
     pub fn take(&mut self, prob: u8) -> bool
@@ -108,7 +108,7 @@ impl<'a> Decoder<'a> {
         bit
     }
 
-    /// Whether the bytes are the stream of the bools that were taken, no byte and no bit more or less: the offset and
+    /// Whether the bytes are the stream of the bools that were read, no byte and no bit more or less: the offset and
     /// all next bits are zero, and the byte with the last bit that was looked at is the last byte.
     pub fn exact(&self) -> bool
         ensures { (bools : List (ℕ × Bool)) → Reads bools self.now
@@ -118,7 +118,7 @@ impl<'a> Decoder<'a> {
     }
 }
 
-// Fetches four bytes where a bool may want more bits than there are.
+// Fetches four bytes if a bool may need more bits than there are.
 #[inline(always)]
 fn fill(bytes: &[u8], fetched: usize, value: u64, bits: u32) -> (usize, u64, u32)
     requires within { fetched ≤ length bytes.now + 11 }
@@ -188,7 +188,7 @@ fn four_on(fetched: usize, len: usize) -> usize
     }
 }
 
-// A bool taken from the word.
+// A bool read from the word.
 #[inline(always)]
 fn step(value: u64, bits: u32, range: u32, prob: u8) -> (bool, u64, u32, u32)
     requires wide { 128 ≤ range }

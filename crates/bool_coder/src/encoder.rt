@@ -14,7 +14,7 @@ const FULL: u32 = 40;
 
 /// What a list of bools leaves of the line, on the way to its stream.
 ///
-/// Clauses see the interval, or nothing once there was no memory: the encoder is then spent.
+/// Clauses see the interval, or nothing once it was out of memory: the encoder is then spent.
 #[derive(Drop)]
 pub struct Encoder {
     // The bytes of the bottom that are whole, but for a carry.
@@ -54,8 +54,8 @@ impl Encoder {
         }
     }
 
-    /// Moves the encoder out, and leaves a new one. A local encoder's state stays in registers; behind a reference it is
-    /// loaded and stored for each bool.
+    /// Moves the encoder out, and leaves a new one. A local encoder's state stays in registers; behind a reference it
+    /// is loaded and stored for each bool.
     #[inline(always)]
     pub fn moved(&mut self) -> Encoder
         ensures value { result ≡ self.old }
@@ -66,7 +66,7 @@ impl Encoder {
     }
 
     /// Codes a bool whose probability of a zero is `prob` in 256, from 1 to 255 (RFC 6386, 7.3). The one error is
-    /// want of memory. The encoder is then spent, and answers that error from then on.
+    /// out of memory. The encoder is then spent, and returns that error from then on.
     #[inline(always)]
     pub fn put(&mut self, prob: u8, bit: bool) -> Result<(), AllocError>
         requires { 0 < prob }
@@ -104,7 +104,7 @@ impl Encoder {
     }
 
     /// The stream of the bools that were coded: the bottom in eight bits and one more for each shift, the highest
-    /// first, and zero bits up to a whole byte. The flush of RFC 6386 isn't used. The one error is want of memory,
+    /// first, and zero bits up to a whole byte. The flush of RFC 6386 isn't used. The one error is out of memory,
     /// here or at a `put`.
     pub fn finish(self) -> Result<Vec<u8>, AllocError>
         ensures stream { IfOk result (λ bytes. IfSome self (λ i. bytes.items ≡ stream i)) }
@@ -230,7 +230,7 @@ fn append_to(written: &mut Vec<u8>, number: u64, count: usize) -> Result<(), All
 }
 
 // Adds one to the number of the first `end` bytes. It goes back through bytes of 0xff, each of which it makes 0, so
-// that it comes to a byte no more often than the byte was written as 0xff.
+// that it reaches a byte no more often than the byte was written as 0xff.
 fn carry(written: &mut Vec<u8>, end: usize)
     requires end { end ≤ length written.old.items }
     requires room { number_from_digits 256 (take end written.old.items) + 1 < 256 ^ end }

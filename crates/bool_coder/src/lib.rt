@@ -6,8 +6,9 @@
 //! The bottom is one long number, highest bits first. The encoder keeps its last bits in a machine word and the bytes
 //! before them in a buffer; a carry out of the word goes back through written bytes of 0xff. The decoder keeps how far
 //! the stream lies above the bottom, and knows at the end whether the bytes are the stream of its bools and nothing
-//! else. What was written is read again, and a stream has one list of bools under its probs: `laws.rt`. Adapting the
-//! probabilities is left to others.
+//! else. What was written is read again, and a stream has one list of bools under its probs: `laws.rt`.
+//!
+//! Not handled here: adapting the probabilities (see `adapt_bins`).
 #![tactic(auto)]
 
 mod decoder;

@@ -7,7 +7,7 @@ ghost use Rattle.bool_coder.specs.PlainLine.{IsKept, interval};
 use std::alloc::{AllocError, Global};
 
 /// The stream of a list of bools, each with its prob from 1 to 255, made slowly: for tests to compare with. The list
-/// is short, so that it shifts no more than 112 times. The one error is want of memory.
+/// is short, so that it shifts no more than 112 times. The one error is out of memory.
 pub fn plain_stream(alloc: Global, bools: &[(u8, bool)]) -> Result<Vec<u8>, AllocError>
     requires probs { AllByRecursion IsBool bools.now }
     requires short { (coded bools.now).shifts ≤ 112 }

@@ -1,5 +1,6 @@
--- The number of a context's bin (own; docs/FORMAT.md): where the run of its shape begins, plus the number that the
--- class and the parts of the context write as digits, each below its radix. What counts from 1 has a digit one less.
+-- Statement: the number of a context's bin: where the run of its shape begins, plus the number that the class and the
+-- parts of the context write as digits, each below its radix (docs/FORMAT.md, Bins). A part that counts from 1 has a
+-- digit one less.
 use Rattle.std.specs.Prelude.{◌≡◌, ℕ, ◌+◌, ◌*◌, ◌-◌, ◌<◌, ◌≤◌, Bool, true, false, List, [], ◌∷◌, zero, suc}
 use Rattle.coef_context.specs.Runs.{count_sizes, inner_nodes, edge_nodes, inner_values, edges, edge_values, weights, inner_remain_sizes, edge_remain_sizes, ac_sizes, spreads, dc_sizes, ac_low_bits, dc_low_bits, inner_counts_start, inner_steps_start, edge_counts_start, edge_steps_start, dc_steps_start, inner_signs_start, inner_low_bits_start, edge_signs_start, edge_low_bits_start, dc_signs_start, dc_low_bits_start}
 use Rattle.coef_context.specs.declared.context.Context.{Context}
@@ -12,7 +13,7 @@ abbrev pub flag : Bool → ℕ
 flag false = 0
 flag true = 1
 
--- how many entries so many rows have, where the first has `k`, and each other one more than the row before it
+-- how many entries some rows have, of which the first has `k`, and each other one more than the row before it
 abbrev pub rows_from : ℕ → ℕ → ℕ
 rows_from k zero = 0
 rows_from k (suc rows) = k + rows_from (k + 1) rows
@@ -28,7 +29,7 @@ value_digits Row place last = flag false ∷ place ∷ last ∷ []
 value_digits Column place last = flag true ∷ place ∷ last ∷ []
 value_digits Dc place last = last ∷ []
 
--- their radices, where the last digit's is `ac` for a coefficient, and `dc` for the residue
+-- their radices: the last digit's is `ac` for a coefficient, and `dc` for the residue
 abbrev pub value_radices : Kind → ℕ → ℕ → List ℕ
 value_radices Inner ac dc = inner_values ∷ ac ∷ []
 value_radices Row ac dc = edges ∷ edge_values ∷ ac ∷ []
@@ -114,7 +115,7 @@ AreDigits (r ∷ rs) [] = ⊥
 abbrev pub bin_number : ℕ → Context → ℕ
 bin_number class c = start c + written class (radices c) (digits c)
 
--- nodes, sizes and what remains count from 1, and a lower bit stands below its size's top bit
+-- nodes, sizes and what remains count from 1, and a lower bit is below its size's top bit
 abbrev pub StartsAtOne : Context → Type 0
 StartsAtOne (InnerCount size node) = 1 ≤ node
 StartsAtOne (InnerStep place weight left step) = 1 ≤ left

@@ -1,4 +1,5 @@
--- How many values each part of a context has, and where the run of each shape of context begins (own; docs/FORMAT.md).
+-- Statement: how many values each part of a context has, and where the run of each shape of context begins
+-- (docs/FORMAT.md, Bins).
 use Rattle.std.specs.Prelude.{ℕ}
 
 -- the sizes of a count of up to 49, from 0 to 6
@@ -37,7 +38,7 @@ inner_remain_sizes = 6
 abbrev pub edge_remain_sizes : ℕ
 edge_remain_sizes = 3
 
--- the sizes of an AC coefficient that isn't 0, from 1 to 10; its steps are as many, from 0 to 9
+-- the sizes of an AC coefficient that isn't 0, from 1 to 10; it has 10 steps too, from 0 to 9
 abbrev pub ac_sizes : ℕ
 ac_sizes = 10
 
@@ -45,7 +46,7 @@ ac_sizes = 10
 abbrev pub spreads : ℕ
 spreads = 17
 
--- the sizes of a residue that isn't 0, from 1 to 16; its steps are as many, from 0 to 15
+-- the sizes of a residue that isn't 0, from 1 to 16; it has 16 steps too, from 0 to 15
 abbrev pub dc_sizes : ℕ
 dc_sizes = 16
 

@@ -16,13 +16,13 @@ pub enum Kind {
 
 /// The context of a bit. The size of a number is how many bits its absolute value has, 0 for 0. A count is coded
 /// highest bit first: a bit's node is 1 for the first, and then twice the node before plus the bit before. The size of
-/// a value is coded in steps: step s says whether the size is above s. After them come the value's sign, and its bits
+/// a value is coded in steps: step s says whether the size is above s. After them are the value's sign, and its bits
 /// below the top one.
 #[derive(Clone, Copy)]
 pub enum Context {
     /// A bit of how many inner coefficients are not 0.
     InnerCount {
-        /// The size of what the blocks around let expect of the count, from 0 to 6.
+        /// The size of the guess at the count from the blocks around, from 0 to 6.
         size: u8,
         /// From 1 to 63.
         node: u8,

@@ -1,4 +1,4 @@
-//! The bin of a bit: one number below 82,744 for each context that a bit of a block can have (own; docs/FORMAT.md).
+//! The bin of a bit: one number below 82,744 for each context that a bit of a block can have (docs/FORMAT.md).
 //!
 //!           0  counts of the inner coefficients that aren't 0      75,542  signs of inner coefficients
 //!         882  steps of inner coefficients                         76,522  their lower bits
@@ -9,8 +9,9 @@
 //!
 //! A context says all that the probability of a bit may depend on: what the bit is of, and what is known before it
 //! of this block and of those around. Each shape of context has a run of bins, in which the class of the component and
-//! the parts of the context are digits. Different contexts have different bins: `different_numbers`. Which events a
-//! block has is left to `block_spec`, and what a bin counts to `adapt_bins`.
+//! the parts of the context are digits. Different contexts have different bins: `different_numbers`.
+//!
+//! Not handled here: which events a block has (see `block_spec`), and what a bin counts (see `adapt_bins`).
 #![tactic(auto)]
 
 mod context;

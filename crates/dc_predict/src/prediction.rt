@@ -6,7 +6,7 @@ ghost use Rattle.dc_predict.specs.DcPrediction.{gradient, greatest, least, predi
 use coef_block::size;
 
 /// The predicted DC of a block, from the DCs of its neighbours above, left and diagonal (above and left), each within
-/// 32767 of 0. The diagonal one is there exactly where both others are. The result is within 32767 of 0, and 0 with no
+/// 32767 of 0. The diagonal one is there exactly if both others are. The result is within 32767 of 0, and 0 with no
 /// neighbour.
 #[inline]
 pub fn predict(above: Option<i16>, left: Option<i16>, diagonal: Option<i16>) -> i32
@@ -27,7 +27,7 @@ pub fn predict(above: Option<i16>, left: Option<i16>, diagonal: Option<i16>) -> 
     }
 }
 
-/// How far the DCs above and left differ: the category of their difference, from 0 to 16, and 0 where one of them isn't
+/// How far the DCs above and left differ: the category of their difference, from 0 to 16, and 0 if one of them isn't
 /// there. Both are within 32767 of 0.
 #[inline]
 pub fn spread(above: Option<i16>, left: Option<i16>) -> u8
@@ -42,7 +42,7 @@ pub fn spread(above: Option<i16>, left: Option<i16>) -> u8
     }
 }
 
-// The predicted DC where all three are there.
+// The predicted DC if all three are there.
 #[inline]
 fn gradient(above: i32, left: i32, diagonal: i32) -> i32
     requires above { IsDc above }

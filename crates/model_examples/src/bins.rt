@@ -27,7 +27,7 @@ fn probabilities(rt: HostRuntime) {
     }
 }
 
-// The counts of a bin, a bit, and the probability after it. Where the count of the bit is 255, both are halved and
+// The counts of a bin, a bit, and the probability after it. If the count of the bit is 255, both are halved and
 // rounded up, and the bit is counted then.
 const HALVINGS: &[([u8; 2], bool, u8)] = &[
     ([255, 1], false, 254),

@@ -76,7 +76,7 @@ fn reads(alloc: Global, grid: McuGrid, stream: &[u8], blocks: &[Block]) -> Resul
     Ok(taken && out.as_slice() == blocks && get.exact())
 }
 
-// A first block with -1 at natural position 9, zigzag index 4, and zeros else.
+// A first block with -1 at natural position 9, zigzag index 4, and zeros otherwise.
 #[test]
 fn an_inner_coefficient(rt: HostRuntime) -> Result<(), Fail> {
     let mut block = Block::zero();
@@ -132,7 +132,7 @@ fn gives_first(
     }
 }
 
-// What a stream gives as a frame's first block, and whether it is exactly its stream; nothing where it can't start.
+// What a stream gives as a frame's first block, and whether it is exactly its stream; nothing if it can't start.
 fn read_first(
     alloc: Global,
     stream: &[u8],
