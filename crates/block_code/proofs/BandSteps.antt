@@ -5,7 +5,8 @@ use Rattle.std.specs.Option.{option_map}
 use Rattle.std.specs.List.{AllByRecursion}
 use Rattle.std.proofs.lemmas.Bool.Decides.{nat_tests}
 use Rattle.std.proofs.lemmas.List.{append-nil, take_more_set, take_more, drop_more, length-drop, length-take-le, take_all}
-use Rattle.block_spec.specs.Values.{ValueBins, category_of, is_zero, nonzeros, one_events, values_events}
+use Rattle.coef_context.specs.ValueBins.{ValueBins}
+use Rattle.block_spec.specs.Values.{category_of, is_zero, nonzeros, one_events, values_events}
 use Rattle.block_spec.proofs.CategoryBits.{category_some, zero_abs}
 use Rattle.block_spec.proofs.ValuesApart.{nonzeros_le}
 use Rattle.block_code.specs.ValueRanges.{IsAc}

@@ -5,7 +5,7 @@ use Rattle.std.proofs.lemmas.Nat.{pow_pos, le-div, div_below}
 use Rattle.std.proofs.Math.Nat.{pow-le-pow_right}
 use Rattle.block_spec.specs.BitEvents.{bits_events}
 use Rattle.block_spec.specs.Values.{count_events}
-use Rattle.block_code.specs.BinBases.{bin_count}
+use Rattle.coef_context.specs.Runs.{bin_count}
 
 pub bins_fit : (base bits top bit above : ℕ) → top ≡ 2 ^ bits → base + top ≤ bin_count → above < 2 ^ (bits - bit) → base + above ≤ bin_count
 bins_fit base bits top bit above is fits below =

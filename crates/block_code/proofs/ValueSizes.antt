@@ -3,11 +3,9 @@ use Rattle.std.proofs.Common.{◌≡◌, ℕ, ◌+◌, ◌*◌, ◌-◌, ◌/◌
 use Rattle.std.specs.Prelude.{ℤ, pos, unsigned_abs, int_lt}
 use Rattle.std.specs.Option.{option_map}
 use Rattle.std.proofs.lemmas.List.{append-nil}
-use Rattle.std.proofs.Math.Nat.{mul-le-mul_right}
-use Rattle.coef_context.specs.BinNumbers.{rows_from}
-use Rattle.coef_context.proofs.Radix.{rows_is}
 use Rattle.block_spec.specs.BitEvents.{bits_events}
-use Rattle.block_spec.specs.Values.{ValueBins, category_of, rest_events, value_events, step_events}
+use Rattle.coef_context.specs.ValueBins.{ValueBins}
+use Rattle.block_spec.specs.Values.{category_of, rest_events, value_events, step_events}
 use Rattle.block_spec.proofs.CategoryBits.{top_is, zero_value}
 use Rattle.coef_block.specs.Categories.{category}
 use Rattle.coef_block.proofs.CategoryLemmas.{size_of_bound}
@@ -36,13 +34,6 @@ top_asked (Some x) s some fits =
 pub value_of_zero : (bins : ValueBins) (first steps : ℕ) → value_events bins first steps (pos 0) ≡ step_events bins.step first steps 0
 unfolding value_events
 value_of_zero bins first steps = append-nil (step_events bins.step first steps 0)
-
-pub few_rows : (s : ℕ) → 2 ≤ s → s ≤ 16 → rows_from 1 (s - 2) + 0 + (s - 1) ≤ 120
-few_rows s some most =
-    let j : s - 2 ≤ 14 = omega arith in
-    let square : (s - 2) * (s - 2) ≤ 14 * (s - 2) = mul-le-mul_right (s - 2) j in
-    let h = rows_is 1 (s - 2) in
-    omega (arith, h, square, j)
 
 pub zero_asked : (value : Option ℤ) (s : ℕ) → s ≡ 0 → IfSome (option_map category_of value) (λ n. s ≡ n) → IfSome value (λ x. pos 0 ≡ x)
 zero_asked None s z same = tt

@@ -1,4 +1,3 @@
-pub mod BinBases
 pub mod BlockParts
 pub mod GridInside
 pub mod NeighbourBlocks

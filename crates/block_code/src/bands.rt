@@ -2,20 +2,19 @@
 ghost use Rattle.std.specs.Prelude.{◌≡◌, ℕ, Bool, ◌<◌, ◌≤◌, ◌+◌, ◌-◌, ◌++◌, IfOk, OnOk, OnErr, IfSome, IsTrue, length, slice_index};
 ghost use Rattle.std.specs.List.{AllByRecursion};
 ghost use Rattle.std.specs.Option.{option_map};
-ghost use Rattle.coef_context.specs.Runs.{edge_values, inner_values};
+ghost use Rattle.coef_context.specs.Runs.{edge_values, inner_values, bin_count};
 ghost use Rattle.block_spec.specs.Around.{inner_positions};
 ghost use Rattle.block_spec.specs.BlockEvents.{inner_bins, edge_bins, edge_positions, edge_events};
 ghost use Rattle.block_spec.specs.Values.{values_events, nonzeros};
-ghost use Rattle.block_code.specs.BinBases.{bin_count};
 ghost use Rattle.block_code.specs.NeighbourBlocks.{around_of};
 ghost use Rattle.block_code.specs.ValueRanges.{IsAc};
 
-use crate::bin_bases::{BinBases, edge_bases, edge_count_base, inner_bases};
 use crate::counts::code_count;
 use crate::neighbours::{Neighbours, bits_of, edge_weight, inner_weight};
-use crate::parts::{EDGE_VALUES, INNER, INNER_VALUES};
+use crate::parts::INNER;
 use crate::values::{Band, code_values, nonzeros_of};
 use adapt_bins::Coder;
+use coef_context::{BinBases, EDGE_VALUES, INNER_VALUES, edge_bases, edge_count_base, inner_bases};
 
 // How many bits an edge's count has, and 2 to them.
 const EDGE_COUNT_BITS: u32 = 3;

@@ -1,13 +1,13 @@
 // The bits of a number, and the steps of a size, one after another.
 ghost use Rattle.std.specs.Prelude.{◌≡◌, ◌%◌, ◌==◌, nat_lt, ℕ, ◌-◌, ◌/◌, ◌+◌, ◌*◌, ◌^◌, ◌<◌, ◌≤◌, IfOk, OnErr, IfSome, IsTrue};
 ghost use Rattle.std.specs.Option.{option_map};
-ghost use Rattle.coef_context.specs.Runs.{dc_sizes};
+ghost use Rattle.coef_context.specs.Runs.{dc_sizes, bin_count};
 ghost use Rattle.block_spec.specs.Values.{step_events};
 ghost use Rattle.block_spec.specs.BitEvents.{bits_events};
-ghost use Rattle.block_code.specs.BinBases.{AreBases, bin_count, bins_at};
+ghost use Rattle.coef_context.specs.BinBases.{AreBases, bins_at};
 
-use crate::bin_bases::BinBases;
 use adapt_bins::Coder;
+use coef_context::BinBases;
 
 /// The bin of each bit of a number, by the bit's index, 0 for the lowest, and by the number that the bits above make.
 pub(crate) trait BitBins {

@@ -8,7 +8,7 @@ ghost use Rattle.block_spec.specs.declared.fault.BlockFault.{BlockFault};
 ghost use Rattle.block_spec.specs.BlockEvents.{block_events};
 ghost use Rattle.block_spec.specs.HeldRows.{kept_around};
 ghost use Rattle.block_spec.specs.ReadBlocks.{IsRead};
-ghost use Rattle.block_code.specs.BinBases.{bin_count};
+ghost use Rattle.coef_context.specs.Runs.{bin_count};
 ghost use Rattle.block_code.specs.NeighbourBlocks.{around_of, HasCorner};
 
 use crate::neighbours::{Neighbours, prediction};

@@ -2,7 +2,7 @@
 ghost use Rattle.std.specs.Prelude.{◌≡◌, ℕ, ◌+◌, ◌-◌, ◌*◌, ◌^◌, ◌<◌, ◌≤◌, IfOk, OnErr, IfSome, IsTrue};
 ghost use Rattle.std.specs.Option.{option_map};
 ghost use Rattle.block_spec.specs.Values.{count_events};
-ghost use Rattle.block_code.specs.BinBases.{bin_count};
+ghost use Rattle.coef_context.specs.Runs.{bin_count};
 
 use crate::bits::{BitBins, code_bits};
 use adapt_bins::Coder;
@@ -15,7 +15,7 @@ struct CountBins {
 
 impl BitBins for CountBins {
     ghost use Rattle.std.specs.Prelude.{◌<◌, ◌≤◌, ◌+◌, ◌-◌};
-    ghost use Rattle.block_code.specs.BinBases.{bin_count};
+    ghost use Rattle.coef_context.specs.Runs.{bin_count};
 
     ghost at = { λ bins bit above. bins.base + (above - 1) };
 

@@ -19,7 +19,6 @@
 #![tactic(auto)]
 
 mod bands;
-mod bin_bases;
 mod bits;
 mod block;
 mod counts;

@@ -6,7 +6,7 @@ ghost use Rattle.coef_block.specs.TwoRows.{block_count};
 ghost use Rattle.block_spec.specs.Grid.{IsGrid};
 ghost use Rattle.block_spec.specs.SegmentEvents.{class_of};
 ghost use Rattle.block_spec.specs.HeldRows.{HoldBlocks, FitsGrid};
-ghost use Rattle.block_code.specs.BinBases.{bin_count};
+ghost use Rattle.coef_context.specs.Runs.{bin_count};
 ghost use Rattle.block_code.specs.SegmentUnderWay.{GetsFault, GetsMore, HoldsUpTo, PutsMore};
 
 use crate::block::{get_block, put_block};

@@ -8,9 +8,10 @@ ghost use Rattle.block_spec.specs.Around.{magnitude, inner_weight, edge_weight, 
 ghost use Rattle.block_code.specs.NeighbourBlocks.{around_of, HasCorner};
 
 use crate::gather::gather_values;
-use crate::parts::{INNER, INNER_VALUES};
+use crate::parts::INNER;
 use crate::values::nonzeros_of;
 use coef_block::Block;
+use coef_context::INNER_VALUES;
 use dc_predict::predict;
 
 /// The blocks above, to the left and diagonally (above and left) of one, of the same component and segment. The

@@ -7,12 +7,7 @@ ghost use Rattle.block_code.specs.BlockParts.{AreParts, HasCoefficients, parts_i
 use crate::gather::{gather_values, put_values};
 use block_spec::BlockFault;
 use coef_block::Block;
-
-/// How many inner coefficients a block has.
-pub(crate) const INNER_VALUES: usize = 49;
-
-/// How many coefficients each edge has.
-pub(crate) const EDGE_VALUES: usize = 7;
+use coef_context::{EDGE_VALUES, INNER_VALUES};
 
 /// The largest magnitude of a DC.
 const MOST_DC: u32 = 32_767;

@@ -1,24 +1,23 @@
 // The parts of a block in the order of their events, put or got by one body.
 ghost use Rattle.std.specs.Prelude.{◌≡◌, ℕ, Bool, ◌<◌, ◌≤◌, ◌+◌, ◌-◌, ◌++◌, IfOk, OnOk, OnErr, IfSome, IsTrue, IsOk, length, true, false, List, MatchResult, option_map};
 ghost use Rattle.std.specs.List.{AllByRecursion};
-ghost use Rattle.coef_context.specs.Runs.{edge_values, inner_values, spreads};
+ghost use Rattle.coef_context.specs.Runs.{edge_values, inner_values, spreads, bin_count};
 ghost use Rattle.block_spec.specs.Around.{Around, dc_spread};
 ghost use Rattle.block_spec.specs.BlockEvents.{inner_bins, edge_events, inner_count_events, dc_events};
 ghost use Rattle.block_spec.specs.ReadBlocks.{IsBlockCount};
 ghost use Rattle.block_spec.specs.Values.{values_events, nonzeros, category_of};
-ghost use Rattle.block_code.specs.BinBases.{bin_count};
 ghost use Rattle.block_code.specs.BlockParts.{AreParts, after_count_events, parts_events};
 ghost use Rattle.block_code.specs.NeighbourBlocks.{around_of};
 ghost use Rattle.block_code.specs.ValueRanges.{IsResidue, IsSixBits};
 
 use crate::bands::{code_edge, code_inner};
-use crate::bin_bases::{dc_bases, inner_count_base};
 use crate::counts::code_count;
 use crate::neighbours::{Neighbours, bits_of, guess, spread};
 use crate::parts::Parts;
 use crate::value::code_value;
 use crate::values::nonzeros_of;
 use adapt_bins::Coder;
+use coef_context::{dc_bases, inner_count_base};
 
 /// The largest inner count.
 const MOST_INNER: u8 = 49;

@@ -1,14 +1,14 @@
 // A value: its size in steps, its sign, and its bits below the highest.
 ghost use Rattle.std.specs.Prelude.{ℕ, ◌+◌, ◌-◌, ◌/◌, ◌^◌, ◌<◌, ◌≤◌, IfOk, OnOk, None, length, ◌≡◌, OnErr, IfSome, IsTrue, unsigned_abs, int_lt, pos, ◌∷◌, ◌++◌};
 ghost use Rattle.std.specs.Option.{option_map};
-ghost use Rattle.coef_context.specs.Runs.{dc_sizes};
+ghost use Rattle.coef_context.specs.Runs.{dc_sizes, bin_count};
 ghost use Rattle.block_spec.specs.Values.{category_of, rest_events, value_events};
-ghost use Rattle.block_code.specs.BinBases.{AreBases, bin_count, bins_at};
+ghost use Rattle.coef_context.specs.BinBases.{AreBases, bins_at};
 
-use crate::bin_bases::BinBases;
 use crate::bits::{BitBins, code_bits, code_size};
 use adapt_bins::Coder;
 use coef_block::size;
+use coef_context::BinBases;
 
 // The bins of a value's bits below the highest, one a bit.
 #[derive(Clone, Copy)]
@@ -19,7 +19,7 @@ struct LowBins {
 
 impl BitBins for LowBins {
     ghost use Rattle.std.specs.Prelude.{◌<◌, ◌≤◌, ◌+◌};
-    ghost use Rattle.block_code.specs.BinBases.{bin_count};
+    ghost use Rattle.coef_context.specs.Runs.{bin_count};
 
     ghost at = { λ bins bit above. bins.base + bit };
 

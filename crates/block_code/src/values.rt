@@ -2,14 +2,15 @@
 ghost use Rattle.std.specs.Prelude.{◌≡◌, ℕ, ◌+◌, ◌-◌, ◌<◌, ◌≤◌, ◌==◌, IfOk, OnErr, OnOk, IfSome, IsTrue, unsigned_abs, pos, length, get_or, if◌then◌else◌};
 ghost use Rattle.std.specs.Option.{option_map};
 ghost use Rattle.std.specs.List.{AllByRecursion};
-ghost use Rattle.coef_context.specs.Runs.{inner_values};
-ghost use Rattle.block_spec.specs.Values.{ValueBins, category_of, is_zero, nonzeros, one_events, values_events};
-ghost use Rattle.block_code.specs.BinBases.{AreBases, bin_count, bins_at};
+ghost use Rattle.coef_context.specs.Runs.{inner_values, bin_count};
+ghost use Rattle.coef_context.specs.ValueBins.{ValueBins};
+ghost use Rattle.block_spec.specs.Values.{category_of, is_zero, nonzeros, one_events, values_events};
+ghost use Rattle.coef_context.specs.BinBases.{AreBases, bins_at};
 ghost use Rattle.block_code.specs.ValueRanges.{IsAc};
 
-use crate::bin_bases::BinBases;
 use crate::value::code_value;
 use adapt_bins::Coder;
+use coef_context::BinBases;
 
 /// How many steps the size of an AC coefficient has.
 const AC_STEPS: u8 = 10;

@@ -5,7 +5,8 @@ use Rattle.coef_context.specs.BinNumbers.{bin_number, low_bit_index}
 use Rattle.coef_context.specs.declared.context.Context.TheVariants.{InnerCount, InnerStep, EdgeCount, EdgeStep, DcStep, Sign, Low}
 use Rattle.coef_context.specs.declared.context.Kind.TheVariants.{Inner, Dc}
 use Rattle.coef_context.proofs.Radix.{rows_is}
-use Rattle.block_spec.specs.BlockEvents.{IsBin, kind_of}
+use Rattle.coef_context.specs.ValueBins.{kind_of}
+use Rattle.block_spec.specs.BlockEvents.{IsBin}
 
 square : (m n : ℕ) → m ≤ n → m * m ≤ n * n
 square m n le =

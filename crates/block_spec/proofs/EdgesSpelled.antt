@@ -6,7 +6,8 @@ use Rattle.std.proofs.lemmas.Bool.Decides.{nat_tests}
 use Rattle.coef_block.specs.Categories.{category}
 use Rattle.coef_context.specs.BinNumbers.{bin_number}
 use Rattle.coef_context.specs.declared.context.Context.TheVariants.{EdgeCount}
-use Rattle.block_spec.specs.Values.{ValueBins, category_of, is_zero, nonzeros, value_events, count_events, one_events, values_events}
+use Rattle.coef_context.specs.ValueBins.{ValueBins}
+use Rattle.block_spec.specs.Values.{category_of, is_zero, nonzeros, value_events, count_events, one_events, values_events}
 use Rattle.block_spec.specs.Around.{Around}
 use Rattle.block_spec.specs.BlockEvents.{edge_bins, edge_events}
 use Rattle.block_spec.proofs.ValuesApart.{IsTen}

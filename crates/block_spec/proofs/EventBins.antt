@@ -5,7 +5,8 @@ use Rattle.std.specs.List.{AllByRecursion}
 use Rattle.std.proofs.lemmas.Bool.Decides.{nat_tests}
 use Rattle.std.proofs.lemmas.Nat.{pow_pos}
 use Rattle.block_spec.specs.BitEvents.{bits_events, ones}
-use Rattle.block_spec.specs.Values.{ValueBins, category_of, nonzeros, step_events, rest_events, value_events, count_events, one_events, values_events}
+use Rattle.coef_context.specs.ValueBins.{ValueBins}
+use Rattle.block_spec.specs.Values.{category_of, nonzeros, step_events, rest_events, value_events, count_events, one_events, values_events}
 use Rattle.block_spec.proofs.ValuesApart.{IsTen, nonzeros_le}
 
 -- each event's bin is one of some

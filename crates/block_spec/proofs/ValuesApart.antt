@@ -7,7 +7,8 @@ use Rattle.std.proofs.Math.Nat.{div-div-eq-div-mul}
 use Rattle.std.specs.List.{AllByRecursion}
 use Rattle.block_spec.specs.EventsApart.{AreApart, OneOrApart}
 use Rattle.block_spec.specs.BitEvents.{bits_events, ones}
-use Rattle.block_spec.specs.Values.{ValueBins, category_of, is_zero, nonzeros, step_events, rest_events, value_events, count_events, one_events, values_events}
+use Rattle.coef_context.specs.ValueBins.{ValueBins}
+use Rattle.block_spec.specs.Values.{category_of, is_zero, nonzeros, step_events, rest_events, value_events, count_events, one_events, values_events}
 use Rattle.block_spec.proofs.CategoryBits.{same_number, top_is, zero_value, category_some, zero_abs}
 
 pub apart_more : (xs ys as_ bs : List (ℕ × Bool)) → AreApart xs ys → AreApart (xs ++ as_) (ys ++ bs)

@@ -8,9 +8,10 @@ use Rattle.coef_context.specs.BinNumbers.{bin_number}
 use Rattle.coef_context.specs.declared.context.Context.TheVariants.{DcStep}
 use Rattle.coef_context.specs.declared.context.Kind.TheVariants.{Dc}
 use Rattle.block_spec.specs.BitEvents.{bits_events}
-use Rattle.block_spec.specs.Values.{ValueBins, category_of, step_events, rest_events, value_events}
+use Rattle.coef_context.specs.ValueBins.{ValueBins, value_bins}
+use Rattle.block_spec.specs.Values.{category_of, step_events, rest_events, value_events}
 use Rattle.block_spec.specs.Around.{Around, dc_spread}
-use Rattle.block_spec.specs.BlockEvents.{value_bins, dc_events}
+use Rattle.block_spec.specs.BlockEvents.{dc_events}
 use Rattle.block_spec.specs.Asking.{Told}
 use Rattle.block_spec.specs.AskedBlocks.{asked_number, asked_category, signed, asked_rest, asked_value, asked_residue}
 use Rattle.block_spec.proofs.Spelling.{Events, Spells, parted, told_last}

@@ -6,9 +6,10 @@ use Rattle.coef_block.specs.Categories.{category}
 use Rattle.coef_context.specs.BinNumbers.{bin_number}
 use Rattle.coef_context.specs.declared.context.Context.TheVariants.{InnerCount, EdgeCount, DcStep}
 use Rattle.coef_context.specs.declared.context.Kind.TheVariants.{Dc}
-use Rattle.block_spec.specs.Values.{ValueBins, nonzeros}
+use Rattle.coef_context.specs.ValueBins.{ValueBins, value_bins}
+use Rattle.block_spec.specs.Values.{nonzeros}
 use Rattle.block_spec.specs.Around.{Around, inner_positions, row_positions, column_positions, guess, prediction, dc_spread}
-use Rattle.block_spec.specs.BlockEvents.{value_bins, inner_bins, edge_bins}
+use Rattle.block_spec.specs.BlockEvents.{inner_bins, edge_bins}
 use Rattle.block_spec.specs.declared.fault.BlockFault.{BlockFault}
 use Rattle.block_spec.specs.declared.fault.BlockFault.TheVariants.{BlockCount, DcRange}
 use Rattle.block_spec.specs.Asking.{Asked, Told, Ask, then_ask}

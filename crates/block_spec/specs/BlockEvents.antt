@@ -3,19 +3,12 @@
 use Rattle.std.specs.Prelude.{◌<◌, ℕ, Bool, true, false, List, ◌++◌, ℤ, ◌-ℤ◌, slice_index}
 use Rattle.coef_block.specs.Categories.{category}
 use Rattle.coef_context.specs.BinNumbers.{bin_number}
-use Rattle.coef_context.specs.declared.context.Context.TheVariants.{InnerCount, InnerStep, EdgeCount, EdgeStep, DcStep, Sign, Low}
-use Rattle.coef_context.specs.declared.context.Kind.{Kind}
-use Rattle.coef_context.specs.declared.context.Kind.TheVariants.{Inner, Row, Column, Dc}
-use Rattle.block_spec.specs.Values.{ValueBins, count_events, value_events, values_events, nonzeros}
+use Rattle.coef_context.specs.Runs.{bin_count}
+use Rattle.coef_context.specs.ValueBins.{ValueBins, kind_of, value_bins}
+use Rattle.coef_context.specs.declared.context.Context.TheVariants.{InnerCount, InnerStep, EdgeCount, EdgeStep, DcStep}
+use Rattle.coef_context.specs.declared.context.Kind.TheVariants.{Inner, Dc}
+use Rattle.block_spec.specs.Values.{count_events, value_events, values_events, nonzeros}
 use Rattle.block_spec.specs.Around.{Around, inner_positions, row_positions, column_positions, values_in, value_at, inner_weight, edge_weight, inner_count, guess, prediction, dc_spread}
-
--- the bins of a value at a place, with those of its steps (own)
-abbrev pub value_bins : ℕ → Kind → ℕ → (ℕ → ℕ) → ValueBins
-value_bins class kind place steps = record {
-  step = steps;
-  sign = λ s. bin_number class (Sign kind place s);
-  low = λ s bit. bin_number class (Low kind place s bit);
-}
 
 -- the bins of an inner coefficient (own): a step's by the weight, and by the category of how many remain
 abbrev pub inner_bins : ℕ → Around → ℕ → ℕ → ValueBins
@@ -23,11 +16,6 @@ inner_bins class around place remain =
     let weight = inner_weight around (slice_index inner_positions place) in
     value_bins class Inner place
     (λ step. bin_number class (InnerStep place weight (category remain) step))
-
--- the kind of an edge: of the row, or of the column (own)
-abbrev pub kind_of : Bool → Kind
-kind_of false = Row
-kind_of true = Column
 
 -- the positions of an edge (own)
 abbrev pub edge_positions : Bool → List ℕ
@@ -81,4 +69,4 @@ most_events = 1304
 
 -- a bin that a context of the two classes can have (own)
 abbrev pub IsBin : ℕ → Type 0
-IsBin bin = bin < 82744
+IsBin bin = bin < bin_count

@@ -1,18 +1,12 @@
 -- Statement: the events of a value and of a list of values (docs/FORMAT.md, The events of a block).
 use Rattle.std.specs.Prelude.{ℕ, zero, suc, ◌+◌, ◌-◌, ◌^◌, ◌==◌, Bool, false, if◌then◌else◌, nat_lt, List, [], ◌∷◌, ◌++◌, length, ℤ, pos, unsigned_abs, int_lt}
 use Rattle.coef_block.specs.Categories.{category}
+use Rattle.coef_context.specs.ValueBins.{ValueBins}
 use Rattle.block_spec.specs.BitEvents.{bits_events, ones}
 
 -- the category of a value (T.81 F.1.2.1.2): how many bits its magnitude has, 0 for 0
 abbrev pub category_of : ℤ → ℕ
 category_of x = category (unsigned_abs x)
-
--- the bins of a value (own): of each step; of the sign, by the category; of a lower bit, by the category and the bit's
--- index
-pub record ValueBins : Type 0 where
-  pub step : ℕ → ℕ
-  pub sign : ℕ → ℕ
-  pub low : ℕ → ℕ → ℕ
 
 -- a category in steps from the first on (own): a one for each step below it, and a zero at its own if there is such a
 -- step

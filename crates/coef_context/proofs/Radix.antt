@@ -63,6 +63,14 @@ rows_before size least =
     let p : (size - 1) * (size - 2) ≡ (size - 2) * (size - 2) + (size - 2) = rw e (omega arith) in
     omega (arith, p, rows)
 
+-- the lower bits of the sizes up to 16
+pub few_rows : (s : ℕ) → 2 ≤ s → s ≤ 16 → rows_from 1 (s - 2) + 0 + (s - 1) ≤ 120
+few_rows s some most =
+    let j : s - 2 ≤ 14 = omega arith in
+    let square : (s - 2) * (s - 2) ≤ 14 * (s - 2) = mul-le-mul_right (s - 2) j in
+    let h = rows_is 1 (s - 2) in
+    omega (arith, h, square, j)
+
 -- the size and the bit at an index: rows are walked until one holds it
 abbrev pub pair_at : ℕ → ℕ → ℕ → ℕ × ℕ
 pair_at zero k p = (k + 1, p)

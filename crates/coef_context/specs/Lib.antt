@@ -1,2 +1,4 @@
 pub mod Runs
 pub mod BinNumbers
+pub mod ValueBins
+pub mod BinBases

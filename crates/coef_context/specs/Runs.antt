@@ -98,6 +98,10 @@ edge_low_bits_start = 81212
 abbrev pub dc_signs_start : ℕ
 dc_signs_start = 82472
 
--- 2 * 120 bins from here on, up to 82744
+-- 2 * 120 bins from here on
 abbrev pub dc_low_bits_start : ℕ
 dc_low_bits_start = 82504
+
+-- how many bins there are for all contexts of both classes
+abbrev pub bin_count : ℕ
+bin_count = 82744

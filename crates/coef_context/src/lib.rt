@@ -11,11 +11,18 @@
 //! of this block and of those around. Each shape of context has a run of bins, in which the class of the component and
 //! the parts of the context are digits. Different contexts have different bins: `different_numbers`.
 //!
+//! Blocks are coded without contexts: `BinBases` has where the bins of one value begin, so that each bin is one
+//! sum away, and so have `inner_count_base` and `edge_count_base` for the bins of a count.
+//!
 //! Not handled here: which events a block has (see `block_spec`), and what a bin counts (see `adapt_bins`).
 #![tactic(auto)]
 
+mod bin_bases;
 mod context;
 mod numbers;
 
+pub use bin_bases::{
+    BinBases, dc_bases, edge_bases, edge_count_base, inner_bases, inner_count_base,
+};
 pub use context::{Context, Kind};
-pub use numbers::{BINS, bin, different_numbers, low_bit};
+pub use numbers::{BINS, EDGE_VALUES, INNER_VALUES, bin, different_numbers, low_bit};

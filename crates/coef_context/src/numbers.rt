@@ -2,62 +2,65 @@
 ghost use Rattle.std.specs.Prelude.{◌≡◌, ℕ, ◌<◌, ◌≤◌, ◌+◌};
 ghost use Rattle.coef_context.specs.declared.context.Context.{Context};
 ghost use Rattle.coef_context.specs.BinNumbers.{bin_number, IsContext, AreDigits, sign_radices, low_radices, value_digits, sign_start, low_start, written, low_bit_index};
+ghost use Rattle.coef_context.specs.Runs.{bin_count};
 
 use crate::context::{Context, Kind};
 
 // How many values each part of a context has.
 const CLASSES: usize = 2;
 
-const COUNT_SIZES: usize = 7;
+pub(crate) const COUNT_SIZES: usize = 7;
 
-const INNER_NODES: usize = 63;
+pub(crate) const INNER_NODES: usize = 63;
 
-const EDGE_NODES: usize = 7;
+pub(crate) const EDGE_NODES: usize = 7;
 
-const INNER_VALUES: usize = 49;
+/// How many inner coefficients a block has.
+pub const INNER_VALUES: usize = 49;
 
-const EDGES: usize = 2;
+pub(crate) const EDGES: usize = 2;
 
-const EDGE_VALUES: usize = 7;
+/// How many coefficients each edge has.
+pub const EDGE_VALUES: usize = 7;
 
-const WEIGHTS: usize = 11;
+pub(crate) const WEIGHTS: usize = 11;
 
-const INNER_REMAIN_SIZES: usize = 6;
+pub(crate) const INNER_REMAIN_SIZES: usize = 6;
 
-const EDGE_REMAIN_SIZES: usize = 3;
+pub(crate) const EDGE_REMAIN_SIZES: usize = 3;
 
-const AC_SIZES: usize = 10;
+pub(crate) const AC_SIZES: usize = 10;
 
-const SPREADS: usize = 17;
+pub(crate) const SPREADS: usize = 17;
 
-const DC_SIZES: usize = 16;
+pub(crate) const DC_SIZES: usize = 16;
 
-const AC_LOW_BITS: usize = 45;
+pub(crate) const AC_LOW_BITS: usize = 45;
 
-const DC_LOW_BITS: usize = 120;
+pub(crate) const DC_LOW_BITS: usize = 120;
 
 // Where each run begins: where the one before it ends.
-const INNER_STEPS: usize = CLASSES * COUNT_SIZES * INNER_NODES;
+pub(crate) const INNER_STEPS: usize = CLASSES * COUNT_SIZES * INNER_NODES;
 
-const EDGE_COUNTS: usize = INNER_STEPS
+pub(crate) const EDGE_COUNTS: usize = INNER_STEPS
     + CLASSES * INNER_VALUES * WEIGHTS * INNER_REMAIN_SIZES * AC_SIZES;
 
-const EDGE_STEPS: usize = EDGE_COUNTS + CLASSES * EDGES * COUNT_SIZES * EDGE_NODES;
+pub(crate) const EDGE_STEPS: usize = EDGE_COUNTS + CLASSES * EDGES * COUNT_SIZES * EDGE_NODES;
 
-const DC_STEPS: usize = EDGE_STEPS
+pub(crate) const DC_STEPS: usize = EDGE_STEPS
     + CLASSES * EDGES * EDGE_VALUES * WEIGHTS * EDGE_REMAIN_SIZES * AC_SIZES;
 
-const INNER_SIGNS: usize = DC_STEPS + CLASSES * SPREADS * DC_SIZES;
+pub(crate) const INNER_SIGNS: usize = DC_STEPS + CLASSES * SPREADS * DC_SIZES;
 
-const INNER_LOW_BITS: usize = INNER_SIGNS + CLASSES * INNER_VALUES * AC_SIZES;
+pub(crate) const INNER_LOW_BITS: usize = INNER_SIGNS + CLASSES * INNER_VALUES * AC_SIZES;
 
-const EDGE_SIGNS: usize = INNER_LOW_BITS + CLASSES * INNER_VALUES * AC_LOW_BITS;
+pub(crate) const EDGE_SIGNS: usize = INNER_LOW_BITS + CLASSES * INNER_VALUES * AC_LOW_BITS;
 
-const EDGE_LOW_BITS: usize = EDGE_SIGNS + CLASSES * EDGES * EDGE_VALUES * AC_SIZES;
+pub(crate) const EDGE_LOW_BITS: usize = EDGE_SIGNS + CLASSES * EDGES * EDGE_VALUES * AC_SIZES;
 
-const DC_SIGNS: usize = EDGE_LOW_BITS + CLASSES * EDGES * EDGE_VALUES * AC_LOW_BITS;
+pub(crate) const DC_SIGNS: usize = EDGE_LOW_BITS + CLASSES * EDGES * EDGE_VALUES * AC_LOW_BITS;
 
-const DC_LOW_BITS_START: usize = DC_SIGNS + CLASSES * DC_SIZES;
+pub(crate) const DC_LOW_BITS_START: usize = DC_SIGNS + CLASSES * DC_SIZES;
 
 /// How many bins there are for all contexts of both classes.
 pub const BINS: usize = DC_LOW_BITS_START + CLASSES * DC_LOW_BITS;
@@ -171,6 +174,7 @@ pub fn low_bit(size: usize, bit: usize) -> usize
 
 /// Different contexts have different bins, and each has one of its own in each class.
 pub fn different_numbers()
-    ensures { (class other : ℕ) (c d : Context) → class < 2 → other < 2 → IsContext c → IsContext d
+    ensures count { BINS ≡ bin_count }
+    ensures once { (class other : ℕ) (c d : Context) → class < 2 → other < 2 → IsContext c → IsContext d
         → bin_number class c ≡ bin_number other d → (class ≡ other) × (c ≡ d) }
 {}

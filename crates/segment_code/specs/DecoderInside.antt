@@ -2,7 +2,7 @@
 use Rattle.std.specs.Prelude.{◌≡◌, ◌+◌, ◌≤◌, length}
 use Rattle.coef_block.specs.TwoRows.{block_count}
 use Rattle.scan_spec.specs.Slots.{shape_of}
-use Rattle.block_code.specs.BinBases.{bin_count}
+use Rattle.coef_context.specs.Runs.{bin_count}
 use Rattle.container_spec.specs.ScanStream.{grid_of}
 use Rattle.segment_code.specs.Decoding.{DecoderSeen}
 use Rattle.segment_code.specs.declared.decoder.SegmentDecoder.TheInside.{Inside}

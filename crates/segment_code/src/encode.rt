@@ -3,6 +3,7 @@ ghost use Rattle.std.specs.Prelude.{◌≡◌, ◌≤◌, ◌+◌, List, [], len
 ghost use Rattle.std.specs.List.{AllByRecursion};
 ghost use Rattle.coef_block.specs.Block.{IsBlock};
 ghost use Rattle.coef_block.specs.TwoRows.{block_count};
+ghost use Rattle.coef_context.specs.Runs.{bin_count};
 ghost use Rattle.block_code.specs.SegmentUnderWay.{HoldsUpTo};
 ghost use Rattle.segment_code.specs.CodedMcus.{AreCoded, AreReadOn, next_of};
 ghost use Rattle.scan_spec.specs.ScanLaws.{zigzag_of};
@@ -91,7 +92,7 @@ fn code_mcus(
     requires start { reader.old.stop ≡ None }
     requires count { reader.old.at.count + mcus ≤ reader.old.shape.mcus }
     requires slots { length reader.old.shape.slots ≡ block_count segment.old.grid.mcu }
-    requires room { 82744 ≤ length coder.old.bins.now }
+    requires room { bin_count ≤ length coder.old.bins.now }
     requires held { HoldsUpTo segment.old [] }
     ensures coded { OnOk result ((all : List Mcu)
         × AreCoded mcus reader.old reader.new segment.old.grid segment.new coder.old coder.new all) }

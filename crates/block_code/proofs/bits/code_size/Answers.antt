@@ -1,6 +1,6 @@
 use Rattle.std.proofs.Common.{arith}
 use Rattle.block_code.proofs.BitSteps.{run_up, step_up}
-use Rattle.block_code.specs.BinBases.{bins_at}
+use Rattle.coef_context.specs.BinBases.{bins_at}
 use Rattle.block_code.proofs.bits.code_size.Goals as goal
 
 pub loop-step-preserved : goal.loop-step-preserved

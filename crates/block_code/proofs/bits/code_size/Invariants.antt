@@ -1,5 +1,5 @@
 use Rattle.std.proofs.Common.{◌-◌, ◌≤◌, IfSome, IsTrue}
-use Rattle.block_code.specs.BinBases.{bins_at}
+use Rattle.coef_context.specs.BinBases.{bins_at}
 use Rattle.block_spec.specs.BitEvents.{ones}
 use Rattle.block_code.proofs.bits.code_size.Given as goal
 

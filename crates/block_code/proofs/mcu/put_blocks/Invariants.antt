@@ -6,7 +6,7 @@ use Rattle.coef_block.specs.Block.{IsBlock}
 use Rattle.block_spec.specs.HeldRows.{HoldBlocks}
 use Rattle.block_code.specs.SegmentUnderWay.{PutsMore}
 use Rattle.block_code.proofs.mcu.put_blocks.Given as goal
-use Rattle.block_code.specs.BinBases.{bin_count}
+use Rattle.coef_context.specs.Runs.{bin_count}
 
 abbrev pub invariant-loop-index : goal.invariant-loop-index
 invariant-loop-index l = record {

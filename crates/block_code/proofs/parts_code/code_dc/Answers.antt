@@ -3,8 +3,9 @@ use Rattle.std.proofs.lemmas.Int.{to_z-of_z}
 use Rattle.coef_context.specs.BinNumbers.{bin_number}
 use Rattle.coef_context.specs.declared.context.Context.TheVariants.{DcStep}
 use Rattle.coef_context.specs.declared.context.Kind.TheVariants.{Dc}
-use Rattle.block_spec.specs.Values.{ValueBins, value_events}
-use Rattle.block_spec.specs.BlockEvents.{dc_events, value_bins}
+use Rattle.coef_context.specs.ValueBins.{ValueBins, value_bins}
+use Rattle.block_spec.specs.Values.{value_events}
+use Rattle.block_spec.specs.BlockEvents.{dc_events}
 use Rattle.block_code.proofs.parts_code.code_dc.Goals as goal
 
 pub returns-clause-coded : goal.returns-clause-coded

@@ -1,7 +1,7 @@
 use Rattle.std.proofs.Common.{rules, ◌≡◌, ℕ, ◌++◌, sym, subst, List, Bool, FitsSigned, w32}
 use Rattle.std.proofs.lemmas.Int.{to_z-of_z}
 use Rattle.block_spec.specs.Values.{category_of, rest_events, step_events, value_events}
-use Rattle.block_code.specs.BinBases.{bins_at}
+use Rattle.coef_context.specs.BinBases.{bins_at}
 use Rattle.block_code.proofs.ValueSizes.{value_of_zero, size_of_zero, zero_asked}
 use Rattle.block_code.proofs.value.code_value.Goals as goal
 

@@ -1,13 +1,9 @@
 -- View: where the bins of a value begin (docs/FORMAT.md, Bins).
-use Rattle.std.specs.Prelude.{ℕ, ◌+◌, ◌-◌, ◌≤◌}
+use Rattle.std.specs.Prelude.{◌+◌, ◌-◌, ◌≤◌}
 use Rattle.coef_context.specs.BinNumbers.{rows_from}
-use Rattle.coef_context.specs.Runs.{dc_sizes, dc_low_bits}
-use Rattle.block_spec.specs.Values.{ValueBins}
-use Rattle.block_code.specs.declared.bin_bases.BinBases.{BinBases}
-
--- how many bins there are for all contexts of both classes (own)
-abbrev pub bin_count : ℕ
-bin_count = 82744
+use Rattle.coef_context.specs.Runs.{bin_count, dc_sizes, dc_low_bits}
+use Rattle.coef_context.specs.ValueBins.{ValueBins}
+use Rattle.coef_context.specs.declared.bin_bases.BinBases.{BinBases}
 
 -- the bins of a value (own): one a step; one a category for the sign; and for each category from 2 on one a bit below
 -- the highest

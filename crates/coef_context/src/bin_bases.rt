@@ -1,65 +1,23 @@
 // Where the bins of a value and of a count begin.
 ghost use Rattle.std.specs.Prelude.{◌≡◌, ℕ, ◌<◌, ◌≤◌, ◌+◌, ◌-◌};
 ghost use Rattle.coef_context.specs.BinNumbers.{bin_number, rows_from};
-ghost use Rattle.coef_context.specs.Runs.{ac_sizes, count_sizes, dc_low_bits, dc_sizes, edge_nodes, edge_remain_sizes, edge_values, inner_nodes, inner_remain_sizes, inner_values, spreads, weights};
+ghost use Rattle.coef_context.specs.Runs.{bin_count, count_sizes, dc_low_bits, dc_sizes, edge_nodes, edge_remain_sizes, edge_values, inner_nodes, inner_remain_sizes, inner_values, spreads, weights};
 ghost use Rattle.coef_context.specs.declared.context.Context.TheVariants.{DcStep, EdgeCount, EdgeStep, InnerCount, InnerStep};
 ghost use Rattle.coef_context.specs.declared.context.Kind.TheVariants.{Dc, Inner};
-ghost use Rattle.block_spec.specs.BlockEvents.{kind_of, value_bins};
-ghost use Rattle.block_code.specs.BinBases.{AreBases, bin_count, bins_at};
+ghost use Rattle.coef_context.specs.ValueBins.{kind_of, value_bins};
+ghost use Rattle.coef_context.specs.BinBases.{AreBases, bins_at};
 
-use crate::parts::{EDGE_VALUES, INNER_VALUES};
-use coef_context::low_bit;
-
-// How many values each part of a context has, as in `coef_context`.
-const COUNT_SIZES: usize = 7;
-
-const INNER_NODES: usize = 63;
-
-const EDGE_NODES: usize = 7;
-
-const EDGES: usize = 2;
-
-const WEIGHTS: usize = 11;
-
-const INNER_REMAIN_SIZES: usize = 6;
-
-const EDGE_REMAIN_SIZES: usize = 3;
-
-const AC_SIZES: usize = 10;
-
-const SPREADS: usize = 17;
-
-const DC_SIZES: usize = 16;
-
-const AC_LOW_BITS: usize = 45;
-
-const DC_LOW_BITS: usize = 120;
-
-// Where each run of bins begins, as in `coef_context`. The inner counts begin at 0.
-const INNER_STEPS: usize = 882;
-
-const EDGE_COUNTS: usize = 65_562;
-
-const EDGE_STEPS: usize = 65_758;
-
-const DC_STEPS: usize = 74_998;
-
-const INNER_SIGNS: usize = 75_542;
-
-const INNER_LOW_BITS: usize = 76_522;
-
-const EDGE_SIGNS: usize = 80_932;
-
-const EDGE_LOW_BITS: usize = 81_212;
-
-const DC_SIGNS: usize = 82_472;
-
-const DC_LOW_BITS_START: usize = 82_504;
+use crate::numbers::{
+    AC_LOW_BITS, AC_SIZES, COUNT_SIZES, DC_LOW_BITS, DC_LOW_BITS_START, DC_SIGNS, DC_SIZES,
+    DC_STEPS, EDGE_COUNTS, EDGE_LOW_BITS, EDGE_NODES, EDGE_REMAIN_SIZES, EDGE_SIGNS, EDGE_STEPS,
+    EDGE_VALUES, EDGES, INNER_LOW_BITS, INNER_NODES, INNER_REMAIN_SIZES, INNER_SIGNS, INNER_STEPS,
+    INNER_VALUES, SPREADS, WEIGHTS, low_bit,
+};
 
 /// Where the bins of one value begin: those of its steps, of its sign, and of its lower bits. A bin is then one sum
 /// away.
 #[derive(Clone, Copy)]
-pub(crate) struct BinBases {
+pub struct BinBases {
     steps: usize,
     signs: usize,
     lows: usize,
@@ -68,7 +26,7 @@ pub(crate) struct BinBases {
 impl BinBases {
     /// The bin of a step, from 0 to 15.
     #[inline(always)]
-    pub(crate) fn step(&self, step: u8) -> usize
+    pub fn step(&self, step: u8) -> usize
         requires bases { AreBases self.now }
         requires step { step < dc_sizes }
         ensures value { result ≡ (bins_at self.now).step step }
@@ -79,7 +37,7 @@ impl BinBases {
 
     /// The bin of the sign of a value with this many bits, from 1 to 16.
     #[inline(always)]
-    pub(crate) fn sign(&self, size: u8) -> usize
+    pub fn sign(&self, size: u8) -> usize
         requires bases { AreBases self.now }
         requires some { 1 ≤ size }
         requires most { size ≤ dc_sizes }
@@ -91,11 +49,12 @@ impl BinBases {
 
     /// Where the bins of the bits below the highest begin, of a value with this many bits, from 1 to 16.
     #[inline(always)]
-    pub(crate) fn low(&self, size: u8) -> usize
+    pub fn low(&self, size: u8) -> usize
         requires bases { AreBases self.now }
         requires some { 1 ≤ size }
         requires most { size ≤ dc_sizes }
-        ensures value { result ≡ self.now.lows + rows_from 1 (size - 2) }
+        ensures value { ◌≡◌ {A = ℕ → ℕ} (λ bit. result + bit)
+            (λ bit. (bins_at self.now).low size bit) }
         ensures below { result + (size - 1) ≤ bin_count }
     {
         self.lows + low_bits_before(size)
@@ -117,10 +76,10 @@ fn low_bits_before(size: u8) -> usize
     }
 }
 
-/// Of an inner coefficient: by its place from 0 to 48, its weight, and how many bits the number of those that remain
-/// has. The class is 0 for the frame's first component and 1 for the others.
+/// Where the bins of an inner coefficient begin, by its place from 0 to 48, its weight, and how many bits the number of
+/// those that remain has. The class is 0 for the frame's first component and 1 for the others.
 #[inline(always)]
-pub(crate) fn inner_bases(class: u8, place: usize, weight: u8, remain_bits: u8) -> BinBases
+pub fn inner_bases(class: u8, place: usize, weight: u8, remain_bits: u8) -> BinBases
     requires class { class < 2 }
     requires place { place < inner_values }
     requires weight { weight < weights }
@@ -140,16 +99,10 @@ pub(crate) fn inner_bases(class: u8, place: usize, weight: u8, remain_bits: u8) 
     }
 }
 
-/// Of a coefficient of the row edge, or of the column edge: by its place from 0 to 6, its weight, and how many bits the
-/// number of those that remain has.
+/// Where the bins of a coefficient of the row edge, or of the column edge, begin, by its place from 0 to 6, its weight,
+/// and how many bits the number of those that remain has.
 #[inline(always)]
-pub(crate) fn edge_bases(
-    class: u8,
-    column: bool,
-    place: usize,
-    weight: u8,
-    remain_bits: u8,
-) -> BinBases
+pub fn edge_bases(class: u8, column: bool, place: usize, weight: u8, remain_bits: u8) -> BinBases
     requires class { class < 2 }
     requires place { place < edge_values }
     requires weight { weight < weights }
@@ -169,9 +122,9 @@ pub(crate) fn edge_bases(
     }
 }
 
-/// Of a residue, by the spread of the DCs above and to the left, from 0 to 16 bits.
+/// Where the bins of a residue begin, by the spread of the DCs above and to the left, from 0 to 16 bits.
 #[inline(always)]
-pub(crate) fn dc_bases(class: u8, spread: u8) -> BinBases
+pub fn dc_bases(class: u8, spread: u8) -> BinBases
     requires class { class < 2 }
     requires spread { spread < spreads }
     ensures bins { bins_at result
@@ -187,7 +140,7 @@ pub(crate) fn dc_bases(class: u8, spread: u8) -> BinBases
 
 /// Where the 63 bins of an inner count begin, by how many bits the guess at it has.
 #[inline(always)]
-pub(crate) fn inner_count_base(class: u8, guess_bits: u8) -> usize
+pub fn inner_count_base(class: u8, guess_bits: u8) -> usize
     requires class { class < 2 }
     requires bits { guess_bits < count_sizes }
     ensures bins { ◌≡◌ {A = ℕ → ℕ} (λ node. result + (node - 1))
@@ -199,7 +152,7 @@ pub(crate) fn inner_count_base(class: u8, guess_bits: u8) -> usize
 
 /// Where the 7 bins of an edge's count begin, by how many bits the block's inner count has.
 #[inline(always)]
-pub(crate) fn edge_count_base(class: u8, column: bool, inner_bits: u8) -> usize
+pub fn edge_count_base(class: u8, column: bool, inner_bits: u8) -> usize
     requires class { class < 2 }
     requires bits { inner_bits < count_sizes }
     ensures bins { ◌≡◌ {A = ℕ → ℕ} (λ node. result + (node - 1))
