@@ -25,4 +25,4 @@ pub use bin_bases::{
     BinBases, dc_bases, edge_bases, edge_count_base, inner_bases, inner_count_base,
 };
 pub use context::{Context, Kind};
-pub use numbers::{BINS, EDGE_VALUES, INNER_VALUES, bin, different_numbers, low_bit};
+pub use numbers::{BINS, EDGE_VALUES, INNER_VALUES, different_numbers, low_bit};

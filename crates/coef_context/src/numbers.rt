@@ -1,10 +1,8 @@
 // One number for each context.
 ghost use Rattle.std.specs.Prelude.{◌≡◌, ℕ, ◌<◌, ◌≤◌, ◌+◌};
 ghost use Rattle.coef_context.specs.declared.context.Context.{Context};
-ghost use Rattle.coef_context.specs.BinNumbers.{bin_number, IsContext, AreDigits, sign_radices, low_radices, value_digits, sign_start, low_start, written, low_bit_index};
+ghost use Rattle.coef_context.specs.BinNumbers.{IsContext, bin_number, low_bit_index};
 ghost use Rattle.coef_context.specs.Runs.{bin_count};
-
-use crate::context::{Context, Kind};
 
 // How many values each part of a context has.
 const CLASSES: usize = 2;
@@ -64,101 +62,6 @@ pub(crate) const DC_LOW_BITS_START: usize = DC_SIGNS + CLASSES * DC_SIZES;
 
 /// How many bins there are for all contexts of both classes.
 pub const BINS: usize = DC_LOW_BITS_START + CLASSES * DC_LOW_BITS;
-
-/// The bin of a context. The class is 0 for the frame's first component and 1 for the others.
-#[inline]
-pub fn bin(class: u8, context: Context) -> usize
-    requires class { class < 2 }
-    requires context { IsContext context }
-    ensures number { result ≡ bin_number class context }
-    ensures below { result < BINS }
-{
-    let class = usize::from(class);
-    match context {
-        Context::InnerCount { size, node } => {
-            (class * COUNT_SIZES + usize::from(size)) * INNER_NODES + (usize::from(node) - 1)
-        }
-        Context::InnerStep {
-            place,
-            weight,
-            left,
-            step,
-        } => {
-            let value = (class * INNER_VALUES + usize::from(place)) * WEIGHTS + usize::from(weight);
-            let remain = value * INNER_REMAIN_SIZES + (usize::from(left) - 1);
-            INNER_STEPS + remain * AC_SIZES + usize::from(step)
-        }
-        Context::EdgeCount { column, size, node } => {
-            let count = (class * EDGES + usize::from(column)) * COUNT_SIZES + usize::from(size);
-            EDGE_COUNTS + count * EDGE_NODES + (usize::from(node) - 1)
-        }
-        Context::EdgeStep {
-            column,
-            place,
-            weight,
-            left,
-            step,
-        } => {
-            let edge = class * EDGES + usize::from(column);
-            let value = (edge * EDGE_VALUES + usize::from(place)) * WEIGHTS + usize::from(weight);
-            let remain = value * EDGE_REMAIN_SIZES + (usize::from(left) - 1);
-            EDGE_STEPS + remain * AC_SIZES + usize::from(step)
-        }
-        Context::DcStep { spread, step } => {
-            DC_STEPS + (class * SPREADS + usize::from(spread)) * DC_SIZES + usize::from(step)
-        }
-        Context::Sign { kind, place, size } => {
-            sign(class, kind, usize::from(place), usize::from(size) - 1)
-        }
-        Context::Low {
-            kind,
-            place,
-            size,
-            bit,
-        } => {
-            let index = low_bit(usize::from(size), usize::from(bit));
-            low(class, kind, usize::from(place), index)
-        }
-    }
-}
-
-// The bin of a sign; `last` is the size less one.
-#[inline]
-fn sign(class: usize, kind: Kind, place: usize, last: usize) -> usize
-    requires class { class < 2 }
-    requires digits { AreDigits (sign_radices kind) (value_digits kind place last) }
-    ensures number { result
-        ≡ sign_start kind + written class (sign_radices kind) (value_digits kind place last) }
-    ensures below { result < DC_LOW_BITS_START }
-{
-    match kind {
-        Kind::Inner => INNER_SIGNS + (class * INNER_VALUES + place) * AC_SIZES + last,
-        Kind::Row => EDGE_SIGNS + (class * EDGES * EDGE_VALUES + place) * AC_SIZES + last,
-        Kind::Column => {
-            EDGE_SIGNS + ((class * EDGES + 1) * EDGE_VALUES + place) * AC_SIZES + last
-        }
-        Kind::Dc => DC_SIGNS + class * DC_SIZES + last,
-    }
-}
-
-// The bin of a lower bit; `last` is its index among those of all sizes.
-#[inline]
-fn low(class: usize, kind: Kind, place: usize, last: usize) -> usize
-    requires class { class < 2 }
-    requires digits { AreDigits (low_radices kind) (value_digits kind place last) }
-    ensures number { result
-        ≡ low_start kind + written class (low_radices kind) (value_digits kind place last) }
-    ensures below { result < BINS }
-{
-    match kind {
-        Kind::Inner => INNER_LOW_BITS + (class * INNER_VALUES + place) * AC_LOW_BITS + last,
-        Kind::Row => EDGE_LOW_BITS + (class * EDGES * EDGE_VALUES + place) * AC_LOW_BITS + last,
-        Kind::Column => {
-            EDGE_LOW_BITS + ((class * EDGES + 1) * EDGE_VALUES + place) * AC_LOW_BITS + last
-        }
-        Kind::Dc => DC_LOW_BITS_START + class * DC_LOW_BITS + last,
-    }
-}
 
 /// The index of a lower bit among those of all sizes, from 0 to 119: size 2 has one lower bit, size 3 two, and so on.
 #[inline]

@@ -1,10 +1,17 @@
 // The first and the last bin of each run, and one within, as a program gives them that counts the contexts of
-// docs/FORMAT.md one by one.
-ghost use Rattle.std.specs.Prelude.{◌<◌};
+// docs/FORMAT.md one by one: the plain program and the bases each give them.
+ghost use Rattle.std.specs.Prelude.{◌≡◌, ◌<◌};
+ghost use Rattle.coef_context.specs.BinBases.{AreBases};
 ghost use Rattle.coef_context.specs.BinNumbers.{IsContext};
+ghost use Rattle.coef_context.specs.Runs.{edge_values, inner_values};
 ghost use Rattle.coef_context.specs.declared.context.Context.TheVariants.{Low};
+ghost use Rattle.coef_context.specs.declared.context.Kind.TheVariants.{Column, Inner, Row};
 
-use coef_context::{BINS, Context, Kind, bin, different_numbers, low_bit};
+use crate::plain_bins::bin;
+use coef_context::{
+    BINS, BinBases, Context, Kind, dc_bases, different_numbers, edge_bases, edge_count_base,
+    inner_bases, inner_count_base, low_bit,
+};
 use std::process::Abort;
 
 // The class, the size and the node, and the bin.
@@ -25,7 +32,9 @@ fn inner_counts(rt: HostRuntime) {
 fn inner_count(rt: &impl Abort, parts: [u8; 3]) -> usize {
     let [class, size, node] = parts;
     assert!(rt; class < 2 && size <= 6 && 1 <= node && node <= 63);
-    bin(class, Context::InnerCount { size, node })
+    let found = inner_count_base(class, size) + (usize::from(node) - 1);
+    assert!(rt; found == bin(class, Context::InnerCount { size, node }));
+    found
 }
 
 // The class, whether it is the column edge, the size and the node, and the bin.
@@ -48,7 +57,9 @@ fn edge_counts(rt: HostRuntime) {
 fn edge_count(rt: &impl Abort, class: u8, column: bool, parts: [u8; 2]) -> usize {
     let [size, node] = parts;
     assert!(rt; class < 2 && size <= 6 && 1 <= node && node <= 7);
-    bin(class, Context::EdgeCount { column, size, node })
+    let found = edge_count_base(class, column, size) + (usize::from(node) - 1);
+    assert!(rt; found == bin(class, Context::EdgeCount { column, size, node }));
+    found
 }
 
 // The class, the place, the weight, the size of what is left and the step, and the bin.
@@ -69,15 +80,15 @@ fn inner_step(rt: &impl Abort, parts: [u8; 5]) -> usize {
     let [class, place, weight, left, step] = parts;
     assert!(rt; class < 2 && place <= 48 && weight <= 10);
     assert!(rt; 1 <= left && left <= 6 && step <= 9);
-    bin(
-        class,
-        Context::InnerStep {
-            place,
-            weight,
-            left,
-            step,
-        },
-    )
+    let context = Context::InnerStep {
+        place,
+        weight,
+        left,
+        step,
+    };
+    let found = inner_bases(class, usize::from(place), weight, left).step(step);
+    assert!(rt; found == bin(class, context));
+    found
 }
 
 // The class, whether it is the column edge; the place, the weight, the size of what is left and the step, and the bin.
@@ -101,16 +112,16 @@ fn edge_step(rt: &impl Abort, class: u8, column: bool, parts: [u8; 4]) -> usize 
     let [place, weight, left, step] = parts;
     assert!(rt; class < 2 && place <= 6 && weight <= 10);
     assert!(rt; 1 <= left && left <= 3 && step <= 9);
-    bin(
-        class,
-        Context::EdgeStep {
-            column,
-            place,
-            weight,
-            left,
-            step,
-        },
-    )
+    let context = Context::EdgeStep {
+        column,
+        place,
+        weight,
+        left,
+        step,
+    };
+    let found = edge_bases(class, column, usize::from(place), weight, left).step(step);
+    assert!(rt; found == bin(class, context));
+    found
 }
 
 // The class, the spread and the step, and the bin.
@@ -130,7 +141,9 @@ fn dc_steps(rt: HostRuntime) {
 fn dc_step(rt: &impl Abort, parts: [u8; 3]) -> usize {
     let [class, spread, step] = parts;
     assert!(rt; class < 2 && spread <= 16 && step <= 15);
-    bin(class, Context::DcStep { spread, step })
+    let found = dc_bases(class, spread).step(step);
+    assert!(rt; found == bin(class, Context::DcStep { spread, step }));
+    found
 }
 
 // The class, the place and the size, and the bin; of each kind.
@@ -153,7 +166,9 @@ fn inner_sign(rt: &impl Abort, parts: [u8; 3]) -> usize {
     let [class, place, size] = parts;
     assert!(rt; class < 2 && place <= 48 && 1 <= size && size <= 10);
     let kind = Kind::Inner;
-    bin(class, Context::Sign { kind, place, size })
+    let found = inner_bases(class, usize::from(place), 0, 1).sign(size);
+    assert!(rt; found == bin(class, Context::Sign { kind, place, size }));
+    found
 }
 
 #[test]
@@ -170,14 +185,18 @@ fn row_sign(rt: &impl Abort, parts: [u8; 3]) -> usize {
     let [class, place, size] = parts;
     assert!(rt; class < 2 && place <= 6 && 1 <= size && size <= 10);
     let kind = Kind::Row;
-    bin(class, Context::Sign { kind, place, size })
+    let found = edge_bases(class, false, usize::from(place), 0, 1).sign(size);
+    assert!(rt; found == bin(class, Context::Sign { kind, place, size }));
+    found
 }
 
 fn column_sign(rt: &impl Abort, parts: [u8; 3]) -> usize {
     let [class, place, size] = parts;
     assert!(rt; class < 2 && place <= 6 && 1 <= size && size <= 10);
     let kind = Kind::Column;
-    bin(class, Context::Sign { kind, place, size })
+    let found = edge_bases(class, true, usize::from(place), 0, 1).sign(size);
+    assert!(rt; found == bin(class, Context::Sign { kind, place, size }));
+    found
 }
 
 #[test]
@@ -191,44 +210,62 @@ fn dc_sign(rt: &impl Abort, parts: [u8; 3]) -> usize {
     let [class, place, size] = parts;
     assert!(rt; class < 2 && place == 0 && 1 <= size && size <= 16);
     let kind = Kind::Dc;
-    bin(class, Context::Sign { kind, place, size })
+    let found = dc_bases(class, 0).sign(size);
+    assert!(rt; found == bin(class, Context::Sign { kind, place, size }));
+    found
 }
 
 #[test]
 fn inner_low_bits(rt: HostRuntime) {
-    assert!(rt; low(0, Kind::Inner, 0, 2, 0) == 76_522);
-    assert!(rt; low(0, Kind::Inner, 1, 4, 2) == 76_572);
-    assert!(rt; low(1, Kind::Inner, 48, 10, 8) == 80_931);
+    assert!(rt; low(&rt, 0, Kind::Inner, 0, 2, 0) == 76_522);
+    assert!(rt; low(&rt, 0, Kind::Inner, 1, 4, 2) == 76_572);
+    assert!(rt; low(&rt, 1, Kind::Inner, 48, 10, 8) == 80_931);
 }
 
 #[test]
 fn edge_low_bits(rt: HostRuntime) {
-    assert!(rt; low(0, Kind::Row, 0, 2, 0) == 81_212);
-    assert!(rt; low(1, Kind::Row, 6, 5, 1) == 82_119);
-    assert!(rt; low(1, Kind::Column, 6, 10, 8) == 82_471);
+    assert!(rt; low(&rt, 0, Kind::Row, 0, 2, 0) == 81_212);
+    assert!(rt; low(&rt, 1, Kind::Row, 6, 5, 1) == 82_119);
+    assert!(rt; low(&rt, 1, Kind::Column, 6, 10, 8) == 82_471);
 }
 
 #[test]
 fn dc_low_bits(rt: HostRuntime) {
-    assert!(rt; low(0, Kind::Dc, 0, 2, 0) == 82_504);
-    assert!(rt; low(0, Kind::Dc, 0, 16, 14) == 82_623);
-    assert!(rt; low(1, Kind::Dc, 0, 3, 1) == 82_626);
-    assert!(rt; low(1, Kind::Dc, 0, 16, 14) == 82_743);
+    assert!(rt; low(&rt, 0, Kind::Dc, 0, 2, 0) == 82_504);
+    assert!(rt; low(&rt, 0, Kind::Dc, 0, 16, 14) == 82_623);
+    assert!(rt; low(&rt, 1, Kind::Dc, 0, 3, 1) == 82_626);
+    assert!(rt; low(&rt, 1, Kind::Dc, 0, 16, 14) == 82_743);
 }
 
-fn low(class: u8, kind: Kind, place: u8, size: u8, bit: u8) -> usize
+fn low(rt: &impl Abort, class: u8, kind: Kind, place: u8, size: u8, bit: u8) -> usize
     requires class { class < 2 }
     requires context { IsContext (Low kind place size bit) }
 {
-    bin(
-        class,
-        Context::Low {
-            kind,
-            place,
-            size,
-            bit,
-        },
-    )
+    let context = Context::Low {
+        kind,
+        place,
+        size,
+        bit,
+    };
+    let found = bases_of(class, kind, usize::from(place)).low(size) + usize::from(bit);
+    assert!(rt; found == bin(class, context));
+    found
+}
+
+// Where the bins of a value of this kind begin, with any steps.
+fn bases_of(class: u8, kind: Kind, place: usize) -> BinBases
+    requires class { class < 2 }
+    requires inner { kind ≡ Inner → place < inner_values }
+    requires row { kind ≡ Row → place < edge_values }
+    requires column { kind ≡ Column → place < edge_values }
+    ensures bases { AreBases result }
+{
+    match kind {
+        Kind::Inner => inner_bases(class, place, 0, 1),
+        Kind::Row => edge_bases(class, false, place, 0, 1),
+        Kind::Column => edge_bases(class, true, place, 0, 1),
+        Kind::Dc => dc_bases(class, 0),
+    }
 }
 
 // The size and the bit, and its index among the lower bits of all sizes.

@@ -10,4 +10,6 @@ mod coded_blocks;
 #[cfg(test)]
 mod contexts;
 #[cfg(test)]
+mod plain_bins;
+#[cfg(test)]
 mod predictions;
