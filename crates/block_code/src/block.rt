@@ -61,7 +61,7 @@ pub fn put_block(
     let parts = Parts::of(block, prediction(neighbours));
     let mut same = Parts::zero();
     let mut local = coder.moved();
-    let coded = code_parts(&mut local, class, neighbours, Some(&parts), &mut same);
+    let coded = code_parts(&mut local, class, neighbours, &parts, &mut same);
     coder.back(local);
     let _ = coded?;
     Ok(())
@@ -89,9 +89,11 @@ pub fn get_block(
     ensures room { length coder.new.bins ≡ length coder.old.bins }
 {
     let neighbours = neighbours_in(rows, component, row, column);
+    // A coder that gets the bits ignores what is wanted.
+    let wanted = Parts::zero();
     let mut parts = Parts::zero();
     let mut local = coder.moved();
-    let coded = code_parts(&mut local, class, neighbours, None, &mut parts);
+    let coded = code_parts(&mut local, class, neighbours, &wanted, &mut parts);
     *coder = local;
     match coded {
         Ok(true) => parts.block(prediction(neighbours)),

@@ -1,7 +1,7 @@
 // The parts of a block in the order of their events, put or got by one body.
-ghost use Rattle.std.specs.Prelude.{◌≡◌, ℕ, Bool, ◌<◌, ◌≤◌, ◌+◌, ◌-◌, ◌++◌, IfOk, OnOk, OnErr, IfSome, IsTrue, IsOk, length, true, false, List, MatchResult, option_map};
+ghost use Rattle.std.specs.Prelude.{◌≡◌, ℕ, Bool, ◌<◌, ◌≤◌, ◌+◌, ◌-◌, ◌++◌, IfOk, OnOk, OnErr, IfSome, IsTrue, IsOk, length, true, false, List};
 ghost use Rattle.std.specs.List.{AllByRecursion};
-ghost use Rattle.coef_context.specs.Runs.{edge_values, inner_values, spreads, bin_count};
+ghost use Rattle.coef_context.specs.Runs.{bin_count, inner_values, spreads};
 ghost use Rattle.block_spec.specs.Around.{Around, dc_spread};
 ghost use Rattle.block_spec.specs.BlockEvents.{inner_bins, edge_events, inner_count_events, dc_events};
 ghost use Rattle.block_spec.specs.ReadBlocks.{IsBlockCount};
@@ -30,29 +30,31 @@ const INNER_COUNT_TOP: u32 = 64;
 /// How many steps the size of a residue has.
 const DC_STEPS: u8 = 16;
 
-/// Codes the parts of a block, from the inner count on. Returns false if the six bits of the count are above 49, and
-/// then codes nothing after them.
+/// Codes the parts of a block, from the inner count on, and writes them to `out`. A coder that is given the bits codes
+/// `wanted`; one that gets them ignores it. Returns false if the six bits of the count are above 49, and then codes
+/// nothing after them.
 #[inline(always)]
 pub(crate) fn code_parts<C: Coder>(
     coder: &mut C,
     class: u8,
     neighbours: Neighbours,
-    wanted: Option<&Parts>,
+    wanted: &Parts,
     out: &mut Parts,
 ) -> Result<bool, C::Stop>
     requires class { class < 2 }
     requires room { bin_count ≤ C.room coder.old }
-    requires wanted { IsTrue C.given → IfSome wanted (λ w. AreParts w.now) }
+    requires wanted { IsTrue C.given → AreParts wanted.now }
     ensures stopped { OnErr result (C.stopped coder.new) }
     ensures coded { IfOk result (λ counted. IsTrue counted → AreParts out.new
         × C.codes coder.old (parts_events class (around_of neighbours.entry) out.new) coder.new) }
     ensures many { IfOk result (λ counted. counted ≡ false
         → IsBlockCount (λ events. C.codes coder.old events coder.new) class
         (around_of neighbours.entry)) }
-    ensures same { IsTrue C.given → IfSome wanted.entry
-        (λ w. IfOk result (λ counted. IsTrue counted × (out.new ≡ w.now))) }
+    ensures same { IsTrue C.given
+        → IfOk result (λ counted. IsTrue counted × (out.new ≡ wanted.now)) }
 {
-    let count = code_inner_count(coder, class, guess(neighbours), count_of(wanted))?;
+    let inner_count = nonzeros_of(&wanted.inner);
+    let count = code_inner_count(coder, class, guess(neighbours), Some(inner_count))?;
     if count > MOST_INNER {
         return Ok(false);
     }
@@ -90,27 +92,27 @@ fn code_after_count<C: Coder>(
     class: u8,
     neighbours: Neighbours,
     count: u8,
-    wanted: Option<&Parts>,
+    wanted: &Parts,
     out: &mut Parts,
 ) -> Result<(), C::Stop>
     requires class { class < 2 }
     requires count { count ≤ inner_values }
     requires room { bin_count ≤ C.room coder.old }
     requires wanted { IsTrue C.given
-        → IfSome wanted (λ w. (nonzeros w.now.inner ≡ count) × AreParts w.now) }
+        → (nonzeros wanted.now.inner ≡ count) × AreParts wanted.now }
     ensures stopped { OnErr result (C.stopped coder.new) }
     ensures coded { OnOk result (C.codes coder.old
         (after_count_events class (around_of neighbours.entry) out.new) coder.new) }
     ensures count { OnOk result (nonzeros out.new.inner ≡ count) }
     ensures parts { OnOk result (AreParts out.new) }
-    ensures same { IsTrue C.given → IfSome wanted.entry (λ w. OnOk result (out.new ≡ w.now)) }
+    ensures same { IsTrue C.given → OnOk result (out.new ≡ wanted.now) }
 {
     code_inner(
         coder,
         class,
         neighbours,
         count,
-        inner_of(wanted),
+        Some(&wanted.inner[..]),
         &mut out.inner[..],
     )?;
     code_edge(
@@ -119,7 +121,7 @@ fn code_after_count<C: Coder>(
         false,
         neighbours,
         count,
-        row_of(wanted),
+        Some(&wanted.row[..]),
         &mut out.row[..],
     )?;
     code_edge(
@@ -128,10 +130,10 @@ fn code_after_count<C: Coder>(
         true,
         neighbours,
         count,
-        column_of(wanted),
+        Some(&wanted.column[..]),
         &mut out.column[..],
     )?;
-    let residue = code_dc(coder, class, spread(neighbours), residue_of(wanted))?;
+    let residue = code_dc(coder, class, spread(neighbours), Some(wanted.residue))?;
     out.residue = residue;
     Ok(())
 }
@@ -156,66 +158,4 @@ fn code_dc<C: Coder>(
 {
     let x = code_value(coder, dc_bases(class, spread), 0, DC_STEPS, residue)?;
     Ok(x)
-}
-
-// The inner count of parts that may be given.
-#[inline(always)]
-fn count_of(parts: Option<&Parts>) -> Option<u8>
-    ensures value { result ≡ option_map (λ parts. nonzeros parts.now.inner) parts.entry }
-    ensures few { IfSome result (λ count. count ≤ inner_values) }
-{
-    match parts {
-        Some(parts) => Some(nonzeros_of(&parts.inner)),
-        None => None,
-    }
-}
-
-// The residue of parts that may be given.
-#[inline(always)]
-fn residue_of(parts: Option<&Parts>) -> Option<i32>
-    ensures { result ≡ option_map (λ parts. parts.now.residue) parts.entry }
-{
-    match parts {
-        Some(parts) => Some(parts.residue),
-        None => None,
-    }
-}
-
-// The inner coefficients of parts that may be given.
-#[inline(always)]
-fn inner_of(parts: Option<&Parts>) -> Option<&[i32]>
-    ensures value { option_map (λ values. values.now) result
-        ≡ option_map (λ parts. parts.now.inner) parts.entry }
-    ensures length { IfSome result (λ values. length values.now ≡ inner_values) }
-{
-    match parts {
-        Some(parts) => Some(&parts.inner[..]),
-        None => None,
-    }
-}
-
-// The row edge of parts that may be given.
-#[inline(always)]
-fn row_of(parts: Option<&Parts>) -> Option<&[i32]>
-    ensures value { option_map (λ values. values.now) result
-        ≡ option_map (λ parts. parts.now.row) parts.entry }
-    ensures length { IfSome result (λ values. length values.now ≡ edge_values) }
-{
-    match parts {
-        Some(parts) => Some(&parts.row[..]),
-        None => None,
-    }
-}
-
-// The column edge of parts that may be given.
-#[inline(always)]
-fn column_of(parts: Option<&Parts>) -> Option<&[i32]>
-    ensures value { option_map (λ values. values.now) result
-        ≡ option_map (λ parts. parts.now.column) parts.entry }
-    ensures length { IfSome result (λ values. length values.now ≡ edge_values) }
-{
-    match parts {
-        Some(parts) => Some(&parts.column[..]),
-        None => None,
-    }
 }
