@@ -10,7 +10,8 @@ use Rattle.board_core.specs.declared.actor.Actor.TheVariants.{Worker, Emitter}
 use Rattle.handover.specs.declared.outcome.Outcome.{Outcome}
 use Rattle.board_core.specs.BoardStates.{SegmentState, BoardState, segment_at, with_segment}
 use Rattle.board_core.specs.BoardSteps.{BoardEvent, Claim, Put, Pass, Finish, Take, Advance, Stop, Leave, BoardStep, with_claim, changed_at, with_put, with_passed, with_outcome, with_taken, with_stop, with_leave, with_owner}
-use Rattle.board_core.specs.BoardInvariants.{bytes_at, LawfulStep, LawfulRun, bytes_handed, bytes_handed_out}
+use Rattle.board_core.specs.BoardInvariants.{bytes_at}
+use Rattle.board_core.specs.LawfulEvents.{LawfulStep, LawfulRun, bytes_handed, bytes_handed_out}
 use Rattle.board_core.proofs.EachSegment.{IsBoard}
 use Rattle.board_core.proofs.SegmentsAt.{at_same, at_other, owned_within, length-range, at_left}
 use Rattle.board_core.proofs.KeptSteps.{keeps}

@@ -9,7 +9,8 @@ use Rattle.board_core.specs.declared.actor.Actor.TheVariants.{Worker, Emitter}
 use Rattle.handover.specs.declared.outcome.Outcome.{Outcome}
 use Rattle.board_core.specs.BoardStates.{SegmentState, BoardState, segment_at, with_segment, Owns, OwnsNothing, IsPresent, IsGood}
 use Rattle.board_core.specs.BoardSteps.{BoardEvent, Claim, Put, Pass, Finish, Take, Advance, Stop, Leave, CanClaim, CanPut, CanPass, CanFinish, CanTake, CanAdvance, CanLeave, with_claim, changed_at, with_put, with_passed, with_outcome, with_taken, with_advance, with_stop, with_leave, owner_without, without_owner, with_owner}
-use Rattle.board_core.specs.BoardInvariants.{bytes_at, LawfulStep}
+use Rattle.board_core.specs.BoardInvariants.{bytes_at}
+use Rattle.board_core.specs.LawfulEvents.{LawfulStep}
 use Rattle.board_core.proofs.EachSegment.{IsSegment, IsBoard}
 use Rattle.board_core.proofs.SegmentsAt.{at_same, at_other, owned_within, range_more, range_less, length-range, range_none, get_else, at_left, owner_still, owner_stays}
 

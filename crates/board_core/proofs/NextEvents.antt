@@ -10,7 +10,8 @@ use Rattle.handover.specs.declared.outcome.Outcome.TheVariants.{Good, Bad}
 use Rattle.handover.specs.declared.outcome.StreamFault.{StreamFault}
 use Rattle.board_core.specs.BoardStates.{BoardState, segment_at, Owns, IsEnded}
 use Rattle.board_core.specs.BoardSteps.{BoardEvent, Claim, Put, Pass, Finish, Take, Advance, Stop, Leave, IsEnabled, count_limit, CountsFit, BoardStep, with_claim, changed_at, with_put, with_passed, with_outcome, with_taken, with_advance, with_stop, with_leave}
-use Rattle.board_core.specs.BoardInvariants.{bytes_at, MatchesLists, CanGoOn}
+use Rattle.board_core.specs.BoardInvariants.{bytes_at}
+use Rattle.board_core.specs.LawfulEvents.{MatchesLists, CanGoOn}
 use Rattle.board_core.proofs.EachSegment.{IsBoard}
 use Rattle.board_core.proofs.SegmentsAt.{owned_within}
 use Rattle.board_core.proofs.KeptSteps.{owned_facts}

@@ -7,7 +7,8 @@ use Rattle.board_core.specs.declared.actor.Actor.TheVariants.{Worker, Emitter}
 use Rattle.handover.specs.declared.outcome.Outcome.{Outcome}
 use Rattle.board_core.specs.BoardStates.{opening_board, SegmentState, BoardState, segment_at, unclaimed_segment, with_segment}
 use Rattle.board_core.specs.BoardSteps.{BoardEvent, Claim, Put, Pass, Finish, Take, Advance, Stop, Leave, BoardStep, with_claim, with_put, with_passed, with_outcome, with_taken, with_advance, with_stop, with_leave, with_owner, without_owner}
-use Rattle.board_core.specs.BoardInvariants.{bytes_at, LawfulStep, LawfulRun, most_events}
+use Rattle.board_core.specs.BoardInvariants.{bytes_at}
+use Rattle.board_core.specs.LawfulEvents.{LawfulStep, LawfulRun, most_events}
 use Rattle.board_core.proofs.EachSegment.{IsBoard}
 use Rattle.board_core.proofs.SegmentsAt.{owned_within}
 use Rattle.board_core.proofs.KeptSteps.{keeps, owned_facts}

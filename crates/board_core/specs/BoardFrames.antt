@@ -1,9 +1,9 @@
--- What each event changes, and what it leaves as it was (this project's own).
+-- Steps: what each event changes, and what it leaves as it was (own).
 use Rattle.std.specs.Prelude.{◌≡◌, ◌≢◌, ℕ, ◌+◌, ◌≤◌, length, None, Some, true, slice_get}
 use Rattle.board_core.specs.declared.actor.Actor.{Actor}
 use Rattle.board_core.specs.declared.actor.Actor.TheVariants.{Worker, Emitter}
 use Rattle.board_core.specs.BoardStates.{SegmentState, BoardState, segment_at, Owns}
-use Rattle.board_core.specs.BoardSteps.{BoardEvent, Claim, Put, Pass, Finish, Take, Advance, Stop, Leave, BoardStep, with_owner, without_owner}
+use Rattle.board_core.specs.BoardSteps.{BoardEvent, Claim, Put, Pass, Finish, Take, Advance, Stop, Leave, with_owner, without_owner}
 
 -- one segment is changed by f, and all else is as it was
 pub record ChangesOnly (i : ℕ) (f : SegmentState → SegmentState)
@@ -55,8 +55,8 @@ actor_of (Leave w) = Worker w
 abbrev pub NextIsFree : BoardState → Type 0
 NextIsFree b = (segment_at b b.next).owner ≡ None
 
--- all actors but one own what they owned, with as many bytes put, and have left or not as before; a stopped board
--- stays stopped
+-- all actors but one own what they owned, with the same number of bytes put, and have left or not as before; a stopped
+-- board stays stopped
 pub record LeavesOthers (a : Actor) (old new : BoardState) : Type 0 where
   pub still : (b : Actor) (i : ℕ) → b ≢ a → Owns old b i → Owns new b i
   pub before : (b : Actor) (i : ℕ) → b ≢ a → Owns new b i → Owns old b i
@@ -74,15 +74,3 @@ pub record LeavesEmitted (old new : BoardState) : Type 0 where
   pub cur : new.cur ≡ old.cur
   pub taken : (segment_at new old.cur).taken ≡ (segment_at old old.cur).taken
   pub stopped : new.stopped ≡ old.stopped
-
--- an event leaves the others, whoever's it is
-abbrev pub EventsLeaveOthers : Type 0
-EventsLeaveOthers =
-    (old : BoardState) (e : BoardEvent) (new : BoardState)
-    → NextIsFree old → BoardStep old e new → LeavesOthers (actor_of e) old new
-
--- an event of a worker leaves what is emitted
-abbrev pub WorkersLeaveTheEmitted : Type 0
-WorkersLeaveTheEmitted =
-    (w : ℕ) (old : BoardState) (e : BoardEvent) (new : BoardState)
-    → actor_of e ≡ Worker w → BoardStep old e new → LeavesEmitted old new

@@ -1,10 +1,14 @@
--- What lawful events come to, over every list of them from the opening board (this project's own).
+-- Law: what holds of an event, and after every list of lawful events from the opening board (docs/THREADS.md, The
+-- board).
 use Rattle.std.specs.Prelude.{◌≡◌, ℕ, ◌<◌, ◌≤◌, ◌↔◌, List, ◌++◌, length}
 use Rattle.std.specs.List.{concat}
 use Rattle.handover.specs.declared.outcome.Outcome.{Outcome}
+use Rattle.board_core.specs.declared.actor.Actor.TheVariants.{Worker}
 use Rattle.board_core.specs.BoardStates.{BoardState, opening_board, IsEnded}
 use Rattle.board_core.specs.BoardSteps.{BoardEvent, IsEnabled, count_limit, CountsFit, BoardStep}
-use Rattle.board_core.specs.BoardInvariants.{bytes_at, BoardInvariant, MatchesLists, LawfulStep, LawfulRun, bytes_handed_out, CanGoOn, most_events}
+use Rattle.board_core.specs.BoardInvariants.{bytes_at, BoardInvariant}
+use Rattle.board_core.specs.LawfulEvents.{MatchesLists, LawfulStep, LawfulRun, bytes_handed_out, CanGoOn, most_events}
+use Rattle.board_core.specs.BoardFrames.{actor_of, NextIsFree, LeavesOthers, LeavesEmitted}
 
 -- events on a board, the lists that its bytes and outcomes come from, and the board after the last event
 pub record Run : Type 0 where
@@ -29,7 +33,7 @@ abbrev pub output : (r : Run) → IsLawful r → List ℕ
 output r lawful =
     bytes_handed_out r.bytes r.outcomes (board_before r) r.events r.after lawful.events
 
--- an event is enabled where it has a step
+-- an event is enabled exactly if it has a step
 abbrev pub EnabledEventsHappen : Type 0
 EnabledEventsHappen =
     (b : BoardState) (e : BoardEvent) → IsEnabled b e ↔ ((new : BoardState) × BoardStep b e new)
@@ -41,7 +45,7 @@ EventsHaveOneStep =
     (one two : BoardState)
     → BoardInvariant ss os old → BoardStep old e one → BoardStep old e two → one ≡ two
 
--- a lawful event keeps the number of bytes put below 2^64, where no segment is as long
+-- if each segment has fewer than 2^64 bytes, a lawful event keeps the number of bytes put below 2^64
 abbrev pub LawfulEventsFit : Type 0
 LawfulEventsFit =
     (ss : List (List ℕ)) (os : List Outcome) (b : BoardState) (e : BoardEvent)
@@ -63,7 +67,7 @@ abbrev pub BytesComeInOrder : Type 0
 BytesComeInOrder =
     (r : Run) (lawful : IsLawful r) → (rest : List ℕ) × (output r lawful ++ rest ≡ concat r.bytes)
 
--- a board that isn't ended can go on
+-- a board that isn't ended has a next step, or may be stopped for a fault
 abbrev pub NoBoardIsStuck : Type 0
 NoBoardIsStuck =
     (r : Run) → 1 ≤ r.capacity → IsLawful r → ¬ IsEnded r.after → CanGoOn r.bytes r.outcomes r.after
@@ -71,3 +75,15 @@ NoBoardIsStuck =
 -- a list of lawful events is no longer than the bound
 abbrev pub EventsAreFew : Type 0
 EventsAreFew = (r : Run) → IsLawful r → length r.events ≤ most_events r.bytes r.workers
+
+-- an event leaves the others, whoever's it is
+abbrev pub EventsLeaveOthers : Type 0
+EventsLeaveOthers =
+    (old : BoardState) (e : BoardEvent) (new : BoardState)
+    → NextIsFree old → BoardStep old e new → LeavesOthers (actor_of e) old new
+
+-- an event of a worker leaves what is emitted
+abbrev pub WorkersLeaveTheEmitted : Type 0
+WorkersLeaveTheEmitted =
+    (w : ℕ) (old : BoardState) (e : BoardEvent) (new : BoardState)
+    → actor_of e ≡ Worker w → BoardStep old e new → LeavesEmitted old new

@@ -1,4 +1,4 @@
--- The state of the board (this project's own).
+-- Statement: the state of the board (docs/THREADS.md, The board).
 use Rattle.std.specs.Prelude.{◌≡◌, ◌≢◌, ℕ, ◌⊎◌, Bool, true, false, List, [], length, replicate, Option, Some, None, slice_get, slice_set, slice_index_or}
 use Rattle.board_core.specs.declared.actor.Actor.{Actor}
 use Rattle.board_core.specs.declared.actor.Actor.TheVariants.{Worker, Emitter}
@@ -41,7 +41,7 @@ opening_board k capacity workers =
       left = replicate workers false;
     }
 
--- the segment at an index; after the last one stands an unclaimed one
+-- the segment at an index; after the last one, an unclaimed one
 abbrev pub segment_at : BoardState → ℕ → SegmentState
 segment_at b i = slice_index_or b.segments i unclaimed_segment
 
@@ -66,7 +66,7 @@ IsPresent b Emitter = Unit {0}
 abbrev pub IsGood : Option Outcome → Type 0
 IsGood done = (pads : PadSum) × (done ≡ Some (Good pads))
 
--- all workers left, and nothing is to be emitted any more
+-- all workers left, and all segments are emitted or the board is stopped
 abbrev pub IsEnded : BoardState → Type 0
 IsEnded b =
     ((w : ℕ) → slice_get b.left w ≢ Some false)

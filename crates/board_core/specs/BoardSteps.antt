@@ -1,4 +1,4 @@
--- The events of the board: their conditions, and what they change (this project's own).
+-- Steps: the events of the board, the condition of each, and what it changes (docs/THREADS.md, The board).
 use Rattle.std.specs.Prelude.{◌≡◌, ℕ, ◌+◌, ◌^◌, ◌<◌, ◌≤◌, ◌⊎◌, true, false, List, [], ◌++◌, length, drop, map, ◌==◌, if◌then◌else◌, Option, Some, None, slice_set}
 use Rattle.board_core.specs.declared.actor.Actor.{Actor}
 use Rattle.board_core.specs.declared.actor.Actor.TheVariants.{Worker, Emitter}
@@ -16,7 +16,7 @@ pub data BoardEvent : Type 0 where
   Stop : BoardEvent
   Leave : (worker : ℕ) → BoardEvent
 
--- the condition of Claim: an idle actor that is present, and the emitter only where the segment is the one emitted
+-- the condition of Claim: an idle actor that is present, and the emitter only if the segment is the one emitted
 pub record CanClaim (b : BoardState) (a : Actor) : Type 0 where
   pub going : b.stopped ≡ false
   pub more : b.next < length b.segments
@@ -42,7 +42,7 @@ pub record CanFinish (b : BoardState) (a : Actor) (i : ℕ) : Type 0 where
   pub going : b.stopped ≡ false
   pub own : Owns b a i
 
--- the condition of Take: as many bytes of the segment that is emitted wait
+-- the condition of Take: at least this number of bytes of the segment that is emitted wait
 pub record CanTake (b : BoardState) (count : ℕ) : Type 0 where
   pub going : b.stopped ≡ false
   pub more : b.cur < length b.segments
@@ -56,7 +56,7 @@ pub record CanAdvance (b : BoardState) : Type 0 where
   pub good : IsGood (segment_at b b.cur).done
   pub empty : (segment_at b b.cur).ring ≡ []
 
--- the condition of Leave: nothing is left that the worker could do
+-- the condition of Leave: the worker can do nothing more
 pub record CanLeave (b : BoardState) (w : ℕ) : Type 0 where
   pub present : IsPresent b (Worker w)
   pub over : (b.stopped ≡ true) ⊎ ((b.next ≡ length b.segments) × OwnsNothing b (Worker w))
@@ -91,7 +91,7 @@ with_owner a s = record s { owner = Some a }
 abbrev pub with_put : List ℕ → SegmentState → SegmentState
 with_put bytes s = record s { put = s.put + length bytes; ring = s.ring ++ bytes }
 
--- a segment of which n more bytes went past its ring
+-- a segment of which n more bytes were passed, not through its ring
 abbrev pub with_passed : ℕ → SegmentState → SegmentState
 with_passed n s = record s { put = s.put + n; taken = s.taken + n }
 
@@ -103,7 +103,7 @@ with_outcome o s = record s { owner = None; done = Some o }
 abbrev pub with_taken : ℕ → SegmentState → SegmentState
 with_taken n s = record s { taken = s.taken + n; ring = drop n s.ring }
 
--- the owner once a worker left: the same, or none in the worker's stead
+-- the owner once a worker left: the same, or none if it was that worker
 abbrev pub owner_without : ℕ → Option Actor → Option Actor
 owner_without w None = None
 owner_without w (Some Emitter) = Some Emitter

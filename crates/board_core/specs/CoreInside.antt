@@ -1,4 +1,4 @@
--- The board as the program keeps it (this project's own).
+-- View: the board as the program keeps it (own).
 use Rattle.std.specs.Prelude.{◌≡◌, ℕ, ◌+◌, ◌≤◌, List, length, map, All, Some, slice_index_or}
 use Rattle.board_core.specs.declared.actor.Actor.{Actor}
 use Rattle.board_core.specs.declared.segment.Segment.{Segment}

@@ -1,4 +1,4 @@
--- The events of the program as those of the board, and what they answer (this project's own).
+-- View: the events of the program as those of the board, and what they answer (own).
 use Rattle.board_core.specs.BoardStates.{BoardState}
 use Rattle.board_core.specs.BoardSteps.{BoardEvent}
 use Rattle.board_core.specs.BoardSteps as board

@@ -2,7 +2,8 @@ pub mod RingBytes
 pub mod BoardStates
 pub mod BoardSteps
 pub mod BoardInvariants
-pub mod BoardLaws
+pub mod LawfulEvents
 pub mod CoreInside
 pub mod EventValues
 pub mod BoardFrames
+pub mod BoardLaws

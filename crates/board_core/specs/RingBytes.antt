@@ -1,4 +1,4 @@
--- What contracts see of a ring (this project's own).
+-- View: the bytes of a ring, as contracts see them (own).
 use Rattle.std.specs.Prelude.{ℕ, List}
 
 -- the bytes that wait, the oldest first, and how many may

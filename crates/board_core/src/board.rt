@@ -14,7 +14,7 @@ use std::marker::Model;
 
 /// The segments of a file, who owns each of them, and which of its bytes wait. Clauses see a `BoardState`.
 ///
-/// All memory is taken by `new`.
+/// `new` allocates all its memory.
 #[derive(Drop)]
 pub struct Core {
     pub(crate) capacity: usize,
@@ -71,7 +71,7 @@ impl Core {
         })
     }
 
-    /// Lets an event happen, which has to be enabled.
+    /// Applies an event, which must be enabled.
     pub fn step(&mut self, event: &Event) -> Took
         requires can { IsEnabled self.old (board_event event.now) }
         requires small { CountsFit self.old (board_event event.now) }
@@ -163,7 +163,7 @@ impl Core {
         ensures { BoardStep self.old (Take count) self.new }
     {
         let segment = &mut self.segments[self.cur as usize];
-        // No more is taken than was put, which fits.
+        // The sum can't wrap: no more is taken than was put.
         let _put = segment.put;
         segment.taken += count;
         segment.ring.remove_front(count as usize);

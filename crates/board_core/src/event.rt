@@ -15,7 +15,7 @@ pub enum Event<'a> {
     Finish(Actor, Outcome),
     /// The emitter takes the first n bytes, 1 at least, of the ring of the segment that is emitted.
     Take(u64),
-    /// The emitter goes on to the next segment, after a good one of which no byte waits.
+    /// The emitter proceeds to the next segment, after a good one of which no byte waits.
     Advance,
     /// The board stops: from then on workers only leave.
     Stop,
@@ -29,6 +29,6 @@ pub enum Took {
     Nothing,
     /// The number of the segment claimed, from 0.
     Segment(u8),
-    /// How many bytes are gone from the ring.
+    /// How many bytes the ring lost.
     Gone(u64),
 }

@@ -1,14 +1,14 @@
-// What events change and leave, and what every list of lawful ones from the opening board comes to.
+// What events change and leave, and what holds after every list of lawful ones from the opening board.
 ghost use Rattle.std.specs.Prelude.{◌≡◌, ℕ, List};
 ghost use Rattle.handover.specs.declared.outcome.Outcome.{Outcome};
 ghost use Rattle.board_core.specs.declared.actor.Actor.{Actor};
 ghost use Rattle.board_core.specs.declared.actor.Actor.TheVariants.{Worker};
 ghost use Rattle.board_core.specs.BoardStates.{BoardState, Owns};
 ghost use Rattle.board_core.specs.BoardSteps.{BoardStep, Claim, Put, Pass, Finish, Take, Advance, Stop, Leave, with_put, with_passed, with_outcome, with_taken, with_advance, with_stop};
-ghost use Rattle.board_core.specs.BoardLaws.{EnabledEventsHappen, EventsHaveOneStep, LawfulEventsFit, EventsKeepTheBoard, TheBoardIsKept, BytesComeInOrder, NoBoardIsStuck, EventsAreFew};
-ghost use Rattle.board_core.specs.BoardFrames.{ChangesOnly, IsAfterClaim, IsAfterLeave, EventsLeaveOthers, WorkersLeaveTheEmitted};
+ghost use Rattle.board_core.specs.BoardLaws.{EnabledEventsHappen, EventsHaveOneStep, LawfulEventsFit, EventsKeepTheBoard, TheBoardIsKept, BytesComeInOrder, NoBoardIsStuck, EventsAreFew, EventsLeaveOthers, WorkersLeaveTheEmitted};
+ghost use Rattle.board_core.specs.BoardFrames.{ChangesOnly, IsAfterClaim, IsAfterLeave};
 
-/// An event is enabled exactly where it has a step.
+/// An event is enabled exactly if it has a step.
 pub fn enabled_events_happen()
     ensures { EnabledEventsHappen }
 {}
@@ -18,13 +18,13 @@ pub fn events_have_one_step()
     ensures { EventsHaveOneStep }
 {}
 
-/// A lawful event keeps the number of bytes put of a segment below 2^64, where no segment is as long. So `step` may be
-/// called.
+/// If each segment has fewer than 2^64 bytes, a lawful event keeps the number of bytes put of a segment below 2^64. So
+/// `step` may be called.
 pub fn lawful_events_fit()
     ensures { LawfulEventsFit }
 {}
 
-/// `BoardInvariant` holds after a lawful event where it held before.
+/// `BoardInvariant` holds after a lawful event if it held before.
 pub fn events_keep_the_board()
     ensures { EventsKeepTheBoard }
 {}

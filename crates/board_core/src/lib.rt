@@ -1,4 +1,4 @@
-//! The board on which workers and an emitter share the segments of a file (this project's own). No threads.
+//! The board on which workers and an emitter share the segments of a file (docs/THREADS.md, The board). No threads.
 //!
 //!     segment      0          1          2          3          4
 //!               emitted    emitted    claimed    claimed   unclaimed
@@ -9,12 +9,13 @@
 //!     Take      the first bytes of the ring of segment `cur` go to the output
 //!     Pass      bytes of the emitter's own segment go to the output, past its ring
 //!     Finish    a segment has an outcome, and nobody owns it
-//!     Advance   `cur` is one more, where its segment is good and its ring empty
+//!     Advance   `cur` is one more, if its segment is good and its ring empty
 //!     Stop      nothing but Leave happens from then on
-//!     Leave     a worker is gone
+//!     Leave     a worker left
 //!
-//! Nothing else happens, and each event only where its condition holds. The laws in `laws.rt` say what every list of
-//! events comes to. What the bytes are is left to others, and so is who waits for whom.
+//! Nothing else happens, and each event only if its condition holds. The laws in `laws.rt` say what holds after every
+//! list of lawful events. Not handled here: the lock and who waits for whom (see `output_board`), and what the bytes
+//! are (see `segment_worker`).
 #![tactic(auto)]
 
 mod actor;

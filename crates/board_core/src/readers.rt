@@ -8,7 +8,7 @@ use crate::segment::index_of;
 use handover::Outcome;
 
 impl Core {
-    /// Whether all workers left, and nothing is to be emitted any more.
+    /// Whether all workers left, and all segments are emitted or the board was stopped.
     pub fn ended(&self) -> bool
         ensures { IsTrue result ↔ IsEnded self.now }
     {
@@ -89,7 +89,7 @@ impl Core {
         self.segments[i as usize].put
     }
 
-    /// How many bytes of a segment were taken or passed.
+    /// How many bytes of a segment the emitter took or passed.
     pub fn taken_of(&self, i: u8) -> u64
         requires { i < length self.now.segments }
         ensures { result ≡ (segment_at self.now i).taken }
@@ -129,7 +129,7 @@ impl Core {
         self.segments[i as usize].done
     }
 
-    /// Copies the first bytes of the ring of the segment that is emitted, as many as `buf` has room for, and answers
+    /// Copies the first bytes of the ring of the segment that is emitted, as many as `buf` has room for, and returns
     /// how many they are.
     pub fn front(&self, buf: &mut [u8]) -> usize
         requires { self.now.cur < length self.now.segments }

@@ -6,7 +6,7 @@ use circular_buffer::HeapCircularBuffer;
 use std::alloc::{AllocError, Global};
 use std::marker::Model;
 
-// Bytes in the order in which they came, in memory that was taken before. Clauses see the bytes and the capacity.
+// Bytes in the order in which they were put, in memory allocated by `new`. Clauses see the bytes and the capacity.
 #[derive(Drop)]
 pub(crate) struct Ring {
     bytes: HeapCircularBuffer<u8>,

@@ -12,7 +12,7 @@ pub(crate) struct Segment {
     pub(crate) owner: Option<Actor>,
     // How many bytes were put or passed.
     pub(crate) put: u64,
-    // How many bytes were taken or passed.
+    // How many bytes the emitter took or passed.
     pub(crate) taken: u64,
     pub(crate) ring: Ring,
     pub(crate) done: Option<Outcome>,

@@ -8,7 +8,8 @@ use Rattle.board_core.specs.declared.actor.Actor.{Actor}
 use Rattle.board_core.specs.declared.actor.Actor.TheVariants.{Worker, Emitter}
 use Rattle.board_core.specs.BoardStates.{BoardState, segment_at, Owns, OwnsNothing}
 use Rattle.board_core.specs.BoardSteps.{BoardEvent, BoardStep}
-use Rattle.board_core.specs.BoardInvariants.{BoardInvariant, MatchesLists}
+use Rattle.board_core.specs.BoardInvariants.{BoardInvariant}
+use Rattle.board_core.specs.LawfulEvents.{MatchesLists}
 use Rattle.board_core.specs.BoardFrames.{LeavesOthers, LeavesEmitted, actor_of}
 use Rattle.board_core.proofs.EachSegment.{is_board, from_board}
 use Rattle.board_core.proofs.KeptSteps.{keeps}

@@ -10,7 +10,8 @@ use Rattle.handover.specs.declared.outcome.Outcome.{Outcome}
 use Rattle.board_core.specs.declared.actor.Actor.TheVariants.{Emitter}
 use Rattle.board_core.specs.BoardStates.{BoardState, SegmentState, segment_at, with_segment, IsGood}
 use Rattle.board_core.specs.BoardSteps.{BoardEvent, Take, Advance, Stop, BoardStep, CanTake, CanAdvance, with_taken}
-use Rattle.board_core.specs.BoardInvariants.{bytes_at, MatchesLists}
+use Rattle.board_core.specs.BoardInvariants.{bytes_at}
+use Rattle.board_core.specs.LawfulEvents.{MatchesLists}
 use Rattle.board_core.specs.BoardFrames.{actor_of}
 use Rattle.board_core.proofs.SegmentsAt.{at_same, at_other, length-range}
 use Rattle.output_board.specs.declared.view.View.{View}

@@ -1,5 +1,5 @@
--- What the calls ask of a seat's view, and what they answer (this project's own). `seen` is what a call's one hold
--- found; `ss` and `os` are the bytes and the outcomes of the segments.
+-- Steps: what the calls ask of a seat's view, and what they make of it and return (own). `seen` is what a call's one
+-- hold found; `ss` and `os` are the bytes and the outcomes of the segments.
 use Rattle.std.specs.Prelude.{◌≡◌, ◌≢◌, ℕ, ◌+◌, ◌<◌, ◌≤◌, ◌⊎◌, min, take, drop, ◌==◌, if◌then◌else◌, List, ◌++◌, length, true, false, Some, slice_get}
 use Rattle.handover.specs.declared.outcome.Outcome.{Outcome}
 use Rattle.handover.specs.declared.outcome.Outcome.TheVariants.{Good, Bad}
@@ -34,7 +34,7 @@ pub record IsAtEnd (ss : List (List ℕ)) (os : List Outcome) (w : WorkerView) (
   pub all : w.put ≡ length (bytes_at ss index)
   pub outcome : slice_get os index ≡ Some o
 
--- a hold of a seat told this, and its view is what kind, amount and the segment that was next make of it
+-- the last hold of a seat has this kind, amount and `seen`, and made these changes of its view and its claims
 pub record HasTold {C V : Type 0} (after : V → ℕ → ℕ → ℕ → V) (old new : SeatValue C V)
     (kind amount : ℕ) (seen : Seen) : Type 0 where
   pub last : new.last ≡ Some (kind, amount, seen)
@@ -51,8 +51,8 @@ module _ {C : Type 0} where
   EmitterTold old new kind amount seen =
       HasTold emitter_after old new kind amount seen × (seen.cur ≡ old.view.cur)
 
-  -- claim, for so many segments: Segment where the board isn't stopped and one is left, NoneLeft where it isn't stopped
-  -- and none is, Stopped where it is; a seat has claimed no more segments than were claimed at all
+  -- claim, for the given number of segments: Segment if the board isn't stopped and one is left, NoneLeft if it isn't
+  -- stopped and none is, Stopped if it is; a seat has claimed no more segments than were claimed at all
   abbrev pub ClaimGives : ℕ → SeatValue C WorkerView → SeatValue C WorkerView → Claim → Type 0
   ClaimGives count old new (Segment i) =
       (seen : Seen) × WorkerTold old new claim_kind 0 seen
@@ -64,7 +64,7 @@ module _ {C : Type 0} where
   ClaimGives count old new ClaimStopped =
       (seen : Seen) × WorkerTold old new over_kind 0 seen × (seen.stopped ≡ true)
 
-  -- put, of so many bytes: Took n where the board isn't stopped, for as many as the ring had room for
+  -- put, of the given number of bytes: Took n if the board isn't stopped and the ring had room for n of them
   abbrev pub PutGives : ℕ → SeatValue C WorkerView → SeatValue C WorkerView → Put → Type 0
   PutGives count old new (Took n) =
       (seen : Seen) × WorkerTold old new (if n == 0 then nothing_kind else put_kind) n seen
@@ -73,7 +73,7 @@ module _ {C : Type 0} where
   PutGives count old new PutStopped =
       (seen : Seen) × WorkerTold old new over_kind 0 seen × (seen.stopped ≡ true)
 
-  -- finish: Kept where the board isn't stopped
+  -- finish: Kept if the board isn't stopped
   abbrev pub FinishGives : SeatValue C WorkerView → SeatValue C WorkerView → Finish → Type 0
   FinishGives old new Kept =
       (seen : Seen) × WorkerTold old new finish_kind 0 seen × (seen.stopped ≡ false)
@@ -84,9 +84,9 @@ module _ {C : Type 0} where
   abbrev pub LeaveGives : SeatValue C WorkerView → SeatValue C WorkerView → Type 0
   LeaveGives old new = (seen : Seen) × WorkerTold old new leave_kind 0 seen
 
-  -- take, by what the buffer was and is: Bytes n where bytes wait; Ended where none does and the segment has its
-  -- outcome; Unclaimed where nobody has claimed it; NotYet where somebody has, no byte waits and it isn't done; Over
-  -- where all segments are emitted
+  -- take, by what the buffer was and is: Bytes n if bytes wait; Ended if none does and the segment has its outcome;
+  -- Unclaimed if nobody has claimed it; NotYet if somebody has, no byte waits and it isn't done; Over if all segments
+  -- are emitted
   abbrev pub TakeGives : List (List ℕ) → List Outcome
       → SeatValue C EmitterView → SeatValue C EmitterView → List ℕ → List ℕ → Take → Type 0
   TakeGives ss os old new before now (Bytes n) =
@@ -113,7 +113,8 @@ module _ {C : Type 0} where
       (seen : Seen) × EmitterTold old new nothing_kind 0 seen
       × (seen.cur ≡ length ss) × (now ≡ before)
 
-  -- claim_own, for so many segments: Mine where the segment that is emitted is the next one, of which no byte is taken
+  -- claim_own, for the given number of segments: Mine if the segment that is emitted is the next one; the emitter has
+  -- taken no byte of it
   abbrev pub OwnGives : ℕ → SeatValue C EmitterView → SeatValue C EmitterView → Own → Type 0
   OwnGives count old new (Mine i) =
       (seen : Seen) × EmitterTold old new claim_kind 0 seen
@@ -123,7 +124,7 @@ module _ {C : Type 0} where
       (seen : Seen) × EmitterTold old new nothing_kind 0 seen
       × ((seen.next ≢ seen.cur) ⊎ (seen.cur ≡ count))
 
-  -- pass, of so many bytes
+  -- pass, of the given number of bytes
   abbrev pub PassGives : ℕ → SeatValue C EmitterView → SeatValue C EmitterView → Type 0
   PassGives count old new = (seen : Seen) × EmitterTold old new pass_kind count seen
 

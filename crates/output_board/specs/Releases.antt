@@ -1,4 +1,4 @@
--- What a release says of the board, and what it makes of the holder's view (this project's own).
+-- Steps: what a release says of the board, and what it makes of the holder's view (own).
 use Rattle.std.specs.Prelude.{◌≡◌, ℕ, ◌+◌, ◌-◌, true, false, List, [], length, take, drop, Option, Some, None, is_some, MatchOption, slice_get, ◌==◌, if◌then◌else◌}
 use Rattle.handover.specs.declared.outcome.Outcome.{Outcome}
 use Rattle.board_core.specs.declared.actor.Actor.{Actor}
@@ -41,7 +41,7 @@ finish_kind = 5
 abbrev pub take_kind : ℕ
 take_kind = 6
 
--- the kind of going on to the next segment
+-- the kind of proceeding to the next segment
 abbrev pub advance_kind : ℕ
 advance_kind = 7
 
@@ -107,7 +107,7 @@ abbrev pub IsSeenBy : Actor → Seen → BoardState → Type 0
 IsSeenBy a seen b =
     (own : Option ℕ) × MatchOption own (OwnsNothing b a) (Owns b a) × IsSeen own seen b
 
--- the next bytes of a segment, as many as the amount
+-- the next bytes of a segment, the amount of them
 abbrev pub next_bytes : List (List ℕ) → Option ℕ → ℕ → ℕ → List ℕ
 next_bytes ss None from amount = []
 next_bytes ss (Some i) from amount = take amount (drop from (bytes_at ss i))
@@ -148,7 +148,7 @@ module _ {C : Type 0} where
   }
 
   -- what a release says: what is seen is the board found, and the board left is the step of the event that is named, or
-  -- the board found where none is
+  -- the board found if none is
   pub record Tells (bytes : C → List (List ℕ)) (outcomes : C → List Outcome)
       (v : View C) (kind amount : ℕ) (seen : Seen) (found left : BoardState) : Type 0 where
     pub sees : IsSeen (own_segment v.role) seen found

@@ -1,4 +1,4 @@
--- What the seat rule says of the views of all seats (this project's own).
+-- Law: what the seat rule says of the views of all seats (own).
 use Rattle.std.specs.Prelude.{◌≡◌, ℕ, ◌⊎◌, List, length, true, Option, Some}
 use mathlib.Core.Option.{some}
 use lib.ListN.{get_elem?}
@@ -20,11 +20,11 @@ use Rattle.output_board.specs.Answers.{ClaimGives}
 abbrev pub HasNoneToClaim : BoardState → Type 0
 HasNoneToClaim b = (b.stopped ≡ true) ⊎ (b.next ≡ length b.segments)
 
--- the emitter's view, for so many segments, says that all are emitted, or that it stopped the board
+-- the emitter's view, for the given number of segments, says that all are emitted, or that it stopped the board
 abbrev pub IsThrough : ℕ → EmitterView → Type 0
 IsThrough count e = (e.cur ≡ count) ⊎ (e.stopped ≡ true)
 
--- a claim, for so many segments, whose last hold saw this board, answers NoneLeft or Stopped
+-- a claim, for the given number of segments, whose last hold saw this board, returns NoneLeft or Stopped
 abbrev pub ClaimsFindNothing : Type 0 → BoardState → ℕ → Type 0
 ClaimsFindNothing C b count =
     (old new : SeatValue C WorkerView) (answer : Claim)
@@ -34,7 +34,7 @@ ClaimsFindNothing C b count =
     → (answer ≡ NoneLeft) ⊎ (answer ≡ Stopped)
 
 module _ {C : Type 0} (bytes : C → List (List ℕ)) (outcomes : C → List Outcome) where
-  -- where the emitter is through, nothing is to be claimed, and each claim finds that
+  -- if the emitter is through, no segment is left to claim, and each claim finds that
   abbrev pub LateClaimsFindNothing : Type 0
   LateClaimsFindNothing =
       (b : BoardState) (views : List (View C)) (j : ℕ) (v : View C) (e : EmitterView)
@@ -42,7 +42,7 @@ module _ {C : Type 0} (bytes : C → List (List ℕ)) (outcomes : C → List Out
       → IsThrough (length (bytes v.content.value)) e
       → HasNoneToClaim b × ClaimsFindNothing C b (length (bytes v.content.value))
 
-  -- of all views, one at most names a segment as its seat's own
+  -- at most one of all views names a segment as its seat's own
   abbrev pub SegmentsHaveOneOwner : Type 0
   SegmentsHaveOneOwner =
       (b : BoardState) (views : List (View C)) (j k : ℕ) (u v : View C) (i : ℕ)

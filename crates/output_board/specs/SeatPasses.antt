@@ -1,4 +1,4 @@
--- Seats as passes of the lock that a board lies under (this project's own).
+-- View: seats as passes of the board's lock (own).
 use Rattle.std.specs.Prelude.{◌≡◌, ℕ}
 use Rattle.seat_lock.specs.declared.pass.Pass.{Pass}
 use Rattle.seat_lock.specs.Passes.{lock_of, view_of, holds_of, last_of, IsReady}

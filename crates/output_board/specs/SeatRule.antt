@@ -1,4 +1,4 @@
--- What ties a board to what its seats know (this project's own).
+-- View: what ties a board to what its seats know (docs/THREADS.md, The seats).
 use Rattle.std.specs.Prelude.{◌≡◌, ℕ, ◌+◌, ◌<◌, ◌≤◌, ◌⊎◌, true, false, List, length, Some, None, slice_get}
 use mathlib.Core.Option.{some}
 use lib.ListN.{get_elem?}
@@ -24,7 +24,7 @@ pub record FitsEmitter (b : BoardState) (e : EmitterView) : Type 0 where
   pub workers : e.workers ≡ length b.left
   pub capacity : e.capacity ≡ b.capacity
 
--- nothing is left that a worker could do
+-- a worker can do nothing more
 abbrev pub IsOverFor : BoardState → ℕ → Type 0
 IsOverFor b w =
     (b.stopped ≡ true) ⊎ ((b.next ≡ length b.segments) × OwnsNothing b (Worker w))
@@ -71,7 +71,7 @@ abbrev pub new_worker : ℕ → WorkerView
 new_worker number =
     record { number = number; segment = None; put = 0; over = false; left = false }
 
--- the emitter's seat may be split while workers' seats are to be made, and no other
+-- the emitter's seat may be split while workers' seats are still to make, and no other
 abbrev pub RoleMaySplit : Role → Type 0
 RoleMaySplit (Emits e) = e.made < e.workers
 RoleMaySplit (Works w) = ⊥

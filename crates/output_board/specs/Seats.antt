@@ -1,4 +1,4 @@
--- What clauses see of a seat (this project's own).
+-- View: a seat, as clauses see it (own).
 use Rattle.std.specs.Prelude.{◌≡◌, ℕ, ◌+◌, List, [], ◌∷◌, ◌++◌, zero, suc, Option, None, false}
 use Rattle.atomic_table.specs.Seated.{TableId}
 use Rattle.output_board.specs.declared.view.EmitterView.{EmitterView}
@@ -7,7 +7,7 @@ use Rattle.output_board.specs.declared.seen.Seen.{Seen}
 use Rattle.output_board.specs.SeatRule.{new_worker}
 
 -- a seat: of which board it is, for which content, its view, how many segments it has claimed, how often it held the
--- board, and what it told last: kind, amount and what it saw
+-- board, and the last hold: its kind, its amount and what it saw
 pub record SeatValue (C V : Type 0) : Type 0 where
   pub table : TableId
   pub content : C
@@ -45,7 +45,7 @@ module _ {C : Type 0} where
   new_emitter_seat table content workers capacity =
       new_seat table content (new_emitter workers workers capacity)
 
-  -- the seats of so many workers before the first event, in the order of their numbers
+  -- the seats of the given number of workers before the first event, in the order of their numbers
   abbrev pub new_worker_seats : TableId → C → ℕ → List (SeatValue C WorkerView)
   new_worker_seats table content zero = []
   new_worker_seats table content (suc w) =

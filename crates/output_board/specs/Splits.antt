@@ -1,4 +1,4 @@
--- A split of the emitter's seat keeps the seat rule (this project's own).
+-- Law: a split of the emitter's seat keeps the seat rule, with its proof, which the rule of the lock cites (own).
 use Rattle.std.specs.Prelude.{◌≡◌, ◌≢◌, ℕ, ◌+◌, ◌<◌, ◌≤◌, List, [], ◌∷◌, ◌++◌, length, slice_set}
 use Rattle.std.proofs.Common.{sym, ap, ◌∙◌, subst, refl, set, ⊎_elim, ◌⊎◌, true≢false, arith, zero, suc, inl, inr, length-append, length-set}
 use mathlib.Core.Option.{some, some-injective, some-ne-none}
@@ -22,7 +22,7 @@ at_end (x ∷ xs) a b zero e = inl e
 at_end (x ∷ xs) a b (suc j) e =
     ⊎_elim inl (λ (t : (j ≡ length xs) × (a ≡ b)). inr (ap suc t.0, t.1)) (at_end xs a b j e)
 
--- the role that is split is the emitter's, and a worker's seat is to be made
+-- the role that is split is the emitter's, and it still has a worker's seat to make
 splitting : (r : Role) → RoleMaySplit r → (e : EmitterView) × (r ≡ Emits e) × (e.made < e.workers)
 splitting (Emits e) h = (e, refl, h)
 splitting (Works w) h = absurd h

@@ -1,7 +1,7 @@
-// What the calls answer.
+// What the calls return.
 use handover::Outcome;
 
-/// What a claim answers.
+/// What `claim` returns.
 #[derive(Clone, Copy)]
 pub enum Claim {
     /// The worker owns this segment from now on. Segments are numbered from 0.
@@ -12,17 +12,16 @@ pub enum Claim {
     Stopped,
 }
 
-/// What a put answers.
+/// What `put` returns.
 #[derive(Clone, Copy)]
 pub enum Put {
-    /// The first n bytes are in the segment's ring: all of them, or as many as there was room for, 0 where the ring was
-    /// full.
+    /// The first n bytes are in the segment's ring: all of them, or as many as it had room for, 0 if it was full.
     Took(usize),
     /// The emitter stopped the board, and no byte was put.
     Stopped,
 }
 
-/// What the end of a worker's segment answers.
+/// What `finish` returns.
 #[derive(Clone, Copy)]
 pub enum Finish {
     /// The segment has its outcome, and the worker owns nothing.
@@ -31,12 +30,12 @@ pub enum Finish {
     Stopped,
 }
 
-/// What the emitter finds of the segment that is emitted.
+/// What `take` returns: what the emitter finds of the segment that is emitted.
 #[derive(Clone, Copy)]
 pub enum Take {
     /// The next n bytes of the segment, 1 at least, are in the buffer, and no longer in the ring.
     Bytes(usize),
-    /// All bytes were taken, and the segment ended. After a good one the next segment is emitted.
+    /// The emitter has all bytes, and the segment has this outcome. After a good one the next segment is emitted.
     Ended(Outcome),
     /// Nobody has claimed the segment.
     Unclaimed,
@@ -46,7 +45,7 @@ pub enum Take {
     Over,
 }
 
-/// What the emitter's claim answers.
+/// What `claim_own` returns.
 #[derive(Clone, Copy)]
 pub enum Own {
     /// The segment that is emitted is the emitter's own from now on.

@@ -1,4 +1,4 @@
-// A board is made, with its seats.
+// Making a board, with its seats.
 ghost use Rattle.std.specs.Prelude.{◌≡◌, ◌<◌, ◌≤◌, ℕ, IfOk, length};
 ghost use Rattle.board_core.specs.BoardSteps.{count_limit};
 ghost use Rattle.board_core.specs.BoardInvariants.{bytes_at};
@@ -32,8 +32,8 @@ impl<C: Content> Model for Board<C> {
 }
 
 impl<C: Content> Board<C> {
-    /// The board of a content of `k` segments before the first event, the emitter's seat, and the seats of so many
-    /// workers in the order of their numbers. Each segment's ring holds at most `capacity` bytes.
+    /// Makes the board of a content of `k` segments before the first event, the emitter's seat, and the seats of
+    /// `workers` workers in the order of their numbers. Each segment's ring holds at most `capacity` bytes.
     pub fn prepare(
         alloc: Global,
         content: &C,

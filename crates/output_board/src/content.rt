@@ -1,6 +1,6 @@
 // What a board is for.
 
-/// The bytes of each segment, and how each ends. No call tells them: they are what the clauses speak of.
+/// The bytes of each segment, and how each ends. They are data of the proof alone, of which the clauses speak.
 pub trait Content {
     ghost use Rattle.std.specs.Prelude.{ℕ, List};
     ghost use Rattle.handover.specs.declared.outcome.Outcome.{Outcome};

@@ -13,7 +13,7 @@ use handover::Outcome;
 use std::sync::Wait;
 
 impl<C: Content> Board<C> {
-    /// Takes the next bytes of the segment that is emitted, as many as wait and `buf` has room for, to the start of
+    /// Moves the next bytes of the segment that is emitted, as many as wait and `buf` has room for, to the start of
     /// `buf`. After the end of a good segment the next one is emitted.
     pub fn take<R: Wait>(&self, rt: &R, seat: &mut EmitterSeat<C>, buf: &mut [u8]) -> Take
         requires own { seat.old.table ≡ self.now }
@@ -27,7 +27,7 @@ impl<C: Content> Board<C> {
         emitter_holds::take(rt, &self.lock, &mut seat.pass, buf)
     }
 
-    /// Claims the segment that is emitted for the emitter, where nobody has.
+    /// Claims the segment that is emitted for the emitter, if nobody has.
     pub fn claim_own<R: Wait>(&self, rt: &R, seat: &mut EmitterSeat<C>) -> Own
         requires own { seat.old.table ≡ self.now }
         requires free { seat.old.view.owns ≡ false }
@@ -38,7 +38,7 @@ impl<C: Content> Board<C> {
         emitter_holds::claim_own(rt, &self.lock, &mut seat.pass)
     }
 
-    /// Says that the next n bytes of the emitter's own segment, 1 at least, go to the output, past the ring.
+    /// Records that the next n bytes of the emitter's own segment, 1 at least, go to the output, not through the ring.
     pub fn pass<R: Wait>(&self, rt: &R, seat: &mut EmitterSeat<C>, n: u64)
         requires own { seat.old.table ≡ self.now }
         requires owns { seat.old.view.owns ≡ true }
@@ -77,7 +77,7 @@ impl<C: Content> Board<C> {
         emitter_holds::stop(rt, &self.lock, &mut seat.pass)
     }
 
-    /// Waits while nothing has rung the bell since the emitter's last hold. It may also return for no reason.
+    /// Waits until the bell has rung since the emitter's last hold. It may also return for no reason.
     pub fn pause_emitter<R: Wait>(&self, rt: &R, seat: &mut EmitterSeat<C>)
         requires own { seat.old.table ≡ self.now }
         ensures same { seat.new ≡ seat.old }

@@ -5,18 +5,18 @@ use crate::board::Board;
 use crate::content::Content;
 use crate::seat::{EmitterSeat, WorkerSeat};
 
-/// Where the board fits views of which the emitter's says that all segments are emitted, or that it stopped the board,
-/// the board is stopped or each segment is claimed: a claim answers `NoneLeft` or `Stopped`.
+/// If the board fits views of which the emitter's says that all segments are emitted, or that it stopped the board, the
+/// board is stopped or each segment is claimed: a claim returns `NoneLeft` or `Stopped`.
 pub fn a_late_claim_finds_nothing<C: Content>()
     ensures { LateClaimsFindNothing C.bytes C.outcomes }
 {}
 
-/// Of the views that a board fits, no two name one segment as their seat's own, the emitter's included.
+/// No two of the views that a board fits name one segment as their seat's own, the emitter's included.
 pub fn no_two_seats_own_one_segment<C: Content>()
     ensures { SegmentsHaveOneOwner C.bytes C.outcomes }
 {}
 
-/// Seats may go to other threads, and a board may be shared by them, where its content may.
+/// If a content may be sent to threads and shared by them, its seats may be sent and its board shared.
 pub fn seats_go_to_threads<C: Content + Send + Sync>() {
     is_send::<WorkerSeat<C>>();
     is_send::<EmitterSeat<C>>();

@@ -9,11 +9,11 @@
 //!     emitter                        take              take             stop
 //!       of its own  claim_own        pass              finish_own
 //!
-//! Each call through a seat is one hold of the lock, and answers what that hold found of the board (`Seen`). A seat's
+//! Each call through a seat is one hold of the lock, and returns what that hold found of the board (`Seen`). A seat's
 //! view is what the seat knows whatever others do: the segment that is its own, and how far it is. A `Content` has the
-//! bytes and the outcome of each segment, of which the clauses speak. A call rings the bell where it changes what
-//! another seat may wait for. What happens to a board is said by `board_core`, what a lock keeps by `seat_lock`; who
-//! codes a segment, and who writes it, is left to others.
+//! bytes and the outcome of each segment, of which the clauses speak. A call rings the bell if it changes what another
+//! seat may wait for. `board_core` has the events of a board, `seat_lock` what a lock keeps. Not handled here: coding a
+//! segment and writing it (see `segment_worker`).
 #![tactic(auto)]
 
 mod answers;

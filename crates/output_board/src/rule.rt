@@ -1,4 +1,4 @@
-// The rule of the lock that a board lies under.
+// The rule of a board's lock.
 use crate::content::Content;
 use crate::seen::Seen;
 use crate::view::View;

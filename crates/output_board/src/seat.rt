@@ -1,4 +1,4 @@
-// The seats by which a board is called.
+// The seats through which a board is called.
 use crate::content::Content;
 use crate::rule::BoardRule;
 use seat_lock::Pass;

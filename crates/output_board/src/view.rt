@@ -1,15 +1,15 @@
-// What seats know. No value of these is needed but the first seat's.
+// What seats know. Only the first seat's is ever made as a value.
 use std::snapshot::Snapshot;
 
 /// What the emitter's seat knows.
 #[derive(Drop)]
 pub struct EmitterView {
-    /// How many workers' seats were made so far, and how many there are to be.
+    /// How many workers' seats were made so far, and how many there will be.
     pub made: u64,
     pub workers: u64,
     /// How many bytes each ring has room for.
     pub capacity: u64,
-    /// The segment that is emitted, and how many of its bytes were taken or passed.
+    /// The segment that is emitted, and how many of its bytes the emitter took or passed.
     pub cur: u64,
     pub taken: u64,
     /// Whether the segment that is emitted is the emitter's own.

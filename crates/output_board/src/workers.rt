@@ -25,8 +25,8 @@ impl<C: Content> Board<C> {
         worker_holds::claim(rt, &self.lock, &mut seat.pass, seat.number)
     }
 
-    /// Puts the next bytes of the worker's segment, 1 at least, into its ring, as many as there is room for. The others
-    /// take another call.
+    /// Puts the next bytes of the worker's segment, 1 at least, into its ring, as many as it has room for. The others
+    /// need another call.
     pub fn put<R: Wait>(&self, rt: &R, seat: &mut WorkerSeat<C>, bytes: &[u8]) -> Put
         requires own { seat.old.table ≡ self.now }
         requires some { 1 ≤ length bytes.now }
@@ -50,7 +50,7 @@ impl<C: Content> Board<C> {
         worker_holds::finish(rt, &self.lock, &mut seat.pass, seat.number, outcome)
     }
 
-    /// The worker leaves, for which all is over. A segment of a stopped board that was its own is nobody's.
+    /// Lets a worker for which all is over leave. If the board is stopped, nobody owns its segment afterwards.
     pub fn leave<R: Wait>(&self, rt: &R, seat: &mut WorkerSeat<C>)
         requires own { seat.old.table ≡ self.now }
         requires over { seat.old.view.over ≡ true }
@@ -61,7 +61,7 @@ impl<C: Content> Board<C> {
         worker_holds::leave(rt, &self.lock, &mut seat.pass, seat.number)
     }
 
-    /// Waits while nothing has rung the bell since the worker's last hold. It may also return for no reason.
+    /// Waits until the bell has rung since the worker's last hold. It may also return for no reason.
     pub fn pause_worker<R: Wait>(&self, rt: &R, seat: &mut WorkerSeat<C>)
         requires own { seat.old.table ≡ self.now }
         ensures same { seat.new ≡ seat.old }

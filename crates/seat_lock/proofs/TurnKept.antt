@@ -15,7 +15,8 @@ use Rattle.seat_lock.specs.declared.known.Slot.{Slot}
 use Rattle.seat_lock.specs.declared.known.Slot.TheVariants.{Home, Note, Out}
 use Rattle.seat_lock.specs.declared.known.Stage.{Stage}
 use Rattle.seat_lock.specs.declared.known.Stage.TheVariants.{Idle, Holds, Told}
-use Rattle.seat_lock.specs.TurnRule.{Seated, FitsAgain, seen_by, views_of, view_before, found_in, AllIdle, OthersIdle, IsNumbered, IsCounted, AtHome, Away, IsKept, holding, idle, changed, tried, after_note, told, given, giver, newcomer, rung}
+use Rattle.seat_lock.specs.TurnRule.{Seated, FitsAgain, seen_by, views_of, view_before, found_in, AllIdle, OthersIdle, IsNumbered, IsCounted, AtHome, Away, IsKept}
+use Rattle.seat_lock.specs.TurnSteps.{holding, idle, changed, tried, after_note, told, given, giver, newcomer, rung}
 use Rattle.seat_lock.proofs.SeatLists.{set_at, set_twice, set_across, set_prefix, at_end, in_one, only_one}
 
 none_some : {X : Type 0} (x : X) → None ≡ Some x → ⊥
@@ -345,7 +346,7 @@ module _ {V X : Type 0} (E : Type 0) (fits : X → List V → Type 0) where
             kept.turn;
       }
 
-  -- the value at home, where the first seat is alone and idle
+  -- the value at home, if the first seat is alone and idle
   closes : (s : State (Slot X E) (Known V X E)) → IsKept fits s → (id : ℕ) (k : Known V X E)
       → get_elem? s.views id ≡ some k → k.number ≡ 0 → k.splits ≡ 0 → k.stage ≡ Idle
       → (x : X) × (s.homes ≡ some (Home x) ∷ []) × fits x (k.view ∷ [])
@@ -379,7 +380,7 @@ module _ {V X : Type 0} (E : Type 0) (fits : X → List V → Type 0) where
     abbrev left_by : Known V X E → Known V X E
     left_by k = changed after k kind amount entry found
 
-    -- the note is told, at a seat that had its value out
+    -- the note is recorded, at a seat that had its value out
     pub tells_note : (slots id : ℕ) (me me' : Seated V X E)
         → me' ≡ (me.0, (0, Note kind amount entry) ∷ rest me.1) → me.1 ≡ (0, Out) ∷ [] → me.0.stage ≡ Holds found
         → Allows (IsKept fits) slots id me' 0 (λ _. 1) (λ _. told after (step slots 0 1 0 none) me' 1)
@@ -397,7 +398,7 @@ module _ {V X : Type 0} (E : Type 0) (fits : X → List V → Type 0) where
         ∙ (ap (λ (m : Seated V X E). pair_of (after_note after m.0 m.1 m.0.stage) m.1) now
         ∙ (λ i. (after_note after me.0 (note ∷ rest (out i)) (is i), note ∷ rest (out i))))
 
-    -- the value left is given, at a seat that has told of it
+    -- the value left is given, at a seat that has recorded its change
     pub gives_left : (slots id : ℕ) (me me'' me3 : Seated V X E) (left : X)
         → me'' ≡ (changed after me.0 kind amount entry found, (0, Note kind amount entry) ∷ [])
         → me3 ≡ (me''.0, (0, Home left) ∷ rest me''.1)

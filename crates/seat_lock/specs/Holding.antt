@@ -1,4 +1,4 @@
--- What clauses say of a hold (this project's own).
+-- View: a hold, as clauses see it (own).
 use Rattle.std.specs.Prelude.{◌≡◌, ℕ, List, [], ◌∷◌}
 use denote.Ref.{MutBor}
 use Rattle.seat_lock.specs.declared.known.Slot.TheVariants.{Out}
@@ -21,7 +21,7 @@ module _ {L V X E : Type 0} where
   abbrev pub found_of : Held L V X E → X
   found_of held = held.found.value
 
-  -- the value as it stands
+  -- the value as it is now
   abbrev pub value_of : Held L V X E → X
   value_of held = held.value
 
@@ -36,8 +36,7 @@ module _ {L V X E : Type 0} where
   view_after after held kind amount entry =
       after (view_of (pass_of held)) kind amount entry (found_of held)
 
-  -- the value as it stands fits each list of views that the one found fits, with this view in place of
-  -- the pass's own
+  -- the value as it is now fits each list of views that the one found fits, with this view in place of the pass's own
   abbrev pub Refits : (X → List V → Type 0) → Held L V X E → V → Type 0
   Refits fits held view =
       let pass = pass_of held in

@@ -1,3 +1,4 @@
 pub mod TurnRule
+pub mod TurnSteps
 pub mod Passes
 pub mod Holding

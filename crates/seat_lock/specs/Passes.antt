@@ -1,4 +1,4 @@
--- What clauses say of a lock and of its passes (this project's own).
+-- View: a lock and its passes, as clauses see them (own).
 use Rattle.std.specs.Prelude.{◌≡◌, ℕ, [], Option, None}
 use Rattle.atomic_table.specs.Seated.{TableId}
 use Rattle.seat_lock.specs.declared.known.Stage.TheVariants.{Idle}
@@ -26,7 +26,7 @@ module _ {L V X E : Type 0} where
   abbrev pub holds_of : Pass L V X E → ℕ
   holds_of pass = pass.seat.me.0.holds
 
-  -- what a pass's last release told: kind, amount and entry
+  -- kind, amount and entry of a pass's last release
   abbrev pub last_of : Pass L V X E → Option (ℕ × ℕ × E)
   last_of pass = pass.seat.me.0.last
 

@@ -1,12 +1,12 @@
--- What holds of the table under a lock between any two steps (this project's own). The table has
--- two words, the turn and the bell, one slot, where the value is at home, and a seat for each pass.
+-- View: what always holds of the table under a lock between any two steps (docs/THREADS.md, Invariants). The table has
+-- two words, the turn and the bell, one slot, in which the value is at home, and a seat for each pass.
 use Rattle.std.specs.Prelude.{◌≡◌, ◌≢◌, ℕ, ◌+◌, List, [], ◌∷◌, ◌⊎◌, map, length, slice_index, slice_set, Option, Some, None}
 use mathlib.Core.Option.{none, some}
 use lib.ListN.{get_elem?}
-use Rattle.atomic_table.specs.Table.{State, Me, Step, rest}
+use Rattle.atomic_table.specs.Table.{State, Me}
 use Rattle.seat_lock.specs.declared.known.Known.{Known}
 use Rattle.seat_lock.specs.declared.known.Slot.{Slot}
-use Rattle.seat_lock.specs.declared.known.Slot.TheVariants.{Home, Note}
+use Rattle.seat_lock.specs.declared.known.Slot.TheVariants.{Home}
 use Rattle.seat_lock.specs.declared.known.Stage.{Stage}
 use Rattle.seat_lock.specs.declared.known.Stage.TheVariants.{Idle, Holds, Told}
 
@@ -27,8 +27,7 @@ pub record FitsAmong {V X : Type 0} (fits : X → List V → Type 0) (value : X)
   pub fitted : fits value views
   pub at : get_elem? views number ≡ some view
 
--- where the value found fits views with the old one at a number, the value left fits them with the
--- new one there
+-- if the value found fits views with the old one at a number, the value left fits them with the new one there
 abbrev pub FitsAgain : {V X : Type 0} → (X → List V → Type 0) → ℕ → V → V → X → X → Type 0
 FitsAgain {V} fits number old new found left =
     (views : List V) → fits found views → get_elem? views number ≡ some old
@@ -65,7 +64,7 @@ module _ {V X E : Type 0} where
   abbrev pub IsNumbered : List (Known V X E) → Type 0
   IsNumbered ks = (j : ℕ) (k : Known V X E) → get_elem? ks j ≡ some k → k.number ≡ j
 
-  -- the seats other than the first are as many as it has split off
+  -- the number of the seats other than the first is that of its splits
   abbrev pub IsCounted : List (Known V X E) → Type 0
   IsCounted ks = (k : Known V X E) → get_elem? ks 0 ≡ some k → length ks ≡ k.splits + 1
 
@@ -98,72 +97,3 @@ pub record IsKept {V X E : Type 0} (fits : X → List V → Type 0) (s : State (
   pub numbered : IsNumbered s.views
   pub counted : IsCounted s.views
   pub turn : AtHome fits s ⊎ Away fits s
-
-module _ {V X E : Type 0} where
-  -- the first seat of a lock
-  abbrev pub opening : V → Known V X E
-  opening view =
-      record { view = view; stage = Idle; holds = 0; last = None; number = 0; splits = 0 }
-
-  -- a seat that took the turn
-  abbrev pub holding : Known V X E → X → Known V X E
-  holding k found = record k { stage = Holds found }
-
-  -- a seat that gave the turn
-  abbrev pub idle : Known V X E → Known V X E
-  idle k = record k { stage = Idle }
-
-  -- a seat that told of its change: one hold more, and what it told last
-  abbrev pub changed : (V → ℕ → ℕ → E → X → V) → Known V X E → ℕ → ℕ → E → X → Known V X E
-  changed after k kind amount entry found = record k {
-    view = after k.view kind amount entry found;
-    stage = Told found k.view;
-    holds = k.holds + 1;
-    last = Some (kind, amount, entry);
-  }
-
-  -- a seat that took the turn and the slot, and what it knows of the value found
-  pub record HasTaken (fits : X → List V → Type 0) (before now : Seated V X E) : Type 0 where
-    pub found : X
-    pub seat : now ≡ (holding before.0 found, (0, Home found) ∷ before.1)
-    pub among : FitsAmong fits found before.0.number before.0.view
-
-  -- what a try of the turn tells, where the turn had this number
-  pub record HasTried (fits : X → List V → Type 0) (turn : ℕ) (before now : Seated V X E)
-      : Type 0 where
-    pub free : turn ≡ 0 → HasTaken fits before now
-    pub taken : turn ≢ 0 → now ≡ before
-
-  -- kind 1: the turn is tried
-  abbrev pub tried : (X → List V → Type 0)
-      → Step (Slot X E) → Seated V X E → ℕ → Seated V X E → Type 0
-  tried fits step before turn now = HasTried fits turn before now
-
-  -- a seat after the note in its slot was told
-  abbrev pub after_note : (V → ℕ → ℕ → E → X → V)
-      → Known V X E → List (ℕ × Slot X E) → Stage V X → Known V X E
-  after_note after k ((_, Note kind amount entry) ∷ _) (Holds found) =
-      changed after k kind amount entry found
-  after_note after k _ _ = k
-
-  -- kind 3: the change is told, while the value is out
-  abbrev pub told : (V → ℕ → ℕ → E → X → V)
-      → Step (Slot X E) → Seated V X E → ℕ → Seated V X E → Type 0
-  told after step before turn now =
-      now ≡ (after_note after before.0 before.1 before.0.stage, before.1)
-
-  -- kind 5: the turn is given, and the slot with it
-  abbrev pub given : Step (Slot X E) → Seated V X E → ℕ → Seated V X E → Type 0
-  given step before turn now = now ≡ (idle before.0, rest before.1)
-
-  -- kind 6: the first seat, from which another is split off
-  abbrev pub giver : (V → V) → Known V X E → Known V X E
-  giver left k = record k { view = left k.view; splits = k.splits + 1 }
-
-  -- kind 6: the seat that is split off
-  abbrev pub newcomer : (V → V) → Known V X E → Known V X E
-  newcomer right k = record (opening (right k.view)) { number = k.splits + 1 }
-
-  -- kind 7: the bell is raised
-  abbrev pub rung : Step (Slot X E) → Seated V X E → ℕ → Seated V X E → Type 0
-  rung step before bell now = now ≡ before

@@ -13,7 +13,7 @@ use std::sync::atomic::Ordering::SeqCst;
 const LOW_BITS: u64 = 0xffff_ffff;
 
 impl<L: Rule> Lock<L> {
-    /// Waits while the bell has not rung since the pass's last `hold`. It may also return for no reason.
+    /// Waits until the bell has rung since the pass's last `hold`. It may also return for no reason.
     pub fn wait<R: Wait>(&self, rt: &R, pass: &mut Pass<L>)
         requires own { IsFor self.now pass.old }
         ensures same { pass.new ≡ pass.old }
@@ -34,7 +34,7 @@ impl<L: Rule> Lock<L> {
         self.wake_seats();
     }
 
-    // Wakes a thread for each seat, where any waits for the bell.
+    // Wakes a thread for each seat, if any waits for the bell.
     fn wake_seats(&self) {
         if self.bell_waiters.load(SeqCst) > 0 {
             for _ in 0..self.seats {

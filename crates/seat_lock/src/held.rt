@@ -12,7 +12,7 @@ use crate::steps::{Give, Tell};
 use std::snapshot::Snapshot;
 use std::sync::atomic::Ordering::SeqCst;
 
-/// A hold of a lock: the value is with it. It can't be let go, and ends in `release` alone.
+/// A hold of a lock, which has the value. It can't be dropped: only `release` ends it.
 pub struct Held<'a, L: Rule> {
     pub(crate) pass: &'a mut Pass<L>,
     pub(crate) found: Snapshot<L::Value>,

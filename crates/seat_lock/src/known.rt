@@ -1,11 +1,11 @@
 // What the table under a lock holds, and what a seat of it knows.
 
-// What lies in the slot, or what a seat has in its place.
+// What is in the slot, or what a seat has in its place.
 #[derive(Drop)]
 pub(crate) enum Slot<X, E> {
     // The value.
     Home(X),
-    // What the holder is about to tell: kind, amount and entry.
+    // What the holder is about to record: kind, amount and entry.
     Note(u64, u64, E),
     // Nothing: the holder has the value.
     Out,
@@ -16,7 +16,7 @@ pub(crate) enum Stage<V, X> {
     Idle,
     // It has, and found this value.
     Holds(X),
-    // It has, and told of its change: the value found, and its view as it was.
+    // It has, and recorded its change: the value found, and its view as it was.
     Told(X, V),
 }
 
@@ -24,7 +24,7 @@ pub(crate) enum Stage<V, X> {
 pub(crate) struct Known<V, X, E> {
     pub view: V,
     pub stage: Stage<V, X>,
-    // How often the pass was released, and what it told last: kind, amount and entry.
+    // How often the pass was released, and kind, amount and entry of the last release.
     pub holds: u64,
     pub last: Option<(u64, u64, E)>,
     // Its index among the seats.

@@ -3,13 +3,14 @@
 //!     turn 0, slot: the value          it fits the views of all passes
 //!       |  try: 0 -> 1, slot taken
 //!     turn 1, slot: nothing            the value that was found fits the views as they were
-//!       |  told: 1 -> 1                the holder's view is changed
-//!       |  given: 1 -> 0, slot back
+//!       |  tell: 1 -> 1                the holder's view is changed
+//!       |  give: 1 -> 0, slot back
 //!     turn 0, slot: the value          it fits the views of all passes
 //!
 //! A pass is what a thread holds the lock with. Its view is data of the proof alone: what the thread has done and seen
 //! under the lock. A `Rule` says which value fits which views, and what a release makes of the holder's view. The bell
-//! is for threads that wait until another one has changed something. What value and views mean is left to others.
+//! is for threads that wait until another one has changed something. Not handled here: what value and views mean (see
+//! `output_board`).
 #![tactic(auto)]
 
 mod bell;

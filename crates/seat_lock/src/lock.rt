@@ -33,7 +33,7 @@ pub struct Lock<L: Rule> {
     pub(crate) seats: u32,
     // How many threads are about to sleep until the turn is given, or until the bell rings. A thread counts itself and
     // then looks at the word; one that changes the word then looks at the count. So one of the two sees the other, and
-    // a wake, which is a system call, is left out where nobody sleeps.
+    // a wake, which is a system call, is left out if nobody sleeps.
     pub(crate) turn_waiters: AtomicU64,
     pub(crate) bell_waiters: AtomicU64,
     ghost words: { table.shared.table_id.words ≡ 2 },

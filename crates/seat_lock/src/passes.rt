@@ -1,4 +1,4 @@
-// A lock is made, its passes are split off, and it is closed.
+// Making a lock, splitting off its passes, and closing it.
 ghost use Rattle.std.specs.Prelude.{◌≡◌, ◌<◌, ◌+◌, ℕ, IfOk, [], ◌∷◌};
 ghost use Rattle.seat_lock.specs.Passes.{IsFor, IsReady, IsFirst, IsSamePass, HasSameHolds, IsNewPass, view_of, splits_of};
 
@@ -12,8 +12,8 @@ use std::alloc::{AllocError, Global};
 use std::sync::atomic::AtomicU64;
 
 impl<L: Rule> Lock<L> {
-    /// A lock over a value, and its first pass, with a view that the value fits. `seats` is how many passes there are
-    /// to be, and how many threads the bell wakes.
+    /// A lock over a value, and its first pass, with a view that the value fits. `seats` is how many passes there will
+    /// be, and how many threads the bell wakes.
     pub fn new(
         alloc: Global,
         value: L::Value,
@@ -61,7 +61,7 @@ impl<L: Rule> Lock<L> {
         }
     }
 
-    /// The value, by the first pass, where no other was split off.
+    /// Gives the value back, by the first pass, if no other was split off.
     pub fn close(self, pass: Pass<L>) -> L::Value
         requires own { IsFor self pass }
         requires first { IsFirst pass }

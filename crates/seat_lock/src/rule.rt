@@ -3,18 +3,18 @@ ghost use Rattle.std.specs.Prelude.{◌≡◌, ℕ, List, [], ◌∷◌, ◌++�
 ghost use mathlib.Core.Option.{some};
 ghost use lib.ListN.{get_elem?};
 
-/// What lies under a lock, what its passes know of it, and what ties the two.
+/// The value under a lock, what its passes know of it, and what ties the two.
 pub trait Rule {
     /// What a pass knows. No value of it is needed but the first pass's.
     type View: Drop;
 
-    /// What lies under the lock.
+    /// The value under the lock.
     type Value: Drop + Send;
 
     /// What a release notes of the value found and of the value left.
     type Entry: Copy + Send;
 
-    // Of the value at home and the views of all passes, in the order of their numbers.
+    // Holds of the value at home and the views of all passes, in the order of their numbers.
     ghost fits: { Self.Value → List Self.View → Type 0 };
 
     // Which view of the first pass may be split.
@@ -32,7 +32,7 @@ pub trait Rule {
     // A fact of the holder's view, kind, amount, entry, the value found and the value left.
     ghost tells: { Self.View → ℕ → ℕ → Self.Entry → Self.Value → Self.Value → Type 0 };
 
-    // A value that fits outlives each split that is allowed.
+    // A value that fits the views still does after each split that is allowed.
     ghost splits: { (x : Self.Value) (views : List Self.View) (number : ℕ) (v : Self.View)
         → fits x views → get_elem? views number ≡ some v → may_split v
         → fits x (slice_set views number (left v) ++ right v ∷ []) };

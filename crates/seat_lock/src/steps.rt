@@ -1,6 +1,7 @@
-// The rule of the table, and what each kind of step tells. A step that takes the value out of the slot or puts it in
-// changes no word and no view, and so needs no play.
-ghost use Rattle.seat_lock.specs.TurnRule.{IsKept, opening, tried, told, given, rung, giver, newcomer};
+// The rule of the table, and what each kind of step makes of a view. A step that takes the value out of the slot or
+// puts it in changes no word and no view, and so needs no play.
+ghost use Rattle.seat_lock.specs.TurnRule.{IsKept};
+ghost use Rattle.seat_lock.specs.TurnSteps.{opening, tried, told, given, rung, giver, newcomer};
 
 use crate::known::{Known, Slot};
 use crate::rule::Rule;
@@ -28,7 +29,7 @@ impl<L: Rule> Play<Slot<L::Value, L::Entry>, Known<L::View, L::Value, L::Entry>>
     ghost then = { tried L.fits };
 }
 
-// Tells of the change that lies in the slot.
+// Records the change whose note is in the slot.
 pub(crate) struct Tell<L> {
     rule: PhantomData<L>,
 }

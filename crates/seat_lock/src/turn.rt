@@ -19,7 +19,7 @@ use std::sync::atomic::Ordering::SeqCst;
 const LOOKS: u32 = 100;
 
 impl<L: Rule> Lock<L> {
-    /// Waits for the turn and takes it. The bell's number is noted before the turn is tried.
+    /// Waits for the turn and takes it. The bell's number is noted before each try.
     pub fn hold<'a, R: Wait>(&self, rt: &R, pass: &'a mut Pass<L>) -> Held<'a, L>
         requires own { IsFor self.now pass.old }
         requires ready { IsReady pass.old }
@@ -47,7 +47,7 @@ impl<L: Rule> Lock<L> {
         unreachable!()
     }
 
-    // Looks at the turn for a while, and then sleeps until a wake, where it is still taken.
+    // Looks at the turn for a while, and then sleeps until a wake if it is still held.
     fn await_turn<R: Wait>(&self, rt: &R) {
         for _ in 0..LOOKS {
             if self.table.shared.peek(TURN) == FREE {

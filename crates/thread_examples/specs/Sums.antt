@@ -1,4 +1,5 @@
--- The rule of the tests (this project's own): the value is the sum of what the passes have added.
+-- Law: sums of lists that a step changes, for the tests' rule that the value is the sum of what the passes have added
+-- (own).
 use Rattle.std.specs.Prelude.{◌≡◌, ℕ, ◌+◌, List, [], ◌∷◌, ◌++◌, sum, slice_set}
 use Rattle.std.proofs.Common.{sym, arith, zero, suc, ◌∙◌}
 use Rattle.std.proofs.lemmas.List.Sums.{sum_by-cons, sum_by-append}

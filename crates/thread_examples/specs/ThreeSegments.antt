@@ -1,4 +1,4 @@
--- The content of the tests, and what they know of a seat (this project's own).
+-- Rows: the content of the tests, and what they know of a seat (own).
 use Rattle.std.specs.Prelude.{◌≡◌, ℕ, Bool, true, false, List, [], ◌∷◌, Some, None}
 use Rattle.atomic_table.specs.Seated.{TableId}
 use Rattle.handover.specs.PadSums.{no_pads}

@@ -99,7 +99,7 @@ fn put_the_first<R: Wait + Abort>(
     owns_other(rt, board, emitter, 0);
     puts(rt, board, worker, 0, 0, &[0x3f, 0xff, 0xd0], 2);
     puts(rt, board, worker, 0, 2, &[0xd0], 0);
-    // Nobody sleeps here: since the seat's last hold the bell was rung by another's.
+    // Nobody sleeps here: another seat rang the bell after this seat's last hold.
     board.pause_emitter(rt, emitter);
     takes(rt, board, emitter, 0, 0, &[0x3f, 0xff]);
     board.pause_worker(rt, worker);

@@ -1,4 +1,4 @@
-// The calls of the emitter, each with the answer that is awaited.
+// The calls of the emitter, each with the answer that is expected.
 ghost use Rattle.std.specs.Prelude.{◌≡◌, ◌+◌, ◌≤◌, Some, false, length, slice_get};
 ghost use Rattle.board_core.specs.BoardInvariants.{bytes_at};
 ghost use Rattle.thread_examples.specs.ThreeSegments.{three_bytes, three_outcomes, IsEmitting};
@@ -67,7 +67,7 @@ pub(crate) fn stops_at_fault<R: Wait + Abort>(
     board.stop(rt, seat);
 }
 
-// The emitter finds that all segments are emitted, and that none is its to claim.
+// The emitter finds that all segments are emitted, and that it can claim none.
 pub(crate) fn is_over<R: Wait + Abort>(rt: &R, board: &Board<Three>, seat: &mut EmitterSeat<Three>)
     requires { IsEmitting board.now seat.old.content 3 0 false seat.old }
 {

@@ -38,7 +38,7 @@ impl Rule for Sums {
     ghost splits = { sum_splits };
 }
 
-// Adds an amount, or nothing where the sum is too large, and answers what was found.
+// Adds an amount, or nothing if the sum is too large, and returns what it found.
 fn add<R: Wait>(rt: &R, lock: &Lock<Sums>, pass: &mut Pass<Sums>, amount: u64) -> u64
     requires own { IsFor lock.now pass.old }
     requires ready { IsReady pass.old }
@@ -128,7 +128,7 @@ fn closes_with_what_was_added(rt: HostRuntime) {
     assert!(rt; lock.close(first) == 42);
 }
 
-// Adds 1 where the number found leaves this rest by 2, and answers whether it does.
+// Adds 1 if the number found leaves this rest by 2, and returns whether it does.
 fn add_in_turn<R: Wait>(rt: &R, lock: &Lock<Sums>, pass: &mut Pass<Sums>, rest: u64) -> bool
     requires own { IsFor lock.now pass.old }
     requires ready { IsReady pass.old }

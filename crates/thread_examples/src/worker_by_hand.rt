@@ -1,4 +1,4 @@
-// The calls of a worker, each with the answer that is awaited.
+// The calls of a worker, each with the answer that is expected.
 ghost use Rattle.std.specs.Prelude.{◌≡◌, ◌+◌, ◌≤◌, Some, length, take, drop, slice_get};
 ghost use Rattle.board_core.specs.BoardInvariants.{bytes_at};
 ghost use Rattle.thread_examples.specs.ThreeSegments.{three_bytes, three_outcomes, IsIdle, IsPutting};
@@ -26,7 +26,7 @@ pub(crate) fn claims<R: Wait + Abort>(
     }
 }
 
-// The worker puts these bytes at an index of its segment, of which n are taken.
+// The worker puts these bytes at an index of its segment, and the ring accepts n of them.
 pub(crate) fn puts<R: Wait + Abort>(
     rt: &R,
     board: &Board<Three>,
