@@ -7,8 +7,10 @@ ghost use Rattle.output_board.specs.Answers.{TakeGives, OwnGives, PassGives, Own
 use crate::answers::{Own, Take};
 use crate::board::Board;
 use crate::content::Content;
-use crate::emitter_holds;
+use crate::rule::{ADVANCE, CLAIM, FINISH, NOTHING, PASS, STOP, TAKE};
 use crate::seat::EmitterSeat;
+use crate::seen::look;
+use board_core::{Actor, Event};
 use handover::Outcome;
 use std::sync::Wait;
 
@@ -24,7 +26,40 @@ impl<C: Content> Board<C> {
         ensures answer { TakeGives (C.bytes seat.old.content) (C.outcomes seat.old.content)
             seat.old seat.new buf.old buf.new result }
     {
-        emitter_holds::take(rt, &self.lock, &mut seat.pass, buf)
+        let mut held = self.lock.hold(rt, &mut seat.pass);
+        let core = held.value();
+        let seen = look(core, Actor::Emitter);
+        if seen.cur == core.count() {
+            held.release(&self.lock, NOTHING, 0, &seen);
+            return Take::Over;
+        }
+        if seen.next == seen.cur {
+            held.release(&self.lock, NOTHING, 0, &seen);
+            return Take::Unclaimed;
+        }
+        if seen.length > 0 {
+            let n = core.front(buf);
+            core.step(&Event::Take(n as u64));
+            held.release(&self.lock, TAKE, n as u64, &seen);
+            self.lock.ring_bell(&mut seat.pass);
+            return Take::Bytes(n);
+        }
+        match core.done(seen.cur) {
+            Some(Outcome::Good { pads }) => {
+                core.step(&Event::Advance);
+                held.release(&self.lock, ADVANCE, 0, &seen);
+                self.lock.ring_bell(&mut seat.pass);
+                Take::Ended(Outcome::Good { pads })
+            }
+            Some(Outcome::Bad(fault)) => {
+                held.release(&self.lock, NOTHING, 0, &seen);
+                Take::Ended(Outcome::Bad(fault))
+            }
+            None => {
+                held.release(&self.lock, NOTHING, 0, &seen);
+                Take::NotYet
+            }
+        }
     }
 
     /// Claims the segment that is emitted for the emitter, if nobody has.
@@ -35,7 +70,21 @@ impl<C: Content> Board<C> {
         ensures hold { HasHeldOnce seat.old seat.new }
         ensures answer { OwnGives (length (C.bytes seat.old.content)) seat.old seat.new result }
     {
-        emitter_holds::claim_own(rt, &self.lock, &mut seat.pass)
+        let mut held = self.lock.hold(rt, &mut seat.pass);
+        let core = held.value();
+        let seen = look(core, Actor::Emitter);
+        if seen.next != seen.cur {
+            held.release(&self.lock, NOTHING, 0, &seen);
+            return Own::Other;
+        }
+        if seen.cur == core.count() {
+            held.release(&self.lock, NOTHING, 0, &seen);
+            return Own::Other;
+        }
+        core.step(&Event::Claim(Actor::Emitter));
+        held.release(&self.lock, CLAIM, 0, &seen);
+        self.lock.ring_bell(&mut seat.pass);
+        Own::Mine(seen.cur)
     }
 
     /// Records that the next n bytes of the emitter's own segment, 1 at least, go to the output, not through the ring.
@@ -49,7 +98,11 @@ impl<C: Content> Board<C> {
         ensures hold { HasHeldOnce seat.old seat.new }
         ensures told { PassGives n seat.old seat.new }
     {
-        emitter_holds::pass(rt, &self.lock, &mut seat.pass, n)
+        let mut held = self.lock.hold(rt, &mut seat.pass);
+        let core = held.value();
+        let seen = look(core, Actor::Emitter);
+        core.step(&Event::Pass(n));
+        held.release(&self.lock, PASS, n, &seen);
     }
 
     /// Ends the emitter's own segment, all of whose bytes are passed, with its outcome.
@@ -64,7 +117,12 @@ impl<C: Content> Board<C> {
         ensures hold { HasHeldOnce seat.old seat.new }
         ensures told { OwnFinishGives seat.old seat.new }
     {
-        emitter_holds::finish_own(rt, &self.lock, &mut seat.pass, outcome)
+        let mut held = self.lock.hold(rt, &mut seat.pass);
+        let core = held.value();
+        let seen = look(core, Actor::Emitter);
+        core.step(&Event::Finish(Actor::Emitter, outcome));
+        held.release(&self.lock, FINISH, 0, &seen);
+        self.lock.ring_bell(&mut seat.pass);
     }
 
     /// Stops the board: workers find it stopped from then on, and the emitter makes no other call.
@@ -74,7 +132,12 @@ impl<C: Content> Board<C> {
         ensures hold { HasHeldOnce seat.old seat.new }
         ensures told { StopGives seat.old seat.new }
     {
-        emitter_holds::stop(rt, &self.lock, &mut seat.pass)
+        let mut held = self.lock.hold(rt, &mut seat.pass);
+        let core = held.value();
+        let seen = look(core, Actor::Emitter);
+        core.step(&Event::Stop);
+        held.release(&self.lock, STOP, 0, &seen);
+        self.lock.ring_bell(&mut seat.pass);
     }
 
     /// Waits until the bell has rung since the emitter's last hold. It may also return for no reason.

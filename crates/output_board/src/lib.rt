@@ -20,13 +20,11 @@ mod answers;
 mod board;
 mod content;
 mod emitter;
-mod emitter_holds;
 mod laws;
 mod rule;
 mod seat;
 mod seen;
 mod view;
-mod worker_holds;
 mod workers;
 
 pub use answers::{Claim, Finish, Own, Put, Take};

@@ -6,8 +6,10 @@ ghost use Rattle.output_board.specs.Answers.{HasNext, IsAtEnd, ClaimGives, PutGi
 use crate::answers::{Claim, Finish, Put};
 use crate::board::Board;
 use crate::content::Content;
+use crate::rule::{CLAIM, FINISH, LEAVE, NOTHING, OVER, PUT};
 use crate::seat::WorkerSeat;
-use crate::worker_holds;
+use crate::seen::look;
+use board_core::{Actor, Event};
 use handover::Outcome;
 use std::sync::Wait;
 
@@ -22,7 +24,21 @@ impl<C: Content> Board<C> {
         ensures answer { ClaimGives (length (C.bytes seat.old.content))
             seat.old seat.new result }
     {
-        worker_holds::claim(rt, &self.lock, &mut seat.pass, seat.number)
+        let mut held = self.lock.hold(rt, &mut seat.pass);
+        let core = held.value();
+        let seen = look(core, Actor::Worker(seat.number));
+        if seen.stopped {
+            held.release(&self.lock, OVER, 0, &seen);
+            return Claim::Stopped;
+        }
+        if seen.next == core.count() {
+            held.release(&self.lock, OVER, 0, &seen);
+            return Claim::NoneLeft;
+        }
+        core.step(&Event::Claim(Actor::Worker(seat.number)));
+        held.release(&self.lock, CLAIM, 0, &seen);
+        self.lock.ring_bell(&mut seat.pass);
+        Claim::Segment(seen.next)
     }
 
     /// Puts the next bytes of the worker's segment, 1 at least, into its ring, as many as it has room for. The others
@@ -35,7 +51,22 @@ impl<C: Content> Board<C> {
         ensures hold { HasHeldOnce seat.old seat.new }
         ensures answer { PutGives (length bytes.now) seat.old seat.new result }
     {
-        worker_holds::put(rt, &self.lock, &mut seat.pass, seat.number, bytes)
+        let mut held = self.lock.hold(rt, &mut seat.pass);
+        let core = held.value();
+        let seen = look(core, Actor::Worker(seat.number));
+        if seen.stopped {
+            held.release(&self.lock, OVER, 0, &seen);
+            return Put::Stopped;
+        }
+        let n = bytes.len().min(seen.free);
+        if n == 0 {
+            held.release(&self.lock, NOTHING, 0, &seen);
+            return Put::Took(0);
+        }
+        core.step(&Event::Put(seat.number, &bytes[..n]));
+        held.release(&self.lock, PUT, n as u64, &seen);
+        self.lock.ring_bell(&mut seat.pass);
+        Put::Took(n)
     }
 
     /// Ends the worker's segment, all of whose bytes are put, with its outcome.
@@ -47,7 +78,17 @@ impl<C: Content> Board<C> {
         ensures hold { HasHeldOnce seat.old seat.new }
         ensures answer { FinishGives seat.old seat.new result }
     {
-        worker_holds::finish(rt, &self.lock, &mut seat.pass, seat.number, outcome)
+        let mut held = self.lock.hold(rt, &mut seat.pass);
+        let core = held.value();
+        let seen = look(core, Actor::Worker(seat.number));
+        if seen.stopped {
+            held.release(&self.lock, OVER, 0, &seen);
+            return Finish::Stopped;
+        }
+        core.step(&Event::Finish(Actor::Worker(seat.number), outcome));
+        held.release(&self.lock, FINISH, 0, &seen);
+        self.lock.ring_bell(&mut seat.pass);
+        Finish::Kept
     }
 
     /// Lets a worker for which all is over leave. If the board is stopped, nobody owns its segment afterwards.
@@ -58,7 +99,11 @@ impl<C: Content> Board<C> {
         ensures hold { HasHeldOnce seat.old seat.new }
         ensures told { LeaveGives seat.old seat.new }
     {
-        worker_holds::leave(rt, &self.lock, &mut seat.pass, seat.number)
+        let mut held = self.lock.hold(rt, &mut seat.pass);
+        let core = held.value();
+        let seen = look(core, Actor::Worker(seat.number));
+        core.step(&Event::Leave(seat.number));
+        held.release(&self.lock, LEAVE, 0, &seen);
     }
 
     /// Waits until the bell has rung since the worker's last hold. It may also return for no reason.
