@@ -21,7 +21,7 @@ use Rattle.output_board.specs.declared.view.Role.{Role}
 use Rattle.output_board.specs.declared.view.Role.TheVariants.{Emits, Works}
 use Rattle.output_board.specs.declared.seen.Seen.{Seen}
 use Rattle.output_board.specs.SeatRule.{Fits, FitsEmitter, FitsWorker}
-use Rattle.output_board.specs.Releases.{after, role_after, worker_after, emitter_after, claims_after}
+use Rattle.output_board.specs.Releases.{after, action_of, role_after, worker_after, emitter_after, claims_after}
 
 at_in : {A : Type 0} (l : List A) (i : ℕ) (a : A) → get_elem? l i ≡ some a → i < length l
 at_in [] i a e = absurd (some-ne-none a (sym e))
@@ -214,23 +214,23 @@ module _ {C : Type 0} (bytes : C → List (List ℕ)) (outcomes : C → List Out
   pub worker_releases : (w : WorkerView) (kind amount : ℕ) (seen : Seen) (found : BoardState)
       → v.role ≡ Works w → BoardInvariant (bytes h.content) (outcomes h.content) y
       → LeavesOthers (Worker w.number) x y → LeavesEmitted x y
-      → claims_after v.claims kind ≤ y.next
-      → (worker_after w kind amount seen.next).number ≡ w.number
-      → FitsWorker y (worker_after w kind amount seen.next)
+      → claims_after v.claims (action_of kind) ≤ y.next
+      → (worker_after w (action_of kind) amount seen.next).number ≡ w.number
+      → FitsWorker y (worker_after w (action_of kind) amount seen.next)
       → Fits bytes outcomes y (set views id (after v kind amount seen found))
   worker_releases w kind amount seen found role board others emitted claims number mine =
       worker_keeps board (after v kind amount seen found) refl claims
-      w (worker_after w kind amount seen.next) role
-      (ap (λ (r : Role). role_after r kind amount seen.next) role) number others emitted mine
+      w (worker_after w (action_of kind) amount seen.next) role
+      (ap (λ (r : Role). role_after r (action_of kind) amount seen.next) role) number others emitted mine
 
   -- the emitter's
   pub emitter_releases : (e : EmitterView) (kind amount : ℕ) (seen : Seen) (found : BoardState)
       → v.role ≡ Emits e → BoardInvariant (bytes h.content) (outcomes h.content) y
-      → LeavesOthers Emitter x y → claims_after v.claims kind ≤ y.next
-      → (emitter_after e kind amount seen.next).made ≡ e.made
-      → FitsEmitter y (emitter_after e kind amount seen.next)
+      → LeavesOthers Emitter x y → claims_after v.claims (action_of kind) ≤ y.next
+      → (emitter_after e (action_of kind) amount seen.next).made ≡ e.made
+      → FitsEmitter y (emitter_after e (action_of kind) amount seen.next)
       → Fits bytes outcomes y (set views id (after v kind amount seen found))
   emitter_releases e kind amount seen found role board others claims made mine =
       emitter_keeps board (after v kind amount seen found) refl claims
-      e (emitter_after e kind amount seen.next) role
-      (ap (λ (r : Role). role_after r kind amount seen.next) role) made others mine
+      e (emitter_after e (action_of kind) amount seen.next) role
+      (ap (λ (r : Role). role_after r (action_of kind) amount seen.next) role) made others mine

@@ -19,7 +19,7 @@ use Rattle.output_board.specs.declared.view.EmitterView.{EmitterView}
 use Rattle.output_board.specs.declared.view.Role.TheVariants.{Emits}
 use Rattle.output_board.specs.declared.seen.Seen.{Seen}
 use Rattle.output_board.specs.SeatRule.{Fits, FitsEmitter}
-use Rattle.output_board.specs.Releases.{after, emitter_after, claims_after}
+use Rattle.output_board.specs.Releases.{after, action_of, emitter_after, claims_after, kind_of, Nothing, Takes, Advances, Stops}
 use Rattle.output_board.proofs.BoardKept.{board_after, others_after, others_same, emitter_releases}
 
 pub none_of : (xs : List ℕ) → length xs ≡ 0 → xs ≡ []
@@ -61,18 +61,18 @@ module _ {C : Type 0} (bytes : C → List (List ℕ)) (outcomes : C → List Out
 
   -- nothing changes
   pub learns_nothing : (seen : Seen) (found : BoardState)
-      → Fits bytes outcomes x (set views id (after v 0 0 seen found))
+      → Fits bytes outcomes x (set views id (after v (kind_of Nothing) 0 seen found))
   learns_nothing seen found =
-      emitter_releases bytes outcomes x x views id v h at e 0 0 seen found role h.board
+      emitter_releases bytes outcomes x x views id v h at e (kind_of Nothing) 0 seen found role h.board
       (others_same Emitter x) (h.claims id v at) refl is
 
   -- an event of the emitter that keeps how many segments are claimed
   pub releases : (y : BoardState) (kind amount : ℕ) (seen : Seen) (found : BoardState) (ev : BoardEvent)
       → actor_of ev ≡ Emitter → BoardStep x ev y
       → MatchesLists (bytes h.content) (outcomes h.content) x ev
-      → claims_after v.claims kind ≤ y.next
-      → (emitter_after e kind amount seen.next).made ≡ e.made
-      → FitsEmitter y (emitter_after e kind amount seen.next)
+      → claims_after v.claims (action_of kind) ≤ y.next
+      → (emitter_after e (action_of kind) amount seen.next).made ≡ e.made
+      → FitsEmitter y (emitter_after e (action_of kind) amount seen.next)
       → Fits bytes outcomes y (set views id (after v kind amount seen found))
   releases y kind amount seen found ev his step lists claims made mine =
       emitter_releases bytes outcomes x y views id v h at e kind amount seen found role
@@ -93,12 +93,12 @@ module _ {C : Type 0} (bytes : C → List (List ℕ)) (outcomes : C → List Out
       record { going = going go; more = more_left more; some = positive; within = within }
 
   pub takes : (y : BoardState) (n : ℕ) (seen : Seen) (found : BoardState) → e.owns ≡ false
-      → BoardStep x (Take n) y → Fits bytes outcomes y (set views id (after v 6 n seen found))
+      → BoardStep x (Take n) y → Fits bytes outcomes y (set views id (after v (kind_of Takes) n seen found))
   takes y n seen found free step =
       let s = with_taken n (segment_at x x.cur) in
-      releases y 6 n seen found (Take n) refl step tt
+      releases y (kind_of Takes) n seen found (Take n) refl step tt
       (same_claims y (ap (λ (b : BoardState). b.next) step.1)) refl
-      (subst (λ (z : BoardState). FitsEmitter z (emitter_after e 6 n seen.next)) (sym step.1) record {
+      (subst (λ (z : BoardState). FitsEmitter z (emitter_after e Takes n seen.next)) (sym step.1) record {
         cur = is.cur;
         taken = ap (λ k. k + n) is.taken
             ∙ sym (ap (λ (t : SegmentState). t.taken) (at_same x x.cur s step.0.more));
@@ -115,11 +115,11 @@ module _ {C : Type 0} (bytes : C → List (List ℕ)) (outcomes : C → List Out
       record { going = going go; more = more_left more; good = good; empty = none_of _ empty }
 
   pub advances : (y : BoardState) (seen : Seen) (found : BoardState) → e.owns ≡ false
-      → BoardStep x Advance y → Fits bytes outcomes y (set views id (after v 7 0 seen found))
+      → BoardStep x Advance y → Fits bytes outcomes y (set views id (after v (kind_of Advances) 0 seen found))
   advances y seen found free step =
-      releases y 7 0 seen found Advance refl step tt
+      releases y (kind_of Advances) 0 seen found Advance refl step tt
       (same_claims y (ap (λ (b : BoardState). b.next) step.1)) refl
-      (subst (λ (z : BoardState). FitsEmitter z (emitter_after e 7 0 seen.next)) (sym step.1) record {
+      (subst (λ (z : BoardState). FitsEmitter z (emitter_after e Advances 0 seen.next)) (sym step.1) record {
         cur = ap (λ k. k + 1) is.cur;
         taken = sym (h.board.above (x.cur + 1) (omega arith));
         owns = λ o. absurd (true≢false (sym o ∙ free));
@@ -167,11 +167,11 @@ module _ {C : Type 0} (bytes : C → List (List ℕ)) (outcomes : C → List Out
 
   -- stop
   pub stops : (y : BoardState) (seen : Seen) (found : BoardState)
-      → BoardStep x Stop y → Fits bytes outcomes y (set views id (after v 8 0 seen found))
+      → BoardStep x Stop y → Fits bytes outcomes y (set views id (after v (kind_of Stops) 0 seen found))
   stops y seen found step =
-      releases y 8 0 seen found Stop refl step tt
+      releases y (kind_of Stops) 0 seen found Stop refl step tt
       (same_claims y (ap (λ (b : BoardState). b.next) step.1)) refl
-      (subst (λ (z : BoardState). FitsEmitter z (emitter_after e 8 0 seen.next)) (sym step.1) record {
+      (subst (λ (z : BoardState). FitsEmitter z (emitter_after e Stops 0 seen.next)) (sym step.1) record {
         cur = is.cur;
         taken = is.taken;
         owns = is.owns;

@@ -16,7 +16,7 @@ use Rattle.output_board.specs.declared.view.EmitterView.{EmitterView}
 use Rattle.output_board.specs.declared.view.Role.TheVariants.{Emits}
 use Rattle.output_board.specs.declared.seen.Seen.{Seen}
 use Rattle.output_board.specs.SeatRule.{Fits, FitsEmitter}
-use Rattle.output_board.specs.Releases.{after, emitter_after, finish_event}
+use Rattle.output_board.specs.Releases.{after, emitter_after, finish_event, kind_of, Claims, Passes, Finishes}
 use Rattle.output_board.proofs.EmitterKept.{going, cur_bytes, cur_outcome, releases, same_claims}
 
 module _ {C : Type 0} (bytes : C → List (List ℕ)) (outcomes : C → List Outcome) (x : BoardState)
@@ -51,16 +51,16 @@ module _ {C : Type 0} (bytes : C → List (List ℕ)) (outcomes : C → List Out
       omega arith
 
   pub claims_own : (y : BoardState) (seen : Seen) (found : BoardState)
-      → BoardStep x (Claim Emitter) y → Fits bytes outcomes y (set views id (after v 2 0 seen found))
+      → BoardStep x (Claim Emitter) y → Fits bytes outcomes y (set views id (after v (kind_of Claims) 0 seen found))
   claims_own y seen found step =
       let can = step.0 in
       let new = with_owner Emitter (segment_at x x.next) in
       let same : x.next ≡ x.cur = can.turn refl in
       let here : segment_at (with_claim x Emitter) x.cur ≡ new =
       subst (λ k. segment_at (with_claim x Emitter) k ≡ new) same (at_same x x.next new can.more) in
-      releases bytes outcomes x views id v h at e role y 2 0 seen found (Claim Emitter) refl step tt
+      releases bytes outcomes x views id v h at e role y (kind_of Claims) 0 seen found (Claim Emitter) refl step tt
       (let c = h.claims id v at in let m = ap (λ (b : BoardState). b.next) step.1 in omega arith) refl
-      (subst (λ (z : BoardState). FitsEmitter z (emitter_after e 2 0 seen.next)) (sym step.1) record {
+      (subst (λ (z : BoardState). FitsEmitter z (emitter_after e Claims 0 seen.next)) (sym step.1) record {
         cur = is.cur;
         taken = is.taken ∙ (ap (λ k. (segment_at x k).taken) (sym same)
             ∙ sym (ap (λ (t : SegmentState). t.taken) here));
@@ -96,16 +96,16 @@ module _ {C : Type 0} (bytes : C → List (List ℕ)) (outcomes : C → List Out
 
     pub passes : (y : BoardState) (n : ℕ) (seen : Seen) (found : BoardState)
         → e.taken + n ≤ length (bytes_at (bytes v.content.value) e.cur) → BoardStep x (Pass n) y
-        → Fits bytes outcomes y (set views id (after v 4 n seen found))
+        → Fits bytes outcomes y (set views id (after v (kind_of Passes) n seen found))
     passes y n seen found within step =
         let s = with_passed n (segment_at x x.cur) in
         let here : segment_at (changed_at x x.cur (with_passed n)) x.cur ≡ s =
         at_same x x.cur s cur_in in
-        releases bytes outcomes x views id v h at e role y 4 n seen found (Pass n) refl step
+        releases bytes outcomes x views id v h at e role y (kind_of Passes) n seen found (Pass n) refl step
         (let a = all_put in let b = same_length in omega arith)
         (same_claims bytes outcomes x views id v h at e role y (ap (λ (b : BoardState). b.next) step.1))
         refl
-        (subst (λ (z : BoardState). FitsEmitter z (emitter_after e 4 n seen.next)) (sym step.1) record {
+        (subst (λ (z : BoardState). FitsEmitter z (emitter_after e Passes n seen.next)) (sym step.1) record {
           cur = is.cur;
           taken = ap (λ k. k + n) is.taken ∙ sym (ap (λ (t : SegmentState). t.taken) here);
           owns = λ _. ap (λ (t : SegmentState). t.owner) here ∙ mine;
@@ -125,7 +125,7 @@ module _ {C : Type 0} (bytes : C → List (List ℕ)) (outcomes : C → List Out
     pub finishes : (y : BoardState) (o : Outcome) (seen : Seen) (found : BoardState)
         → e.taken ≡ length (bytes_at (bytes v.content.value) e.cur)
         → slice_get (outcomes v.content.value) e.cur ≡ Some o → BoardStep x (Finish Emitter o) y
-        → Fits bytes outcomes y (set views id (after v 5 0 seen found))
+        → Fits bytes outcomes y (set views id (after v (kind_of Finishes) 0 seen found))
     finishes y o seen found end out step =
         let i = step.0 in
         let own = step.1.own in
@@ -133,14 +133,14 @@ module _ {C : Type 0} (bytes : C → List (List ℕ)) (outcomes : C → List Out
         let s = with_outcome o (segment_at x i) in
         let here : segment_at (changed_at x i (with_outcome o)) i ≡ s =
         at_same x i s (owned_within x Emitter i own) in
-        releases bytes outcomes x views id v h at e role y 5 0 seen found (Finish Emitter o) refl step
+        releases bytes outcomes x views id v h at e role y (kind_of Finishes) 0 seen found (Finish Emitter o) refl step
         (λ j his. subst (λ k. ((segment_at x k).put ≡ length (bytes_at (bytes h.content) k))
         × (slice_get (outcomes h.content) k ≡ Some o))
         (h.board.single Emitter x.cur j mine his)
         (all_put ∙ (end ∙ same_length), sym (cur_outcome bytes outcomes x views id v h at e role) ∙ out))
         (same_claims bytes outcomes x views id v h at e role y (ap (λ (b : BoardState). b.next) step.2))
         refl
-        (subst (λ (z : BoardState). FitsEmitter z (emitter_after e 5 0 seen.next)) (sym step.2) record {
+        (subst (λ (z : BoardState). FitsEmitter z (emitter_after e Finishes 0 seen.next)) (sym step.2) record {
           cur = is.cur;
           taken = is.taken ∙ sym (subst
               (λ k. (segment_at (changed_at x i (with_outcome o)) k).taken ≡ (segment_at x k).taken)

@@ -16,7 +16,7 @@ use Rattle.output_board.specs.declared.view.Role.{Role}
 use Rattle.output_board.specs.declared.view.Role.TheVariants.{Emits, Works}
 use Rattle.output_board.specs.declared.seen.Seen.{Seen}
 use Rattle.output_board.specs.SeatRule.{Fits, FitsWorker, FitsEmitter}
-use Rattle.output_board.specs.Releases.{IsSeen, IsSeenBy, Tells, own_segment, named_event}
+use Rattle.output_board.specs.Releases.{IsSeen, IsSeenBy, Tells, own_segment, action_of, named_event}
 use Rattle.output_board.specs.Answers.{HasNext, IsAtEnd}
 
 -- an actor owns one segment at most, or none
@@ -92,14 +92,14 @@ module _ {C : Type 0} (bytes : C → List (List ℕ)) (outcomes : C → List Out
   -- what a release says, of the board that was found
   told_by : (x was y : BoardState) (v : View C) (kind amount : ℕ) (seen : Seen) (r : Role)
       → was ≡ x → v.role ≡ r → IsSeen (own_segment v.role) seen was
-      → MatchOption (named_event (bytes v.content.value) (outcomes v.content.value) r kind amount)
+      → MatchOption (named_event (bytes v.content.value) (outcomes v.content.value) r (action_of kind) amount)
       (y ≡ was) (λ e. BoardStep was e y)
       → Tells bytes outcomes v kind amount seen x y
   told_by x was y v kind amount seen r found role sees leaves =
       subst (λ (b : BoardState). Tells bytes outcomes v kind amount seen b y) found (record {
         sees = sees;
         leaves = subst (λ (q : Role). MatchOption
-            (named_event (bytes v.content.value) (outcomes v.content.value) q kind amount)
+            (named_event (bytes v.content.value) (outcomes v.content.value) q (action_of kind) amount)
             (y ≡ was) (λ e. BoardStep was e y)) (sym role) leaves;
       })
 
@@ -139,7 +139,7 @@ module _ {C : Type 0} (bytes : C → List (List ℕ)) (outcomes : C → List Out
       (number kind amount : ℕ) (seen : Seen)
       → was ≡ x → FitsAmong (Fits bytes outcomes) was id v → v.role ≡ Works w → w.number ≡ number
       → IsSeenBy (Worker number) seen was
-      → MatchOption (named_event (bytes v.content.value) (outcomes v.content.value) (Works w) kind amount)
+      → MatchOption (named_event (bytes v.content.value) (outcomes v.content.value) (Works w) (action_of kind) amount)
       (y ≡ was) (λ e. BoardStep was e y)
       → Tells bytes outcomes v kind amount seen x y
   worker_tells x was y id v w number kind amount seen found k role n s leaves =
@@ -150,7 +150,7 @@ module _ {C : Type 0} (bytes : C → List (List ℕ)) (outcomes : C → List Out
       (kind amount : ℕ) (seen : Seen)
       → was ≡ x → FitsAmong (Fits bytes outcomes) was id v → v.role ≡ Emits e
       → IsSeenBy Emitter seen was
-      → MatchOption (named_event (bytes v.content.value) (outcomes v.content.value) (Emits e) kind amount)
+      → MatchOption (named_event (bytes v.content.value) (outcomes v.content.value) (Emits e) (action_of kind) amount)
       (y ≡ was) (λ ev. BoardStep was ev y)
       → Tells bytes outcomes v kind amount seen x y
   emitter_tells x was y id v e kind amount seen found k role s leaves =

@@ -14,7 +14,7 @@ use Rattle.output_board.specs.declared.view.WorkerView.{WorkerView}
 use Rattle.output_board.specs.declared.view.Role.TheVariants.{Works}
 use Rattle.output_board.specs.declared.seen.Seen.{Seen}
 use Rattle.output_board.specs.SeatRule.{Fits, FitsWorker, IsOverFor}
-use Rattle.output_board.specs.Releases.{after}
+use Rattle.output_board.specs.Releases.{after, kind_of, Nothing, FindsOver, Claims, Leaves}
 use Rattle.output_board.proofs.BoardKept.{board_after, others_after, others_same, emitted_same, worker_releases}
 
 module _ {C : Type 0} (bytes : C → List (List ℕ)) (outcomes : C → List Outcome) (x : BoardState)
@@ -26,17 +26,17 @@ module _ {C : Type 0} (bytes : C → List (List ℕ)) (outcomes : C → List Out
 
   -- nothing changes but that the worker knows that all is over
   pub knows_over : (seen : Seen) (found : BoardState) → IsOverFor x w.number
-      → Fits bytes outcomes x (set views id (after v 1 0 seen found))
+      → Fits bytes outcomes x (set views id (after v (kind_of FindsOver) 0 seen found))
   knows_over seen found over =
-      worker_releases bytes outcomes x x views id v h at w 1 0 seen found role h.board
+      worker_releases bytes outcomes x x views id v h at w (kind_of FindsOver) 0 seen found role h.board
       (others_same (Worker w.number) x) (emitted_same x) (h.claims id v at) refl
       record { own = is.own; free = is.free; over = λ _. over; left = is.left }
 
   -- nothing changes
   pub learns_nothing : (seen : Seen) (found : BoardState)
-      → Fits bytes outcomes x (set views id (after v 0 0 seen found))
+      → Fits bytes outcomes x (set views id (after v (kind_of Nothing) 0 seen found))
   learns_nothing seen found =
-      worker_releases bytes outcomes x x views id v h at w 0 0 seen found role h.board
+      worker_releases bytes outcomes x x views id v h at w (kind_of Nothing) 0 seen found role h.board
       (others_same (Worker w.number) x) (emitted_same x) (h.claims id v at) refl is
 
   -- claim
@@ -55,7 +55,7 @@ module _ {C : Type 0} (bytes : C → List (List ℕ)) (outcomes : C → List Out
 
   pub claims : (y : BoardState) (seen : Seen) (found : BoardState) → seen.next ≡ x.next
       → BoardStep x (Claim (Worker number)) y
-      → Fits bytes outcomes y (set views id (after v 2 0 seen found))
+      → Fits bytes outcomes y (set views id (after v (kind_of Claims) 0 seen found))
   claims y seen found sees step =
       let e = Claim (Worker w.number) in
       let step' : BoardStep x e y = subst (λ k. BoardStep x (Claim (Worker k)) y) (sym n_is) step in
@@ -65,7 +65,7 @@ module _ {C : Type 0} (bytes : C → List (List ℕ)) (outcomes : C → List Out
       let mine : segment_at y x.next ≡ new =
       ap (λ (b : BoardState). segment_at b x.next) step'.1 ∙ at_same x x.next new can.more in
       let next : y.next ≡ x.next + 1 = ap (λ (b : BoardState). b.next) step'.1 in
-      worker_releases bytes outcomes x y views id v h at w 2 0 seen found role
+      worker_releases bytes outcomes x y views id v h at w (kind_of Claims) 0 seen found role
       (board_after bytes outcomes x y views id v h at e step' tt)
       (others_after bytes outcomes x y views id v h at e step') (worker_frame x e y w.number refl step')
       (let c = h.claims id v at in omega arith) refl
@@ -92,7 +92,7 @@ module _ {C : Type 0} (bytes : C → List (List ℕ)) (outcomes : C → List Out
 
   pub leaves : (y : BoardState) (seen : Seen) (found : BoardState) → w.left ≡ false
       → BoardStep x (Leave number) y
-      → Fits bytes outcomes y (set views id (after v 9 0 seen found))
+      → Fits bytes outcomes y (set views id (after v (kind_of Leaves) 0 seen found))
   leaves y seen found here step =
       let e = Leave w.number in
       let step' : BoardStep x e y = subst (λ k. BoardStep x (Leave k) y) (sym n_is) step in
@@ -100,7 +100,7 @@ module _ {C : Type 0} (bytes : C → List (List ℕ)) (outcomes : C → List Out
       (owner_still w.number (segment_at x i).owner (Worker w.number)
       (sym (ap (λ (s : SegmentState). s.owner) (at_left x w.number i))
       ∙ (ap (λ (b : BoardState). (segment_at b i).owner) (sym step'.1) ∙ own))).1 refl in
-      worker_releases bytes outcomes x y views id v h at w 9 0 seen found role
+      worker_releases bytes outcomes x y views id v h at w (kind_of Leaves) 0 seen found role
       (board_after bytes outcomes x y views id v h at e step' tt)
       (others_after bytes outcomes x y views id v h at e step') (worker_frame x e y w.number refl step')
       (let c = h.claims id v at in let m = ap (λ (b : BoardState). b.next) step'.1 in omega arith) refl

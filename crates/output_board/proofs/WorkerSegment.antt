@@ -18,7 +18,7 @@ use Rattle.output_board.specs.declared.view.WorkerView.{WorkerView}
 use Rattle.output_board.specs.declared.view.Role.TheVariants.{Works}
 use Rattle.output_board.specs.declared.seen.Seen.{Seen}
 use Rattle.output_board.specs.SeatRule.{Fits, FitsWorker}
-use Rattle.output_board.specs.Releases.{IsSeen, after, next_bytes, finish_event, outcome_at, own_segment, room_of}
+use Rattle.output_board.specs.Releases.{IsSeen, after, next_bytes, finish_event, outcome_at, own_segment, room_of, kind_of, Puts, Finishes}
 use Rattle.output_board.specs.Answers.{HasNext, IsAtEnd}
 use Rattle.output_board.proofs.BoardKept.{board_after, others_after, worker_releases}
 
@@ -107,7 +107,7 @@ module _ {C : Type 0} (bytes : C → List (List ℕ)) (outcomes : C → List Out
           ∙ ap (λ p. next_bytes (bytes v.content.value) p w.put n) (sym f.segment)) step'
 
       pub puts : (seen : Seen) (found : BoardState)
-          → Fits bytes outcomes y (set views id (after v 3 n seen found))
+          → Fits bytes outcomes y (set views id (after v (kind_of Puts) n seen found))
       puts seen found =
           let some = take n chunk in
           let e = Put w.number some in
@@ -121,7 +121,7 @@ module _ {C : Type 0} (bytes : C → List (List ℕ)) (outcomes : C → List Out
           ∙ at_same x index new (owned_within x (Worker w.number) index can.own) in
           let owes : take (length some) due ≡ some =
           ap (λ k. take k due) long ∙ sym (part due chunk n chunk_is few) in
-          worker_releases bytes outcomes x y views id v h at w 3 n seen found role
+          worker_releases bytes outcomes x y views id v h at w (kind_of Puts) n seen found role
           (board_after bytes outcomes x y views id v h at e step' (λ i own.
           subst (λ k. take (length some) (drop (segment_at x k).put (bytes_at (bytes h.content) k)) ≡ some)
           (sym (the_index i (subst (λ k. Owns x (Worker k) i) n_is own))) owes))
@@ -166,7 +166,7 @@ module _ {C : Type 0} (bytes : C → List (List ℕ)) (outcomes : C → List Out
           (sym f.outcome ∙ ap (outcome_at (outcomes v.content.value)) (sym f.segment)) end'
 
       pub finishes : (seen : Seen) (found : BoardState)
-          → Fits bytes outcomes y (set views id (after v 5 0 seen found))
+          → Fits bytes outcomes y (set views id (after v (kind_of Finishes) 0 seen found))
       finishes seen found =
           let e = Finish (Worker w.number) o in
           let i = end'.0 in
@@ -181,7 +181,7 @@ module _ {C : Type 0} (bytes : C → List (List ℕ)) (outcomes : C → List Out
           let here : segment_at y i ≡ s =
           ap (λ (b : BoardState). segment_at b i) end'.2
           ∙ at_same x i s (owned_within x (Worker w.number) i can.own) in
-          worker_releases bytes outcomes x y views id v h at w 5 0 seen found role
+          worker_releases bytes outcomes x y views id v h at w (kind_of Finishes) 0 seen found role
           (board_after bytes outcomes x y views id v h at e end' (λ j his.
           subst (λ k. ((segment_at x k).put ≡ length (bytes_at (bytes h.content) k))
           × (slice_get (outcomes h.content) k ≡ Some o))

@@ -17,7 +17,7 @@ use Rattle.output_board.specs.declared.answers.Take.{Take}
 use Rattle.output_board.specs.declared.answers.Take.TheVariants.{Bytes, Ended, Unclaimed, NotYet, Over}
 use Rattle.output_board.specs.declared.answers.Own.{Own}
 use Rattle.output_board.specs.declared.answers.Own.TheVariants.{Mine, Other}
-use Rattle.output_board.specs.Releases.{worker_after, emitter_after, claims_after, nothing_kind, over_kind, claim_kind, put_kind, pass_kind, finish_kind, take_kind, advance_kind, stop_kind, leave_kind}
+use Rattle.output_board.specs.Releases.{worker_after, emitter_after, claims_after, Action, kind_of, Nothing, FindsOver, Claims, Puts, Passes, Finishes, Takes, Advances, Stops, Leaves}
 use Rattle.output_board.specs.Seats.{SeatValue}
 
 -- put: the worker owns a segment, and these are its next bytes
@@ -34,55 +34,57 @@ pub record IsAtEnd (ss : List (List ℕ)) (os : List Outcome) (w : WorkerView) (
   pub all : w.put ≡ length (bytes_at ss index)
   pub outcome : slice_get os index ≡ Some o
 
--- the last hold of a seat has this kind, amount and `seen`, and made these changes of its view and its claims
-pub record HasTold {C V : Type 0} (after : V → ℕ → ℕ → ℕ → V) (old new : SeatValue C V)
-    (kind amount : ℕ) (seen : Seen) : Type 0 where
-  pub last : new.last ≡ Some (kind, amount, seen)
-  pub view : new.view ≡ after old.view kind amount seen.next
-  pub claims : new.claims ≡ claims_after old.claims kind
+-- the last hold of a seat had this action and amount and saw this, and changed view and claims as the action does
+pub record HasTold {C V : Type 0} (after : V → Action → ℕ → ℕ → V) (old new : SeatValue C V)
+    (action : Action) (amount : ℕ) (seen : Seen) : Type 0 where
+  pub last : new.last ≡ Some (kind_of action, amount, seen)
+  pub view : new.view ≡ after old.view action amount seen.next
+  pub claims : new.claims ≡ claims_after old.claims action
 
 module _ {C : Type 0} where
   -- a hold of a worker's seat
-  abbrev pub WorkerTold : SeatValue C WorkerView → SeatValue C WorkerView → ℕ → ℕ → Seen → Type 0
-  WorkerTold old new kind amount seen = HasTold worker_after old new kind amount seen
+  abbrev pub WorkerTold : SeatValue C WorkerView → SeatValue C WorkerView
+      → Action → ℕ → Seen → Type 0
+  WorkerTold old new action amount seen = HasTold worker_after old new action amount seen
 
   -- a hold of the emitter's seat, which saw that the segment of its view is emitted
-  abbrev pub EmitterTold : SeatValue C EmitterView → SeatValue C EmitterView → ℕ → ℕ → Seen → Type 0
-  EmitterTold old new kind amount seen =
-      HasTold emitter_after old new kind amount seen × (seen.cur ≡ old.view.cur)
+  abbrev pub EmitterTold : SeatValue C EmitterView → SeatValue C EmitterView
+      → Action → ℕ → Seen → Type 0
+  EmitterTold old new action amount seen =
+      HasTold emitter_after old new action amount seen × (seen.cur ≡ old.view.cur)
 
   -- claim, for the given number of segments: Segment if the board isn't stopped and one is left, NoneLeft if it isn't
   -- stopped and none is, Stopped if it is; a seat has claimed no more segments than were claimed at all
   abbrev pub ClaimGives : ℕ → SeatValue C WorkerView → SeatValue C WorkerView → Claim → Type 0
   ClaimGives count old new (Segment i) =
-      (seen : Seen) × WorkerTold old new claim_kind 0 seen
+      (seen : Seen) × WorkerTold old new Claims 0 seen
       × (seen.stopped ≡ false) × (seen.next < count) × (i ≡ seen.next)
       × (new.claims ≤ i + 1)
   ClaimGives count old new NoneLeft =
-      (seen : Seen) × WorkerTold old new over_kind 0 seen
+      (seen : Seen) × WorkerTold old new FindsOver 0 seen
       × (seen.stopped ≡ false) × (seen.next ≡ count)
   ClaimGives count old new ClaimStopped =
-      (seen : Seen) × WorkerTold old new over_kind 0 seen × (seen.stopped ≡ true)
+      (seen : Seen) × WorkerTold old new FindsOver 0 seen × (seen.stopped ≡ true)
 
   -- put, of the given number of bytes: Took n if the board isn't stopped and the ring had room for n of them
   abbrev pub PutGives : ℕ → SeatValue C WorkerView → SeatValue C WorkerView → Put → Type 0
   PutGives count old new (Took n) =
-      (seen : Seen) × WorkerTold old new (if n == 0 then nothing_kind else put_kind) n seen
+      (seen : Seen) × WorkerTold old new (if n == 0 then Nothing else Puts) n seen
       × (seen.stopped ≡ false) × (n ≡ min count seen.free)
       × (new.view ≡ record old.view { put = old.view.put + n })
   PutGives count old new PutStopped =
-      (seen : Seen) × WorkerTold old new over_kind 0 seen × (seen.stopped ≡ true)
+      (seen : Seen) × WorkerTold old new FindsOver 0 seen × (seen.stopped ≡ true)
 
   -- finish: Kept if the board isn't stopped
   abbrev pub FinishGives : SeatValue C WorkerView → SeatValue C WorkerView → Finish → Type 0
   FinishGives old new Kept =
-      (seen : Seen) × WorkerTold old new finish_kind 0 seen × (seen.stopped ≡ false)
+      (seen : Seen) × WorkerTold old new Finishes 0 seen × (seen.stopped ≡ false)
   FinishGives old new FinishStopped =
-      (seen : Seen) × WorkerTold old new over_kind 0 seen × (seen.stopped ≡ true)
+      (seen : Seen) × WorkerTold old new FindsOver 0 seen × (seen.stopped ≡ true)
 
   -- leave
   abbrev pub LeaveGives : SeatValue C WorkerView → SeatValue C WorkerView → Type 0
-  LeaveGives old new = (seen : Seen) × WorkerTold old new leave_kind 0 seen
+  LeaveGives old new = (seen : Seen) × WorkerTold old new Leaves 0 seen
 
   -- take, by what the buffer was and is: Bytes n if bytes wait; Ended if none does and the segment has its outcome;
   -- Unclaimed if nobody has claimed it; NotYet if somebody has, no byte waits and it isn't done; Over if all segments
@@ -90,48 +92,48 @@ module _ {C : Type 0} where
   abbrev pub TakeGives : List (List ℕ) → List Outcome
       → SeatValue C EmitterView → SeatValue C EmitterView → List ℕ → List ℕ → Take → Type 0
   TakeGives ss os old new before now (Bytes n) =
-      (seen : Seen) × EmitterTold old new take_kind n seen
+      (seen : Seen) × EmitterTold old new Takes n seen
       × (1 ≤ seen.length) × (n ≡ min seen.length (length before))
       × (now ≡ take n (drop old.view.taken (bytes_at ss old.view.cur)) ++ drop n before)
   TakeGives ss os old new before now (Ended (Good pads)) =
-      (seen : Seen) × EmitterTold old new advance_kind 0 seen
+      (seen : Seen) × EmitterTold old new Advances 0 seen
       × (seen.length ≡ 0) × (seen.done ≡ true) × (now ≡ before)
       × (slice_get os old.view.cur ≡ Some (Good pads))
       × (old.view.taken ≡ length (bytes_at ss old.view.cur))
   TakeGives ss os old new before now (Ended (Bad fault)) =
-      (seen : Seen) × EmitterTold old new nothing_kind 0 seen
+      (seen : Seen) × EmitterTold old new Nothing 0 seen
       × (seen.length ≡ 0) × (seen.done ≡ true) × (now ≡ before)
       × (slice_get os old.view.cur ≡ Some (Bad fault))
       × (old.view.taken ≡ length (bytes_at ss old.view.cur))
   TakeGives ss os old new before now Unclaimed =
-      (seen : Seen) × EmitterTold old new nothing_kind 0 seen
+      (seen : Seen) × EmitterTold old new Nothing 0 seen
       × (seen.next ≡ seen.cur) × (seen.cur < length ss) × (now ≡ before)
   TakeGives ss os old new before now NotYet =
-      (seen : Seen) × EmitterTold old new nothing_kind 0 seen
+      (seen : Seen) × EmitterTold old new Nothing 0 seen
       × (seen.cur < seen.next) × (seen.length ≡ 0) × (seen.done ≡ false) × (now ≡ before)
   TakeGives ss os old new before now Over =
-      (seen : Seen) × EmitterTold old new nothing_kind 0 seen
+      (seen : Seen) × EmitterTold old new Nothing 0 seen
       × (seen.cur ≡ length ss) × (now ≡ before)
 
   -- claim_own, for the given number of segments: Mine if the segment that is emitted is the next one; the emitter has
   -- taken no byte of it
   abbrev pub OwnGives : ℕ → SeatValue C EmitterView → SeatValue C EmitterView → Own → Type 0
   OwnGives count old new (Mine i) =
-      (seen : Seen) × EmitterTold old new claim_kind 0 seen
+      (seen : Seen) × EmitterTold old new Claims 0 seen
       × (seen.next ≡ seen.cur) × (seen.cur < count) × (i ≡ seen.cur) × (old.view.taken ≡ 0)
       × (new.claims ≤ i + 1)
   OwnGives count old new Other =
-      (seen : Seen) × EmitterTold old new nothing_kind 0 seen
+      (seen : Seen) × EmitterTold old new Nothing 0 seen
       × ((seen.next ≢ seen.cur) ⊎ (seen.cur ≡ count))
 
   -- pass, of the given number of bytes
   abbrev pub PassGives : ℕ → SeatValue C EmitterView → SeatValue C EmitterView → Type 0
-  PassGives count old new = (seen : Seen) × EmitterTold old new pass_kind count seen
+  PassGives count old new = (seen : Seen) × EmitterTold old new Passes count seen
 
   -- finish_own
   abbrev pub OwnFinishGives : SeatValue C EmitterView → SeatValue C EmitterView → Type 0
-  OwnFinishGives old new = (seen : Seen) × EmitterTold old new finish_kind 0 seen
+  OwnFinishGives old new = (seen : Seen) × EmitterTold old new Finishes 0 seen
 
   -- stop
   abbrev pub StopGives : SeatValue C EmitterView → SeatValue C EmitterView → Type 0
-  StopGives old new = (seen : Seen) × EmitterTold old new stop_kind 0 seen
+  StopGives old new = (seen : Seen) × EmitterTold old new Stops 0 seen

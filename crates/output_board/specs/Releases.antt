@@ -13,75 +13,74 @@ use Rattle.output_board.specs.declared.view.Role.{Role}
 use Rattle.output_board.specs.declared.view.Role.TheVariants.{Emits, Works}
 use Rattle.output_board.specs.declared.seen.Seen.{Seen}
 
--- the kind of a release that changes nothing
-abbrev pub nothing_kind : ℕ
-nothing_kind = 0
+-- what a release does: nothing; nothing but that the worker knows that all is over for it; or an event of the board
+pub data Action : Type 0 where
+  Nothing : Action
+  FindsOver : Action
+  Claims : Action
+  Puts : Action
+  Passes : Action
+  Finishes : Action
+  Takes : Action
+  Advances : Action
+  Stops : Action
+  Leaves : Action
 
--- the kind of a release that changes nothing but the worker's view: all is over for it
-abbrev pub over_kind : ℕ
-over_kind = 1
+-- the kind of a release with an action
+abbrev pub kind_of : Action → ℕ
+kind_of Nothing = 0
+kind_of FindsOver = 1
+kind_of Claims = 2
+kind_of Puts = 3
+kind_of Passes = 4
+kind_of Finishes = 5
+kind_of Takes = 6
+kind_of Advances = 7
+kind_of Stops = 8
+kind_of Leaves = 9
 
--- the kind of a claim
-abbrev pub claim_kind : ℕ
-claim_kind = 2
+-- the action of a release of a kind; one of any other kind does nothing
+abbrev pub action_of : ℕ → Action
+action_of kind =
+    if kind == kind_of FindsOver then FindsOver
+    else (if kind == kind_of Claims then Claims
+    else (if kind == kind_of Puts then Puts
+    else (if kind == kind_of Passes then Passes
+    else (if kind == kind_of Finishes then Finishes
+    else (if kind == kind_of Takes then Takes
+    else (if kind == kind_of Advances then Advances
+    else (if kind == kind_of Stops then Stops
+    else (if kind == kind_of Leaves then Leaves
+    else Nothing))))))))
 
--- the kind of a put; the amount is how many bytes
-abbrev pub put_kind : ℕ
-put_kind = 3
+-- a worker's view after an action; the amount is how many bytes it puts, and `next` was the next segment
+abbrev pub worker_after : WorkerView → Action → ℕ → ℕ → WorkerView
+worker_after w FindsOver amount next = record w { over = true }
+worker_after w Claims amount next = record w { segment = Some next; put = 0 }
+worker_after w Puts amount next = record w { put = w.put + amount }
+worker_after w Finishes amount next = record w { segment = None }
+worker_after w Leaves amount next = record w { segment = None; left = true }
+worker_after w _ amount next = w
 
--- the kind of a pass; the amount is how many bytes
-abbrev pub pass_kind : ℕ
-pass_kind = 4
+-- the emitter's view after an action; the amount is how many bytes it takes or passes
+abbrev pub emitter_after : EmitterView → Action → ℕ → ℕ → EmitterView
+emitter_after e Claims amount next = record e { owns = true }
+emitter_after e Passes amount next = record e { taken = e.taken + amount }
+emitter_after e Finishes amount next = record e { owns = false }
+emitter_after e Takes amount next = record e { taken = e.taken + amount }
+emitter_after e Advances amount next = record e { cur = e.cur + 1; taken = 0 }
+emitter_after e Stops amount next = record e { stopped = true }
+emitter_after e _ amount next = e
 
--- the kind of the end of a segment
-abbrev pub finish_kind : ℕ
-finish_kind = 5
+-- a role after an action
+abbrev pub role_after : Role → Action → ℕ → ℕ → Role
+role_after (Emits e) action amount next = Emits (emitter_after e action amount next)
+role_after (Works w) action amount next = Works (worker_after w action amount next)
 
--- the kind of a take; the amount is how many bytes
-abbrev pub take_kind : ℕ
-take_kind = 6
-
--- the kind of proceeding to the next segment
-abbrev pub advance_kind : ℕ
-advance_kind = 7
-
--- the kind of stopping the board
-abbrev pub stop_kind : ℕ
-stop_kind = 8
-
--- the kind of a worker's leaving
-abbrev pub leave_kind : ℕ
-leave_kind = 9
-
--- a worker's view after a release of a kind and an amount, at which this segment was next
-abbrev pub worker_after : WorkerView → ℕ → ℕ → ℕ → WorkerView
-worker_after w kind amount next =
-    if kind == over_kind then record w { over = true }
-    else (if kind == claim_kind then record w { segment = Some next; put = 0 }
-    else (if kind == put_kind then record w { put = w.put + amount }
-    else (if kind == finish_kind then record w { segment = None }
-    else (if kind == leave_kind then record w { segment = None; left = true }
-    else w))))
-
--- the emitter's view after a release of a kind and an amount
-abbrev pub emitter_after : EmitterView → ℕ → ℕ → ℕ → EmitterView
-emitter_after e kind amount next =
-    if kind == claim_kind then record e { owns = true }
-    else (if kind == pass_kind then record e { taken = e.taken + amount }
-    else (if kind == finish_kind then record e { owns = false }
-    else (if kind == take_kind then record e { taken = e.taken + amount }
-    else (if kind == advance_kind then record e { cur = e.cur + 1; taken = 0 }
-    else (if kind == stop_kind then record e { stopped = true }
-    else e)))))
-
--- a role after a release
-abbrev pub role_after : Role → ℕ → ℕ → ℕ → Role
-role_after (Emits e) kind amount next = Emits (emitter_after e kind amount next)
-role_after (Works w) kind amount next = Works (worker_after w kind amount next)
-
--- how many segments a seat has claimed after a release
-abbrev pub claims_after : ℕ → ℕ → ℕ
-claims_after claims kind = if kind == claim_kind then claims + 1 else claims
+-- how many segments a seat has claimed after an action
+abbrev pub claims_after : ℕ → Action → ℕ
+claims_after claims Claims = claims + 1
+claims_after claims _ = claims
 
 -- the segment that is a seat's own
 abbrev pub own_segment : Role → Option ℕ
@@ -122,29 +121,29 @@ abbrev pub finish_event : Actor → Option Outcome → Option BoardEvent
 finish_event a None = None
 finish_event a (Some o) = Some (Finish a o)
 
--- the event that kind and amount name, with its bytes and its outcome from the lists
-abbrev pub named_event : List (List ℕ) → List Outcome → Role → ℕ → ℕ → Option BoardEvent
-named_event ss os (Works w) kind amount =
-    if kind == claim_kind then Some (Claim (Worker w.number))
-    else (if kind == put_kind then Some (Put w.number (next_bytes ss w.segment w.put amount))
-    else (if kind == finish_kind then finish_event (Worker w.number) (outcome_at os w.segment)
-    else (if kind == leave_kind then Some (Leave w.number)
-    else None)))
-named_event ss os (Emits e) kind amount =
-    if kind == claim_kind then Some (Claim Emitter)
-    else (if kind == pass_kind then Some (Pass amount)
-    else (if kind == finish_kind then finish_event Emitter (slice_get os e.cur)
-    else (if kind == take_kind then Some (Take amount)
-    else (if kind == advance_kind then Some Advance
-    else (if kind == stop_kind then Some Stop
-    else None)))))
+-- the event that action and amount name, with its bytes and its outcome from the lists
+abbrev pub named_event : List (List ℕ) → List Outcome → Role → Action → ℕ → Option BoardEvent
+named_event ss os (Works w) Claims amount = Some (Claim (Worker w.number))
+named_event ss os (Works w) Puts amount =
+    Some (Put w.number (next_bytes ss w.segment w.put amount))
+named_event ss os (Works w) Finishes amount =
+    finish_event (Worker w.number) (outcome_at os w.segment)
+named_event ss os (Works w) Leaves amount = Some (Leave w.number)
+named_event ss os (Works w) _ amount = None
+named_event ss os (Emits e) Claims amount = Some (Claim Emitter)
+named_event ss os (Emits e) Passes amount = Some (Pass amount)
+named_event ss os (Emits e) Finishes amount = finish_event Emitter (slice_get os e.cur)
+named_event ss os (Emits e) Takes amount = Some (Take amount)
+named_event ss os (Emits e) Advances amount = Some Advance
+named_event ss os (Emits e) Stops amount = Some Stop
+named_event ss os (Emits e) _ amount = None
 
 module _ {C : Type 0} where
-  -- a view after a release
+  -- a view after a release of a kind and an amount
   abbrev pub after : View C → ℕ → ℕ → Seen → BoardState → View C
   after v kind amount seen found = record v {
-    claims = claims_after v.claims kind;
-    role = role_after v.role kind amount seen.next;
+    claims = claims_after v.claims (action_of kind);
+    role = role_after v.role (action_of kind) amount seen.next;
   }
 
   -- what a release says: what is seen is the board found, and the board left is the step of the event that is named, or
@@ -153,6 +152,6 @@ module _ {C : Type 0} where
       (v : View C) (kind amount : ℕ) (seen : Seen) (found left : BoardState) : Type 0 where
     pub sees : IsSeen (own_segment v.role) seen found
     pub leaves : MatchOption
-        (named_event (bytes v.content.value) (outcomes v.content.value) v.role kind amount)
+        (named_event (bytes v.content.value) (outcomes v.content.value) v.role (action_of kind) amount)
         (left ≡ found)
         (λ e. BoardStep found e left)

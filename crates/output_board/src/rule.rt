@@ -6,7 +6,7 @@ use board_core::Core;
 use seat_lock::Rule;
 use std::marker::PhantomData;
 
-// The kinds of a release: nothing changes; nothing changes, but the worker knows that all is over; the events.
+// The kinds of a release: the numbers of its actions (`kind_of` of `specs/Releases.antt`).
 pub(crate) const NOTHING: u64 = 0;
 
 pub(crate) const OVER: u64 = 1;

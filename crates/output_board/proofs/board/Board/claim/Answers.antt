@@ -1,4 +1,5 @@
 use Rattle.std.proofs.Common.{sym, ap, ◌∙◌, refl, inl}
+use Rattle.output_board.specs.Releases.{kind_of, FindsOver}
 use Rattle.output_board.proofs.HoldFacts.{among, fits_value, worker_tells}
 use Rattle.output_board.proofs.WorkerKept.{may_claim, none_left, knows_over, claims}
 use Rattle.output_board.proofs.board.Board.claim.Goals as goal
@@ -9,7 +10,8 @@ release-requires-clause-tells g c κs within =
     let view = c.hold-held.ensures.knows.view in
     let role = ap (λ v. v.role) view ∙ c.seat.invariant.role in
     let k = among g.C.Content.bytes g.C.Content.outcomes _ _ _ _ _ found view c.hold-held.ensures.fits in
-    worker_tells g.C.Content.bytes g.C.Content.outcomes _ _ _ _ _ _ _ 1 0 c.look-seen.result found k role
+    worker_tells g.C.Content.bytes g.C.Content.outcomes _ _ _ _ _ _ _ (kind_of FindsOver) 0
+    c.look-seen.result found k role
     c.seat.invariant.number_is c.look-seen.ensures refl
 
 pub release-requires-then-seen-count-clause-tells :
@@ -19,7 +21,8 @@ release-requires-then-seen-count-clause-tells g c κs within =
     let view = c.hold-held.ensures.knows.view in
     let role = ap (λ v. v.role) view ∙ c.seat.invariant.role in
     let k = among g.C.Content.bytes g.C.Content.outcomes _ _ _ _ _ found view c.hold-held.ensures.fits in
-    worker_tells g.C.Content.bytes g.C.Content.outcomes _ _ _ _ _ _ _ 1 0 c.look-seen.result found k role
+    worker_tells g.C.Content.bytes g.C.Content.outcomes _ _ _ _ _ _ _ (kind_of FindsOver) 0
+    c.look-seen.result found k role
     c.seat.invariant.number_is c.look-seen.ensures refl
 
 pub release-requires-clause-keeps : goal.release-requires-clause-keeps

@@ -1,5 +1,6 @@
 use Rattle.std.proofs.Common.{sym, ap, ◌∙◌, subst, refl, inl}
 use Rattle.output_board.specs.Answers.{IsAtEnd}
+use Rattle.output_board.specs.Releases.{kind_of, FindsOver, Finishes}
 use Rattle.output_board.proofs.HoldFacts.{among, fits_value, end_moves, worker_tells}
 use Rattle.output_board.proofs.WorkerKept.{knows_over}
 use Rattle.output_board.proofs.WorkerSegment.{may_finish, names_finish, finishes}
@@ -11,7 +12,8 @@ release-requires-clause-tells g c κs within =
     let view = c.hold-held.ensures.knows.view in
     let role = ap (λ v. v.role) view ∙ c.seat.invariant.role in
     let k = among g.C.Content.bytes g.C.Content.outcomes _ _ _ _ _ found view c.hold-held.ensures.fits in
-    worker_tells g.C.Content.bytes g.C.Content.outcomes _ _ _ _ _ _ _ 1 0 c.look-seen.result found k role
+    worker_tells g.C.Content.bytes g.C.Content.outcomes _ _ _ _ _ _ _ (kind_of FindsOver) 0
+    c.look-seen.result found k role
     c.seat.invariant.number_is c.look-seen.ensures refl
 
 pub release-requires-2-clause-tells : goal.release-requires-2-clause-tells
@@ -24,7 +26,8 @@ release-requires-2-clause-tells g c κs within =
     (sym c.seat.view_is) c.requires.end in
     let k = among g.C.Content.bytes g.C.Content.outcomes _ _ _ _ _ found view c.hold-held.ensures.fits in
     let end = end_moves g.C.Content.bytes g.C.Content.outcomes _ _ _ _ view end_value in
-    worker_tells g.C.Content.bytes g.C.Content.outcomes _ _ _ _ _ _ _ 5 0 c.look-seen.result found k role
+    worker_tells g.C.Content.bytes g.C.Content.outcomes _ _ _ _ _ _ _ (kind_of Finishes) 0
+    c.look-seen.result found k role
     c.seat.invariant.number_is c.look-seen.ensures (names_finish g.C.Content.bytes g.C.Content.outcomes _
     _ _ _ k.fitted k.at _ role c.seat.inside.number c.seat.invariant.number_is c.args.outcome end _
     c.step.ensures.step)

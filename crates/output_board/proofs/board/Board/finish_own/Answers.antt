@@ -1,6 +1,7 @@
 use Rattle.std.proofs.Common.{◌≡◌, sym, ap, ◌∙◌, subst, length, rules}
 use Rattle.std.specs.Prelude.{slice_get}
 use Rattle.board_core.specs.BoardInvariants.{bytes_at}
+use Rattle.output_board.specs.Releases.{kind_of, Finishes}
 use Rattle.output_board.proofs.HoldFacts.{among, fits_value, length_moves, outcome_moves, emitter_tells, cur_seen}
 use Rattle.output_board.proofs.EmitterSegment.{may_finish, names_finish, finishes}
 use Rattle.output_board.proofs.board.Board.finish_own.Goals as goal
@@ -28,7 +29,8 @@ release-requires-clause-tells g c κs within =
     let k = among g.C.Content.bytes g.C.Content.outcomes _ _ _ _ _ found view c.hold-held.ensures.fits in
     let all = all_put ∙ sym (length_moves g.C.Content.bytes g.C.Content.outcomes _ _ _ view role) in
     let ends = outcome_moves g.C.Content.bytes g.C.Content.outcomes _ _ _ view role ∙ outcome in
-    emitter_tells g.C.Content.bytes g.C.Content.outcomes _ _ _ _ _ _ 5 0 c.look-seen.result found k role
+    emitter_tells g.C.Content.bytes g.C.Content.outcomes _ _ _ _ _ _ (kind_of Finishes) 0
+    c.look-seen.result found k role
     c.look-seen.ensures (names_finish g.C.Content.bytes g.C.Content.outcomes _ _ _ _ k.fitted k.at _ role
     owns _ c.args.outcome ends c.step.ensures.step)
 

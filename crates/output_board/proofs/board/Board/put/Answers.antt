@@ -1,5 +1,6 @@
 use Rattle.std.proofs.Common.{◌≤◌, sym, ap, ◌∙◌, subst, refl, length, inl, arith}
 use Rattle.output_board.specs.Answers.{HasNext}
+use Rattle.output_board.specs.Releases.{kind_of, Nothing, FindsOver, Puts}
 use Rattle.output_board.proofs.HoldFacts.{among, fits_value, next_moves, worker_sees, worker_tells}
 use Rattle.output_board.proofs.WorkerKept.{knows_over, learns_nothing}
 use Rattle.output_board.proofs.WorkerSegment.{put_fits, may_put, names_put, puts}
@@ -11,7 +12,8 @@ release-requires-clause-tells g c κs within =
     let view = c.hold-held.ensures.knows.view in
     let role = ap (λ v. v.role) view ∙ c.seat.invariant.role in
     let k = among g.C.Content.bytes g.C.Content.outcomes _ _ _ _ _ found view c.hold-held.ensures.fits in
-    worker_tells g.C.Content.bytes g.C.Content.outcomes _ _ _ _ _ _ _ 1 0 c.look-seen.result found k role
+    worker_tells g.C.Content.bytes g.C.Content.outcomes _ _ _ _ _ _ _ (kind_of FindsOver) 0
+    c.look-seen.result found k role
     c.seat.invariant.number_is c.look-seen.ensures refl
 
 pub release-requires-then-n-eq0-clause-tells : goal.release-requires-then-n-eq0-clause-tells
@@ -20,7 +22,8 @@ release-requires-then-n-eq0-clause-tells g c κs within =
     let view = c.hold-held.ensures.knows.view in
     let role = ap (λ v. v.role) view ∙ c.seat.invariant.role in
     let k = among g.C.Content.bytes g.C.Content.outcomes _ _ _ _ _ found view c.hold-held.ensures.fits in
-    worker_tells g.C.Content.bytes g.C.Content.outcomes _ _ _ _ _ _ _ 0 0 c.look-seen.result found k role
+    worker_tells g.C.Content.bytes g.C.Content.outcomes _ _ _ _ _ _ _ (kind_of Nothing) 0
+    c.look-seen.result found k role
     c.seat.invariant.number_is c.look-seen.ensures refl
 
 pub release-requires-2-clause-tells : goal.release-requires-2-clause-tells
@@ -34,7 +37,8 @@ release-requires-2-clause-tells g c κs within =
     let next = next_moves g.C.Content.bytes g.C.Content.outcomes _ _ _ _ view next_value in
     let n = c.min-n.result in
     let few : n ≤ length c.args.bytes.now = let e = c.min-n.ensures in omega arith in
-    worker_tells g.C.Content.bytes g.C.Content.outcomes _ _ _ _ _ _ _ 3 n c.look-seen.result found k role
+    worker_tells g.C.Content.bytes g.C.Content.outcomes _ _ _ _ _ _ _ (kind_of Puts) n
+    c.look-seen.result found k role
     c.seat.invariant.number_is c.look-seen.ensures (names_put g.C.Content.bytes g.C.Content.outcomes _ _ _
     _ k.fitted k.at _ role c.seat.inside.number c.seat.invariant.number_is c.args.bytes.now next _ n few
     c.step.ensures.step)
