@@ -71,7 +71,7 @@ module _ {C : Type 0} (bytes : C → List (List ℕ)) (outcomes : C → List Out
   pub finds_nothing : (j : ℕ) (v : View C) → get_elem? views j ≡ some v → HasNoneToClaim b
       → ClaimsFindNothing C b (length (bytes v.content.value))
   finds_nothing j v at none old new (Segment i) own kind amount seen last sees
-      (s, told, going, more, _, _) =
+      (_, _, s, told, going, more, _) =
       let same = same_seen _ _ _ _ _ _ (sym last ∙ told.last) in
       let count : length (bytes v.content.value) ≡ length b.segments =
       ap (λ (c : C). length (bytes c)) (h.same j v at) ∙ h.board.bytes in

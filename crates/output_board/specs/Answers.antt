@@ -1,6 +1,7 @@
--- Steps: what the calls ask of a seat's view, and what they make of it and return (own). `seen` is what a call's one
--- hold found; `ss` and `os` are the bytes and the outcomes of the segments.
-use Rattle.std.specs.Prelude.{◌≡◌, ◌≢◌, ℕ, ◌+◌, ◌<◌, ◌≤◌, ◌⊎◌, min, take, drop, ◌==◌, if◌then◌else◌, List, ◌++◌, length, true, false, Some, slice_get}
+-- Steps: what the calls ask of a seat's view, and what they make of it and return (own). Each answer says what changed of
+-- the view, then facts of the result, then what the call's one hold found (`seen`) and recorded. `ss` and `os` are the
+-- bytes and the outcomes of the segments.
+use Rattle.std.specs.Prelude.{◌≡◌, ◌≢◌, ℕ, ◌+◌, ◌<◌, ◌≤◌, ◌⊎◌, min, take, drop, ◌==◌, if◌then◌else◌, List, ◌++◌, length, true, false, Some, None, slice_get}
 use Rattle.handover.specs.declared.outcome.Outcome.{Outcome}
 use Rattle.handover.specs.declared.outcome.Outcome.TheVariants.{Good, Bad}
 use Rattle.board_core.specs.BoardInvariants.{bytes_at}
@@ -57,34 +58,42 @@ module _ {C : Type 0} where
   -- stopped and none is, Stopped if it is; a seat has claimed no more segments than were claimed at all
   abbrev pub ClaimGives : ℕ → SeatValue C WorkerView → SeatValue C WorkerView → Claim → Type 0
   ClaimGives count old new (Segment i) =
-      (seen : Seen) × WorkerTold old new Claims 0 seen
-      × (seen.stopped ≡ false) × (seen.next < count) × (i ≡ seen.next)
+      (new.view ≡ record old.view { segment = Some i; put = 0 })
       × (new.claims ≤ i + 1)
+      × (seen : Seen) × WorkerTold old new Claims 0 seen
+      × (seen.stopped ≡ false) × (seen.next < count) × (i ≡ seen.next)
   ClaimGives count old new NoneLeft =
-      (seen : Seen) × WorkerTold old new FindsOver 0 seen
+      (new.view ≡ record old.view { over = true })
+      × (seen : Seen) × WorkerTold old new FindsOver 0 seen
       × (seen.stopped ≡ false) × (seen.next ≡ count)
   ClaimGives count old new ClaimStopped =
-      (seen : Seen) × WorkerTold old new FindsOver 0 seen × (seen.stopped ≡ true)
+      (new.view ≡ record old.view { over = true })
+      × (seen : Seen) × WorkerTold old new FindsOver 0 seen × (seen.stopped ≡ true)
 
   -- put, of the given number of bytes: Took n if the board isn't stopped and the ring had room for n of them
   abbrev pub PutGives : ℕ → SeatValue C WorkerView → SeatValue C WorkerView → Put → Type 0
   PutGives count old new (Took n) =
-      (seen : Seen) × WorkerTold old new (if n == 0 then Nothing else Puts) n seen
+      (new.view ≡ record old.view { put = old.view.put + n })
+      × (seen : Seen) × WorkerTold old new (if n == 0 then Nothing else Puts) n seen
       × (seen.stopped ≡ false) × (n ≡ min count seen.free)
-      × (new.view ≡ record old.view { put = old.view.put + n })
   PutGives count old new PutStopped =
-      (seen : Seen) × WorkerTold old new FindsOver 0 seen × (seen.stopped ≡ true)
+      (new.view ≡ record old.view { over = true })
+      × (seen : Seen) × WorkerTold old new FindsOver 0 seen × (seen.stopped ≡ true)
 
   -- finish: Kept if the board isn't stopped
   abbrev pub FinishGives : SeatValue C WorkerView → SeatValue C WorkerView → Finish → Type 0
   FinishGives old new Kept =
-      (seen : Seen) × WorkerTold old new Finishes 0 seen × (seen.stopped ≡ false)
+      (new.view ≡ record old.view { segment = None })
+      × (seen : Seen) × WorkerTold old new Finishes 0 seen × (seen.stopped ≡ false)
   FinishGives old new FinishStopped =
-      (seen : Seen) × WorkerTold old new FindsOver 0 seen × (seen.stopped ≡ true)
+      (new.view ≡ record old.view { over = true })
+      × (seen : Seen) × WorkerTold old new FindsOver 0 seen × (seen.stopped ≡ true)
 
   -- leave
   abbrev pub LeaveGives : SeatValue C WorkerView → SeatValue C WorkerView → Type 0
-  LeaveGives old new = (seen : Seen) × WorkerTold old new Leaves 0 seen
+  LeaveGives old new =
+      (new.view ≡ record old.view { segment = None; left = true })
+      × (seen : Seen) × WorkerTold old new Leaves 0 seen
 
   -- take, by what the buffer was and is: Bytes n if bytes wait; Ended if none does and the segment has its outcome;
   -- Unclaimed if nobody has claimed it; NotYet if somebody has, no byte waits and it isn't done; Over if all segments
@@ -92,48 +101,67 @@ module _ {C : Type 0} where
   abbrev pub TakeGives : List (List ℕ) → List Outcome
       → SeatValue C EmitterView → SeatValue C EmitterView → List ℕ → List ℕ → Take → Type 0
   TakeGives ss os old new before now (Bytes n) =
-      (seen : Seen) × EmitterTold old new Takes n seen
-      × (1 ≤ seen.length) × (n ≡ min seen.length (length before))
+      (new.view ≡ record old.view { taken = old.view.taken + n })
       × (now ≡ take n (drop old.view.taken (bytes_at ss old.view.cur)) ++ drop n before)
+      × (seen : Seen) × EmitterTold old new Takes n seen
+      × (1 ≤ seen.length) × (n ≡ min seen.length (length before))
   TakeGives ss os old new before now (Ended (Good pads)) =
-      (seen : Seen) × EmitterTold old new Advances 0 seen
-      × (seen.length ≡ 0) × (seen.done ≡ true) × (now ≡ before)
+      (new.view ≡ record old.view { cur = old.view.cur + 1; taken = 0 })
+      × (now ≡ before)
       × (slice_get os old.view.cur ≡ Some (Good pads))
       × (old.view.taken ≡ length (bytes_at ss old.view.cur))
+      × (seen : Seen) × EmitterTold old new Advances 0 seen
+      × (seen.length ≡ 0) × (seen.done ≡ true)
   TakeGives ss os old new before now (Ended (Bad fault)) =
-      (seen : Seen) × EmitterTold old new Nothing 0 seen
-      × (seen.length ≡ 0) × (seen.done ≡ true) × (now ≡ before)
+      (new.view ≡ old.view)
+      × (now ≡ before)
       × (slice_get os old.view.cur ≡ Some (Bad fault))
       × (old.view.taken ≡ length (bytes_at ss old.view.cur))
+      × (seen : Seen) × EmitterTold old new Nothing 0 seen
+      × (seen.length ≡ 0) × (seen.done ≡ true)
   TakeGives ss os old new before now Unclaimed =
-      (seen : Seen) × EmitterTold old new Nothing 0 seen
-      × (seen.next ≡ seen.cur) × (seen.cur < length ss) × (now ≡ before)
+      (new.view ≡ old.view)
+      × (now ≡ before)
+      × (seen : Seen) × EmitterTold old new Nothing 0 seen
+      × (seen.next ≡ seen.cur) × (seen.cur < length ss)
   TakeGives ss os old new before now NotYet =
-      (seen : Seen) × EmitterTold old new Nothing 0 seen
-      × (seen.cur < seen.next) × (seen.length ≡ 0) × (seen.done ≡ false) × (now ≡ before)
+      (new.view ≡ old.view)
+      × (now ≡ before)
+      × (seen : Seen) × EmitterTold old new Nothing 0 seen
+      × (seen.cur < seen.next) × (seen.length ≡ 0) × (seen.done ≡ false)
   TakeGives ss os old new before now Over =
-      (seen : Seen) × EmitterTold old new Nothing 0 seen
-      × (seen.cur ≡ length ss) × (now ≡ before)
+      (new.view ≡ old.view)
+      × (now ≡ before)
+      × (seen : Seen) × EmitterTold old new Nothing 0 seen
+      × (seen.cur ≡ length ss)
 
   -- claim_own, for the given number of segments: Mine if the segment that is emitted is the next one; the emitter has
   -- taken no byte of it
   abbrev pub OwnGives : ℕ → SeatValue C EmitterView → SeatValue C EmitterView → Own → Type 0
   OwnGives count old new (Mine i) =
-      (seen : Seen) × EmitterTold old new Claims 0 seen
-      × (seen.next ≡ seen.cur) × (seen.cur < count) × (i ≡ seen.cur) × (old.view.taken ≡ 0)
-      × (new.claims ≤ i + 1)
+      (new.view ≡ record old.view { owns = true })
+      × (old.view.taken ≡ 0) × (new.claims ≤ i + 1)
+      × (seen : Seen) × EmitterTold old new Claims 0 seen
+      × (seen.next ≡ seen.cur) × (seen.cur < count) × (i ≡ seen.cur)
   OwnGives count old new Other =
-      (seen : Seen) × EmitterTold old new Nothing 0 seen
+      (new.view ≡ old.view)
+      × (seen : Seen) × EmitterTold old new Nothing 0 seen
       × ((seen.next ≢ seen.cur) ⊎ (seen.cur ≡ count))
 
   -- pass, of the given number of bytes
   abbrev pub PassGives : ℕ → SeatValue C EmitterView → SeatValue C EmitterView → Type 0
-  PassGives count old new = (seen : Seen) × EmitterTold old new Passes count seen
+  PassGives count old new =
+      (new.view ≡ record old.view { taken = old.view.taken + count })
+      × (seen : Seen) × EmitterTold old new Passes count seen
 
   -- finish_own
   abbrev pub OwnFinishGives : SeatValue C EmitterView → SeatValue C EmitterView → Type 0
-  OwnFinishGives old new = (seen : Seen) × EmitterTold old new Finishes 0 seen
+  OwnFinishGives old new =
+      (new.view ≡ record old.view { owns = false })
+      × (seen : Seen) × EmitterTold old new Finishes 0 seen
 
   -- stop
   abbrev pub StopGives : SeatValue C EmitterView → SeatValue C EmitterView → Type 0
-  StopGives old new = (seen : Seen) × EmitterTold old new Stops 0 seen
+  StopGives old new =
+      (new.view ≡ record old.view { stopped = true })
+      × (seen : Seen) × EmitterTold old new Stops 0 seen

@@ -217,15 +217,15 @@ module _ {Sink : Type 0} (held : Sink → Option (List ℕ)) (faults : Sink → 
       → IsEmitting held faults table v t d old new (written + n) padded
   bytes_taken s t d old mid new written n padded before now e h give same has =
       let g = gives_in s t before now (Bytes n) e.used.content give in
-      let view : t.view ≡ record s.view { taken = s.view.taken + n } = g.1.0.view in
+      let view : t.view ≡ record s.view { taken = s.view.taken + n } = g.0 in
       let xs = drop s.view.taken (bytes_at (segments_bytes v) s.view.cur) in
-      let least = g.3 in
-      let f = front xs before now n g.4 same (omega (arith, least)) in
+      let least = g.5 in
+      let f = front xs before now n g.1 same (omega (arith, least)) in
       let long = length-drop s.view.taken (bytes_at (segments_bytes v) s.view.cur) in
       let few = f.1 in
       let within = e.so_far.within in
       record {
-        used = used_after s t d e.used h g.1.0.claims;
+        used = used_after s t d e.used h g.3.0.claims;
         free = ap (λ (w : EmitterView). w.owns) view ∙ e.free;
         going = ap (λ (w : EmitterView). w.stopped) view ∙ e.going;
         so_far = moved held faults full v s.view.cur t.view.cur (s.view.taken + n) t.view.taken
@@ -246,8 +246,8 @@ module _ {Sink : Type 0} (held : Sink → Option (List ℕ)) (faults : Sink → 
   taken_failed s t d old mid new written n more padded before now e give same failed =
       let g = gives_in s t before now (Bytes n) e.used.content give in
       let xs = drop s.view.taken (bytes_at (segments_bytes v) s.view.cur) in
-      let least = g.3 in
-      let f = front xs before now n g.4 same (omega (arith, least)) in
+      let least = g.5 in
+      let f = front xs before now n g.1 same (omega (arith, least)) in
       cut_short held faults full v s.view.cur s.view.taken old mid new written more padded e.so_far
       (failed_first held faults full mid new (take n xs) (drop n xs) xs more
       (subst (λ (l : List ℕ). HasFailed held faults full mid new l more) f.0 failed)
@@ -263,9 +263,9 @@ module _ {Sink : Type 0} (held : Sink → Option (List ℕ)) (faults : Sink → 
   good_taken short s t d old new written padded more both outcome before now e h is sum give =
       let g = subst (λ (o : Outcome). TakeGives (segments_bytes v) (segments_outcomes v) s t before now (Ended o))
       is (gives_in s t before now (Ended outcome) e.used.content give) in
-      let view : t.view ≡ record s.view { cur = s.view.cur + 1; taken = 0 } = g.1.0.view in
+      let view : t.view ≡ record s.view { cur = s.view.cur + 1; taken = 0 } = g.0 in
       record {
-        used = used_after s t d e.used h g.1.0.claims;
+        used = used_after s t d e.used h g.5.0.claims;
         free = ap (λ (w : EmitterView). w.owns) view ∙ e.free;
         going = ap (λ (w : EmitterView). w.stopped) view ∙ e.going;
         so_far = moved held faults full v (s.view.cur + 1) t.view.cur 0 t.view.taken
@@ -273,7 +273,7 @@ module _ {Sink : Type 0} (held : Sink → Option (List ℕ)) (faults : Sink → 
             (ap (λ (w : EmitterView). w.taken) view)
             (subst (IsWrittenTo held faults v (s.view.cur + 1) 0 old new written) (sym sum)
             (good_emitted held faults full v short s.view.cur s.view.taken old new written padded more
-            e.so_far g.6 g.5));
+            e.so_far g.3 g.2));
       }
 
   -- and badly
@@ -286,7 +286,7 @@ module _ {Sink : Type 0} (held : Sink → Option (List ℕ)) (faults : Sink → 
   bad_taken s t d old new written padded fault outcome before now e is give =
       let g = subst (λ (o : Outcome). TakeGives (segments_bytes v) (segments_outcomes v) s t before now (Ended o))
       is (gives_in s t before now (Ended outcome) e.used.content give) in
-      bad_emitted held faults full v s.view.cur s.view.taken old new written padded fault e.so_far g.6 g.5
+      bad_emitted held faults full v s.view.cur s.view.taken old new written padded fault e.so_far g.3 g.2
 
   -- a take that gave nothing
   pub same_emitted : (s t : SeatValue BoxSeen EmitterView) (d : DecoderSeen) (old new : Sink)
@@ -350,7 +350,7 @@ module _ {Sink : Type 0} (held : Sink → Option (List ℕ)) (faults : Sink → 
   good_cur s t more outcome before now is give =
       let g = subst (λ (o : Outcome). TakeGives (segments_bytes s.content) (segments_outcomes s.content) s t before now (Ended o))
       is give in
-      ap (λ (w : EmitterView). w.cur) g.1.0.view
+      ap (λ (w : EmitterView). w.cur) g.0
 
   -- which is a segment of the container
   pub good_within : (s t : SeatValue BoxSeen EmitterView) (more : PadSum) (outcome : Outcome)
@@ -360,7 +360,7 @@ module _ {Sink : Type 0} (held : Sink → Option (List ℕ)) (faults : Sink → 
   good_within s t more outcome before now content is give =
       let g = subst (λ (o : Outcome). TakeGives (segments_bytes v) (segments_outcomes v) s t before now (Ended o))
       is (gives_in s t before now (Ended outcome) content give) in
-      outcome_within v s.view.cur (Good more) g.5
+      outcome_within v s.view.cur (Good more) g.2
 
 joined_after : (bytes : List ℕ) (outcome : Outcome) (more : Joined)
     → length (joined_with bytes outcome more).bytes ≤ length bytes + length more.bytes

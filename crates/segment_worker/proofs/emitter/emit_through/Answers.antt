@@ -30,7 +30,7 @@ loop-preserved-in-Bytes g c =
           c.take.new.seat c.loop.decoder c.args.sink.now c.loop.sink c.write_all.new.sink c.loop.written c.in-Bytes.count
           c.loop.pads c.loop.buffer c.take.new.buf c.loop.invariant.emitting c.take.ensures.hold c.in-Bytes.ensures.answer same
           (record { appended = c.in_default.ensures.whole; unfailed = c.in_default.ensures.unfailed });
-      current = c.loop.invariant.current ∙ sym (ap (λ (w : EmitterView). w.cur) c.in-Bytes.ensures.answer.1.0.view);
+      current = c.loop.invariant.current ∙ sym (ap (λ (w : EmitterView). w.cur) c.in-Bytes.ensures.answer.0);
       some = let some = c.loop.invariant.some in omega (arith, some, same);
     }
 
@@ -61,13 +61,13 @@ loop-preserved-in-Ok g c =
     let a = c.in-Unclaimed.ensures.answer in
     let took = same_emitted g.K.Sink.held g.K.Sink.faults g.K.Sink.full c.args.board.now c.args.view.now c.loop.seat
     c.take.new.seat c.loop.decoder c.args.sink.now c.loop.sink c.loop.written c.loop.pads c.loop.invariant.emitting
-    c.take.ensures.hold a.1.0.claims a.1.0.view in
+    c.take.ensures.hold a.3.0.claims a.0 in
     record {
       emitting = own_emitted g.K.Sink.held g.K.Sink.faults g.K.Sink.full c.args.board.now c.args.view.now c.take.new.seat
           c.emit_unclaimed.new.seat c.loop.decoder c.emit_unclaimed.new.decoder c.args.sink.now c.loop.sink
           c.emit_unclaimed.new.sink c.loop.written c.in-Ok.count c.loop.pads took c.in-Ok.ensures.ends
           c.in-Ok.ensures.own c.in-Ok.ensures.content c.in-Ok.ensures.begun c.in-Ok.ensures.plan;
-      current = c.loop.invariant.current ∙ sym (ap (λ (w : EmitterView). w.cur) a.1.0.view)
+      current = c.loop.invariant.current ∙ sym (ap (λ (w : EmitterView). w.cur) a.0)
           ∙ sym (ap (λ (w : EmitterView). w.cur) c.in-Ok.ensures.ends.2);
       some = let some = c.loop.invariant.some in omega (arith, some, same);
     }
@@ -77,7 +77,7 @@ returns-in-Err-emit_unclaimed-clause-ends g c =
     let a = c.in-Unclaimed.ensures.answer in
     let took = same_emitted g.K.Sink.held g.K.Sink.faults g.K.Sink.full c.args.board.now c.args.view.now c.loop.seat
     c.take.new.seat c.loop.decoder c.args.sink.now c.loop.sink c.loop.written c.loop.pads c.loop.invariant.emitting
-    c.take.ensures.hold a.1.0.claims a.1.0.view in
+    c.take.ensures.hold a.3.0.claims a.0 in
     own_failed g.K.Sink.held g.K.Sink.faults g.K.Sink.full c.args.board.now c.args.view.now c.take.new.seat
     c.emit_unclaimed.new.seat c.loop.decoder c.args.sink.now c.loop.sink c.emit_unclaimed.new.sink c.loop.written _
     c.loop.pads took c.in-Err-emit_unclaimed.ensures.ends
@@ -86,7 +86,7 @@ pub returns-in-Over-clause-ends : goal.returns-in-Over-clause-ends
 returns-in-Over-clause-ends g c =
     let a = c.in-Over.ensures.answer in
     let e = c.loop.invariant.emitting in
-    let over = sym a.1.1 ∙ a.2 ∙ bytes_long c.loop.seat.content
+    let over = sym a.3.1 ∙ a.4 ∙ bytes_long c.loop.seat.content
     ∙ ap (λ (v : BoxSeen). length v.parts.handovers) e.used.content in
     all_emitted g.K.Sink.held g.K.Sink.faults g.K.Sink.full c.args.view.now c.loop.seat.view.cur c.loop.seat.view.taken
     c.args.sink.now c.loop.sink c.loop.written c.loop.pads e.so_far over
@@ -95,9 +95,9 @@ pub returns-in-Over-clause-through : goal.returns-in-Over-clause-through
 returns-in-Over-clause-through g c =
     let a = c.in-Over.ensures.answer in
     let e = c.loop.invariant.emitting in
-    let over = sym a.1.1 ∙ a.2 ∙ bytes_long c.loop.seat.content
+    let over = sym a.3.1 ∙ a.4 ∙ bytes_long c.loop.seat.content
     ∙ ap (λ (v : BoxSeen). length v.parts.handovers) e.used.content in
     record {
-      cur = ap (λ (w : EmitterView). w.cur) a.1.0.view ∙ over;
-      going = ap (λ (w : EmitterView). w.stopped) a.1.0.view ∙ e.going;
+      cur = ap (λ (w : EmitterView). w.cur) a.0 ∙ over;
+      going = ap (λ (w : EmitterView). w.stopped) a.0 ∙ e.going;
     }

@@ -67,7 +67,7 @@ returns-in-Done-clause-ends g c =
     (all_passed g.K.Sink.held g.K.Sink.faults g.K.Sink.full c.args.seat.now c.loop-more.seat c.pass.new.seat c.finish_own.new.seat
     c.args.decoder.now c.loop-more.decoder c.step-step.new.self c.args.sink.now c.loop-more.sink c.write_all.new.sink
     c.loop-more.written (Done c.in-Done.pads) c.step-step.new.out c.loop-more.invariant c.in-Done.ensures.pays has
-    c.pass.ensures.view c.finish_own.ensures.told.1.0.view)
+    c.pass.ensures.view c.finish_own.ensures.told.0)
 
 pub finish_own-requires-in-Fault-clause-all : goal.finish_own-requires-in-Fault-clause-all
 finish_own-requires-in-Fault-clause-all g c =
@@ -93,4 +93,4 @@ returns-in-Fault-clause-ends g c =
     (all_passed g.K.Sink.held g.K.Sink.faults g.K.Sink.full c.args.seat.now c.loop-more.seat c.pass.new.seat c.finish_own-in-Fault.new.seat
     c.args.decoder.now c.loop-more.decoder c.step-step.new.self c.args.sink.now c.loop-more.sink c.write_all.new.sink
     c.loop-more.written (Fault c.in-Fault.fault) c.step-step.new.out c.loop-more.invariant c.in-Fault.ensures.pays has
-    c.pass.ensures.view c.finish_own-in-Fault.ensures.told.1.0.view)
+    c.pass.ensures.view c.finish_own-in-Fault.ensures.told.0)

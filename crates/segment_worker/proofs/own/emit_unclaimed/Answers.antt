@@ -15,8 +15,8 @@ begin-requires-clause-segment g c =
     let a = c.in-Mine.ensures.answer in
     let long = bytes_long c.args.seat.now.content in
     let same = ap (λ (v : BoxSeen). length v.parts.handovers) c.requires.content in
-    let under = a.3 in
-    let is = a.4 in
+    let under = a.6 in
+    let is = a.7 in
     omega (arith, long, same, under, is)
 
 pub emit_own-requires-clause-owes : goal.emit_own-requires-clause-owes
@@ -25,14 +25,14 @@ emit_own-requires-clause-owes g c =
     let a = c.in-Mine.ensures.answer in
     let long = bytes_long c.args.seat.now.content in
     let same = ap (λ (v : BoxSeen). length v.parts.handovers) c.requires.content in
-    let under = a.3 in
-    let is = a.4 in
+    let under = a.6 in
+    let is = a.7 in
     let within : c.in-Mine.segment < length v.parts.handovers = omega (arith, long, same, under, is) in
     let content = c.claim_own.ensures.hold.content ∙ c.requires.content in
-    let view = a.1.0.view in
+    let view = a.0 in
     let cur : c.claim_own.new.seat.view.cur ≡ c.in-Mine.segment =
-    ap (λ (w : EmitterView). w.cur) view ∙ sym (is ∙ a.1.1) in
-    let none : c.claim_own.new.seat.view.taken ≡ 0 = ap (λ (w : EmitterView). w.taken) view ∙ a.5 in
+    ap (λ (w : EmitterView). w.cur) view ∙ sym (is ∙ a.4.1) in
+    let none : c.claim_own.new.seat.view.taken ≡ 0 = ap (λ (w : EmitterView). w.taken) view ∙ a.1 in
     let owes = subst (λ (p : PlanFields). Owes c.begin.new.self (segment_output (segment_in p v.parts c.in-Mine.segment)).0 (segment_output (segment_in p v.parts c.in-Mine.segment)).1)
     c.requires.plan c.begin.ensures.owes in
     subst (λ (z : BoxSeen × ℕ). OwesRest z.0 z.1 c.claim_own.new.seat.view.taken c.begin.new.self)

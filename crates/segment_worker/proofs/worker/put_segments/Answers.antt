@@ -15,8 +15,8 @@ begin-requires-clause-segment g c =
     let a = c.in-Segment.ensures.answer in
     let long = bytes_long c.loop.seat.content in
     let same = ap (λ (v : BoxSeen). length v.parts.handovers) c.loop.invariant.content in
-    let under = a.3 in
-    let is = a.4 in
+    let under = a.5 in
+    let is = a.6 in
     omega (arith, long, same, under, is)
 
 pub put_segment-requires-clause-owes : goal.put_segment-requires-clause-owes
@@ -26,11 +26,11 @@ put_segment-requires-clause-owes g c =
     let a = c.in-Segment.ensures.answer in
     let long = bytes_long c.loop.seat.content in
     let same = ap (λ (v : BoxSeen). length v.parts.handovers) i.content in
-    let under = a.3 in
-    let is = a.4 in
+    let under = a.5 in
+    let is = a.6 in
     let within : c.in-Segment.segment < length v.parts.handovers = omega (arith, long, same, under, is) in
     let content = c.claim.ensures.hold.content ∙ i.content in
-    let none = ap (λ (w : WorkerView). w.put) a.1.view in
+    let none = ap (λ (w : WorkerView). w.put) a.0 in
     let owes = subst (λ (p : PlanFields). Owes c.begin.new.self (segment_output (segment_in p v.parts c.in-Segment.segment)).0 (segment_output (segment_in p v.parts c.in-Segment.segment)).1)
     i.plan c.begin.ensures.owes in
     subst (λ (z : BoxSeen). OwesRest z c.in-Segment.segment c.claim.new.seat.view.put c.begin.new.self) (sym content)
@@ -38,4 +38,4 @@ put_segment-requires-clause-owes g c =
 
 pub put_segment-requires-clause-going : goal.put_segment-requires-clause-going
 put_segment-requires-clause-going g c =
-    ap (λ (w : WorkerView). w.over) c.in-Segment.ensures.answer.1.view ∙ c.loop.invariant.going
+    ap (λ (w : WorkerView). w.over) c.in-Segment.ensures.answer.0 ∙ c.loop.invariant.going

@@ -58,6 +58,7 @@ returns-then-seen-clause-answer g c =
     let role = ap (λ v. v.role) view ∙ c.seat.invariant.role in
     let k = among g.C.Content.bytes g.C.Content.outcomes _ _ _ _ _ found view c.hold-held.ensures.fits in
     rw (← c.seat.view_is) (
+      search rules,
       c.look-seen.result,
       (
         record { last = search rules; view = search rules; claims = search rules },
@@ -75,6 +76,7 @@ returns-then-seen-count-clause-answer g c =
     let count = sym (count_moves g.C.Content.bytes g.C.Content.outcomes _ _ view) ∙ count_is
     g.C.Content.bytes g.C.Content.outcomes _ _ _ _ k.fitted k.at _ role in
     rw (← c.seat.view_is) (
+      search rules,
       c.look-seen.result,
       (
         record { last = search rules; view = search rules; claims = search rules },
@@ -95,6 +97,9 @@ returns-clause-answer g c =
     g.C.Content.bytes g.C.Content.outcomes _ _ _ _ k.fitted k.at _ role in
     let within = cur_within g.C.Content.bytes g.C.Content.outcomes _ _ _ _ k.fitted k.at _ role in
     rw (← c.seat.view_is) (
+      search rules,
+      none_taken g.C.Content.bytes g.C.Content.outcomes _ _ _ _ k.fitted k.at _ role same,
+      search rules,
       c.look-seen.result,
       (
         record { last = search rules; view = search rules; claims = search rules },
@@ -104,6 +109,4 @@ returns-clause-answer g c =
       (let a = c.look-seen.ensures.2.cur in let b = c.if-seen-count.false in let d = c.count.ensures in
           omega arith),
       refl,
-      none_taken g.C.Content.bytes g.C.Content.outcomes _ _ _ _ k.fitted k.at _ role same,
-      search rules,
     )

@@ -58,6 +58,7 @@ returns-clause-told g c =
     let role = ap (λ v. v.role) view ∙ c.seat.invariant.role in
     let k = among g.C.Content.bytes g.C.Content.outcomes _ _ _ _ _ found view c.hold-held.ensures.fits in
     rw (← c.seat.view_is) (
+      search rules,
       c.look-seen.result,
       (
         record { last = search rules; view = search rules; claims = search rules },

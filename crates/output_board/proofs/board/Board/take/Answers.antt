@@ -95,13 +95,14 @@ returns-then-seen-count-clause-answer g c =
     let count = sym (count_moves g.C.Content.bytes g.C.Content.outcomes _ _ view) ∙ count_is
     g.C.Content.bytes g.C.Content.outcomes _ _ _ _ k.fitted k.at _ role in
     rw (← c.seat.view_is) (
+      search rules,
+      refl,
       c.look-seen.result,
       (
         record { last = search rules; view = search rules; claims = search rules },
         cur_seen g.C.Content.bytes g.C.Content.outcomes _ _ _ k c.look-seen.result _ role c.look-seen.ensures,
       ),
       c.if-seen-count.true ∙ (c.count.ensures ∙ sym count),
-      refl,
     )
 
 pub returns-then-seen-clause-answer : goal.returns-then-seen-clause-answer
@@ -116,6 +117,8 @@ returns-then-seen-clause-answer g c =
     c.if-seen-count.false (c.look-seen.ensures.2.cur ∙ (e ∙ sym c.count.ensures)) in
     let less = more_left g.C.Content.bytes g.C.Content.outcomes _ _ _ _ k.fitted k.at _ role more in
     rw (← c.seat.view_is) (
+      search rules,
+      refl,
       c.look-seen.result,
       (
         record { last = search rules; view = search rules; claims = search rules },
@@ -123,7 +126,6 @@ returns-then-seen-clause-answer g c =
       ),
       c.if-seen.true,
       (let a = c.look-seen.ensures.2.cur in omega arith),
-      refl,
     )
 
 pub returns-in-None-clause-answer : goal.returns-in-None-clause-answer
@@ -134,6 +136,8 @@ returns-in-None-clause-answer g c =
     let k = among g.C.Content.bytes g.C.Content.outcomes _ _ _ _ _ found view c.hold-held.ensures.fits in
     let order = k.fitted.board.claims in
     rw (← c.seat.view_is) (
+      search rules,
+      refl,
       c.look-seen.result,
       (
         record { last = search rules; view = search rules; claims = search rules },
@@ -144,7 +148,6 @@ returns-in-None-clause-answer g c =
       (let z = c.if-seen-gt0.false in omega arith),
       c.look-seen.ensures.2.done ∙ ap is_some (ap (λ i. (segment_at c.value-core.result.now i).done) (sym
           c.look-seen.ensures.2.cur) ∙ sym c.in-None.ensures),
-      refl,
     )
 
 pub returns-then-seen-gt0-clause-answer : goal.returns-then-seen-gt0-clause-answer
@@ -158,6 +161,11 @@ returns-then-seen-gt0-clause-answer g c =
     let within : c.front-n.result ≤ length (segment_at c.value-core.result.now
     c.value-core.result.now.cur).ring = omega arith in
     rw (← c.seat.view_is) (
+      search rules,
+      c.front-n.ensures.copied ∙ ap (λ l. l ++ drop c.front-n.result c.args.buf.now)
+          (prefix_is g.C.Content.bytes g.C.Content.outcomes _ _ _ _ k.fitted k.at _ role
+          c.front-n.result within
+          ∙ next_bytes_move g.C.Content.bytes g.C.Content.outcomes _ _ _ c.front-n.result view role),
       c.look-seen.result,
       (
         record { last = search rules; view = search rules; claims = search rules },
@@ -165,10 +173,6 @@ returns-then-seen-gt0-clause-answer g c =
       ),
       omega arith,
       omega arith,
-      c.front-n.ensures.copied ∙ ap (λ l. l ++ drop c.front-n.result c.args.buf.now)
-          (prefix_is g.C.Content.bytes g.C.Content.outcomes _ _ _ _ k.fitted k.at _ role
-          c.front-n.result within
-          ∙ next_bytes_move g.C.Content.bytes g.C.Content.outcomes _ _ _ c.front-n.result view role),
     )
 
 pub returns-in-Some-Good-clause-answer : goal.returns-in-Some-Good-clause-answer
@@ -183,6 +187,12 @@ returns-in-Some-Good-clause-answer g c =
     ap (λ i. (segment_at c.value-core.result.now i).done) (sym c.look-seen.ensures.2.cur) ∙ (sym
     c.in-Some-Good.ensures ∙ ap Some c.in-Some-Good.field-0-is) in
     rw (← c.seat.view_is) (
+      search rules,
+      refl,
+      sym (outcome_moves g.C.Content.bytes g.C.Content.outcomes _ _ _ view role) ∙ outcome_is
+          g.C.Content.bytes g.C.Content.outcomes _ _ _ _ k.fitted k.at _ role _ done,
+      all_taken g.C.Content.bytes g.C.Content.outcomes _ _ _ _ k.fitted k.at _ role _ done empty ∙
+          length_moves g.C.Content.bytes g.C.Content.outcomes _ _ _ view role,
       c.look-seen.result,
       (
         record { last = search rules; view = search rules; claims = search rules },
@@ -190,11 +200,6 @@ returns-in-Some-Good-clause-answer g c =
       ),
       (let z = c.if-seen-gt0.false in omega arith),
       c.look-seen.ensures.2.done ∙ ap is_some done,
-      refl,
-      sym (outcome_moves g.C.Content.bytes g.C.Content.outcomes _ _ _ view role) ∙ outcome_is
-          g.C.Content.bytes g.C.Content.outcomes _ _ _ _ k.fitted k.at _ role _ done,
-      all_taken g.C.Content.bytes g.C.Content.outcomes _ _ _ _ k.fitted k.at _ role _ done empty ∙
-          length_moves g.C.Content.bytes g.C.Content.outcomes _ _ _ view role,
     )
 
 pub returns-in-Some-Bad-clause-answer : goal.returns-in-Some-Bad-clause-answer
@@ -209,6 +214,12 @@ returns-in-Some-Bad-clause-answer g c =
     ap (λ i. (segment_at c.value-core.result.now i).done) (sym c.look-seen.ensures.2.cur) ∙ (sym
     c.in-Some-Bad.ensures ∙ ap Some c.in-Some-Bad.field-0-is) in
     rw (← c.seat.view_is) (
+      search rules,
+      refl,
+      sym (outcome_moves g.C.Content.bytes g.C.Content.outcomes _ _ _ view role) ∙ outcome_is
+          g.C.Content.bytes g.C.Content.outcomes _ _ _ _ k.fitted k.at _ role _ done,
+      all_taken g.C.Content.bytes g.C.Content.outcomes _ _ _ _ k.fitted k.at _ role _ done empty ∙
+          length_moves g.C.Content.bytes g.C.Content.outcomes _ _ _ view role,
       c.look-seen.result,
       (
         record { last = search rules; view = search rules; claims = search rules },
@@ -216,9 +227,4 @@ returns-in-Some-Bad-clause-answer g c =
       ),
       (let z = c.if-seen-gt0.false in omega arith),
       c.look-seen.ensures.2.done ∙ ap is_some done,
-      refl,
-      sym (outcome_moves g.C.Content.bytes g.C.Content.outcomes _ _ _ view role) ∙ outcome_is
-          g.C.Content.bytes g.C.Content.outcomes _ _ _ _ k.fitted k.at _ role _ done,
-      all_taken g.C.Content.bytes g.C.Content.outcomes _ _ _ _ k.fitted k.at _ role _ done empty ∙
-          length_moves g.C.Content.bytes g.C.Content.outcomes _ _ _ view role,
     )
