@@ -15,7 +15,8 @@ use Rattle.command_words.specs.Meaning.{Means}
 use Rattle.command_words.specs.declared.command.Command.{Command}
 use Rattle.command_words.specs.declared.command.Command.TheVariants.{Encode, Decode, Migrate}
 use Rattle.lepton_run.specs.Answers.{Answer, Answers, AppendsPart, Early, IsInput, Late, Made, Took, Writes, bytes_of, limit_of, line_of, status_of}
-use Rattle.lepton_run.specs.Endings.{Answered, Given, SampleEnds, ending_line, ending_of, status_at}
+use Rattle.lepton_run.specs.Endings.{ending_line, ending_of, status_at}
+use Rattle.lepton_run.specs.CommandEnds.{Answered, Given, SampleEnds}
 use Rattle.lepton_run.specs.declared.ending.Ending.{Ending}
 use Rattle.lepton_run.specs.declared.ending.Ending.TheVariants.{Done, Refused, WordsRefused, ReadFailed, WriteFailed, NoMemory}
 use Rattle.lepton_run.proofs.BothWays.{file_back}

@@ -19,7 +19,7 @@ use Rattle.lepton_decode.specs.Ends.{Ends}
 use Rattle.lepton_decode.specs.declared.error.DecodeError.{DecodeError}
 use Rattle.lepton_decode.specs.declared.error.DecodeError.TheVariants as DecodeErrors
 use Rattle.lepton_run.specs.DecodeEndings.{decode_ending}
-use Rattle.lepton_run.specs.Endings.{CarriedOut}
+use Rattle.lepton_run.specs.CommandEnds.{CarriedOut}
 use Rattle.lepton_run.specs.declared.ending.Ending.TheVariants.{Done, Refused, WriteFailed}
 use Rattle.lepton_run.specs.declared.refusal.Refusal.{Refusal}
 use Rattle.lepton_run.specs.declared.refusal.Refusal.TheVariants.{Box, Fault, PadSpelling, TooLong}

@@ -23,7 +23,7 @@ use Rattle.sample_jpeg.specs.SampleHeader.{extent_of, sample_plan}
 use Rattle.sample_jpeg.proofs.SampleLaws.{samples}
 use Rattle.command_words.specs.declared.command.Command.TheVariants.{Sample}
 use Rattle.lepton_run.specs.Answers.{Answers, Early, Late, Made, ScanRefuses}
-use Rattle.lepton_run.specs.Endings.{CarriedOut, SampleEnds}
+use Rattle.lepton_run.specs.CommandEnds.{CarriedOut, SampleEnds}
 use Rattle.lepton_run.specs.Samples.{IsSampleFile}
 use Rattle.lepton_run.specs.Summaries.{IsSummary, sample_segments}
 use Rattle.lepton_run.specs.declared.ending.Ending.{Ending}
@@ -146,7 +146,11 @@ module _ {Sink : Type 0} (held : Sink → Option (List ℕ)) (faults : Sink → 
       refused : Answers (Sample seed columns rows) [] (Late written why) → ⊥
       refused (inl long) = omega (arith, long.0)
       refused (inr within) = within.makes
-  sample_ends WordsRefused ends = ends
-  sample_ends ReadFailed ends = ends
+  sample_ends WordsRefused (Made bytes, given, is) = absurd cc
+  sample_ends WordsRefused (Early why, given, is) = absurd cc
+  sample_ends WordsRefused (Late written why, given, is) = absurd cc
+  sample_ends ReadFailed (Made bytes, given, is) = absurd cc
+  sample_ends ReadFailed (Early why, given, is) = absurd cc
+  sample_ends ReadFailed (Late written why, given, is) = absurd cc
   sample_ends WriteFailed ends = tt
   sample_ends NoMemory ends = tt

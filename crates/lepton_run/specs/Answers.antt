@@ -1,5 +1,5 @@
--- What the top call answers (this project's own): for a command and the bytes that it takes one answer, with the bytes
--- that it writes, its status and its line.
+-- Statement: the one answer to a command and the bytes that it reads: the bytes that it writes, its status and its line
+-- (README.md, Use).
 use Rattle.std.specs.Prelude.{ℕ, ◌≡◌, ◌⊎◌, ◌+◌, ◌<◌, ◌≤◌, Bool, true, false, List, [], length, take, Option, Some}
 use Rattle.std.specs.List.{AllByRecursion}
 use Rattle.std.specs.Io.KnownBytes.{Appends, Consumes, IsAtEnd}
@@ -22,8 +22,8 @@ use Rattle.lepton_run.specs.Summaries.{IsSummary}
 use Rattle.lepton_run.specs.declared.refusal.Refusal.{Refusal}
 use Rattle.lepton_run.specs.declared.refusal.Refusal.TheVariants.{Header, Scan, Box, Fault, PadSpelling, TooLong}
 
--- how a command ends where no end fails and there is memory: these bytes are made; or the bytes given are refused,
--- before one is written or behind some
+-- the answer to a command, if nothing fails and memory suffices: these bytes are made; or the bytes given are refused,
+-- before any byte is written or after some
 pub data Answer : Type 0 where
   Made : List ℕ → Answer
   Early : Refusal → Answer
@@ -47,7 +47,7 @@ Writes (Made bytes) = Unit {0}
 Writes (Early refusal) = ⊥
 Writes (Late bytes refusal) = Unit {0}
 
--- what is noted: nothing, or the line of the refusal
+-- the line on stderr: none, or that of the refusal
 abbrev pub line_of : Answer → List ℕ
 line_of (Made bytes) = []
 line_of (Early refusal) = refusal_line refusal
@@ -67,40 +67,43 @@ answer_by bytes PadSpelled = Late bytes PadSpelling
 answer_by bytes (Faulty fault) = Late bytes (Fault fault)
 answer_by bytes (NoBox refusal) = Early (Box refusal)
 
--- bytes begin with a header that is taken, and the items of its scan stop with this refusal
+-- bytes begin with a header that is accepted, and the items of its scan stop with this refusal
 abbrev pub ScanRefuses : List ℕ → ScanRefusal → Type 0
 ScanRefuses bytes refusal =
     (plan : PlanFields) × Accepts bytes plan
     × ItemsRefuse (shape_of plan) bytes plan.header_length refusal
 
--- what a command makes of bytes: encode the container of a file in at most so many segments, or it refuses the header
--- or else the scan; decode what the bytes stand for as a container, whatever the number of workers; migrate the same
--- container in the second version, whatever its streams stand for, or it refuses it; sample, of no bytes, the summary
--- of what it makes
-abbrev pub Makes : Command → List ℕ → Answer → Type 0
-Makes (Encode segments) bytes (Made made) = IsContainerOf Second segments made bytes
-Makes (Encode segments) bytes (Early (Header refusal)) = HeaderRefuses bytes refusal
-Makes (Encode segments) bytes (Early (Scan refusal)) = ScanRefuses bytes refusal
-Makes (Encode segments) bytes (Early (Box refusal)) = ⊥
-Makes (Encode segments) bytes (Early (Fault fault)) = ⊥
-Makes (Encode segments) bytes (Early PadSpelling) = ⊥
-Makes (Encode segments) bytes (Early TooLong) = ⊥
-Makes (Encode segments) bytes (Late written refusal) = ⊥
-Makes (Decode workers) bytes answer =
+-- what encode makes of a file: its container in at most N segments; or it refuses the header, or else the scan
+abbrev pub EncodeMakes : ℕ → List ℕ → Answer → Type 0
+EncodeMakes segments bytes (Made made) = IsContainerOf Second segments made bytes
+EncodeMakes segments bytes (Early (Header refusal)) = HeaderRefuses bytes refusal
+EncodeMakes segments bytes (Early (Scan refusal)) = ScanRefuses bytes refusal
+EncodeMakes segments bytes other = ⊥
+
+-- what decode makes of bytes: what they stand for as a container, whatever the number of workers
+abbrev pub DecodeMakes : List ℕ → Answer → Type 0
+DecodeMakes bytes answer =
     (meaning : Meaning) × IsMeaning bytes meaning
     × (answer ≡ answer_by meaning.bytes meaning.verdict)
-Makes Migrate bytes (Made made) =
+
+-- what migrate makes of bytes: the same container in version 2, whatever its streams stand for; or it refuses it
+abbrev pub MigrateMakes : List ℕ → Answer → Type 0
+MigrateMakes bytes (Made made) =
     (plan : PlanFields) × (b : BoxParts) × IsBoxOf plan b bytes × (made ≡ box_bytes (migrated b))
-Makes Migrate bytes (Early (Box refusal)) = IsRefusedBox bytes refusal
-Makes Migrate bytes (Early (Header refusal)) = ⊥
-Makes Migrate bytes (Early (Scan refusal)) = ⊥
-Makes Migrate bytes (Early (Fault fault)) = ⊥
-Makes Migrate bytes (Early PadSpelling) = ⊥
-Makes Migrate bytes (Early TooLong) = ⊥
-Makes Migrate bytes (Late written refusal) = ⊥
-Makes (Sample seed columns rows) bytes (Made made) = IsSummary seed columns rows made
-Makes (Sample seed columns rows) bytes (Early refusal) = ⊥
-Makes (Sample seed columns rows) bytes (Late written refusal) = ⊥
+MigrateMakes bytes (Early (Box refusal)) = IsRefusedBox bytes refusal
+MigrateMakes bytes other = ⊥
+
+-- what `sample` makes, of no bytes: the summary of a file made from the seed
+abbrev pub SampleMakes : ℕ → ℕ → ℕ → Answer → Type 0
+SampleMakes seed columns rows (Made made) = IsSummary seed columns rows made
+SampleMakes seed columns rows other = ⊥
+
+-- what a command makes of bytes
+abbrev pub Makes : Command → List ℕ → Answer → Type 0
+Makes (Encode segments) bytes answer = EncodeMakes segments bytes answer
+Makes (Decode workers) bytes answer = DecodeMakes bytes answer
+Makes Migrate bytes answer = MigrateMakes bytes answer
+Makes (Sample seed columns rows) bytes answer = SampleMakes seed columns rows answer
 
 -- bytes within the limit, and what is made of them
 pub record AnswersWithin (command : Command) (bytes : List ℕ) (answer : Answer) : Type 0 where
@@ -114,35 +117,29 @@ Answers command bytes answer =
     ((limit_of command < length bytes) × (answer ≡ Early TooLong))
     ⊎ AnswersWithin command bytes answer
 
--- whether a command takes bytes of its source
+-- whether a command reads its source
 abbrev pub reads : Command → Bool
-reads (Encode segments) = true
-reads (Decode workers) = true
-reads Migrate = true
 reads (Sample seed columns rows) = false
+reads other = true
 
 -- a source gave these bytes: all that it had, or the limit and one more
 abbrev pub GaveUpTo : ℕ → Option (List ℕ) → Option (List ℕ) → List ℕ → Type 0
 GaveUpTo limit old new bytes = Consumes old new bytes × (IsAtEnd new ⊎ (length bytes ≡ limit + 1))
 
--- a command took these bytes of a source; `sample` takes none
+-- the bytes that a command read from a source; `sample` reads none
 abbrev pub Took : Command → Option (List ℕ) → Option (List ℕ) → List ℕ → Type 0
-Took (Encode segments) old new bytes = GaveUpTo (limit_of (Encode segments)) old new bytes
-Took (Decode workers) old new bytes = GaveUpTo (limit_of (Decode workers)) old new bytes
-Took Migrate old new bytes = GaveUpTo (limit_of Migrate) old new bytes
 Took (Sample seed columns rows) old new bytes = (new ≡ old) × (bytes ≡ [])
+Took other old new bytes = GaveUpTo (limit_of other) old new bytes
 
 -- the bytes that a command answers to, of a source that has these left: all of them, and for `sample` none
 abbrev pub IsInput : Command → Option (List ℕ) → List ℕ → Type 0
-IsInput (Encode segments) left bytes = left ≡ Some bytes
-IsInput (Decode workers) left bytes = left ≡ Some bytes
-IsInput Migrate left bytes = left ≡ Some bytes
 IsInput (Sample seed columns rows) left bytes = bytes ≡ []
+IsInput other left bytes = left ≡ Some bytes
 
 -- a proper prefix of these bytes was appended
 abbrev pub AppendsPart : Option (List ℕ) → Option (List ℕ) → List ℕ → Type 0
 AppendsPart old new bytes = (n : ℕ) × (n < length bytes) × Appends old new (take n bytes)
 
--- a source gave at most so many bytes, from its first one on
+-- a source gave at most N bytes, from its first one on
 abbrev pub TakenWithin : ℕ → Option (List ℕ) → Option (List ℕ) → Type 0
 TakenWithin most old new = (taken : List ℕ) × (length taken ≤ most) × Consumes old new taken

@@ -1,4 +1,4 @@
--- How the top call ends by what a decode answers (this project's own).
+-- Steps: the ending of the top call by what a decode answers (own).
 use Rattle.std.specs.Prelude.{ℕ, Result, Ok, Err}
 use Rattle.lepton_decode.specs.declared.error.DecodeError.{DecodeError}
 use Rattle.lepton_decode.specs.declared.error.DecodeError.TheVariants.{WriteFault, Fault, PadSpelling}

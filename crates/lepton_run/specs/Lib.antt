@@ -3,4 +3,5 @@ pub mod Samples
 pub mod Summaries
 pub mod Answers
 pub mod Endings
+pub mod CommandEnds
 pub mod DecodeEndings

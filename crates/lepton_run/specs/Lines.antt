@@ -1,4 +1,4 @@
--- The lines of the note (this project's own).
+-- Statement: the lines of the message on stderr (README.md, Use).
 use Rattle.std.specs.Prelude.{ℕ, List, [], ◌∷◌, ◌++◌, codes, decimal}
 use Rattle.jpeg_marker.specs.HeaderRefusals.{number_of}
 use Rattle.jpeg_marker.specs.declared.refusal.HeaderRefusal.{HeaderRefusal}
@@ -105,7 +105,7 @@ box_fields (HandoverBad segment) = codes " segment " ++ decimal segment
 box_fields BoxLong = []
 box_fields (HeaderLong place) = codes " at " ++ decimal place
 
--- number and name of the cause of a segment's fault; the handovers of a seam aren't told
+-- number and name of the cause of a segment's fault; the handovers of a seam are left out
 abbrev pub cause_words : StreamCause → List ℕ
 cause_words causes.BlockCount = codes "40 BlockCount"
 cause_words causes.DcRange = codes "41 DcRange"

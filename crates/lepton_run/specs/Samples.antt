@@ -1,4 +1,4 @@
--- What is known of a sample that is encoded (own).
+-- Steps: what is known of a sample that is encoded (own).
 use Rattle.std.specs.Prelude.{ℕ, ◌≡◌, List}
 use Rattle.sample_jpeg.specs.SampleFile.{sample_file}
 use Rattle.sample_jpeg.specs.SampleHeader.{IsExtent, extent_of}

@@ -1,4 +1,4 @@
--- What `sample` says of the file that it made (this project's own; docs/SAMPLE.md).
+-- Statement: what `sample` says of the file that it made (docs/SAMPLE.md).
 use Rattle.std.specs.Prelude.{ℕ, ◌≡◌, List, [], ◌∷◌, ◌++◌, codes, decimal, length}
 use Rattle.cut_spec.specs.Cuts.{cut_of}
 use Rattle.box_format.specs.declared.version.Version.TheVariants.{Second}
@@ -9,6 +9,7 @@ use Rattle.sample_jpeg.specs.SampleFile.{sample_file}
 abbrev pub sample_segments : ℕ
 sample_segments = 8
 
+-- and the workers that decode it
 abbrev pub sample_workers : ℕ
 sample_workers = 4
 

@@ -2,7 +2,7 @@
 ghost use Rattle.std.specs.Prelude.{◌≡◌};
 ghost use Rattle.lepton_run.specs.Endings.{ending_line, status_at};
 
-use crate::note::Line;
+use crate::line::Line;
 use crate::refusal::Refusal;
 
 /// How a command ended.
@@ -30,10 +30,8 @@ impl Ending {
             Ending::NoMemory => 5,
         }
     }
-}
 
-impl Ending {
-    /// What is noted of it.
+    /// The line that says so.
     pub(crate) fn line(&self) -> Line
         ensures { result ≡ ending_line self.now }
     {

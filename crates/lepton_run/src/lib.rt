@@ -1,22 +1,22 @@
-//! The top call: words, a source, a sink and a note, and a status.
+//! The top call: arguments, a source, a sink and stderr, and a status.
 //!
-//!     words --> command --> encode:  source --> bytes --> container --> sink
-//!                           decode:  source --> bytes --> file, segment by segment --> sink
-//!                           migrate: source --> bytes --> container of version 2 --> sink
-//!                           sample:  number --> file --> container --> file again --> five lines --> sink
-//!                                                                        ending --> note, status
+//!     arguments --> command --> encode:  source --> bytes --> container --> sink
+//!                               decode:  source --> bytes --> file, segment by segment --> sink
+//!                               migrate: source --> bytes --> container of version 2 --> sink
+//!                               sample:  number --> file --> container --> file again --> five lines --> sink
+//!                                                                            ending --> stderr, status
 //!
-//! `run` carries the theorem as clauses of its own. The words, the container of a file, the file of a container and the
-//! file of a number are crates below; here are the order of the answers, the statuses and the lines.
+//! `run` carries the theorem as clauses of its own. The arguments, the container of a file, the file of a container and
+//! the file of a number are crates below. Here are the order of the answers, the statuses and the lines.
 #![tactic(auto)]
 
-mod carrying;
+mod commands;
 mod ending;
 mod laws;
-mod names;
-mod note;
+mod line;
 mod refusal;
-mod sampling;
+mod refusal_names;
+mod sample_command;
 mod top;
 mod writing;
 

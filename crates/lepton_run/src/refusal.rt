@@ -2,8 +2,8 @@
 ghost use Rattle.std.specs.Prelude.{◌≡◌, ◌+◌, ◌≤◌, ◌++◌, length};
 ghost use Rattle.lepton_run.specs.Lines.{box_fields, fields_of, header_text, refusal_text};
 
-use crate::names::{box_words, cause_words, name, place, scan_words};
-use crate::note::Line;
+use crate::line::Line;
+use crate::refusal_names::{box_words, cause_words, name, place, scan_words};
 use box_format::BoxRefusal;
 use handover::StreamFault;
 use jpeg_marker::HeaderRefusal;
@@ -12,15 +12,15 @@ use scan_spec::ScanRefusal;
 /// Why bytes are refused.
 #[derive(Clone, Copy, Debug, PartialEq, Eq)]
 pub enum Refusal {
-    /// 1 to 15: the bytes begin with no header that is taken.
+    /// 1 to 15: the bytes begin with no header that is accepted.
     Header(HeaderRefusal),
-    /// 16 to 24: after the header there is no scan that is taken.
+    /// 16 to 24: after the header there is no scan that is accepted.
     Scan(ScanRefusal),
     /// 30 to 38: the bytes are no container.
     Box(BoxRefusal),
     /// 40 to 45: a segment's stream has a fault; the file's bytes before it are written.
     Fault(StreamFault),
-    /// 46: the container's pad bits are told otherwise than a file's; all bytes of the file are written.
+    /// 46: the container spells its pad bits in another way than a file's; all bytes of the file are written.
     PadSpelling,
     /// 50: there are more bytes than the limit.
     TooLong,

@@ -12,9 +12,10 @@ ghost use Rattle.command_words.specs.Meaning.{IsInRange, Means};
 ghost use Rattle.command_words.specs.declared.command.Command.{Command};
 ghost use Rattle.command_words.specs.declared.command.Command.TheVariants.{Encode, Decode, Migrate, Sample};
 ghost use Rattle.lepton_run.specs.Answers.{Answer, Answers, AppendsPart, IsInput, Made, TakenWithin, Took, Writes, bytes_of, limit_of, line_of, status_of};
-ghost use Rattle.lepton_run.specs.Endings.{Answered, Notes, SampleEnds, Transferred, ending_line, line_at};
+ghost use Rattle.lepton_run.specs.Endings.{Notes, ending_line, line_at};
+ghost use Rattle.lepton_run.specs.CommandEnds.{Answered, SampleEnds, Transferred};
 
-use crate::carrying::{carry_out, limit, reads};
+use crate::commands::{carry_out, limit, reads};
 use crate::ending::Ending;
 use crate::refusal::Refusal;
 use command_words::{Command, WordsError, command_of};
@@ -23,21 +24,24 @@ use std::alloc::Global;
 use std::sync::Wait;
 use std::thread::Threads;
 
-/// Carries out what the words say and answers the program's status.
+/// Carries out the command that the arguments mean (`words`, the first of which is the program's name), and returns the
+/// program's status. `note` is stderr: it gets nothing, or one line.
 ///
-/// | status | comes | note |
+/// | status | if | line |
 /// |---|---|---|
-/// | 0 | the container, the file, the container in version 2, or a sample's five lines were written | nothing |
-/// | 1 | the bytes are refused, before a byte is written, or behind the file's bytes up to where a segment's stream has a fault | `lepton: refused `, the refusal's number and name, and the code, the place or the segment that it holds |
-/// | 2 | the words are refused | `lepton: words refused` |
+/// | 0 | the container, the file, the container in version 2, or a sample's five lines were written | none |
+/// | 1 | the bytes are refused: with 40 to 45 the file's bytes before the fault were written, with 46 all, else none | (a) |
+/// | 2 | the arguments mean no command | `lepton: words refused` |
 /// | 3 | the source failed | `lepton: read failed` |
 /// | 4 | the sink failed | `lepton: write failed` |
-/// | 5 | there was no memory | `lepton: no memory` |
+/// | 5 | out of memory | `lepton: no memory` |
 ///
-/// The words are `encode` with `--segments`, `decode` with `--workers`, `migrate`, or `sample` with `--seed`,
-/// `--columns` and `--rows`, as `command_words` has them. The whole source is read before anything is written, and no
-/// allocator is asked for memory after; `sample` reads nothing. The segments of a file are made, and those of a
-/// container decoded, in threads of their own where these can be had. A fault of the note changes no status.
+/// (a) `lepton: refused `, the refusal's number and name, and the code, the place or the segment that it holds.
+///
+/// The commands are `encode` with `--segments`, `decode` with `--workers`, `migrate`, or `sample` with `--seed`,
+/// `--columns` and `--rows`, as `command_words` has them. The whole source is read before anything is written. Once the
+/// first byte is written, no memory is allocated. `sample` reads nothing. The segments of a file are made, and those of a
+/// container decoded, in threads of their own if these can be had. A failure of `note` changes no status.
 pub fn run<R: Threads + Wait + Sync, S: Source, K: Sink + Send, N: Sink + Send, G: Gate + Sync>(
     rt: &R,
     alloc: Global,
@@ -49,7 +53,7 @@ pub fn run<R: Threads + Wait + Sync, S: Source, K: Sink + Send, N: Sink + Send, 
 ) -> u8
     ensures statuses { result ≤ 5 }
 
-    // 0 and 1: the answer to the words and the bytes: exactly its bytes are appended, and its line is noted.
+    // 0 and 1: the answer to the command and the bytes: exactly its bytes are appended, and its line is noted.
     ensures answered { result ≤ 1
         → ((command : Command) × (bytes : List ℕ) × (answer : Answer)
         × Means (map string_bytes words.now) command
@@ -69,28 +73,28 @@ pub fn run<R: Threads + Wait + Sync, S: Source, K: Sink + Send, N: Sink + Send, 
     // 2, 3 and 5: nothing is written.
     ensures untouched { 1 < result → result ≢ 4 → sink.new ≡ sink.old }
 
-    // 2: only where the words mean no command, and always then, unless there was no memory; nothing is read.
+    // 2: exactly if the arguments mean no command, unless memory ran out; nothing is read.
     ensures words { result ≡ 2 → (command : Command) → ¬ Means (map string_bytes words.now) command }
     ensures meaningless { ((command : Command) → ¬ Means (map string_bytes words.now) command)
         → (result ≡ 2) ⊎ (result ≡ 5) }
     ensures unread { result ≡ 2 → source.new ≡ source.old }
 
-    // Whatever comes, the source gave at most one byte past the command's limit.
+    // In any case, the source gave at most one byte past the command's limit.
     ensures taken { (command : Command) → Means (map string_bytes words.now) command
         → TakenWithin (limit_of command + 1) (S.left source.old) (S.left source.new) }
 
-    // 3 and 4: only where that end's count rose in this call.
+    // 3 and 4: only if the count of faults of that source or sink rose in this call.
     ensures read_failed { result ≡ 3 → Rose S.faults S.full source.old source.new }
     ensures write_failed { result ≡ 4 → Rose K.faults K.full sink.old sink.new }
 
-    // On every other status that end didn't fail.
+    // On every other status that source or sink didn't fail.
     ensures source_unfailed { result ≢ 3 → S.faults source.new ≡ S.faults source.old }
     ensures sink_unfailed { result ≢ 4 → K.faults sink.new ≡ K.faults sink.old }
 
     // The note of the statuses 2 to 5.
     ensures said { 1 < result → Notes N.held N.faults N.full note.old note.new (line_at result) }
 
-    // Exactly where: what is the answer to the bytes is answered, unless an end failed or there was no memory.
+    // Completeness: what is the answer to the bytes is given, unless the source or the sink failed or memory ran out.
     ensures complete { (command : Command) (bytes : List ℕ) (answer : Answer)
         → Means (map string_bytes words.now) command
         → ¬ Rose S.faults S.full source.old source.new
@@ -99,7 +103,7 @@ pub fn run<R: Threads + Wait + Sync, S: Source, K: Sink + Send, N: Sink + Send, 
         → ((result ≡ status_of answer) × Appends (K.held sink.old) (K.held sink.new) (bytes_of answer)
         × Notes N.held N.faults N.full note.old note.new (line_of answer)) ⊎ (result ≡ 5) }
 
-    // Bytes of which nothing is made are refused, unless an end failed or there was no memory.
+    // Bytes of which nothing is made are refused, unless the source or the sink failed or memory ran out.
     ensures outside { (command : Command) (bytes : List ℕ)
         → Means (map string_bytes words.now) command
         → ¬ Rose S.faults S.full source.old source.new → ¬ Rose K.faults K.full sink.old sink.new
@@ -125,7 +129,7 @@ pub fn run<R: Threads + Wait + Sync, S: Source, K: Sink + Send, N: Sink + Send, 
         → ((result ≡ 0) × IsMeaning (box_bytes (migrated b)) meaning
         × Appends (K.held sink.old) (K.held sink.new) (box_bytes (migrated b))) ⊎ (result ≡ 5) }
 
-    // `sample` reads nothing and refuses nothing: 0, or 4 where the sink failed, or want of memory.
+    // `sample` reads nothing and refuses nothing: 0, or 4 if the sink failed, or 5.
     ensures sampled { (seed columns rows : ℕ)
         → Means (map string_bytes words.now) (Sample seed columns rows)
         → (source.new ≡ source.old) × ((result ≡ 0) ⊎ ((result ≡ 4) ⊎ (result ≡ 5))) }
@@ -139,8 +143,8 @@ pub fn run<R: Threads + Wait + Sync, S: Source, K: Sink + Send, N: Sink + Send, 
     ending.status()
 }
 
-/// What a program answers that has no memory for its words, and so can't call `run`: nothing is read or written, and
-/// the note is the line of want of memory.
+/// The status of a program that has no memory for its arguments, and so can't call `run`: nothing is read or written,
+/// and `note` gets the line of status 5.
 pub fn no_memory_for_words<N: Sink>(note: &mut N) -> u8
     ensures status { result ≡ 5 }
     ensures said { Notes N.held N.faults N.full note.old note.new (line_at 5) }
@@ -150,7 +154,7 @@ pub fn no_memory_for_words<N: Sink>(note: &mut N) -> u8
     Ending::NoMemory.status()
 }
 
-// What the words ask for, done.
+// Carries out the command that the arguments mean.
 fn answer<R: Threads + Wait + Sync, S: Source, K: Sink + Send, G: Gate + Sync>(
     rt: &R,
     alloc: Global,
@@ -176,7 +180,7 @@ fn answer<R: Threads + Wait + Sync, S: Source, K: Sink + Send, G: Gate + Sync>(
     }
 }
 
-// What the command makes of the source's bytes, or `sample` of none, goes into the sink.
+// Writes into the sink what the command makes of the source's bytes, or `sample` of none.
 fn transfer<R: Threads + Wait + Sync, S: Source, K: Sink + Send, G: Gate + Sync>(
     rt: &R,
     alloc: Global,
@@ -212,6 +216,6 @@ fn tell<N: Sink>(note: &mut N, ending: &Ending)
     ensures lasting { N.faults note.old ≤ N.faults note.new }
 {
     let line = ending.line();
-    // A note that fails changes no status: the status tells what the line says.
+    // A note that fails changes no status: the status says what the line says.
     let _ = write_all(note, line.bytes());
 }

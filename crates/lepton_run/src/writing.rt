@@ -2,7 +2,7 @@
 ghost use Rattle.std.specs.Prelude.{◌≡◌, ◌⊎◌, ◌≤◌, ℕ, List};
 ghost use Rattle.command_words.specs.declared.command.Command.{Command};
 ghost use Rattle.lepton_run.specs.Answers.{Answers, Made};
-ghost use Rattle.lepton_run.specs.Endings.{CarriedOut};
+ghost use Rattle.lepton_run.specs.CommandEnds.{CarriedOut};
 ghost use Rattle.lepton_run.specs.declared.ending.Ending.TheVariants.{Done, WriteFailed};
 
 use crate::ending::Ending;

@@ -4,13 +4,13 @@ ghost use Rattle.box_format.specs.declared.version.Version.TheVariants.{Second};
 ghost use Rattle.container_spec.specs.Files.{IsContainerOf};
 ghost use Rattle.command_words.specs.Meaning.{IsInRange};
 ghost use Rattle.command_words.specs.declared.command.Command.TheVariants.{Sample};
-ghost use Rattle.lepton_run.specs.Endings.{CarriedOut};
+ghost use Rattle.lepton_run.specs.CommandEnds.{CarriedOut};
 ghost use Rattle.lepton_run.specs.Lines.{line_room};
 ghost use Rattle.lepton_run.specs.Samples.{IsSampleFile};
 ghost use Rattle.lepton_run.specs.Summaries.{IsSummary, entry, sample_segments, summary_of};
 
 use crate::ending::Ending;
-use crate::note::Line;
+use crate::line::Line;
 use crate::writing::write_made;
 use lepton_decode::{PrepareError, ample_ring, prepare};
 use lepton_encode::EncodeError;

@@ -5,7 +5,7 @@ use Rattle.command_words.specs.declared.command.Command.TheVariants.{Migrate}
 use Rattle.lepton_run.specs.Answers.{Answers, Made}
 use Rattle.lepton_run.specs.declared.refusal.Refusal.TheVariants.{Box}
 use Rattle.lepton_run.proofs.CarriedOut.{answers_so, refused_early}
-use Rattle.lepton_run.proofs.carrying.migrate.Goals as goal
+use Rattle.lepton_run.proofs.commands.migrate.Goals as goal
 
 pub returns-in-Err-Box-clause-ending : goal.returns-in-Err-Box-clause-ending
 returns-in-Err-Box-clause-ending g c =

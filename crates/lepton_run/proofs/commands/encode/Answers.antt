@@ -5,7 +5,7 @@ use Rattle.command_words.specs.declared.command.Command.TheVariants.{Encode}
 use Rattle.lepton_run.specs.Answers.{Answers, Made}
 use Rattle.lepton_run.specs.declared.refusal.Refusal.TheVariants.{Header, Scan}
 use Rattle.lepton_run.proofs.CarriedOut.{answers_so, refused_early}
-use Rattle.lepton_run.proofs.carrying.encode.Goals as goal
+use Rattle.lepton_run.proofs.commands.encode.Goals as goal
 
 pub returns-in-Err-Header-clause-ending : goal.returns-in-Err-Header-clause-ending
 returns-in-Err-Header-clause-ending g c =

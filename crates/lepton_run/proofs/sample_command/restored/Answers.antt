@@ -1,7 +1,7 @@
 use Rattle.std.proofs.Common.{ap, Err}
 use Rattle.lepton_decode.specs.declared.ready.PrepareError.{PrepareError}
 use Rattle.lepton_run.proofs.SamplesCoded.{box_is_taken, decoded_whole, never_fails}
-use Rattle.lepton_run.proofs.sampling.restored.Goals as goal
+use Rattle.lepton_run.proofs.sample_command.restored.Goals as goal
 
 pub unreachable-requires : goal.unreachable-requires
 unreachable-requires g c =

@@ -2,7 +2,7 @@ use Rattle.std.proofs.Common.{List, [], ℕ, subst, sym}
 use Rattle.command_words.specs.declared.command.Command.TheVariants.{Sample}
 use Rattle.lepton_run.specs.Answers.{Answers, Made}
 use Rattle.lepton_run.proofs.SamplesCoded.{answer_so}
-use Rattle.lepton_run.proofs.sampling.show_sample.Goals as goal
+use Rattle.lepton_run.proofs.sample_command.show_sample.Goals as goal
 
 pub returns-clause-ending : goal.returns-clause-ending
 returns-clause-ending g c =

@@ -4,11 +4,11 @@ ghost use Rattle.command_words.specs.Meaning.{IsInRange};
 ghost use Rattle.command_words.specs.declared.command.Command.TheVariants.{Encode, Decode, Migrate};
 ghost use Rattle.lepton_run.specs.Answers.{limit_of, reads};
 ghost use Rattle.lepton_run.specs.DecodeEndings.{decode_ending};
-ghost use Rattle.lepton_run.specs.Endings.{CarriedOut};
+ghost use Rattle.lepton_run.specs.CommandEnds.{CarriedOut};
 
 use crate::ending::Ending;
 use crate::refusal::Refusal;
-use crate::sampling::show_sample;
+use crate::sample_command::show_sample;
 use crate::writing::write_made;
 use command_words::Command;
 use lepton_decode::{DecodeError, PrepareError, ample_ring, prepare, prepare_alone, run_alone};

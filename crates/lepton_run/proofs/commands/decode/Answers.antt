@@ -2,15 +2,15 @@ use Rattle.std.proofs.Common.{rules, ap, sym, subst, Err}
 use Rattle.bool_coder.proofs.FirstBits.{all_bytes}
 use Rattle.lepton_decode.specs.declared.ready.PrepareError.{PrepareError}
 use Rattle.command_words.specs.declared.command.Command.TheVariants.{Decode}
-use Rattle.lepton_run.specs.Endings.{CarriedOut}
+use Rattle.lepton_run.specs.CommandEnds.{CarriedOut}
 use Rattle.lepton_run.specs.declared.ending.Ending.{Ending}
 use Rattle.lepton_run.proofs.CarriedOut.{no_box, ended}
-use Rattle.lepton_run.proofs.carrying.decode_alone.Goals as goal
+use Rattle.lepton_run.proofs.commands.decode.Goals as goal
 
 pub returns-in-Err-Box-clause-ending : goal.returns-in-Err-Box-clause-ending
 returns-in-Err-Box-clause-ending g c =
     no_box g.K.Sink.held g.K.Sink.faults g.K.Sink.full c.args.sink.now c.args.sink.now
-    c.args.bytes.now (all_bytes c.args.bytes.now (λ i. search rules)) 0
+    c.args.bytes.now (all_bytes c.args.bytes.now (λ i. search rules)) c.args.workers
     c.in-Err-Box.refusal c.requires
     (c.in-Err-Box.ensures.refused c.in-Err-Box.refusal
     (ap (λ (error : PrepareError). Err error) c.in-Err-Box.field-0-is))
@@ -18,8 +18,8 @@ returns-in-Err-Box-clause-ending g c =
 pub returns-clause-ending : goal.returns-clause-ending
 returns-clause-ending g c =
     subst (λ (ending : Ending). CarriedOut g.K.Sink.held g.K.Sink.faults g.K.Sink.full
-    (Decode 0) c.args.bytes.now c.args.sink.now c.run_alone-ended.new.sink ending)
+    (Decode c.args.workers) c.args.bytes.now c.args.sink.now c.run-ended.new.sink ending)
     (sym c.ending_by.ensures)
-    (ended g.K.Sink.held g.K.Sink.faults g.K.Sink.full c.args.sink.now c.run_alone-ended.new.sink
-    c.args.bytes.now (all_bytes c.args.bytes.now (λ i. search rules)) 0 c.requires
-    c.in-Ok.ready.plan c.in-Ok.ready.parts c.in-Ok.ensures.ready c.run_alone-ended.result c.run_alone-ended.ensures.ends)
+    (ended g.K.Sink.held g.K.Sink.faults g.K.Sink.full c.args.sink.now c.run-ended.new.sink
+    c.args.bytes.now (all_bytes c.args.bytes.now (λ i. search rules)) c.args.workers c.requires
+    c.in-Ok.ready.plan c.in-Ok.ready.parts c.in-Ok.ensures.ready c.run-ended.result c.run-ended.ensures.ends)

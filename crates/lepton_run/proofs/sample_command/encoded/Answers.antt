@@ -1,7 +1,7 @@
 use Rattle.std.proofs.Common.{ap, arith, Err}
 use Rattle.lepton_encode.specs.declared.error.EncodeError.{EncodeError}
 use Rattle.lepton_run.proofs.SamplesCoded.{header_is_taken, sample_fits, scan_is_taken}
-use Rattle.lepton_run.proofs.sampling.encoded.Goals as goal
+use Rattle.lepton_run.proofs.sample_command.encoded.Goals as goal
 
 pub encode-requires-clause-length : goal.encode-requires-clause-length
 encode-requires-clause-length g c κs within =
