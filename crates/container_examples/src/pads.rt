@@ -2,7 +2,7 @@
 use handover::PadSum;
 use scan_spec::Pads;
 
-/// Whether pad bits are told by this byte and this list of one byte, which is 0 where there is no list.
+/// Whether pad bits are given by this byte and this list of one byte, which is 0 if there is no list.
 pub(crate) fn are_told(pads: &Pads, wanted: (u8, u8)) -> bool {
     match *pads {
         Pads::All(bit) => wanted == (u8::from(bit), 0),

@@ -5,7 +5,7 @@ use crate::pads::are_told;
 use handover::Handover;
 use jpeg_marker::read_header;
 use scan_spec::ScanRefusal;
-use segment_code::{FindError, Starts, encode_segment, find_starts};
+use segment_code::{ScanError, Starts, encode_segment, find_starts};
 use std::alloc::{AllocError, Global};
 use std::test::Fail;
 
@@ -274,7 +274,7 @@ fn refusal(alloc: Global, bytes: &[u8], segments: u8) -> Option<ScanRefusal> {
         return None;
     }
     match find_starts(alloc, &plan, bytes, segments) {
-        Err(FindError::Scan(refusal)) => Some(refusal),
-        Err(FindError::NoMemory) | Ok(_) => None,
+        Err(ScanError::Scan(refusal)) => Some(refusal),
+        Err(ScanError::NoMemory) | Ok(_) => None,
     }
 }

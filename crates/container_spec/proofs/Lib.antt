@@ -1,4 +1,3 @@
-pub mod JoinedPieces
 pub mod StreamsOfBlocks
 pub mod PadsOfIntervals
 pub mod PaddedMcus

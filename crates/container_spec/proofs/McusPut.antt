@@ -12,10 +12,15 @@ use Rattle.block_spec.specs.ReadingLaws.{HaveGiven}
 use Rattle.block_spec.proofs.BlocksRead.{given_blocks_are_read}
 use Rattle.block_spec.proofs.FirstGiven.{given_first}
 use Rattle.container_spec.specs.ScanStream.{blocks_of}
-use Rattle.container_spec.specs.Segments.{SegmentFields, Progress, progress_after, with_prefix, after_step, ending, fault_cause, stop_cause, mcu_step, mcus_output}
+use Rattle.container_spec.specs.Segments.{SegmentFields, Progress, Output, progress_after, with_prefix, after_step, ending, fault_cause, stop_cause, mcu_step, mcus_output}
 use Rattle.container_spec.specs.SegmentLaws.{mcus_sum, progress_through, McusArePut}
-use Rattle.container_spec.proofs.JoinedPieces.{prefix_twice}
 use Rattle.container_spec.proofs.PutParts.{bytes_in, put_parts, sums_more, sums_none}
+
+-- bytes before an output, and more before these
+pub prefix_twice : (a b : List ℕ) (output : Output)
+    → with_prefix a (with_prefix b output) ≡ with_prefix (a ++ b) output
+prefix_twice a b output =
+    ap (λ (l : List ℕ). let p : Output = (l, output.1) in p) (sym (append_assoc a b output.0))
 
 -- an MCU whose blocks are given is read
 mcu_read : (s : SegmentFields) (at : Progress) (mcu : Mcu) (more : List (List ℤ))

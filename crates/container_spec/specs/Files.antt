@@ -1,4 +1,4 @@
--- The container of a file, and where its segments start (own; docs/FORMAT.md).
+-- Statement: the container of a file (docs/FORMAT.md, Segments).
 use Rattle.std.specs.Prelude.{ℕ, ◌≡◌, ◌+◌, ◌<◌, ◌^◌, Bool, true, List, length, take, map}
 use Rattle.std.specs.List.{AllByRecursion}
 use Rattle.bit_list.specs.Bits.{IsByte}
@@ -7,9 +7,8 @@ use Rattle.scan_spec.specs.FileParts.{IsFileOf}
 use Rattle.scan_spec.specs.Slots.{shape_of}
 use Rattle.scan_spec.specs.Scans.{Mcu, intervals_of, pad_counts, pad_at}
 use Rattle.scan_spec.specs.Pads.{PadBits, bits_sum, spelling_of}
-use Rattle.scan_spec.specs.Spots.{bytes_done}
 use Rattle.handover.specs.Handovers.{HandoverFields}
-use Rattle.cut_spec.specs.Cuts.{Cut, cut_of, first_mcu, row_of}
+use Rattle.cut_spec.specs.Cuts.{Cut, cut_of, first_mcu}
 use Rattle.cut_spec.specs.RowHandovers.{handover_at, mcus_between}
 use Rattle.box_format.specs.Parts.{BoxParts, box_bytes, can_pad}
 use Rattle.box_format.specs.Versions.{layout_of}
@@ -31,7 +30,7 @@ abbrev pub segment_start : PlanFields → List Mcu → List Bool → ℕ → ℕ
 segment_start plan mcus pads most i =
     handover_at (shape_of plan) (pad_at pads) mcus (first_mcu (plan_cut plan most) i)
 
--- how the pad bits of a file are told
+-- how the pad bits of a file are spelled
 abbrev pub told_pads : PlanFields → List Mcu → List Bool → PadBits
 told_pads plan mcus pads =
     let shape = shape_of plan in
@@ -66,26 +65,3 @@ pub record IsContainerOf (version : Version) (most : ℕ) (made file : List ℕ)
   pub can : can_pad (layout_of version).listed (shape_of plan) (told_pads plan mcus pads) ≡ true
   pub spelled : made
       ≡ box_bytes (parts_of_file version plan mcus pads (take plan.header_length file) trailer most)
-
--- where segments start: of each its row, the place of its first byte that the MCUs before don't complete, and its
--- handover; how the file's pad bits are told, and the place of its trailer
-pub record StartsFields : Type 0 where
-  pub rows : List ℕ
-  pub places : List ℕ
-  pub handovers : List HandoverFields
-  pub pads : PadBits
-  pub trailer : ℕ
-
--- the starts of a file's segments, of at most `most`, its trailer being at a place
-abbrev pub starts_of : PlanFields → List Mcu → List Bool → ℕ → ℕ → StartsFields
-starts_of plan mcus pads trailer most =
-    let cut = plan_cut plan most in
-    let segments = numbers 0 cut.segments in
-    record {
-      rows = map (row_of cut) segments;
-      places = map (λ i. plan.header_length
-          + bytes_done (shape_of plan) (pad_at pads) mcus (first_mcu cut i)) segments;
-      handovers = map (segment_start plan mcus pads most) segments;
-      pads = told_pads plan mcus pads;
-      trailer = trailer;
-    }

@@ -1,6 +1,5 @@
 pub mod ScanStream
 pub mod Segments
-pub mod Pieces
 pub mod Meanings
 pub mod Files
 pub mod Limits

@@ -1,4 +1,4 @@
--- How long files and containers may be (own; docs/FORMAT.md).
+-- Statement: how long files and containers may be (docs/FORMAT.md, Limits).
 use Rattle.std.specs.Prelude.{ℕ}
 
 -- the most bytes of a file that is encoded: 64 MiB

@@ -1,6 +1,5 @@
--- Worked segments and containers, by what they stand for (own; docs/FORMAT.md).
+-- Rows: worked segments and containers, by what they stand for (own).
 use Rattle.std.specs.Prelude.{ℕ, ◌≡◌, Bool, true, false, List, [], ◌∷◌, ◌++◌, replicate, Option, Some, None}
-use Rattle.bit_list.specs.Pieces.{piece_room}
 use Rattle.jpeg_marker.specs.Plans.{PlanFields}
 use Rattle.huff_table.specs.declared.plan_codes.ComponentCodes.{ComponentCodes}
 use Rattle.scan_spec.specs.BlockRows.{level}
@@ -16,8 +15,7 @@ use Rattle.cut_spec.specs.SegmentRows.{begun}
 use Rattle.block_spec.specs.ReadingRows.{one_across, zeros_stream, dc_one_stream, dc_large_stream, dc_outside_stream, ones_stream}
 use Rattle.box_format.specs.Parts.{BoxParts}
 use Rattle.box_format.specs.BoxRows.{grey_header, grey_plan, image_end, least_parts, byteless_parts}
-use Rattle.container_spec.specs.Segments.{SegmentFields, Output, first_progress, segment_output}
-use Rattle.container_spec.specs.Pieces.{SomeOf, AllOf, piece, next_piece}
+use Rattle.container_spec.specs.Segments.{SegmentFields, Output, segment_output}
 use Rattle.box_format.specs.declared.version.Version.TheVariants.{First, Second}
 use Rattle.container_spec.specs.Meanings.{Meaning, Verdict, Restored, PadSpelled, Faulty, meaning_of}
 
@@ -56,14 +54,6 @@ zeros_are_put =
     ≡ ([], Good no_pads))
     × (segment_output (one_of_two level zeros_stream 1 (begun 0 2) None)
     ≡ (0x0f ∷ [], Good ones_padded))
-
--- a piece with all there is, one without room for another MCU, and a stream without a start
-abbrev pub pieces_are_made : Type 0
-pieces_are_made =
-    let s = alone zeros_stream in
-    (next_piece 1 s (first_progress s) ≡ AllOf (0x3f ∷ [], Good ones_padded))
-    × (piece 1 s (first_progress s) piece_room ≡ SomeOf [] 1 (first_progress s))
-    × (next_piece 1 (alone []) (first_progress (alone [])) ≡ AllOf (faulty [] StreamBad))
 
 -- the first fault of each kind
 abbrev pub faults_are_told : Type 0

@@ -1,4 +1,4 @@
--- What bytes stand for as a container (own; docs/FORMAT.md).
+-- Statement: what bytes stand for as a container (docs/FORMAT.md, What a container stands for).
 use Rattle.std.specs.Prelude.{ℕ, ◌≡◌, ◌⊎◌, ◌+◌, ◌-◌, if◌then◌else◌, List, [], ◌∷◌, ◌++◌, length, map, get_or, slice_get, Option, Some, None}
 use Rattle.jpeg_marker.specs.Plans.{PlanFields}
 use Rattle.scan_spec.specs.Pads.{is_spelled}
@@ -59,7 +59,7 @@ abbrev pub joined : List Output → Joined
 joined [] = record { bytes = []; fault = None; padded = no_pads }
 joined (output ∷ outputs) = joined_with output.0 output.1 (joined outputs)
 
--- how a container ends: the whole file; all its bytes, but with pad bits that are told otherwise than a file's; a
+-- how a container ends: the whole file; all its bytes, but with pad bits that are spelled in another way than a file's; a
 -- segment's fault; or the bytes are no container
 pub data Verdict : Type 0 where
   Restored : Verdict

@@ -1,4 +1,4 @@
--- The stream of MCUs that one segment has (own; docs/FORMAT.md).
+-- Statement: the stream that the MCUs of one segment have (docs/FORMAT.md, Segments).
 use Rattle.std.specs.Prelude.{ℕ, ◌&&◌, nat_lt, Bool, List, [], ◌∷◌, length, map, flat_map, slice_index, ℤ}
 use Rattle.bool_coder.specs.BoolStream.{coded, stream}
 use Rattle.coef_block.specs.TwoRows.{Extents, extents_of}

@@ -1,4 +1,4 @@
--- What holds of each segment (own).
+-- Law: what holds of each segment (own).
 use Rattle.std.specs.Prelude.{ℕ, ◌≡◌, ◌-◌, ◌^◌, ◌<◌, ◌≤◌, All, IfSome, Bool, List, [], ◌∷◌, ◌++◌, length, Option, Some, None, Ok}
 use Rattle.std.specs.List.{AllByRecursion}
 use Rattle.coef_block.specs.Block.{IsDc}
@@ -17,8 +17,7 @@ use Rattle.cut_spec.specs.RowHandovers.{handover_of, handover_at, segment_bytes,
 use Rattle.block_spec.specs.Grid.{Grid, IsGrid}
 use Rattle.block_spec.specs.ReadingLaws.{HaveGiven}
 use Rattle.container_spec.specs.ScanStream.{blocks_of, blocks_stream}
-use Rattle.container_spec.specs.Segments.{SegmentFields, Progress, with_prefix, ending, mcus_output, rest_output, segment_output}
-use Rattle.container_spec.specs.Pieces.{SomeOf, piece, next_piece, output_after}
+use Rattle.container_spec.specs.Segments.{SegmentFields, Progress, with_prefix, ending, mcus_output, segment_output}
 
 -- what the MCUs from a spot on pad
 abbrev pub mcus_sum : Shape → PadBits → Spot → List Mcu → PadSum
@@ -44,24 +43,6 @@ McusArePut =
     → mcus_put s.shape (bit_for s.pads) at.spot mcus ≡ Ok (bytes, end)
     → mcus_output (length mcus) s at
     ≡ with_prefix bytes (ending s (progress_through s at mcus end))
-
--- however a segment is cut into pieces, they are its bytes
-abbrev pub PieceIsPrefix : Type 0
-PieceIsPrefix =
-    (left used : ℕ) (s : SegmentFields) (at : Progress)
-    → mcus_output left s at ≡ output_after s (piece left s at used)
-
--- the next piece and what is left after it are what was left before
-abbrev pub NextPieceIsPrefix : Type 0
-NextPieceIsPrefix =
-    (left : ℕ) (s : SegmentFields) (at : Progress)
-    → rest_output left s at ≡ output_after s (next_piece left s at)
-
--- and fewer MCUs are left after it
-abbrev pub PieceHasAnMcu : Type 0
-PieceHasAnMcu =
-    (left more : ℕ) (s : SegmentFields) (at next : Progress) (bytes : List ℕ)
-    → next_piece left s at ≡ SomeOf bytes more next → more < left
 
 -- a segment of these MCUs, from one to before another
 abbrev pub segment_between : Shape → Grid → PadBits → List Mcu → ℕ → ℕ → ℕ
@@ -122,7 +103,7 @@ pub record IsSpot (spot : Spot) : Type 0 where
   pub dcs : All IsDc spot.before
   pub four : length spot.before ≡ 4
 
--- a segment whose end and the next one's start are told apart by their bytes: fewer markers than have a field of four
+-- a segment whose end and the next one's start can be compared by their bytes: fewer markers than have a field of four
 -- bytes, and what the next one starts from is a handover
 pub record CanMeet (s : SegmentFields) : Type 0 where
   pub few : s.shape.mcus ≤ 2 ^ 32

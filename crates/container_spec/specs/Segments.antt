@@ -1,4 +1,5 @@
--- What a segment's stream stands for: bytes of the scan, and how it ends (own; docs/FORMAT.md).
+-- Statement: what a segment's stream stands for: bytes of the scan, and how it ends (docs/FORMAT.md, What a container
+-- stands for).
 use Rattle.std.specs.Prelude.{ℕ, zero, suc, if◌then◌else◌, List, [], ◌++◌, length, ℤ, bytes_eq, Option, Some, None, Result, Ok, Err}
 use Rattle.scan_spec.specs.Slots.{Shape}
 use Rattle.scan_spec.specs.Scans.{Mcu}

@@ -1,14 +1,7 @@
 // What holds of all segments, containers and files.
-ghost use Rattle.container_spec.specs.SegmentLaws.{PieceIsPrefix, NextPieceIsPrefix, PieceHasAnMcu, McusArePut, SegmentIsItsSlice, GoodHasItsStream};
+ghost use Rattle.container_spec.specs.SegmentLaws.{McusArePut, SegmentIsItsSlice, GoodHasItsStream};
 ghost use Rattle.container_spec.specs.MeaningLaws.{OneMeaning, ContainerIsRestored, RestoredIsContainer, OneContainer, FirstCanPad, SecondCanPad, ContainerIsShort, MigratedMeansTheSame, SegmentIsShort};
-ghost use Rattle.container_spec.specs.MeaningRows.{zeros_are_put, pieces_are_made, faults_are_told, containers_are_joined, pad_is_spelled, lists_are_spelled};
-
-/// However a segment is cut into pieces, they are its bytes, and fewer MCUs are left after each.
-pub fn segments_come_in_pieces()
-    ensures prefix { PieceIsPrefix }
-    ensures next { NextPieceIsPrefix }
-    ensures fewer { PieceHasAnMcu }
-{}
+ghost use Rattle.container_spec.specs.MeaningRows.{zeros_are_put, faults_are_told, containers_are_joined, pad_is_spelled, lists_are_spelled};
 
 /// MCUs that a stream gives are put, and so a segment of a scan stands for its slice of the scan.
 pub fn segments_are_slices()
@@ -21,9 +14,9 @@ pub fn good_segments_have_their_stream()
     ensures { GoodHasItsStream }
 {}
 
-/// Bytes stand for one thing. A file's container stands for that file, in each version that can say its pad bits; the
-/// second one always can, the first one if no two intervals are padded with different bits. What stands for a file is
-/// its container.
+/// A file's container stands for that file, in each version that can say its pad bits, and what stands for a file is its
+/// container. Version 2 can always say them, version 1 if no two intervals are padded with different bits. Bytes stand
+/// for one thing.
 pub fn containers_stand_for_files()
     ensures one_meaning { OneMeaning }
     ensures restored { ContainerIsRestored }
@@ -43,7 +36,6 @@ pub fn segments_are_short()
 /// The definitions computed on worked segments and containers.
 pub fn rows_of_meanings()
     ensures zeros { zeros_are_put }
-    ensures pieces { pieces_are_made }
     ensures faults { faults_are_told }
     ensures containers { containers_are_joined }
     ensures pads { pad_is_spelled }

@@ -12,5 +12,5 @@ mod laws;
 
 pub use laws::{
     containers_stand_for_files, good_segments_have_their_stream, rows_of_meanings,
-    segments_are_short, segments_are_slices, segments_come_in_pieces,
+    segments_are_short, segments_are_slices,
 };

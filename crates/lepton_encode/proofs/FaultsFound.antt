@@ -1,12 +1,12 @@
 -- A scan's refusal in encoding is that of the pass over the scan.
 use Rattle.std.proofs.Common.{◌≡◌}
 use Rattle.scan_spec.specs.declared.refusal.ScanRefusal.{ScanRefusal}
-use Rattle.segment_code.specs.declared.find.FindError.{FindError}
-use Rattle.segment_code.specs.declared.find.FindError.TheVariants as found
+use Rattle.segment_code.specs.declared.error.ScanError.{ScanError}
+use Rattle.segment_code.specs.declared.error.ScanError.TheVariants as found
 use Rattle.lepton_encode.specs.declared.error.EncodeError.TheVariants.{Scan}
 use Rattle.lepton_encode.specs.Errors.{error_of}
 
-pub scan_found : (error : FindError) (refusal : ScanRefusal) → error_of error ≡ Scan refusal
+pub scan_found : (error : ScanError) (refusal : ScanRefusal) → error_of error ≡ Scan refusal
     → error ≡ found.Scan refusal
 scan_found (found.Scan other) refusal is = cc
 scan_found found.NoMemory refusal is = absurd cc

@@ -10,7 +10,8 @@ use Rattle.scan_spec.specs.Pads.{PadBits}
 use Rattle.box_format.specs.Parts.{BoxParts, IsBox, box_bytes}
 use Rattle.box_format.specs.Versions.{layout_of}
 use Rattle.box_format.specs.declared.version.Version.TheVariants.{Second}
-use Rattle.container_spec.specs.Files.{IsContainerOf, StartsFields, parts_of_file}
+use Rattle.container_spec.specs.Files.{IsContainerOf, parts_of_file}
+use Rattle.segment_code.specs.FileStarts.{StartsFields}
 use Rattle.container_spec.proofs.FileParts.{box_is}
 use Rattle.container_spec.proofs.PadsTold.{second_can_pad}
 use Rattle.segment_code.specs.Starting.{AreStarts}

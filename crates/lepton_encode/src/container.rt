@@ -18,8 +18,8 @@ use segment_worker::encode_all;
 use std::alloc::Global;
 use std::thread::Threads;
 
-/// The container of a file, of version 2, in at most so many segments, and at most as many as rows of MCUs. A refusal
-/// is the header's, or else the scan's. The segments are made in threads of their own where they can be had.
+/// The container of a file, of version 2, in at most `segments` segments, and at most as many as rows of MCUs. A refusal
+/// is the header's, or else the scan's. The segments are made in threads of their own if these can be had.
 pub fn encode<R: Threads + Sync>(
     rt: &R,
     alloc: Global,

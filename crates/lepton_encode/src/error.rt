@@ -1,17 +1,17 @@
 // Why a file isn't encoded.
 use jpeg_marker::HeaderRefusal;
 use scan_spec::ScanRefusal;
-use segment_code::FindError;
+use segment_code::ScanError;
 use std::alloc::AllocError;
 use thiserror::Error;
 
 /// Why a file isn't encoded.
 #[derive(Clone, Copy, Debug, PartialEq, Eq, Error)]
 pub enum EncodeError {
-    /// 1 to 15: the bytes begin with no header that is taken.
+    /// 1 to 15: the bytes begin with no header that is accepted.
     #[error("Header")]
     Header(HeaderRefusal),
-    /// 16 to 24: after the header there is no scan that is taken.
+    /// 16 to 24: after the header there is no scan that is accepted.
     #[error("Scan")]
     Scan(ScanRefusal),
     #[error("NoMemory")]
@@ -40,16 +40,16 @@ impl From<HeaderRefusal> for EncodeError {
     }
 }
 
-impl From<FindError> for EncodeError {
+impl From<ScanError> for EncodeError {
     ghost use Rattle.lepton_encode.specs.Errors.{error_of};
     ghost use Rattle.std.specs.Prelude.{◌≡◌};
 
     ghost from_gives = { λ found error. error ≡ error_of found };
 
-    fn from(found: FindError) -> Self {
+    fn from(found: ScanError) -> Self {
         match found {
-            FindError::Scan(refusal) => EncodeError::Scan(refusal),
-            FindError::NoMemory => EncodeError::NoMemory,
+            ScanError::Scan(refusal) => EncodeError::Scan(refusal),
+            ScanError::NoMemory => EncodeError::NoMemory,
         }
     }
 }

@@ -3,6 +3,7 @@ mod CutsOfPlans
 mod DecodedSteps
 mod FirstBlocks
 mod GridsOfPlans
+mod JoinedPieces
 mod McuMade
 mod McusCoded
 mod PadsOn

@@ -126,17 +126,17 @@ module _ (old : DecoderSeen) (s : SegmentFields) (at : Progress) (is : IsWithin 
       ≡ mcu_put s.shape (bit_for s.pads) at.spot mcu
   put_here mcu =
       ap₂ (λ (shape : Shape) (spot : Spot). mcu_put shape (bit_for old.writer.pads) spot mcu)
-      is.shape is.spot
-      ∙ ap (λ (pads : PadBits). mcu_put s.shape (bit_for pads) at.spot mcu) is.pads
+      is.holds.shape is.holds.spot
+      ∙ ap (λ (pads : PadBits). mcu_put s.shape (bit_for pads) at.spot mcu) is.holds.pads
 
   padded_here : (mcu : Mcu)
       → padded_after old.writer.shape old.writer.pads old.writer.spot mcu old.writer.padded
       ≡ padded_after s.shape s.pads at.spot mcu at.padded
   padded_here mcu =
       ap₂ (λ (pads : PadBits) (padded : PadSum).
-      padded_after old.writer.shape pads old.writer.spot mcu padded) is.pads is.padded
+      padded_after old.writer.shape pads old.writer.spot mcu padded) is.holds.pads is.holds.padded
       ∙ ap₂ (λ (shape : Shape) (spot : Spot). padded_after shape s.pads spot mcu at.padded)
-      is.shape is.spot
+      is.holds.shape is.holds.spot
 
   -- a fault among its blocks
   pub fault_made : (fault : BlockFault) (cause : StreamCause) (out : List ℕ) (new : DecoderSeen)
@@ -145,7 +145,7 @@ module _ (old : DecoderSeen) (s : SegmentFields) (at : Progress) (is : IsWithin 
       → McuIsMade {A = ⊤} s old.left at out (Err cause) new out
   fault_made fault cause out new gets told = (
     step_is s at (Err fault)
-        (fault_read s.grid s.stream at.blocks old.coder coder given_here got_here (length s.shape.slots) fault (let suits = is.suits in suits.blocks)
+        (fault_read s.grid s.stream at.blocks old.coder coder given_here got_here (length s.shape.slots) fault (let suits = is.holds.suits in suits.blocks)
         (subst (λ (g : Grid). GetsFault old.coder g at.blocks coder fault) grid_here gets))
         ∙ fault_told s at fault cause told,
     refl,
@@ -189,24 +189,26 @@ module _ (old : DecoderSeen) (s : SegmentFields) (at : Progress) (is : IsWithin 
         let next = progress_after s at mcu writer.spot in
         let counted = count_more s.shape (bit_for s.pads) at.spot writer.spot mcu put.0
         (sym (put_here mcu) ∙ put.1) in
-        let before = is.within in (
+        let before = is.holds.within in (
           put.0,
           next,
           made_here (Ok (put.0, writer.spot)) put.1,
           put.2,
           record {
-            running = is.running;
-            within = omega (arith, counted, before, some);
-            suits = is.suits;
-            number = is.number;
-            still = less;
-            next = is.next;
-            shape = ap (λ (w : ScanWriter). w.shape) put.3 ∙ is.shape;
-            pads = ap (λ (w : ScanWriter). w.pads) put.3 ∙ is.pads;
-            spot = refl;
-            padded = ap (λ (w : ScanWriter). w.padded) put.3
-                ∙ padded_here mcu;
-            unstopped = ap (λ (w : ScanWriter). w.stop) put.3 ∙ is.unstopped;
+            holds = record {
+              running = is.holds.running;
+              within = omega (arith, counted, before, some);
+              suits = is.holds.suits;
+              number = is.holds.number;
+              still = less;
+              next = is.holds.next;
+              shape = ap (λ (w : ScanWriter). w.shape) put.3 ∙ is.holds.shape;
+              pads = ap (λ (w : ScanWriter). w.pads) put.3 ∙ is.holds.pads;
+              spot = refl;
+              padded = ap (λ (w : ScanWriter). w.padded) put.3
+                  ∙ padded_here mcu;
+              unstopped = ap (λ (w : ScanWriter). w.stop) put.3 ∙ is.holds.unstopped;
+            };
             started = is.started;
             starts_is = is.starts_is;
             decoded = record {

@@ -6,8 +6,8 @@ use Rattle.bit_list.specs.Pieces.{piece_room}
 use Rattle.scan_spec.specs.TextBounds.{mcu_room}
 use Rattle.handover.specs.declared.outcome.StreamCause.{StreamCause}
 use Rattle.container_spec.specs.Segments.{SegmentFields, Progress, stopped, with_prefix, ending, mcu_step}
-use Rattle.container_spec.specs.Pieces.{Made, SomeOf, AllOf, made_with_prefix, made_after, piece}
-use Rattle.container_spec.proofs.JoinedPieces.{prefix_twice}
+use Rattle.segment_code.specs.Pieces.{Made, SomeOf, AllOf, made_with_prefix, made_after, piece}
+use Rattle.container_spec.proofs.McusPut.{prefix_twice}
 use Rattle.segment_code.specs.Decoding.{DecoderSeen}
 use Rattle.segment_code.specs.DecodedPieces.{IsWithin, McuIsMade, IsBegunPiece, IsFilled, goes_on}
 
@@ -65,7 +65,7 @@ module _ (s : SegmentFields) (most : ℕ) (at : Progress) (out : List ℕ) (old 
       (λ made. piece (begun.left - 1) s made.1 (length out + length made.0)))
   step_here =
       let stands = begun.stands in
-      let still = stands.still in
+      let still = stands.holds.still in
       begun.bytes
       ∙ ap (made_with_prefix out)
       (piece_next begun.left (length out) s begun.now (room_for _ _ on)
@@ -104,7 +104,7 @@ pub stands_here : (s : SegmentFields) (most : ℕ) (at : Progress) (out : List �
     (begun : IsBegunPiece s most at out d) → IsWithin d s d.left begun.now
 stands_here s most at out d begun =
     let stands = begun.stands in
-    subst (λ (n : ℕ). IsWithin d s n begun.now) (sym stands.still) stands
+    subst (λ (n : ℕ). IsWithin d s n begun.now) (sym stands.holds.still) stands
 
 module _ (s : SegmentFields) (most : ℕ) (at : Progress) (out out_new : List ℕ)
     (old new : DecoderSeen) (begun : IsBegunPiece s most at out old)
@@ -114,7 +114,7 @@ module _ (s : SegmentFields) (most : ℕ) (at : Progress) (out out_new : List �
   filled_on made =
       let stands = begun.stands in
       piece_more s most at out old begun on some made.0 out_new made.1 new made.2 made.3
-      (subst (λ (n : ℕ). IsWithin new s (n - 1) made.1) stands.still made.4)
+      (subst (λ (n : ℕ). IsWithin new s (n - 1) made.1) stands.holds.still made.4)
 
   pub filled_badly : (cause : StreamCause)
       → McuIsMade {A = ⊤} s old.left begun.now out (Err cause) new out_new
@@ -153,7 +153,7 @@ pub some_made : (s : SegmentFields) (most : ℕ) (at : Progress) (out : List ℕ
     → piece most s at 0 ≡ SomeOf out begun.left begun.now
 some_made s most at out d begun off some =
     let stands = begun.stands in
-    let still = stands.still in
+    let still = stands.holds.still in
     begun.bytes
     ∙ ap (made_with_prefix out)
     (piece_full begun.left (length out) s begun.now
@@ -167,7 +167,7 @@ pub all_made : (s : SegmentFields) (most : ℕ) (at : Progress) (out : List ℕ)
     → piece most s at 0 ≡ AllOf (with_prefix out (ending s begun.now))
 all_made s most at out d begun none =
     let stands = begun.stands in
-    let still = stands.still in
+    let still = stands.holds.still in
     begun.bytes
     ∙ ap (made_with_prefix out)
     (piece_over begun.left (length out) s begun.now (sym still ∙ none))

@@ -26,8 +26,8 @@ use Rattle.scan_spec.proofs.ZigzagLaws.{zigzag_tells}
 use Rattle.block_spec.specs.Grid.{Grid}
 use Rattle.block_spec.specs.SegmentEvents.{segment_events}
 use Rattle.block_code.specs.SegmentUnderWay.{PutsMore}
-use Rattle.segment_code.specs.declared.encode.EncodeError.{EncodeError}
-use Rattle.segment_code.specs.declared.encode.EncodeError.TheVariants.{Scan, NoMemory}
+use Rattle.segment_code.specs.declared.error.ScanError.{ScanError}
+use Rattle.segment_code.specs.declared.error.ScanError.TheVariants.{Scan, NoMemory}
 use Rattle.container_spec.specs.ScanStream.{grid_of, blocks_of, blocks_stream, stream_of}
 
 -- bytes by their places
@@ -91,7 +91,7 @@ unfolding blocks_stream
 stream_told plan mcus = refl
 
 -- want of memory is no refusal
-abbrev pub is_memory : EncodeError → Type 0
+abbrev pub is_memory : ScanError → Type 0
 is_memory NoMemory = Unit {0}
 is_memory (Scan refusal) = ⊥
 

@@ -2,7 +2,7 @@
 use Rattle.std.proofs.Common.{◌≡◌, ℕ, Bool, true, false, if◌then◌else◌, List, [], refl, sym, ap, ap₂, subst, ◌∙◌}
 use Rattle.std.specs.Prelude.{◌↔◌, IsTrue, bytes_eq, Option, Some, None, is_some}
 use Rattle.std.proofs.lemmas.Slice.Eq.{bytes_eq-Decides}
-use Rattle.bool_coder.specs.BoolReading.{Reads}
+use Rattle.bool_coder.specs.DecoderSeen.{Reads}
 use Rattle.bool_coder.specs.BoolStream.{coded, stream}
 use Rattle.adapt_bins.specs.Events.{bools_of}
 use Rattle.handover.specs.Handovers.{HandoverFields}
@@ -82,7 +82,7 @@ found_same : (d : DecoderSeen) (s : SegmentFields) (left : ℕ) (at : Progress)
 unfolding ending
 found_same d s left at is =
     ap₂ (λ (h : HandoverFields) (next : Option HandoverFields). ending_by s at h next)
-    (ap₂ handover_of (sym is.shape) (sym is.spot)) (sym is.next)
+    (ap₂ handover_of (sym is.holds.shape) (sym is.holds.spot)) (sym is.holds.next)
 
 -- no cause was found
 pub no_cause : (a b : Option StreamCause) → b ≡ a → is_some a ≡ false → b ≡ None

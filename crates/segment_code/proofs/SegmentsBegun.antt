@@ -50,18 +50,20 @@ pub stands_first : (d : DecoderSeen) (plan : PlanFields) (number : ℕ) (stream 
     → (let s = segment_with plan number stream start row count next pads in
     StandsAt d s count (first_progress s))
 stands_first d plan number stream start row count next pads is = record {
-  running = is.running;
+  holds = record {
+    running = is.running;
+    within = is.within;
+    suits = is.suits;
+    number = is.number;
+    still = is.left;
+    next = is.next;
+    shape = ap (λ (w : ScanWriter). w.shape) is.writer;
+    pads = ap (λ (w : ScanWriter). w.pads) is.writer;
+    spot = ap (λ (w : ScanWriter). w.spot) is.writer;
+    padded = ap (λ (w : ScanWriter). w.padded) is.writer;
+    unstopped = ap (λ (w : ScanWriter). w.stop) is.writer;
+  };
   some = is.some;
-  within = is.within;
-  suits = is.suits;
-  number = is.number;
-  still = is.left;
-  next = is.next;
-  shape = ap (λ (w : ScanWriter). w.shape) is.writer;
-  pads = ap (λ (w : ScanWriter). w.pads) is.writer;
-  spot = ap (λ (w : ScanWriter). w.spot) is.writer;
-  padded = ap (λ (w : ScanWriter). w.padded) is.writer;
-  unstopped = ap (λ (w : ScanWriter). w.stop) is.writer;
   started = is.started;
   decoded = λ started. record {
     given = nothing_given (grid_of plan) stream (let suits = is.suits in suits.grid_is);

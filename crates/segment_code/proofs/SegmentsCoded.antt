@@ -22,7 +22,8 @@ use Rattle.cut_spec.specs.HandedOver.{reader_from}
 use Rattle.cut_spec.specs.RowHandovers.{handover_at, markers_before}
 use Rattle.cut_spec.proofs.SegmentsRead.{first_are_read, segment_is_read}
 use Rattle.cut_spec.proofs.SpotsBegun.{each_has_rows}
-use Rattle.container_spec.specs.Files.{StartsFields, plan_cut, segment_mcus, segment_start, starts_of}
+use Rattle.container_spec.specs.Files.{plan_cut, segment_mcus, segment_start}
+use Rattle.segment_code.specs.FileStarts.{StartsFields, starts_of}
 use Rattle.segment_code.specs.CodedMcus.{AreReadOn, next_of}
 use Rattle.segment_code.specs.Starting.{IsFileAt}
 use Rattle.segment_code.proofs.CutsOfPlans.{start_within}

@@ -22,7 +22,8 @@ use Rattle.cut_spec.specs.HandedOver.{spot_in}
 use Rattle.cut_spec.specs.RowHandovers.{handover_of, handover_at}
 use Rattle.cut_spec.proofs.SegmentsRead.{first_are_read}
 use Rattle.box_format.specs.Raws.{numbers}
-use Rattle.container_spec.specs.Files.{StartsFields, plan_cut, segment_start, starts_of, told_pads}
+use Rattle.container_spec.specs.Files.{plan_cut, segment_start, told_pads}
+use Rattle.segment_code.specs.FileStarts.{StartsFields, starts_of}
 use Rattle.segment_code.specs.CodedMcus.{AreReadOn}
 use Rattle.segment_code.specs.FoundPads.{FoundPads, none_found, pads_through}
 use Rattle.segment_code.specs.FoundStarts.{found, handover_after, place_after, stands_after, standing_or}

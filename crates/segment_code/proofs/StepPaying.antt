@@ -8,8 +8,8 @@ use Rattle.handover.specs.declared.outcome.StreamCause.{StreamCause}
 use Rattle.handover.specs.declared.outcome.StreamCause.TheVariants.{StreamBad}
 use Rattle.container_spec.specs.ScanStream.{starts}
 use Rattle.container_spec.specs.Segments.{SegmentFields, Progress, Output, stopped, with_prefix, mcu_step, mcus_output}
-use Rattle.container_spec.specs.Pieces.{Made, SomeOf, AllOf, made_with_prefix, made_after, piece, next_piece, output_after}
-use Rattle.container_spec.proofs.JoinedPieces.{piece_is_prefix}
+use Rattle.segment_code.specs.Pieces.{Made, SomeOf, AllOf, made_with_prefix, made_after, piece, next_piece, output_after}
+use Rattle.segment_code.proofs.JoinedPieces.{piece_is_prefix}
 use Rattle.segment_code.specs.Decoding.{DecoderSeen, Pays, IsStep, StepPays}
 use Rattle.segment_code.specs.declared.step.Step.{Step}
 use Rattle.segment_code.specs.declared.step.Step.TheVariants.{More, Done, Fault}
@@ -96,9 +96,9 @@ pays_by More (SomeOf b l a) s left out bytes outcome old new same less is step =
     let rest : Output = rest_or (starts s.stream) s l a in (
       rest.0,
       sym (ap (λ (o : Output). o.0) is) ∙ ap (λ (x : List ℕ). x ++ rest.0) (sym step.0),
-      (let e = step.1.still in omega (arith, e, same, less)),
-      (let e = step.1.still in let f = step.1.some in omega (arith, e, f)),
-      step.1.running,
+      (let e = step.1.holds.still in omega (arith, e, same, less)),
+      (let e = step.1.holds.still in let f = step.1.some in omega (arith, e, f)),
+      step.1.holds.running,
       record {
         segment = s;
         left = l;
@@ -131,7 +131,7 @@ pub step_pays : StepPays
 step_pays step out bytes outcome old new steps owes =
     let s = owes.segment in
     pays_by step (next_piece owes.left s owes.at) s owes.left out bytes outcome old new
-    owes.stands.still
+    owes.stands.holds.still
     (fewer_or (starts s.stream) s owes.left owes.at owes.stands.some)
     (sym (all_owed (starts s.stream) s owes.left owes.at) ∙ owes.rest)
     (steps s owes.left owes.at owes.stands)

@@ -5,7 +5,7 @@ use Rattle.handover.specs.declared.outcome.Outcome.TheVariants.{Good, Bad}
 use Rattle.handover.specs.declared.outcome.StreamCause.{StreamCause}
 use Rattle.container_spec.specs.ScanStream.{starts}
 use Rattle.container_spec.specs.Segments.{SegmentFields, Progress, Output, stopped, with_prefix, ending}
-use Rattle.container_spec.specs.Pieces.{Made, SomeOf, AllOf, piece, next_piece}
+use Rattle.segment_code.specs.Pieces.{Made, SomeOf, AllOf, piece, next_piece}
 use Rattle.segment_code.specs.Decoding.{DecoderSeen, StandsAt, IsStep}
 use Rattle.segment_code.specs.DecodedPieces.{IsWithin, IsBegunPiece, IsFilled, IsEnd, goes_on}
 use Rattle.segment_code.specs.declared.step.Step.{Step}
@@ -18,17 +18,7 @@ use Rattle.segment_code.proofs.PiecesFilled.{some_made, all_made}
 pub within_it : (d : DecoderSeen) (s : SegmentFields) (left : ℕ) (at : Progress)
     → StandsAt d s left at → d.started ≡ true → IsWithin d s left at
 within_it d s left at stands started = record {
-  running = stands.running;
-  within = stands.within;
-  suits = stands.suits;
-  number = stands.number;
-  still = stands.still;
-  next = stands.next;
-  shape = stands.shape;
-  pads = stands.pads;
-  spot = stands.spot;
-  padded = stands.padded;
-  unstopped = stands.unstopped;
+  holds = stands.holds;
   started = started;
   starts_is = sym stands.started ∙ started;
   decoded = stands.decoded started;
@@ -37,18 +27,8 @@ within_it d s left at stands started = record {
 still_stands : (d : DecoderSeen) (s : SegmentFields) (left : ℕ) (at : Progress)
     → IsWithin d s left at → 0 < left → StandsAt d s left at
 still_stands d s left at is some = record {
-  running = is.running;
+  holds = is.holds;
   some = some;
-  within = is.within;
-  suits = is.suits;
-  number = is.number;
-  still = is.still;
-  next = is.next;
-  shape = is.shape;
-  pads = is.pads;
-  spot = is.spot;
-  padded = is.padded;
-  unstopped = is.unstopped;
   started = is.started ∙ sym is.starts_is;
   decoded = λ started. is.decoded;
 }
@@ -70,7 +50,7 @@ module _ (old : DecoderSeen) (s : SegmentFields) (left : ℕ) (at : Progress) (o
       → IsStep More s (next_piece left s at) out new
   more_step new begun off some =
       let stands = begun.stands in
-      let still = stands.still in
+      let still = stands.holds.still in
       subst (λ (made : Made). IsStep More s made out new)
       (next_is (SomeOf out begun.left begun.now) (some_made s left at out new begun off some))
       (refl, still_stands new s begun.left begun.now stands (omega (arith, still, some)))
@@ -94,7 +74,7 @@ module _ (old : DecoderSeen) (s : SegmentFields) (left : ℕ) (at : Progress) (o
       → IsWithin new s 0 begun.now
   within_end new begun none =
       let stands = begun.stands in
-      subst (λ (n : ℕ). IsWithin new s n begun.now) (sym stands.still ∙ none) stands
+      subst (λ (n : ℕ). IsWithin new s n begun.now) (sym stands.holds.still ∙ none) stands
 
   -- none are left
   pub last_step : (step : Step) (new last : DecoderSeen) (begun : IsBegunPiece s left at out new)
@@ -117,7 +97,7 @@ module _ (old : DecoderSeen) (s : SegmentFields) (left : ℕ) (at : Progress) (o
       → (last : DecoderSeen) → last.running ≡ false
       → IsStep step s (next_piece left s at) out last
   bad_step step number cause new filled e same last over =
-      let named = same ∙ is.number in
+      let named = same ∙ is.holds.number in
       subst (λ (made : Made). IsStep step s made out last)
       (next_is (AllOf (with_prefix out (stopped s cause))) filled)
       (subst (λ (t : Step). IsStep t s (AllOf (with_prefix out (stopped s cause))) out last)

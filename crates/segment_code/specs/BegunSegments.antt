@@ -1,4 +1,4 @@
--- A segment that a decoder begins, by its parts (own).
+-- Steps: a segment that a decoder begins, by its parts (own).
 use Rattle.std.specs.Prelude.{ℕ, ◌*◌, List, Option}
 use Rattle.jpeg_marker.specs.Plans.{PlanFields}
 use Rattle.scan_spec.specs.Pads.{PadBits}

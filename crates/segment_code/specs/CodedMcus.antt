@@ -1,4 +1,4 @@
--- MCUs of a scan, read and coded one by one (own).
+-- Steps: MCUs of a scan, read and coded one by one (own).
 use Rattle.std.specs.Prelude.{◌≡◌, ℕ, List, [], ℤ, Result, Ok}
 use Rattle.std.specs.List.{AllByRecursion}
 use Rattle.coef_block.specs.Block.{IsBlock}

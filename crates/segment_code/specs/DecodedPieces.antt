@@ -1,5 +1,5 @@
--- What one step of a decoder of segments goes through (own).
-use Rattle.std.specs.Prelude.{ℕ, ◌≡◌, ◌+◌, ◌-◌, ◌≤◌, Bool, true, not, ◌&&◌, nat_lt, if◌then◌else◌, List, [], ◌++◌, length, bytes_eq, Option, Some, None, Result, Ok, Err}
+-- Steps: what happens inside one step of a decoder of segments (own).
+use Rattle.std.specs.Prelude.{ℕ, ◌≡◌, ◌+◌, ◌-◌, Bool, true, not, ◌&&◌, nat_lt, if◌then◌else◌, List, [], ◌++◌, length, bytes_eq, Option, Some, None, Result, Ok, Err}
 use Rattle.bit_list.specs.Pieces.{piece_room}
 use Rattle.scan_spec.specs.TextBounds.{mcu_room}
 use Rattle.handover.specs.Handovers.{HandoverFields}
@@ -9,26 +9,15 @@ use Rattle.handover.specs.declared.outcome.StreamCause.{StreamCause}
 use Rattle.handover.specs.declared.outcome.StreamCause.TheVariants.{Seam}
 use Rattle.container_spec.specs.ScanStream.{starts}
 use Rattle.container_spec.specs.Segments.{SegmentFields, Progress, Output, stopped, with_prefix, mcu_step}
-use Rattle.container_spec.specs.SegmentLaws.{Suits}
-use Rattle.container_spec.specs.Pieces.{AllOf, made_with_prefix, piece}
-use Rattle.segment_code.specs.Decoding.{DecoderSeen, HasDecoded}
+use Rattle.segment_code.specs.Pieces.{AllOf, made_with_prefix, piece}
+use Rattle.segment_code.specs.Decoding.{DecoderSeen, HasDecoded, HoldsSegment}
 use Rattle.segment_code.specs.declared.step.Step.{Step}
 use Rattle.segment_code.specs.declared.step.Step.TheVariants.{More, Done, Fault}
 
--- it stands in a segment whose stream has a start, maybe after the last MCU
+-- it is inside a step: the segment's stream has a start, and maybe no MCU is left
 pub record IsWithin (d : DecoderSeen) (s : SegmentFields) (left : ℕ) (at : Progress)
     : Type 0 where
-  pub running : d.running ≡ true
-  pub within : at.spot.count + left ≤ s.shape.mcus
-  pub suits : Suits s.shape s.grid
-  pub number : d.number ≡ s.number
-  pub still : d.left ≡ left
-  pub next : d.next ≡ s.next
-  pub shape : d.writer.shape ≡ s.shape
-  pub pads : d.writer.pads ≡ s.pads
-  pub spot : d.writer.spot ≡ at.spot
-  pub padded : d.writer.padded ≡ at.padded
-  pub unstopped : d.writer.stop ≡ None
+  pub holds : HoldsSegment d s left at
   pub started : d.started ≡ true
   pub starts_is : starts s.stream ≡ true
   pub decoded : HasDecoded d s at

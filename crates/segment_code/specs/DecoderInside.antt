@@ -1,4 +1,4 @@
--- What a decoder stands for, and what always holds of it (own).
+-- View: the value of a decoder, and its invariant (own).
 use Rattle.std.specs.Prelude.{◌≡◌, ◌+◌, ◌≤◌, length}
 use Rattle.coef_block.specs.TwoRows.{block_count}
 use Rattle.scan_spec.specs.Slots.{shape_of}

@@ -1,4 +1,4 @@
--- A decoder of segments, where it stands, and what its steps give (own).
+-- Steps: a decoder of segments, the segment that it holds, and what its steps give (own).
 use Rattle.std.specs.Prelude.{ℕ, ◌≡◌, ◌+◌, ◌<◌, ◌≤◌, Bool, true, false, List, ◌++◌, Option, None}
 use Rattle.jpeg_marker.specs.Plans.{PlanFields}
 use Rattle.scan_spec.specs.ScanCalls.{ScanWriter}
@@ -13,7 +13,7 @@ use Rattle.block_spec.specs.ReadingLaws.{HaveGiven}
 use Rattle.container_spec.specs.ScanStream.{starts}
 use Rattle.container_spec.specs.Segments.{SegmentFields, Progress, rest_output}
 use Rattle.container_spec.specs.SegmentLaws.{Suits}
-use Rattle.container_spec.specs.Pieces.{Made, SomeOf, AllOf, next_piece}
+use Rattle.segment_code.specs.Pieces.{Made, SomeOf, AllOf, next_piece}
 use Rattle.segment_code.specs.declared.step.Step.{Step}
 use Rattle.segment_code.specs.declared.step.Step.TheVariants.{More, Done, Fault}
 
@@ -39,11 +39,10 @@ pub record HasDecoded (d : DecoderSeen) (s : SegmentFields) (at : Progress) : Ty
   pub grid : d.segment.grid ≡ s.grid
   pub held : HoldsUpTo d.segment at.blocks
 
--- it stands in a segment, with MCUs left
-pub record StandsAt (d : DecoderSeen) (s : SegmentFields) (left : ℕ) (at : Progress)
+-- it holds a segment of which N MCUs are left: its fields are the segment's, and its writer is where the progress is
+pub record HoldsSegment (d : DecoderSeen) (s : SegmentFields) (left : ℕ) (at : Progress)
     : Type 0 where
   pub running : d.running ≡ true
-  pub some : 0 < left
   pub within : at.spot.count + left ≤ s.shape.mcus
   pub suits : Suits s.shape s.grid
   pub number : d.number ≡ s.number
@@ -54,6 +53,12 @@ pub record StandsAt (d : DecoderSeen) (s : SegmentFields) (left : ℕ) (at : Pro
   pub spot : d.writer.spot ≡ at.spot
   pub padded : d.writer.padded ≡ at.padded
   pub unstopped : d.writer.stop ≡ None
+
+-- it is between two steps of a segment: MCUs are left, and if its stream has a start, the blocks so far are decoded
+pub record StandsAt (d : DecoderSeen) (s : SegmentFields) (left : ℕ) (at : Progress)
+    : Type 0 where
+  pub holds : HoldsSegment d s left at
+  pub some : 0 < left
   pub started : d.started ≡ starts s.stream
   pub decoded : d.started ≡ true → HasDecoded d s at
 
@@ -86,7 +91,7 @@ IsStep (Fault fault) s (SomeOf bytes left at) out new = ⊥
 IsStep (Fault fault) s (AllOf output) out new =
     (output ≡ (out, Bad fault)) × (new.running ≡ false)
 
--- what a step does, wherever the decoder stands
+-- what a step does, whichever segment the decoder holds
 abbrev pub Steps : Step → List ℕ → DecoderSeen → DecoderSeen → Type 0
 Steps step out old new =
     (s : SegmentFields) (left : ℕ) (at : Progress) → StandsAt old s left at

@@ -1,4 +1,4 @@
--- The pad bits of the restart intervals that a reader goes through (own).
+-- Steps: the pad bits of the restart intervals that a reader passes (own).
 use Rattle.std.specs.Prelude.{ℕ, Bool, List, [], ◌++◌}
 use Rattle.handover.specs.PadSums.{no_pads, pads_with}
 use Rattle.handover.specs.declared.pads.PadSum.{PadSum}

@@ -1,4 +1,4 @@
--- The starts that a reader finds on its way through a scan (own).
+-- Steps: the starts that a reader finds in its pass over a scan (own).
 use Rattle.std.specs.Prelude.{ℕ, true, map, Ok, Err}
 use Rattle.scan_spec.specs.Pads.{Same}
 use Rattle.scan_spec.specs.ScanCalls.{ScanReader, resume_place}
@@ -8,7 +8,7 @@ use Rattle.cut_spec.specs.Cuts.{Cut, row_of, first_mcu}
 use Rattle.cut_spec.specs.HandedOver.{spot_in}
 use Rattle.cut_spec.specs.RowHandovers.{handover_of}
 use Rattle.box_format.specs.Raws.{numbers}
-use Rattle.container_spec.specs.Files.{StartsFields}
+use Rattle.segment_code.specs.FileStarts.{StartsFields}
 use Rattle.segment_code.specs.CodedMcus.{McusRead, next_of}
 
 -- where MCUs were read to, or another standing where they weren't (own)
@@ -16,7 +16,7 @@ abbrev pub standing_or : Standing → McusRead → Standing
 standing_or other (Ok read) = read.1
 standing_or other (Err refusal) = other
 
--- where a reader stands after its next n MCUs, or still where they can't be read (own)
+-- where a reader is after its next n MCUs, or where it was if they can't be read (own)
 abbrev pub stands_after : ScanReader → ℕ → Standing
 stands_after reader n = standing_or reader.at (next_of n reader)
 

@@ -1,9 +1,13 @@
+pub mod FileStarts
 pub mod CodedMcus
 pub mod FoundPads
 pub mod FoundStarts
 pub mod Starting
 pub mod StartsInside
 pub mod PadsInside
+pub mod Pieces
+pub mod PieceLaws
+pub mod PieceRows
 pub mod Decoding
 pub mod DecodedPieces
 pub mod BegunSegments

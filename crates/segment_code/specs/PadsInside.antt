@@ -1,4 +1,4 @@
--- What the pad bits of a pass stand for, and what always holds of them (own).
+-- View: the value of the pad bits of a pass, and their invariant (own).
 use Rattle.std.specs.Prelude.{◌++◌}
 use Rattle.std.specs.List.{AllByRecursion}
 use Rattle.bit_list.specs.Bits.{IsByte, bits_of, low_bits}

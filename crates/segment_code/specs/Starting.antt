@@ -1,11 +1,11 @@
--- A file by the place of its trailer, and where its segments start (own).
+-- Steps: a file by the place of its trailer, and where its segments start (own).
 use Rattle.std.specs.Prelude.{ℕ, ◌≡◌, Bool, List}
 use Rattle.jpeg_marker.specs.Plans.{PlanFields}
 use Rattle.jpeg_marker.specs.HeaderPlan.{Accepts}
 use Rattle.scan_spec.specs.Slots.{shape_of}
 use Rattle.scan_spec.specs.Scans.{Mcu}
 use Rattle.scan_spec.specs.ScanLaws.{Begins}
-use Rattle.container_spec.specs.Files.{StartsFields, starts_of}
+use Rattle.segment_code.specs.FileStarts.{StartsFields, starts_of}
 
 -- a file by its header's plan, its MCUs, its pad bits and the place of its trailer (T.81 B.2.1)
 pub record IsFileAt (bytes : List ℕ) (plan : PlanFields) (mcus : List Mcu) (pads : List Bool)

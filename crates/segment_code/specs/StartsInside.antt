@@ -1,8 +1,8 @@
--- What starts stand for, and what always holds of them (own).
+-- View: the value of starts, and their invariant (own).
 use Rattle.std.specs.Prelude.{ℕ, ◌≤◌, ◌<◌, true, [], ◌∷◌, ◌++◌, length}
 use Rattle.scan_spec.specs.Pads.{Same, told_by}
 use Rattle.handover.specs.Handovers.{HandoverFields}
-use Rattle.container_spec.specs.Files.{StartsFields}
+use Rattle.segment_code.specs.FileStarts.{StartsFields}
 use Rattle.segment_code.specs.declared.starts.Starts.TheInside.{Inside}
 
 -- their fields

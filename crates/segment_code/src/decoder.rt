@@ -18,8 +18,8 @@ ghost use Rattle.segment_code.specs.Decoding.{Owes, Pays, StandsAt, Steps};
 ghost use Rattle.segment_code.specs.declared.step.Step.TheVariants.{Fault};
 
 use crate::causes::{read_cause, write_cause};
+use crate::cuts::{mcus_in, row_of};
 use crate::grid::grid_of;
-use crate::rows::{mcus_in, row_of};
 use crate::step::Step;
 use adapt_bins::{Bins, Get};
 use bit_list::Piece;
@@ -73,7 +73,7 @@ impl<'a> SegmentDecoder<'a> {
         self.begun
     }
 
-    /// Takes all the memory that segments of the plan need; the one error is want of it.
+    /// Takes all the memory that segments of the plan need; the one error is out of memory.
     pub fn prepare(alloc: Global, plan: &Plan) -> Result<SegmentDecoder<'a>, AllocError>
         ensures plan { IfOk result (λ d. d.plan ≡ plan.now) }
         ensures begun { IfOk result (λ d. d.begun ≡ 0) }
@@ -157,9 +157,8 @@ impl<'a> SegmentDecoder<'a> {
         self.begun += 1;
     }
 
-    /// The segment's next bytes, in place of those in `out`: whole MCUs while any one more has room, one at least where
-    /// one is left. After `Done` and after `Fault` the segment is over; a fault comes after the bytes of the MCUs
-    /// before it.
+    /// Replaces `out` by the segment's next whole MCUs: as many as surely fit, and at least one if any is left. After
+    /// `Done` and after `Fault` the segment is over; a fault comes after the bytes of the MCUs before it.
     pub fn step(&mut self, out: &mut Piece) -> Step
         requires running { self.old.running ≡ true }
         ensures step { Steps result out.new self.old self.new }

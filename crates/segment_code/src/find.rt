@@ -11,45 +11,16 @@ ghost use Rattle.segment_code.specs.FoundStarts.{found};
 ghost use Rattle.segment_code.specs.Starting.{AreStarts};
 ghost use Rattle.segment_code.specs.StartsInside.{no_starts};
 
+use crate::cuts::{mcus_in, row_of, segment_count};
+use crate::error::ScanError;
 use crate::pads::PadsFound;
-use crate::rows::{mcus_in, row_of, segment_count};
 use crate::starts::Starts;
 use coef_block::Block;
 use huff_table::PlanCodes;
 use jpeg_marker::Plan;
 use scan_decode::Reader;
-use scan_spec::{MOST_SLOTS, ScanRefusal};
+use scan_spec::MOST_SLOTS;
 use std::alloc::{AllocError, Global};
-
-/// Why there are no starts.
-#[derive(Clone, Copy, Debug, PartialEq, Eq)]
-pub enum FindError {
-    /// 16 to 24: the bytes after the header begin with no scan that is taken.
-    Scan(ScanRefusal),
-    NoMemory,
-}
-
-impl From<AllocError> for FindError {
-    ghost use Rattle.std.specs.Prelude.{◌≡◌};
-    ghost use Rattle.segment_code.specs.declared.find.FindError.TheVariants.{NoMemory};
-
-    ghost from_gives = { λ _ error. error ≡ NoMemory };
-
-    fn from(_: AllocError) -> Self {
-        FindError::NoMemory
-    }
-}
-
-impl From<ScanRefusal> for FindError {
-    ghost use Rattle.std.specs.Prelude.{◌≡◌};
-    ghost use Rattle.segment_code.specs.declared.find.FindError.TheVariants.{Scan};
-
-    ghost from_gives = { λ refusal error. error ≡ Scan refusal };
-
-    fn from(refusal: ScanRefusal) -> Self {
-        FindError::Scan(refusal)
-    }
-}
 
 /// Where the segments of a file start, whose header's plan this is: at most `segments`, and at most as many as rows of
 /// MCUs. One pass over the scan; memory is for the starts alone.
@@ -58,11 +29,11 @@ pub fn find_starts(
     plan: &Plan,
     bytes: &[u8],
     segments: u8,
-) -> Result<Starts, FindError>
+) -> Result<Starts, ScanError>
     requires plan { Accepts bytes.now plan.now }
     requires some { 0 < segments }
     ensures starts { IfOk result (λ starts. AreStarts plan.now bytes.now segments starts) }
-    ensures refused { (refusal : ScanRefusal) → IsErrOf result (FindError.Scan refusal)
+    ensures refused { (refusal : ScanRefusal) → IsErrOf result (ScanError.Scan refusal)
         → Refuses (shape_of plan.now) bytes.now plan.now.header_length refusal }
 {
     let codes = PlanCodes::build(plan);
@@ -81,7 +52,7 @@ fn find_each(
     starts: &mut Starts,
     pads: &mut PadsFound,
     segments: u8,
-) -> Result<(), FindError>
+) -> Result<(), ScanError>
     requires start { reader.old.stop ≡ None }
     requires first { reader.old.at.count ≡ 0 }
     requires shape { reader.old.shape ≡ shape_of plan.now }
@@ -94,7 +65,7 @@ fn find_each(
         × AreReadOn reader.old.shape.mcus reader.old reader.new mcus) }
     ensures pads { OnOk result (pads.new
         ≡ pads_through reader.old.shape.mcus reader.old pads.old) }
-    ensures refused { (refusal : ScanRefusal) → IsErrOf result (FindError.Scan refusal)
+    ensures refused { (refusal : ScanRefusal) → IsErrOf result (ScanError.Scan refusal)
         → next_of reader.old.shape.mcus reader.old ≡ Err refusal }
 {
     let mut mcu = [Block::zero(); MOST_SLOTS];
@@ -116,14 +87,14 @@ fn read_mcus(
     blocks: &mut [Block],
     pads: &mut PadsFound,
     mcus: u32,
-) -> Result<(), FindError>
+) -> Result<(), ScanError>
     requires start { reader.old.stop ≡ None }
     requires count { reader.old.at.count + mcus ≤ reader.old.shape.mcus }
     requires room { length blocks.old ≡ length reader.old.shape.slots }
     ensures read { OnOk result ((read : List (List (List ℤ)))
         × AreReadOn mcus reader.old reader.new read) }
     ensures pads { OnOk result (pads.new ≡ pads_through mcus reader.old pads.old) }
-    ensures refused { (refusal : ScanRefusal) → IsErrOf result (FindError.Scan refusal)
+    ensures refused { (refusal : ScanRefusal) → IsErrOf result (ScanError.Scan refusal)
         → next_of mcus reader.old ≡ Err refusal }
 {
     for _ in 0..mcus {

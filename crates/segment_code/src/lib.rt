@@ -11,18 +11,21 @@
 #![tactic(auto)]
 
 mod causes;
+mod cuts;
 mod decoder;
-mod encode;
+mod error;
 mod find;
 mod grid;
+mod laws;
 mod pads;
-mod rows;
+mod segment_stream;
 mod starts;
 mod step;
-mod stream;
 
 pub use decoder::SegmentDecoder;
-pub use find::{FindError, find_starts};
+pub use error::ScanError;
+pub use find::find_starts;
+pub use laws::{rows_of_pieces, segments_come_in_pieces};
+pub use segment_stream::encode_segment;
 pub use starts::Starts;
 pub use step::Step;
-pub use stream::encode_segment;

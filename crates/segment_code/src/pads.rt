@@ -47,7 +47,7 @@ impl PadsFound {
         }
     }
 
-    /// Adds the pad bit of the next interval, which is 1 if that pads none. The one error is want of memory.
+    /// Adds the pad bit of the next interval, which is 1 if that pads none. The one error is out of memory.
     pub(crate) fn push(&mut self, pad: Option<bool>) -> Result<(), AllocError>
         ensures bits { OnOk result (self.new.bits ≡ self.old.bits ++ unwrap_or pad true ∷ []) }
         ensures sum { OnOk result (self.new.sum ≡ pads_with self.old.sum (pad_sum pad)) }
@@ -72,7 +72,7 @@ impl PadsFound {
         self.sum
     }
 
-    /// The pad list. The one error is want of memory.
+    /// The pad list. The one error is out of memory.
     pub(crate) fn list(mut self) -> Result<Vec<u8>, AllocError>
         ensures { IfOk result (λ list. list.items ≡ pad_list self.bits) }
     {

@@ -27,7 +27,7 @@ pub struct Starts {
 }
 
 impl Model for Starts {
-    ghost use Rattle.container_spec.specs.Files.{StartsFields};
+    ghost use Rattle.segment_code.specs.FileStarts.{StartsFields};
     ghost use Rattle.segment_code.specs.StartsInside.{starts_in, IsStarts};
 
     ghost Value = { StartsFields };
@@ -52,7 +52,7 @@ impl Starts {
         }
     }
 
-    /// Adds where the next segment starts. The one error is want of memory.
+    /// Adds where the next segment starts. The one error is out of memory.
     pub(crate) fn push(
         &mut self,
         row: u32,
@@ -68,7 +68,7 @@ impl Starts {
         Ok(())
     }
 
-    /// Sets the pad bits, and the place of the trailer. The one error is want of memory.
+    /// Sets the pad bits, and the place of the trailer. The one error is out of memory.
     pub(crate) fn end(&mut self, pads: PadsFound, trailer: usize) -> Result<(), AllocError>
         ensures { OnOk result (self.new
             ≡ record self.old { pads = spelling_of pads.bits pads.sum; trailer = trailer }) }

@@ -6,10 +6,11 @@ use Rattle.scan_spec.specs.Slots.{Shape}
 use Rattle.cut_spec.specs.Cuts.{Cut, first_mcu, row_of}
 use Rattle.cut_spec.specs.HandedOver.{spot_in}
 use Rattle.cut_spec.specs.RowHandovers.{handover_of}
-use Rattle.container_spec.specs.Files.{StartsFields, plan_cut}
+use Rattle.container_spec.specs.Files.{plan_cut}
+use Rattle.segment_code.specs.FileStarts.{StartsFields}
 use Rattle.segment_code.specs.CodedMcus.{AreReadOn}
 use Rattle.segment_code.specs.FoundPads.{FoundPads, pads_through}
-use Rattle.segment_code.specs.declared.find.FindError.TheVariants.{Scan}
+use Rattle.segment_code.specs.declared.error.ScanError.TheVariants.{Scan}
 use Rattle.segment_code.proofs.CutsOfPlans.{cut_is, end_of_all, ends_there, ends_within, first_of_all}
 use Rattle.segment_code.proofs.PadsOn.{more_through, none_through}
 use Rattle.segment_code.proofs.ReadOn.{count_on, keeps, none_read, read_more, refused_in}

@@ -7,7 +7,7 @@ use Rattle.jpeg_marker.proofs.HeadersTaken.{accepted_has_plan}
 use Rattle.scan_spec.specs.ScanCalls.{reader_at}
 use Rattle.scan_spec.specs.Slots.{shape_of}
 use Rattle.segment_code.specs.FoundPads.{none_found, pads_through}
-use Rattle.segment_code.specs.declared.find.FindError.TheVariants.{Scan}
+use Rattle.segment_code.specs.declared.error.ScanError.TheVariants.{Scan}
 use Rattle.segment_code.proofs.ScansCoded.{bytes_all, scan_refused}
 use Rattle.segment_code.proofs.StartsFound.{are_starts}
 use Rattle.segment_code.proofs.find.find_starts.Goals as goal

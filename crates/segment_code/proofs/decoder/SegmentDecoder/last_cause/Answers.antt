@@ -1,5 +1,5 @@
 use Rattle.std.proofs.Common.{ℕ, List, Bool, true, false, sym, subst, ◌∙◌}
-use Rattle.bool_coder.specs.BoolReading.{Reads}
+use Rattle.bool_coder.specs.DecoderSeen.{Reads}
 use Rattle.segment_code.specs.Decoding.{DecoderSeen}
 use Rattle.segment_code.proofs.SegmentEnds.{TellsExact, ends_with_seam, ends_with_stream, no_cause}
 use Rattle.segment_code.proofs.decoder.SegmentDecoder.last_cause.Goals as goal

@@ -42,11 +42,11 @@ returns-in-Err-mcu-clause-made c = λ s at given.
     let is = subst (λ (d : DecoderSeen). IsWithin d s d.left at) (sym c.self.view_is) given in
     let decoded = is.decoded in
     let put = subst (λ stop. McuIsPut {A = ⊤} stop c.self.inside.writer c.get_mcu.new.out
-    c.args.out.now (Err c.in-Err-mcu.stop) c.mcu.new.self c.mcu.new.out) is.unstopped
+    c.args.out.now (Err c.in-Err-mcu.stop) c.mcu.new.self c.mcu.new.out) is.holds.unstopped
     c.in-Err-mcu.ensures in
     let long : length c.get_mcu.new.out ≡ length c.self.inside.writer.shape.slots = search rules in
     stop_made (decoder_of c.self.inside) s at is c.get_mcu.new.coder c.get_mcu.new.out
-    (long ∙ ap (λ (shape : Shape). length shape.slots) is.shape)
+    (long ∙ ap (λ (shape : Shape). length shape.slots) is.holds.shape)
     (c.in_default.ensures.got at.blocks decoded.held) c.in-Err-mcu.stop c.write_cause.result
     c.args.out.now c.mcu.new.out (decoder_of c.self.inside) put.0 put.1 c.write_cause.ensures
 
@@ -76,7 +76,7 @@ returns-clause-made c = λ s at given.
     let decoded = is.decoded in
     let left_is = ap (λ (d : DecoderSeen). d.left) c.self.view_is in
     let put = subst (λ stop. McuIsPut {A = ⊤} stop c.self.inside.writer c.get_mcu.new.out
-    c.args.out.now (Ok tt) c.mcu.new.self c.mcu.new.out) is.unstopped
+    c.args.out.now (Ok tt) c.mcu.new.self c.mcu.new.out) is.holds.unstopped
     c.in_default-mcu.ensures in
     let long : length c.get_mcu.new.out ≡ length c.self.inside.writer.shape.slots = search rules in
     let new : DecoderSeen = record (decoder_of c.self.inside) {
@@ -87,7 +87,7 @@ returns-clause-made c = λ s at given.
     } in
     subst (λ (n : ℕ). McuIsMade {A = ⊤} s n at c.args.out.now (Ok tt) new c.mcu.new.out) left_is
     (mcu_made (decoder_of c.self.inside) s at is c.get_mcu.new.coder c.get_mcu.new.out
-    (long ∙ ap (λ (shape : Shape). length shape.slots) is.shape)
+    (long ∙ ap (λ (shape : Shape). length shape.slots) is.holds.shape)
     (c.in_default.ensures.got at.blocks decoded.held) c.get_mcu.new.segment c.mcu.new.self
     (c.self.inside.left - 1) c.args.out.now c.mcu.new.out c.get_mcu.ensures.grid
     (c.in_default.ensures.held at.blocks decoded.held)

@@ -1,65 +1,72 @@
-// From the MCUs of a segment to its stream.
-ghost use Rattle.std.specs.Prelude.{◌≡◌, ◌≤◌, ◌+◌, List, [], length, None, Err, IfOk, OnOk, IsErrOf};
+// The stream of one segment of a file.
+ghost use Rattle.std.specs.Prelude.{◌≡◌, ◌<◌, ◌≤◌, ◌+◌, ℕ, Bool, List, [], length, None, Err, IfOk, OnOk, IsErrOf};
 ghost use Rattle.std.specs.List.{AllByRecursion};
 ghost use Rattle.coef_block.specs.Block.{IsBlock};
 ghost use Rattle.coef_block.specs.TwoRows.{block_count};
 ghost use Rattle.coef_context.specs.Runs.{bin_count};
 ghost use Rattle.block_code.specs.SegmentUnderWay.{HoldsUpTo};
-ghost use Rattle.segment_code.specs.CodedMcus.{AreCoded, AreReadOn, next_of};
 ghost use Rattle.scan_spec.specs.ScanLaws.{zigzag_of};
 ghost use Rattle.scan_spec.specs.Scans.{Mcu};
 ghost use Rattle.scan_spec.specs.Slots.{shape_of};
 ghost use Rattle.scan_spec.specs.declared.refusal.ScanRefusal.{ScanRefusal};
+ghost use Rattle.container_spec.specs.Files.{segment_mcus};
+ghost use Rattle.segment_code.specs.FileStarts.{starts_of};
 ghost use Rattle.container_spec.specs.ScanStream.{stream_of};
+ghost use Rattle.segment_code.specs.CodedMcus.{AreCoded, AreReadOn, next_of};
+ghost use Rattle.segment_code.specs.Starting.{AreStarts, IsFileAt};
 
+use crate::cuts::mcus_in;
+use crate::error::ScanError;
 use crate::grid::grid_of;
+use crate::starts::Starts;
 use adapt_bins::{Bins, Put};
 use block_code::{SegmentRows, put_mcu};
 use bool_coder::Encoder;
 use coef_block::Block;
 use coef_context::BINS;
+use huff_table::PlanCodes;
 use jpeg_marker::Plan;
 use scan_decode::Reader;
-use scan_spec::{MOST_SLOTS, ScanRefusal};
+use scan_spec::MOST_SLOTS;
 use std::alloc::{AllocError, Global};
 
-/// Why there is no stream.
-#[derive(Clone, Copy)]
-pub(crate) enum EncodeError {
-    /// 16 to 24: the bytes after the header begin with no scan that is taken.
-    Scan(ScanRefusal),
-    NoMemory,
-}
-
-impl From<AllocError> for EncodeError {
-    ghost use Rattle.std.specs.Prelude.{◌≡◌};
-    ghost use Rattle.segment_code.specs.declared.encode.EncodeError.TheVariants.{NoMemory};
-
-    ghost from_gives = { λ _ error. error ≡ NoMemory };
-
-    fn from(_: AllocError) -> Self {
-        EncodeError::NoMemory
+/// The stream of one segment of a file; the first one has number 0. Each MCU is read, coded and forgotten: beside the
+/// stream, memory is for two MCU rows of blocks and the bins. The one error is out of memory.
+pub fn encode_segment(
+    alloc: Global,
+    plan: &Plan,
+    bytes: &[u8],
+    starts: &Starts,
+    segment: u8,
+) -> Result<Vec<u8>, AllocError>
+    requires starts { (most : ℕ) × AreStarts plan.now bytes.now most starts.now }
+    requires segment { segment < length starts.now.rows }
+    ensures { (mcus : List Mcu) (pads : List Bool) (most : ℕ)
+        → IsFileAt bytes.now plan.now mcus pads starts.now.trailer
+        → starts.now ≡ starts_of plan.now mcus pads starts.now.trailer most
+        → IfOk result (λ stream. stream.items
+        ≡ stream_of plan.now (segment_mcus plan.now mcus most segment)) }
+{
+    let codes = PlanCodes::build(plan);
+    let place = starts.place(segment);
+    let handover = starts.handover(segment);
+    let mut reader = Reader::at(plan, &codes, bytes, place, handover, starts.row(segment));
+    let mcus = mcus_in(plan, starts.segments(), segment);
+    match code_segment(alloc, plan, &mut reader, mcus) {
+        Ok(stream) => Ok(stream),
+        Err(ScanError::NoMemory) => Err(AllocError),
+        // A scan that was read once is read again.
+        Err(ScanError::Scan(_)) => unreachable!(),
     }
 }
 
-impl From<ScanRefusal> for EncodeError {
-    ghost use Rattle.std.specs.Prelude.{◌≡◌};
-    ghost use Rattle.segment_code.specs.declared.encode.EncodeError.TheVariants.{Scan};
-
-    ghost from_gives = { λ refusal error. error ≡ Scan refusal };
-
-    fn from(refusal: ScanRefusal) -> Self {
-        EncodeError::Scan(refusal)
-    }
-}
-
-/// The stream of the reader's next `mcus` MCUs, as one segment of its plan's scan.
-pub(crate) fn code_segment(
+// The stream of the reader's next `mcus` MCUs, as one segment of its plan's scan.
+fn code_segment(
     alloc: Global,
     plan: &Plan,
     reader: &mut Reader,
     mcus: u32,
-) -> Result<Vec<u8>, EncodeError>
+) -> Result<Vec<u8>, ScanError>
     requires start { reader.old.stop ≡ None }
     requires shape { reader.old.shape ≡ shape_of plan.now }
     requires count { reader.old.at.count + mcus ≤ reader.old.shape.mcus }
@@ -67,7 +74,7 @@ pub(crate) fn code_segment(
         × AllByRecursion (AllByRecursion IsBlock) all
         × AreReadOn mcus reader.old reader.new (zigzag_of all)
         × (stream.items ≡ stream_of plan.now all)) }
-    ensures refused { (refusal : ScanRefusal) → IsErrOf result (EncodeError.Scan refusal)
+    ensures refused { (refusal : ScanRefusal) → IsErrOf result (ScanError.Scan refusal)
         → next_of mcus reader.old ≡ Err refusal }
 {
     let mut segment = SegmentRows::new(alloc, grid_of(plan))?;
@@ -88,7 +95,7 @@ fn code_mcus(
     segment: &mut SegmentRows,
     coder: &mut Put,
     mcus: u32,
-) -> Result<(), EncodeError>
+) -> Result<(), ScanError>
     requires start { reader.old.stop ≡ None }
     requires count { reader.old.at.count + mcus ≤ reader.old.shape.mcus }
     requires slots { length reader.old.shape.slots ≡ block_count segment.old.grid.mcu }
@@ -96,7 +103,7 @@ fn code_mcus(
     requires held { HoldsUpTo segment.old [] }
     ensures coded { OnOk result ((all : List Mcu)
         × AreCoded mcus reader.old reader.new segment.old.grid segment.new coder.old coder.new all) }
-    ensures refused { (refusal : ScanRefusal) → IsErrOf result (EncodeError.Scan refusal)
+    ensures refused { (refusal : ScanRefusal) → IsErrOf result (ScanError.Scan refusal)
         → next_of mcus reader.old ≡ Err refusal }
 {
     let mut mcu = [Block::zero(); MOST_SLOTS];

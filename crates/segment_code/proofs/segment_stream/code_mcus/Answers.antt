@@ -8,7 +8,7 @@ use Rattle.container_spec.specs.ScanStream.{blocks_of}
 use Rattle.segment_code.specs.CodedMcus.{next_of}
 use Rattle.segment_code.proofs.McusCoded.{coded_none, coded_one}
 use Rattle.segment_code.proofs.ReadOn.{count_on, keeps, reads_on, refused_on}
-use Rattle.segment_code.proofs.encode.code_mcus.Goals as goal
+use Rattle.segment_code.proofs.segment_stream.code_mcus.Goals as goal
 
 pub next_mcu-requires-clause-more : goal.next_mcu-requires-clause-more
 next_mcu-requires-clause-more c =

@@ -1,7 +1,7 @@
 use Rattle.std.proofs.Common.{◌≡◌, ◌≤◌, List, length}
 use Rattle.scan_spec.specs.Scans.{Mcu}
 use Rattle.segment_code.specs.CodedMcus.{AreCoded}
-use Rattle.segment_code.proofs.encode.code_mcus.Given as goal
+use Rattle.segment_code.proofs.segment_stream.code_mcus.Given as goal
 
 abbrev pub invariant-loop : goal.invariant-loop
 invariant-loop l = record {

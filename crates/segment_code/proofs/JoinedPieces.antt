@@ -1,5 +1,5 @@
 -- A segment piece by piece.
-use Rattle.std.proofs.Common.{◌≡◌, ℕ, zero, suc, ◌+◌, ◌<◌, ◌≤◌, Bool, true, false, if◌then◌else◌, List, [], ◌++◌, length, Result, Ok, Err, refl, sym, ap, subst, ◌∙◌, append_assoc, arith}
+use Rattle.std.proofs.Common.{◌≡◌, ℕ, zero, suc, ◌+◌, ◌<◌, ◌≤◌, Bool, true, false, if◌then◌else◌, List, [], length, Result, Ok, Err, refl, ap, subst, ◌∙◌, arith}
 use Rattle.std.specs.Prelude.{nat_lt}
 use Rattle.bit_list.specs.Pieces.{piece_room}
 use Rattle.scan_spec.specs.TextBounds.{mcu_room}
@@ -7,13 +7,9 @@ use Rattle.handover.specs.declared.outcome.StreamCause.{StreamCause}
 use Rattle.handover.specs.declared.outcome.StreamCause.TheVariants.{StreamBad}
 use Rattle.container_spec.specs.ScanStream.{starts}
 use Rattle.container_spec.specs.Segments.{SegmentFields, Progress, Output, stopped, with_prefix, after_step, mcu_step, mcus_output}
-use Rattle.container_spec.specs.Pieces.{Made, SomeOf, AllOf, made_with_prefix, made_after, piece, output_after}
-use Rattle.container_spec.specs.SegmentLaws.{PieceIsPrefix, NextPieceIsPrefix, PieceHasAnMcu}
-
-pub prefix_twice : (a b : List ℕ) (output : Output)
-    → with_prefix a (with_prefix b output) ≡ with_prefix (a ++ b) output
-prefix_twice a b output =
-    ap (λ (l : List ℕ). let p : Output = (l, output.1) in p) (sym (append_assoc a b output.0))
+use Rattle.segment_code.specs.Pieces.{Made, SomeOf, AllOf, made_with_prefix, made_after, piece, output_after}
+use Rattle.container_spec.proofs.McusPut.{prefix_twice}
+use Rattle.segment_code.specs.PieceLaws.{PieceIsPrefix, NextPieceIsPrefix, PieceHasAnMcu}
 
 prefix_made : (s : SegmentFields) (prefix : List ℕ) (made : Made)
     → with_prefix prefix (output_after s made) ≡ output_after s (made_with_prefix prefix made)

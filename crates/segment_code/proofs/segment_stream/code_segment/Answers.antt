@@ -5,9 +5,9 @@ use Rattle.coef_block.specs.TwoRows.{block_count}
 use Rattle.scan_spec.specs.Slots.{Shape}
 use Rattle.block_spec.specs.Grid.{Grid}
 use Rattle.container_spec.specs.ScanStream.{grid_of, blocks_of}
-use Rattle.segment_code.specs.declared.encode.EncodeError.TheVariants.{Scan, NoMemory}
+use Rattle.segment_code.specs.declared.error.ScanError.TheVariants.{Scan, NoMemory}
 use Rattle.segment_code.proofs.ScansCoded.{stream_is, stream_told, fresh_bins, is_memory}
-use Rattle.segment_code.proofs.encode.code_segment.Goals as goal
+use Rattle.segment_code.proofs.segment_stream.code_segment.Goals as goal
 
 pub code_mcus-requires-clause-slots : goal.code_mcus-requires-clause-slots
 code_mcus-requires-clause-slots c =

@@ -10,7 +10,7 @@ use Rattle.container_spec.specs.ScanStream.{stream_of}
 use Rattle.segment_code.proofs.CutsOfPlans.{ends_there, ends_within}
 use Rattle.segment_code.proofs.ScansCoded.{bytes_all}
 use Rattle.segment_code.proofs.SegmentsCoded.{from_same, markers_are, not_refused, row_within, said_of, same_mcus, segment_reads}
-use Rattle.segment_code.proofs.stream.encode_segment.Goals as goal
+use Rattle.segment_code.proofs.segment_stream.encode_segment.Goals as goal
 
 pub at-reader-requires-clause-row : goal.at-reader-requires-clause-row
 at-reader-requires-clause-row c =

@@ -1,4 +1,4 @@
--- What one step gives of a segment: a piece of its bytes (own).
+-- Steps: what one step gives of a segment: a piece of its bytes (own).
 use Rattle.std.specs.Prelude.{ℕ, zero, suc, ◌+◌, nat_lt, if◌then◌else◌, List, [], ◌++◌, length, Result, Ok, Err}
 use Rattle.bit_list.specs.Pieces.{piece_room}
 use Rattle.scan_spec.specs.TextBounds.{mcu_room}

@@ -2,7 +2,7 @@ use Rattle.std.proofs.Common.{◌≡◌, ℕ, ◌+◌, ◌-◌, ◌*◌, ◌<◌
 use Rattle.std.proofs.Math.Nat.{mul-le-mul_left}
 use Rattle.cut_spec.specs.Cuts.{Cut, row_of}
 use Rattle.cut_spec.proofs.SpotsBegun.{rows}
-use Rattle.segment_code.proofs.rows.mcus_in.Goals as goal
+use Rattle.segment_code.proofs.cuts.mcus_in.Goals as goal
 
 -- rows rise
 rises : (down count i : ℕ) → i < count → (let cut : Cut =

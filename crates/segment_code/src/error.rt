@@ -1,0 +1,33 @@
+// Why a scan is not read as segments.
+use scan_spec::ScanRefusal;
+use std::alloc::AllocError;
+
+/// Why a scan gives no starts, or no stream of a segment.
+#[derive(Clone, Copy, Debug, PartialEq, Eq)]
+pub enum ScanError {
+    /// 16 to 24: the bytes after the header begin with no scan that is accepted.
+    Scan(ScanRefusal),
+    NoMemory,
+}
+
+impl From<AllocError> for ScanError {
+    ghost use Rattle.std.specs.Prelude.{◌≡◌};
+    ghost use Rattle.segment_code.specs.declared.error.ScanError.TheVariants.{NoMemory};
+
+    ghost from_gives = { λ _ error. error ≡ NoMemory };
+
+    fn from(_: AllocError) -> Self {
+        ScanError::NoMemory
+    }
+}
+
+impl From<ScanRefusal> for ScanError {
+    ghost use Rattle.std.specs.Prelude.{◌≡◌};
+    ghost use Rattle.segment_code.specs.declared.error.ScanError.TheVariants.{Scan};
+
+    ghost from_gives = { λ refusal error. error ≡ Scan refusal };
+
+    fn from(refusal: ScanRefusal) -> Self {
+        ScanError::Scan(refusal)
+    }
+}
