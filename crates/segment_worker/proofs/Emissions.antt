@@ -21,7 +21,7 @@ use Rattle.output_board.specs.declared.answers.Take.{Take}
 use Rattle.output_board.specs.declared.answers.Take.TheVariants.{Bytes, Ended}
 use Rattle.output_board.specs.Seats.{SeatValue, HasHeldOnce}
 use Rattle.output_board.specs.Answers.{TakeGives}
-use Rattle.segment_worker.specs.declared.ending.EmitStop.TheVariants.{Fault}
+use Rattle.segment_worker.specs.declared.emitted.EmitStop.TheVariants.{Fault}
 use Rattle.segment_worker.specs.Contents.{segments_bytes, segments_outcomes, segment_room, AreShort}
 use Rattle.segment_worker.specs.Written.{HasWritten, HasFailed}
 use Rattle.segment_worker.specs.Joining.{joined_from, joined_onto}

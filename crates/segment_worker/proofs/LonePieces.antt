@@ -144,5 +144,5 @@ module _ {Sink : Type 0} (held : Sink → Option (List ℕ)) (faults : Sink → 
       → from.left < 2 ^ 32 → written + count ≤ piece_room * 2 ^ 32
   piece_fits from now old mid written count u room few =
       let stands = u.some.owes.stands in
-      let some : 0 < now.left = subst (λ (n : ℕ). 0 < n) (sym stands.still) stands.some in
+      let some : 0 < now.left = subst (λ (n : ℕ). 0 < n) (sym stands.holds.still) stands.some in
       omega (arith, u.few, some, room, few)

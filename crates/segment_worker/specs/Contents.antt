@@ -1,4 +1,4 @@
--- What the board of a container is for (own).
+-- Steps: the bytes and outcomes that a container's board is for (own).
 use Rattle.std.specs.Prelude.{ℕ, ◌*◌, ◌^◌, ◌≤◌, List, length, map}
 use Rattle.handover.specs.declared.outcome.Outcome.{Outcome}
 use Rattle.scan_spec.specs.TextBounds.{mcu_room}

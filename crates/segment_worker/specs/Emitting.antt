@@ -1,4 +1,4 @@
--- An emitter at work, and how it ends (own).
+-- Steps: an emitter at work, and how it ends (own).
 use Rattle.std.specs.Prelude.{ℕ, ◌≡◌, ◌+◌, ◌*◌, ◌<◌, ◌≤◌, false, List, ◌++◌, length, take, Option, Some, None, Result, Ok, Err}
 use Rattle.atomic_table.specs.Seated.{TableId}
 use Rattle.board_core.specs.BoardInvariants.{bytes_at}
@@ -8,9 +8,9 @@ use Rattle.container_spec.specs.Meanings.{Joined, joined, outputs_of}
 use Rattle.segment_code.specs.Decoding.{DecoderSeen}
 use Rattle.output_board.specs.declared.view.EmitterView.{EmitterView}
 use Rattle.output_board.specs.Seats.{SeatValue}
-use Rattle.segment_worker.specs.declared.ending.Emitted.{Emitted}
-use Rattle.segment_worker.specs.declared.ending.EmitStop.{EmitStop}
-use Rattle.segment_worker.specs.declared.ending.EmitStop.TheVariants.{WriteFault, Fault}
+use Rattle.segment_worker.specs.declared.emitted.Emitted.{Emitted}
+use Rattle.segment_worker.specs.declared.emitted.EmitStop.{EmitStop}
+use Rattle.segment_worker.specs.declared.emitted.EmitStop.TheVariants.{WriteFault, Fault}
 use Rattle.segment_worker.specs.Contents.{segments_bytes, segment_room}
 use Rattle.segment_worker.specs.Joining.{joined_from, joined_onto}
 use Rattle.segment_worker.specs.Written.{HasWritten, HasFailed}
@@ -40,7 +40,7 @@ pub record IsUsedEmitter (table : TableId) (v : BoxSeen) (seat : SeatValue BoxSe
   pub plan : decoder.plan ≡ v.plan
   pub begun : decoder.begun ≡ seat.claims
 
--- its view says that all of so many segments are emitted, and the board isn't stopped
+-- its view says that all N segments are emitted, and the board isn't stopped
 pub record IsThrough (count : ℕ) (e : EmitterView) : Type 0 where
   pub cur : e.cur ≡ count
   pub going : e.stopped ≡ false

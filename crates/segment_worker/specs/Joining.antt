@@ -1,4 +1,4 @@
--- A container's segments joined, from one of them on (own).
+-- Steps: a container's segments joined, from one of them on (own).
 use Rattle.std.specs.Prelude.{ℕ, ◌-◌, List, ◌++◌, length, map}
 use Rattle.jpeg_marker.specs.Plans.{PlanFields}
 use Rattle.handover.specs.PadSums.{pads_with}

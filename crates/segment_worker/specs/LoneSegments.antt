@@ -1,4 +1,4 @@
--- Segments that one thread decodes into a sink (this project's own).
+-- Steps: segments that one thread decodes into a sink (own).
 use Rattle.std.specs.Prelude.{ℕ, ◌≡◌, ◌+◌, ◌*◌, ◌^◌, ◌≤◌, true, List, ◌++◌, length, Option, Result, Ok, Err}
 use Rattle.std.specs.Io.KnownBytes.{Appends}
 use Rattle.bit_list.specs.Pieces.{piece_room}

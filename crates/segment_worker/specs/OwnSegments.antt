@@ -1,4 +1,4 @@
--- A segment that its owner decodes (own).
+-- Steps: a segment that its owner decodes (own).
 use Rattle.std.specs.Prelude.{ℕ, ◌≡◌, ◌+◌, ◌≤◌, true, false, List, length, take, drop, Option, Some, Result, Ok, Err, slice_get}
 use Rattle.handover.specs.declared.outcome.Outcome.{Outcome}
 use Rattle.board_core.specs.BoardInvariants.{bytes_at}

@@ -1,4 +1,4 @@
--- A worker at work (own).
+-- Steps: a worker at work (own).
 use Rattle.std.specs.Prelude.{◌≡◌, true, false, None}
 use Rattle.atomic_table.specs.Seated.{TableId}
 use Rattle.box_format.specs.Seen.{BoxSeen}

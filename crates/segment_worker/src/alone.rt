@@ -7,7 +7,7 @@ ghost use Rattle.segment_worker.specs.Contents.{segment_room};
 ghost use Rattle.segment_worker.specs.Emitting.{Emits, joined_in};
 ghost use Rattle.segment_worker.specs.LoneSegments.{OwesSome, SegmentEnds, pieces_room};
 
-use crate::ending::{EmitStop, Emitted};
+use crate::emitted::{EmitStop, Emitted};
 use crate::lengths::segments_are_short;
 use bit_list::Piece;
 use box_format::BoxView;
@@ -34,7 +34,6 @@ pub fn emit_alone<'a, K: Sink, G: Gate>(
     ensures lasting { K.faults sink.old ≤ K.faults sink.new }
 {
     segments_are_short(view);
-    let _segments = view.segments();
     emit_segments(decoder, piece, view, sink, gate)
 }
 
@@ -76,7 +75,7 @@ fn emit_segments<'a, K: Sink, G: Gate>(
     })
 }
 
-// Writes what the decoder owes of a segment, piece by piece. Answers how many bytes these are and how the segment ends,
+// Writes what the decoder owes of a segment, piece by piece. Returns how many bytes these are and how the segment ends,
 // or how many were written before the sink failed.
 fn emit_segment<K: Sink>(
     decoder: &mut SegmentDecoder,

@@ -2,14 +2,14 @@
 ghost use Rattle.std.specs.Prelude.{◌≡◌, ◌≤◌, IfOk};
 ghost use Rattle.output_board.specs.Seats.{new_emitter_seat, new_worker_seats};
 
+use crate::content::Told;
 use crate::lengths::segments_are_short;
-use crate::told::Told;
 use box_format::BoxView;
 use output_board::{Board, EmitterSeat, WorkerSeat};
 use std::alloc::{AllocError, Global};
 
-/// The board of a container's segments before the first call, the emitter's seat, and the seats of so many workers.
-/// Each segment's ring holds at most `ring` bytes. The one error is want of memory.
+/// The board of a container's segments before the first call, the emitter's seat, and the seats of `workers` workers.
+/// Each segment's ring holds at most `ring` bytes. The one error is out of memory.
 pub fn prepare_board<'a>(
     alloc: Global,
     view: &BoxView<'a>,

@@ -4,10 +4,10 @@ ghost use Rattle.box_format.specs.Versions.{most_segments};
 ghost use Rattle.segment_worker.specs.Contents.{AreShort, segment_room};
 ghost use Rattle.segment_worker.specs.Emitting.{Emits, IsNewEmitter, IsThrough, IsUsedEmitter, joined_in};
 
-use crate::ending::{EmitStop, Emitted};
+use crate::content::Told;
+use crate::emitted::{EmitStop, Emitted};
+use crate::emitter_own::emit_unclaimed;
 use crate::lengths::segments_are_short;
-use crate::own::emit_unclaimed;
-use crate::told::Told;
 use bit_list::Piece;
 use box_format::BoxView;
 use handover::{Outcome, PadSum};
@@ -16,14 +16,13 @@ use outside_core::{Gate, Sink, WriteFault, write_all};
 use segment_code::SegmentDecoder;
 use std::sync::Wait;
 
-/// The most bytes that are taken from a ring at a time.
+/// The most bytes of one take from a ring.
 const MOST_TAKEN: usize = 4_096;
 
-/// Writes the segments in order, the bytes of each from its ring, or decoded here where nobody has claimed it when its
-/// turn comes. It ends after the last one; or it stops the board, after the first that ends badly or where the sink
-/// fails.
+/// Writes the segments in order, the bytes of each from its ring, or decoded here if nobody has claimed it when its turn
+/// comes. It returns after the last one; or it stops the board, after the first with a fault, or if the sink fails.
 ///
-/// The gate is told of each segment that the emitter asks for.
+/// The gate is called before each segment that the emitter asks for.
 pub fn emit<'a, R: Wait, K: Sink, G: Gate>(
     rt: &R,
     decoder: &mut SegmentDecoder<'a>,
@@ -43,7 +42,6 @@ pub fn emit<'a, R: Wait, K: Sink, G: Gate>(
     ensures lasting { K.faults sink.old ≤ K.faults sink.new }
 {
     segments_are_short(view);
-    let _segments = view.segments();
     let mut buffer = [0; MOST_TAKEN];
     emit_through(
         rt,
@@ -58,7 +56,7 @@ pub fn emit<'a, R: Wait, K: Sink, G: Gate>(
     )
 }
 
-// The same, with a buffer for the bytes that are taken.
+// The same, with a buffer for the bytes of a take.
 fn emit_through<'a, R: Wait, K: Sink, G: Gate>(
     rt: &R,
     decoder: &mut SegmentDecoder<'a>,

@@ -14,20 +14,20 @@
 
 mod alone;
 mod boards;
-mod claimed;
+mod content;
+mod emitted;
 mod emitter;
-mod ending;
+mod emitter_own;
 mod lengths;
-mod own;
-mod pieces;
 mod streams;
-mod told;
 mod worker;
+mod worker_puts;
+mod worker_segment;
 
 pub use alone::emit_alone;
 pub use boards::prepare_board;
+pub use content::Told;
+pub use emitted::{EmitStop, Emitted};
 pub use emitter::emit;
-pub use ending::{EmitStop, Emitted};
 pub use streams::encode_all;
-pub use told::Told;
 pub use worker::work;

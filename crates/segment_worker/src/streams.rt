@@ -2,7 +2,8 @@
 ghost use Rattle.std.specs.Prelude.{◌≡◌, ◌<◌, ℕ, Bool, List, length, map, Ok, IfOk};
 ghost use Rattle.scan_spec.specs.Scans.{Mcu};
 ghost use Rattle.box_format.specs.Raws.{numbers};
-ghost use Rattle.container_spec.specs.Files.{plan_cut, segment_mcus, starts_of};
+ghost use Rattle.container_spec.specs.Files.{plan_cut, segment_mcus};
+ghost use Rattle.segment_code.specs.FileStarts.{starts_of};
 ghost use Rattle.container_spec.specs.ScanStream.{stream_of};
 ghost use Rattle.segment_code.specs.Starting.{AreStarts, IsFileAt};
 
@@ -12,8 +13,8 @@ use std::alloc::{AllocError, Global};
 use std::thread;
 use std::thread::Threads;
 
-/// The stream of each segment of a file, in order. Each is made in a thread of its own where one can be had. The one
-/// error is want of memory.
+/// The stream of each segment of a file, in order. Each is made in a thread of its own if one can be had. The one error
+/// is out of memory.
 pub fn encode_all<R: Threads + Sync>(
     rt: &R,
     alloc: Global,
@@ -49,13 +50,13 @@ fn encode_one(
 ) -> Result<Vec<u8>, AllocError>
     requires starts { (most : ℕ) × AreStarts plan.now bytes.now most starts.now }
     requires segment { segment < length starts.now.rows }
+    requires small { segment < 256 }
     ensures { (mcus : List Mcu) (pads : List Bool) (most : ℕ)
         → IsFileAt bytes.now plan.now mcus pads starts.now.trailer
         → starts.now ≡ starts_of plan.now mcus pads starts.now.trailer most
         → IfOk result (λ stream. stream.items
         ≡ stream_of plan.now (segment_mcus plan.now mcus most segment)) }
 {
-    let _segments = starts.segments();
     encode_segment(alloc, plan, bytes, starts, segment as u8)
 }
 

@@ -1,8 +1,9 @@
 // A worker.
 ghost use Rattle.segment_worker.specs.Working.{HasLeft, IsIdle, IsOver};
 
-use crate::claimed::put_segment;
-use crate::told::Told;
+use crate::content::Told;
+use crate::lengths::segments_are_short;
+use crate::worker_segment::put_segment;
 use bit_list::Piece;
 use box_format::BoxView;
 use output_board::{Board, Claim, WorkerSeat};
@@ -10,10 +11,10 @@ use outside_core::Gate;
 use segment_code::SegmentDecoder;
 use std::sync::Wait;
 
-/// Claims segments and decodes them into their rings, one after another, until none is left or the board is stopped,
-/// and leaves.
+/// Claims segments and decodes them into their rings, one after another, until none is left or the board is stopped.
+/// Then it leaves.
 ///
-/// The gate is told of each put, before and after it.
+/// The gate is called before and after each put.
 pub fn work<'a, R: Wait, G: Gate>(
     rt: &R,
     decoder: &mut SegmentDecoder<'a>,
@@ -43,7 +44,7 @@ fn put_segments<'a, R: Wait, G: Gate>(
     requires { IsIdle board.now view.now seat.old decoder.old }
     ensures { IsOver board.now view.now seat.new decoder.new }
 {
-    let _segments = view.segments();
+    segments_are_short(view);
     for _ in rt.forever() {
         match board.claim(rt, seat) {
             Claim::Segment(segment) => {

@@ -18,6 +18,6 @@ prepare-requires-clause-outcomes c =
 
 pub prepare-requires-clause-short : goal.prepare-requires-clause-short
 prepare-requires-clause-short c = λ i.
-    let short = c.segments_are_short.ensures i in
+    let short = c.segments_are_short.ensures.short i in
     subst (λ (v : BoxSeen). length (bytes_at (segments_bytes v) i) < count_limit) (sym c.new-content.ensures)
     (omega (arith, short))

@@ -1,6 +1,7 @@
 use Rattle.std.proofs.Common.{rules, ◌≡◌, ◌∙◌, ap, arith, ℕ, List, length}
 use Rattle.cut_spec.specs.Cuts.{row_of}
-use Rattle.container_spec.specs.Files.{StartsFields, plan_cut, segment_mcus}
+use Rattle.container_spec.specs.Files.{plan_cut, segment_mcus}
+use Rattle.segment_code.specs.FileStarts.{StartsFields}
 use Rattle.container_spec.specs.ScanStream.{stream_of}
 use Rattle.container_spec.proofs.Numbered.{mapped_long}
 use Rattle.segment_worker.proofs.StreamsMade.{all_streams}

@@ -1,5 +1,5 @@
 use Rattle.segment_worker.specs.OwnSegments.{IsPassing}
-use Rattle.segment_worker.proofs.own.emit_own.Given as goal
+use Rattle.segment_worker.proofs.emitter_own.emit_own.Given as goal
 
 abbrev pub invariant-loop-more : goal.invariant-loop-more
 invariant-loop-more g l =

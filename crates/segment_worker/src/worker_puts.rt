@@ -4,14 +4,14 @@ ghost use Rattle.output_board.specs.Answers.{HasNext, IsAtEnd};
 ghost use Rattle.segment_worker.specs.Contents.{segments_bytes, segments_outcomes};
 ghost use Rattle.segment_worker.specs.OwnSegments.{IsSameSeat};
 
-use crate::told::Told;
+use crate::content::Told;
 use handover::Outcome;
 use output_board::{Board, Finish, Put, WorkerSeat};
 use outside_core::Gate;
 use std::sync::Wait;
 
-// Puts the next bytes of the worker's segment, as its ring has room, and answers whether all were put before the board
-// was stopped. The gate is told of each call.
+// Puts the next bytes of the worker's segment, as its ring has room, and returns whether all were put before the board
+// was stopped. The gate is called before and after each put.
 pub(crate) fn put_bytes<'a, R: Wait, G: Gate>(
     rt: &R,
     seat: &mut WorkerSeat<Told<'a>>,
@@ -47,7 +47,7 @@ pub(crate) fn put_bytes<'a, R: Wait, G: Gate>(
     unreachable!()
 }
 
-// Ends the worker's segment, and answers whether the board wasn't stopped before.
+// Ends the worker's segment, and returns whether the board wasn't stopped before.
 pub(crate) fn end<'a, R: Wait>(
     rt: &R,
     seat: &mut WorkerSeat<Told<'a>>,

@@ -4,7 +4,7 @@ use Rattle.handover.specs.declared.outcome.Outcome.TheVariants.{Good, Bad}
 use Rattle.segment_worker.specs.Written.{HasWritten, HasFailed}
 use Rattle.segment_worker.specs.OwnSegments.{IsPassing}
 use Rattle.segment_worker.proofs.OwnPieces.{starts_passing, piece_passed, piece_within, all_passed, piece_failed, owed_later, owed_done, owed_fault, ends_there}
-use Rattle.segment_worker.proofs.own.emit_own.Goals as goal
+use Rattle.segment_worker.proofs.emitter_own.emit_own.Goals as goal
 
 pub loop-more-init : goal.loop-more-init
 loop-more-init g c =

@@ -1,4 +1,4 @@
-// What the board of a container is for.
+// The content of a container's board: the bytes and the outcome of each segment.
 ghost use Rattle.std.specs.Prelude.{◌≡◌};
 
 use box_format::BoxView;
@@ -6,8 +6,8 @@ use output_board::Content;
 use std::marker::Model;
 use std::snapshot::Snapshot;
 
-/// The bytes and the outcome of each segment of a container, which its board's clauses speak of. It holds nothing when
-/// the program runs.
+/// The bytes and the outcome of each segment of a container, for the clauses of its board. It holds nothing when the
+/// program runs.
 ///
 /// Clauses see the container.
 #[derive(Drop)]

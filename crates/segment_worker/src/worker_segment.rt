@@ -2,8 +2,8 @@
 ghost use Rattle.std.specs.Prelude.{◌≡◌, Some, None, true, false};
 ghost use Rattle.segment_worker.specs.OwnSegments.{IsSameSeat, OwesRest};
 
-use crate::pieces::{end, put_bytes};
-use crate::told::Told;
+use crate::content::Told;
+use crate::worker_puts::{end, put_bytes};
 use bit_list::Piece;
 use handover::Outcome;
 use output_board::{Board, WorkerSeat};
@@ -11,7 +11,7 @@ use outside_core::Gate;
 use segment_code::{SegmentDecoder, Step};
 use std::sync::Wait;
 
-// Decodes the rest of the worker's segment into its ring, piece by piece, and ends it. Answers whether the board wasn't
+// Decodes the rest of the worker's segment into its ring, piece by piece, and ends it. Returns whether the board wasn't
 // stopped before.
 pub(crate) fn put_segment<'a, R: Wait, G: Gate>(
     rt: &R,

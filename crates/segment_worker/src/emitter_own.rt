@@ -4,7 +4,7 @@ ghost use Rattle.board_core.specs.BoardInvariants.{bytes_at};
 ghost use Rattle.segment_worker.specs.Contents.{AreShort, segments_bytes};
 ghost use Rattle.segment_worker.specs.OwnSegments.{IsSameSeat, OwesRest, OwnEnds};
 
-use crate::told::Told;
+use crate::content::Told;
 use bit_list::Piece;
 use box_format::BoxView;
 use handover::Outcome;
@@ -13,8 +13,8 @@ use outside_core::{Gate, Sink, WriteFault, write_all};
 use segment_code::{SegmentDecoder, Step};
 use std::sync::Wait;
 
-// Claims the segment that is emitted, where nobody has, and writes it whole, whatever its outcome. Answers how many
-// bytes were written, or how many before the sink failed.
+// Claims the segment that is emitted, if nobody has, and writes it whole, whatever its outcome. Returns how many bytes
+// were written, or how many before the sink failed.
 pub(crate) fn emit_unclaimed<'a, R: Wait, K: Sink, G: Gate>(
     rt: &R,
     decoder: &mut SegmentDecoder<'a>,
@@ -95,7 +95,7 @@ fn emit_own<'a, R: Wait, K: Sink>(
     }
 }
 
-// Says that a piece of the emitter's own segment was written.
+// Counts a piece of the emitter's own segment as written.
 fn pass<'a, R: Wait>(
     rt: &R,
     seat: &mut EmitterSeat<Told<'a>>,

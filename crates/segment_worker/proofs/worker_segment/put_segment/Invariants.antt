@@ -1,6 +1,6 @@
 use Rattle.std.proofs.Common.{◌≡◌, Some, false, true}
 use Rattle.segment_worker.specs.OwnSegments.{IsSameSeat, OwesRest}
-use Rattle.segment_worker.proofs.claimed.put_segment.Given as goal
+use Rattle.segment_worker.proofs.worker_segment.put_segment.Given as goal
 
 abbrev pub invariant-loop-step : goal.invariant-loop-step
 invariant-loop-step g l = record {

@@ -1,7 +1,7 @@
-// How an emitter ends.
+// What an emitter returns.
 use handover::{PadSum, StreamFault};
 
-/// All segments were written, each of which ended well.
+/// All segments were written, none with a fault.
 #[derive(Clone, Copy, Debug, PartialEq, Eq)]
 pub struct Emitted {
     /// How many bytes they have.

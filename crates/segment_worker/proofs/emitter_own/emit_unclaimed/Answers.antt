@@ -8,7 +8,7 @@ use Rattle.output_board.specs.declared.view.EmitterView.{EmitterView}
 use Rattle.segment_worker.specs.OwnSegments.{OwesRest}
 use Rattle.segment_worker.proofs.ContentsTold.{bytes_long}
 use Rattle.segment_worker.proofs.OwnPieces.{owes_all}
-use Rattle.segment_worker.proofs.own.emit_unclaimed.Goals as goal
+use Rattle.segment_worker.proofs.emitter_own.emit_unclaimed.Goals as goal
 
 pub begin-requires-clause-segment : goal.begin-requires-clause-segment
 begin-requires-clause-segment g c =

@@ -6,7 +6,7 @@ use Rattle.segment_worker.specs.Contents.{segments_bytes}
 use Rattle.segment_worker.specs.OwnSegments.{OwesRest}
 use Rattle.segment_worker.proofs.OwnPieces.{owed_later, owed_done, owed_fault}
 use Rattle.segment_worker.proofs.Putting.{piece_next, at_end}
-use Rattle.segment_worker.proofs.claimed.put_segment.Goals as goal
+use Rattle.segment_worker.proofs.worker_segment.put_segment.Goals as goal
 
 pub put_bytes-requires-clause-next : goal.put_bytes-requires-clause-next
 put_bytes-requires-clause-next g c =

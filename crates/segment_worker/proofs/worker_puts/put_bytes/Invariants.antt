@@ -1,6 +1,6 @@
 use Rattle.std.proofs.Common.{◌≡◌, ◌+◌, ◌≤◌, length}
 use Rattle.segment_worker.specs.OwnSegments.{IsSameSeat}
-use Rattle.segment_worker.proofs.pieces.put_bytes.Given as goal
+use Rattle.segment_worker.proofs.worker_puts.put_bytes.Given as goal
 
 abbrev pub invariant-loop : goal.invariant-loop
 invariant-loop g l =

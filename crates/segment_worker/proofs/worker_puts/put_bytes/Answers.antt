@@ -4,7 +4,7 @@ use Rattle.box_format.specs.Seen.{BoxSeen}
 use Rattle.output_board.specs.Answers.{HasNext}
 use Rattle.segment_worker.specs.Contents.{segments_bytes}
 use Rattle.segment_worker.proofs.Putting.{next_after}
-use Rattle.segment_worker.proofs.pieces.put_bytes.Goals as goal
+use Rattle.segment_worker.proofs.worker_puts.put_bytes.Goals as goal
 
 pub put-answer-requires-clause-next : goal.put-answer-requires-clause-next
 put-answer-requires-clause-next g c =
