@@ -6,11 +6,8 @@ ghost use Rattle.block_code.specs.BlockParts.{AreParts, HasCoefficients, parts_i
 
 use crate::gather::{gather_values, put_values};
 use block_spec::BlockFault;
-use coef_block::Block;
+use coef_block::{Block, MOST_DC};
 use coef_context::{EDGE_VALUES, INNER_VALUES};
-
-/// The largest magnitude of a DC.
-const MOST_DC: u32 = 32_767;
 
 /// The natural positions of the inner coefficients, in zigzag order.
 pub(crate) const INNER: [u8; INNER_VALUES] = [

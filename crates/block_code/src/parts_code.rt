@@ -17,10 +17,10 @@ use crate::parts::Parts;
 use crate::value::code_value;
 use crate::values::nonzeros_of;
 use adapt_bins::Coder;
-use coef_context::{dc_bases, inner_count_base};
+use coef_context::{DC_SIZES, INNER_VALUES, dc_bases, inner_count_base};
 
 /// The largest inner count.
-const MOST_INNER: u8 = 49;
+const MOST_INNER: u8 = INNER_VALUES as u8;
 
 // How many bits an inner count has, and 2 to them.
 const INNER_COUNT_BITS: u32 = 6;
@@ -28,7 +28,7 @@ const INNER_COUNT_BITS: u32 = 6;
 const INNER_COUNT_TOP: u32 = 64;
 
 /// How many steps the size of a residue has.
-const DC_STEPS: u8 = 16;
+const DC_STEPS: u8 = DC_SIZES as u8;
 
 /// Codes the parts of a block, from the inner count on, and writes them to `out`. A coder that is given the bits codes
 /// `wanted`; one that gets them ignores it. Returns false if the six bits of the count are above 49, and then codes

@@ -10,10 +10,10 @@ ghost use Rattle.block_code.specs.ValueRanges.{IsAc};
 
 use crate::value::code_value;
 use adapt_bins::Coder;
-use coef_context::BinBases;
+use coef_context::{AC_SIZES, BinBases};
 
 /// How many steps the size of an AC coefficient has.
-const AC_STEPS: u8 = 10;
+const AC_STEPS: u8 = AC_SIZES as u8;
 
 /// A band of coefficients: the inner ones, the row edge, or the column edge. It says where each has its bins, by its
 /// place in the band from 0 on and by how many values that are not 0 remain.

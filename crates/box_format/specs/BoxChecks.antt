@@ -1,4 +1,4 @@
--- Why bytes are no container: the first check that fails (own; docs/FORMAT.md).
+-- Statement: why bytes are no container: the first check that fails (docs/FORMAT.md, The container).
 use Rattle.std.specs.Prelude.{ℕ, ◌≡◌, ◌⊎◌, Bool, ◌&&◌, ◌||◌, not, ◌==◌, nat_lt, if◌then◌else◌, List, length, take, slice_index, bytes_eq, Option, Some, None, option_map}
 use Rattle.jpeg_marker.specs.Plans.{PlanFields}
 use Rattle.jpeg_marker.specs.HeaderPlan.{Accepts, Refuses as HeaderRefuses}
@@ -37,7 +37,7 @@ is_bad_pad listed shape pad list =
     if listed && pad == 2 then not (is_list shape list)
     else nat_lt 1 pad || nat_lt 0 (length list)
 
--- the checks after a header that is taken, in their order
+-- the checks after a header that is accepted, in their order
 unfoldable pub late_fault : PlanFields → Raw → Option BoxRefusal
 late_fault plan raw =
     let segments = length raw.handovers in
@@ -52,7 +52,7 @@ late_fault plan raw =
     (bad_start (shape_of plan) (cut_in plan segments) 0 raw.handovers))
     (where_failed (nat_lt 0 (length raw.rest)) BoxLong))))
 
--- the header is refused, or it is taken and a later check fails
+-- the header is refused, or it is accepted and a later check fails
 abbrev pub FailsAfter : Raw → BoxRefusal → Type 0
 FailsAfter raw refusal =
     ((inner : HeaderRefusal) × HeaderRefuses raw.header inner × (refusal ≡ BoxHeader inner))

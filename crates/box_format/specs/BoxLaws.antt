@@ -1,4 +1,4 @@
--- What holds of all containers (own).
+-- Law: what holds of all containers (own).
 use Rattle.std.specs.Prelude.{ℕ, ◌≡◌, List}
 use Rattle.std.specs.List.{AllByRecursion}
 use Rattle.bit_list.specs.Bits.{IsByte}

@@ -1,4 +1,4 @@
--- Worked containers (own).
+-- Rows: worked containers (own).
 use Rattle.std.specs.Prelude.{ℕ, ◌≡◌, true, List, [], ◌∷◌, ◌++◌, length, replicate, map, take, drop, slice_set, slice_index, Some, None}
 use Rattle.jpeg_marker.specs.Plans.{PlanFields}
 use Rattle.scan_spec.specs.BlockRows.{level_table}
@@ -126,7 +126,7 @@ early =
     × (early_fault (slice_set least_box 4 2) ≡ Some BoxCut)
     × (early_fault (slice_set second_box 4 3) ≡ Some BoxVersion)
 
--- and after one that is taken
+-- and after one that is accepted
 abbrev pub late : Type 0
 late =
     (late_fault (grey_plan 1) (raw_of (least_box ++ 0 ∷ [])) ≡ Some BoxLong)

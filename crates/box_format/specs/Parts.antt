@@ -1,4 +1,4 @@
--- A container by its parts, and its bytes (this project's own): docs/FORMAT.md has it by offset.
+-- Statement: a container by its parts, and its bytes by offset (docs/FORMAT.md, The container).
 use Rattle.std.specs.Prelude.{ℕ, ◌<◌, ◌≤◌, ◌≡◌, ◌^◌, Bool, ◌&&◌, ◌||◌, not, ◌==◌, true, if◌then◌else◌, List, [], ◌∷◌, ◌++◌, length, take, drop, flat_map, ◌+◌, unsigned_abs, slice_index_or, pos, Option, Some, None}
 use Rattle.std.specs.List.{list_all, list_any, AllByRecursion}
 use Rattle.byteorder.specs.Endian.{big_bytes}

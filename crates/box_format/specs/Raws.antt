@@ -1,4 +1,5 @@
--- The fields of bytes that may be a container, looked up by their offsets, before anything is known of them (own).
+-- Statement: the fields of bytes that may be a container, by their offsets, before any check (docs/FORMAT.md, The
+-- container).
 use Rattle.std.specs.Prelude.{ℕ, zero, suc, ◌+◌, ◌*◌, not, ◌==◌, if◌then◌else◌, List, [], ◌∷◌, take, drop, map, sum, slice_index}
 use Rattle.byteorder.specs.Endian.{big_number}
 use Rattle.handover.specs.Handovers.{HandoverFields}

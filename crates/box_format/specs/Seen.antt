@@ -1,4 +1,4 @@
--- What contracts see of a container that was read, and what one is written from (own).
+-- View: what contracts see of a container that was read, and what one is written from (own).
 use Rattle.std.specs.Prelude.{ℕ, ◌+◌, length, map, sum}
 use Rattle.std.specs.List.{AllByRecursion}
 use Rattle.bit_list.specs.Bits.{IsByte}

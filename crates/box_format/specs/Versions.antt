@@ -1,4 +1,4 @@
--- The versions of a container, and what each of them may say (this project's own; docs/FORMAT.md).
+-- Statement: the versions of a container, and what each of them may say (docs/FORMAT.md, The container).
 use Rattle.std.specs.Prelude.{ℕ, Bool, true, false, ◌||◌, ◌==◌, if◌then◌else◌, List, slice_index}
 use Rattle.box_format.specs.declared.version.Version.{Version}
 use Rattle.box_format.specs.declared.version.Version.TheVariants.{First, Second}

@@ -1,4 +1,4 @@
--- Bytes that have every part that their fields name, and the checks on the parts in two groups (own).
+-- Steps: bytes that have every part that their fields name, and the checks on the parts in two groups (own).
 use Rattle.std.specs.Prelude.{ℕ, ◌≤◌, ◌==◌, ◌||◌, nat_lt, Bool, List, [], ◌∷◌, length, take, drop, slice_index, map, Option, option_map}
 use Rattle.std.specs.List.{list_all}
 use Rattle.handover.specs.Handovers.{HandoverFields}
@@ -16,7 +16,7 @@ pub record IsWhole (bytes : List ℕ) : Type 0 where
   pub fields : list_place bytes ≤ length bytes
   pub ends : named_end bytes ≤ length bytes
 
--- whether a grid of these rows can't have these segments, of which there can be so many at most
+-- whether a grid of these rows can't have these segments, of which the version has a most
 abbrev pub are_wrong : ℕ → ℕ → ℕ → Bool
 are_wrong most segments rows =
     segments == 0 || (nat_lt most segments || nat_lt rows segments)

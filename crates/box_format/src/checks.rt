@@ -63,7 +63,7 @@ fn is_cut(bytes: &[u8]) -> bool
     bytes.len() < list_place(bytes) || (bytes.len() as u128) < named_end(bytes)
 }
 
-/// The first check that fails after a header that is taken.
+/// The first check that fails after a header that is accepted.
 pub(crate) fn late_fault(bytes: &[u8], plan: &Plan) -> Option<BoxRefusal>
     requires { IsWhole bytes.now }
     ensures { result ≡ late_fault plan.now (raw_of bytes.now) }

@@ -4,8 +4,8 @@
 //!     LPSG | 2 | pad | K | these, and of a pad list | K records | pad list | header | trailer | K streams
 //!
 //! A record has what a segment starts from and the length of its stream. A container has one spelling: what can be said
-//! in one way only is checked, and every check that fails has a refusal of its own. What a stream stands for is left to
-//! others.
+//! in one way only is checked, and every check that fails has a refusal of its own. Not handled here: what a stream
+//! stands for (see `container_spec`).
 #![tactic(auto)]
 
 mod checks;

@@ -32,7 +32,7 @@ impl Version {
         }
     }
 
-    /// Whether the length of a pad list stands among these fields.
+    /// Whether the length of a pad list is among these fields.
     pub(crate) fn is_listed(self) -> bool
         ensures { result ≡ (layout_of self).listed }
     {

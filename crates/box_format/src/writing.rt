@@ -17,8 +17,8 @@ use handover::Handover;
 use scan_spec::Pads;
 use std::alloc::{AllocError, Global};
 
-/// Writes the container of these parts, in version 2. They have to be those of one: their checks pass. The one error is
-/// want of memory.
+/// Writes the container of these parts, in version 2. They must be those of a container: their checks pass. The one
+/// error is out of memory.
 pub fn write_box(alloc: Global, parts: &Parts) -> Result<Vec<u8>, AllocError>
     requires { (plan : PlanFields) × IsBox plan (parts_given parts.now) }
     ensures { IfOk result (λ bytes. bytes.items ≡ box_bytes (parts_given parts.now)) }

@@ -1,5 +1,5 @@
--- The words that the program knows, as clap's specs see a command, and what clap makes of words
--- (this project's own).
+-- Statement: the program's arguments as clap's specs see a command, and what clap makes of arguments
+-- (README.md, Use).
 use Rattle.std.specs.Prelude.{List, [], ◌∷◌, Option, Some, true, pos, codes}
 use Rattle.clap.specs.Words.{App, Kinds, Row, Rule, Text, fault_of, new_app, new_rule}
 use Rattle.clap.specs.Words.{subcommand_of, with_rule, with_subcommand}

@@ -1,4 +1,4 @@
--- What words ask for, in clap's terms (this project's own).
+-- Statement: the command that arguments mean, in clap's terms (README.md, Use).
 use Rattle.std.specs.Prelude.{◌≡◌, ◌≤◌, ◌<◌, ◌^◌, ℕ, List, [], Option, Some, Ok, codes}
 use Rattle.std.specs.Str.Parse.{ParsesUnsigned}
 use Rattle.std.specs.declared.num.ParseIntError.{ParseIntError}
@@ -7,11 +7,11 @@ use Rattle.command_words.specs.LeptonApp.{faults, given}
 use Rattle.command_words.specs.declared.command.Command.{Command}
 use Rattle.command_words.specs.declared.command.Command.TheVariants.{Encode, Decode, Migrate, Sample}
 
--- the text reads as this number of so many bits: of 8, `text.parse::<u8>()`
+-- the text reads as this number of N bits: for 8, `text.parse::<u8>()`
 abbrev pub ReadsAs : ℕ → Text → ℕ → Type 0
 ReadsAs bits text number = ParsesUnsigned {E = ParseIntError} bits 10 text (Ok number)
 
--- the first value of an option reads as this number of so many bits
+-- the first value of an option reads as this number of N bits
 pub record Reads (bits : ℕ) (rows : List Row) (option : Text) (number : ℕ) : Type 0 where
   pub text : Text
   pub first : one_of option rows ≡ Some text

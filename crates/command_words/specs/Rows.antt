@@ -1,4 +1,4 @@
--- Worked rows: the words after the program's name, and what they mean (as clap has it).
+-- Rows: arguments, and what they mean (own).
 use Rattle.std.specs.Prelude.{List, [], ◌∷◌, codes}
 use Rattle.clap.specs.Words.{Text}
 use Rattle.command_words.specs.declared.command.Command.{Command}

@@ -1,4 +1,4 @@
-// The command that the words ask for.
+// The command that the arguments mean.
 ghost use Rattle.std.specs.Prelude.{◌≡◌, ◌≢◌, ℕ, [], map, string_bytes, IfOk, IfSome, IfNone, IsErrOf};
 ghost use Rattle.clap.specs.Words.{found_of, rows_of, subcommand_rows_of};
 ghost use Rattle.command_words.specs.LeptonApp.{faults, given};
@@ -9,7 +9,7 @@ use clap::ArgMatches;
 use clap::error::ErrorKind;
 use std::alloc::Global;
 
-/// What the words ask for.
+/// What the arguments mean.
 #[derive(Clone, Copy, Debug, PartialEq, Eq)]
 pub enum Command {
     /// Make a container in at most this many segments, 1 to 64.
@@ -18,20 +18,20 @@ pub enum Command {
     Decode { workers: u8 },
     /// Make the same container in the newest version.
     Migrate,
-    /// Make a sample from this seed, 0 to 4294967295, with so many columns and rows, 1 to 256 each.
+    /// Make a sample from this seed, 0 to 4294967295, with this many columns and rows, 1 to 256 each.
     Sample { seed: u32, columns: u16, rows: u16 },
 }
 
-/// Why words have no command.
+/// Why arguments mean no command.
 #[derive(Clone, Copy, Debug, PartialEq, Eq)]
 pub enum WordsError {
-    /// The words ask for none, or for help.
+    /// They mean none, or ask for help.
     Refused,
-    /// There was no memory to read them in.
+    /// Out of memory.
     NoMemory,
 }
 
-/// The command that the words ask for; the first word is the program's name.
+/// The command that the arguments mean. The first one is the program's name.
 pub fn command_of(alloc: Global, words: &[String]) -> Result<Command, WordsError>
     ensures taken { IfOk result (λ command. Means (map string_bytes words.now) command) }
     ensures refused { IsErrOf result WordsError.Refused
@@ -42,7 +42,7 @@ pub fn command_of(alloc: Global, words: &[String]) -> Result<Command, WordsError
     asked(&matches).ok_or(WordsError::Refused)
 }
 
-// What clap makes of the words, unless it refuses them.
+// What clap makes of the arguments, unless it refuses them.
 fn parsed<'a>(alloc: Global, words: &'a [String]) -> Result<ArgMatches<'a>, WordsError>
     ensures taken { IfOk result (λ matches. faults (map string_bytes words.entry.now) ≡ []) }
     ensures matches { IfOk result (λ matches.
@@ -62,7 +62,7 @@ fn parsed<'a>(alloc: Global, words: &'a [String]) -> Result<ArgMatches<'a>, Word
     }
 }
 
-// The command that the subcommand stands for, where its options have numbers.
+// The command that the subcommand stands for, if its options have numbers.
 fn asked(matches: &ArgMatches) -> Option<Command>
     ensures some { IfSome result (Asks (subcommand_rows_of matches.now)) }
     ensures none { IfNone result ((command : Command)

@@ -1,4 +1,4 @@
-// What holds of the meaning of words.
+// What holds of the meaning of arguments.
 ghost use Rattle.std.specs.Prelude.{◌≡◌, List};
 ghost use Rattle.clap.specs.Words.{Text};
 ghost use Rattle.std.specs.List.{AllByRecursion};
@@ -6,19 +6,19 @@ ghost use Rattle.command_words.specs.Meaning.{IsInRange, Means};
 ghost use Rattle.command_words.specs.Rows.{line, meaningless, meant};
 ghost use Rattle.command_words.specs.declared.command.Command.{Command};
 
-/// Words mean at most one command.
+/// Arguments mean at most one command.
 pub fn one_command()
     ensures { (words : List Text) (a b : Command) → Means words a → Means words b → a ≡ b }
 {}
 
-/// A command that words mean has 1 to 64 segments, or 0 to 16 workers, or a seed from 0 to 4294967295 with 1 to 256
+/// A command that arguments mean has 1 to 64 segments, or 0 to 16 workers, or a seed from 0 to 4294967295 with 1 to 256
 /// columns and 1 to 256 rows.
 pub fn numbers_are_in_range()
     ensures { (words : List Text) (command : Command) → Means words command
         → IsInRange command }
 {}
 
-/// The meaning at words that are written out.
+/// The meaning of arguments that are written out.
 pub fn rows_of_words()
     ensures meant { AllByRecursion (λ row. Means (line row.0) row.1) meant }
     ensures meaningless { AllByRecursion (λ words. (command : Command)

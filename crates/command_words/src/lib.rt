@@ -1,17 +1,17 @@
-//! The program's words: what they ask for, by clap.
+//! The program's arguments: what they mean, by clap.
 //!
-//!     lepton encode [--segments N]    N from 1 to 64; 8 where it is left out
-//!     lepton decode [--workers N]     N from 0 to 16; 4 where it is left out
+//!     lepton encode [--segments N]    N from 1 to 64; 8 if it is left out
+//!     lepton decode [--workers N]     N from 0 to 16; 4 if it is left out
 //!     lepton migrate
 //!     lepton sample --seed N --columns N --rows N
 //!                                     the seed from 0 to 4294967295, columns and rows from 1 to 256; none is left out
 //!
-//!     words --clap--> matches --> Command::Encode { segments }
-//!                                 Command::Decode { workers }
-//!                                 Command::Migrate
-//!                                 Command::Sample { seed, columns, rows }
+//!     arguments --clap--> matches --> Command::Encode { segments }
+//!                                     Command::Decode { workers }
+//!                                     Command::Migrate
+//!                                     Command::Sample { seed, columns, rows }
 //!
-//! `Means` in `specs/` says what words ask for, in clap's own terms. The first word is the program's name and isn't
+//! `Means` in `specs/` says what arguments mean, in clap's own terms. The first one is the program's name and isn't
 //! looked at. A call for help is refused, as everything is that clap refuses for another cause than memory.
 #![tactic(auto)]
 

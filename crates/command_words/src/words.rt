@@ -1,4 +1,4 @@
-// The words that are known, as clap is told of them.
+// The arguments that are known, as clap needs them.
 ghost use Rattle.std.specs.Prelude.{◌≡◌, false, IfOk, Some, [], ◌∷◌};
 ghost use Rattle.clap.specs.Words.{app_of, rule_of, with_subcommand};
 ghost use Rattle.command_words.specs.LeptonApp.{decode_app, encode_app, lepton_app, migrate_app, number_rule, required_rule, sample_app};
@@ -7,7 +7,7 @@ use clap::builder::ValueParser;
 use clap::{Arg, value_parser};
 use std::alloc::{AllocError, Global};
 
-/// The program with its four subcommands, of which one has to be named.
+/// The program with its four subcommands, of which one must be named.
 pub(crate) fn known_words<'a>(alloc: Global) -> Result<clap::Command<'a>, AllocError>
     ensures { IfOk result (λ known. app_of known ≡ lepton_app) }
 {

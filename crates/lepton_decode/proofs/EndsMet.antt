@@ -4,9 +4,9 @@ use Rattle.std.specs.Prelude.{All, OnOk, OnErr}
 use Rattle.container_spec.specs.Meanings.{Joined}
 use Rattle.output_board.specs.declared.view.EmitterView.{EmitterView}
 use Rattle.output_board.specs.declared.view.WorkerView.{WorkerView}
-use Rattle.segment_worker.specs.declared.ending.Emitted.{Emitted}
-use Rattle.segment_worker.specs.declared.ending.EmitStop.{EmitStop}
-use Rattle.segment_worker.specs.declared.ending.EmitStop.TheVariants as Stops
+use Rattle.segment_worker.specs.declared.emitted.Emitted.{Emitted}
+use Rattle.segment_worker.specs.declared.emitted.EmitStop.{EmitStop}
+use Rattle.segment_worker.specs.declared.emitted.EmitStop.TheVariants as Stops
 use Rattle.segment_worker.specs.Emitting.{Counts, Emits, IsThrough}
 use Rattle.lepton_decode.specs.declared.error.DecodeError.{DecodeError}
 use Rattle.lepton_decode.specs.declared.error.DecodeError.TheVariants.{WriteFault, Fault, PadSpelling}

@@ -8,7 +8,7 @@ use Rattle.handover.specs.declared.outcome.StreamFault.{StreamFault}
 use Rattle.box_format.specs.Parts.{BoxParts}
 use Rattle.container_spec.specs.Meanings.{Joined, Meaning, Restored, PadSpelled, Faulty, joined, outputs_of, meaning_by, meaning_of}
 use Rattle.lepton_decode.specs.declared.error.DecodeError.TheVariants as DecodeError
-use Rattle.segment_worker.specs.declared.ending.EmitStop.TheVariants.{Fault}
+use Rattle.segment_worker.specs.declared.emitted.EmitStop.TheVariants.{Fault}
 use Rattle.segment_worker.specs.Written.{HasWritten, HasFailed}
 use Rattle.segment_worker.specs.Emitting.{Emits}
 use Rattle.segment_worker.proofs.Writing.{written_later, failed_later}

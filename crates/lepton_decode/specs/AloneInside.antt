@@ -1,4 +1,4 @@
--- What always holds of a container that is ready for one thread (this project's own).
+-- View: the invariant of a container that is ready for one thread (own).
 use Rattle.std.specs.Prelude.{◌≡◌, false}
 use Rattle.lepton_decode.specs.Ends.{AloneSeen}
 use Rattle.lepton_decode.specs.declared.alone.ReadyAlone.TheInside.{Inside}

@@ -1,4 +1,4 @@
--- How a decode ends, and what it leaves in a sink (own).
+-- Steps: what a decode returns, and what it leaves in a sink (own).
 use Rattle.std.specs.Prelude.{All, ℕ, ◌≡◌, Bool, true, List, length, Option, Result, Ok, Err}
 use Rattle.jpeg_marker.specs.Plans.{PlanFields}
 use Rattle.box_format.specs.Parts.{BoxParts}
@@ -7,8 +7,8 @@ use Rattle.output_board.specs.declared.view.EmitterView.{EmitterView}
 use Rattle.output_board.specs.declared.view.WorkerView.{WorkerView}
 use Rattle.segment_worker.specs.Written.{HasWritten, HasFailed}
 use Rattle.segment_worker.specs.Emitting.{IsThrough}
-use Rattle.segment_worker.specs.declared.ending.Emitted.{Emitted}
-use Rattle.segment_worker.specs.declared.ending.EmitStop.{EmitStop}
+use Rattle.segment_worker.specs.declared.emitted.Emitted.{Emitted}
+use Rattle.segment_worker.specs.declared.emitted.EmitStop.{EmitStop}
 use Rattle.lepton_decode.specs.declared.error.DecodeError.{DecodeError}
 use Rattle.lepton_decode.specs.declared.error.DecodeError.TheVariants.{WriteFault, Fault, PadSpelling}
 
@@ -48,7 +48,7 @@ module _ {Sink : Type 0} (held : Sink → Option (List ℕ)) (faults : Sink → 
   Ends old new m (Err (WriteFault written)) =
       HasFailed held faults full old new m.bytes written
 
--- what the emitter's view says then: all of so many segments are emitted and the board isn't stopped, or it is stopped
+-- what the emitter's view says then: all N segments are emitted and the board isn't stopped, or it is stopped
 abbrev pub HasEmitted : ℕ → EmitterView → Result ℕ DecodeError → Type 0
 HasEmitted count e (Ok written) = IsThrough count e
 HasEmitted count e (Err PadSpelling) = IsThrough count e

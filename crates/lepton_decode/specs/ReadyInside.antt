@@ -1,4 +1,4 @@
--- What a container that is ready stands for, and what always holds of it (own).
+-- View: the value of a container that is ready, and its invariant (own).
 use Rattle.std.specs.Prelude.{All, ◌≡◌, false}
 use Rattle.lepton_decode.specs.Ends.{ReadySeen}
 use Rattle.lepton_decode.specs.Teams.{IsNewLead, IsIdleWorker, views_of}

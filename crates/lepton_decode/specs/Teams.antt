@@ -1,12 +1,12 @@
--- The emitter and the workers of a decode (own).
+-- Steps: the emitter and the workers of a decode (own).
 use Rattle.std.specs.Prelude.{All, ℕ, ◌≡◌, ◌*◌, ◌≤◌, None, true, false, List, length, map, Option, Result, OnOk, OnErr}
 use Rattle.atomic_table.specs.Seated.{TableId}
 use Rattle.box_format.specs.Versions.{most_segments}
 use Rattle.box_format.specs.Seen.{BoxSeen}
 use Rattle.output_board.specs.declared.view.WorkerView.{WorkerView}
 use Rattle.output_board.specs.Seats.{SeatValue}
-use Rattle.segment_worker.specs.declared.ending.Emitted.{Emitted}
-use Rattle.segment_worker.specs.declared.ending.EmitStop.{EmitStop}
+use Rattle.segment_worker.specs.declared.emitted.Emitted.{Emitted}
+use Rattle.segment_worker.specs.declared.emitted.EmitStop.{EmitStop}
 use Rattle.segment_worker.specs.Contents.{segment_room}
 use Rattle.segment_worker.specs.Emitting.{Emits, IsNewEmitter, IsThrough, joined_in}
 use Rattle.segment_worker.specs.Working.{IsIdle, HasLeft}

@@ -1,8 +1,8 @@
-// Why a decode doesn't end well.
+// Why a decode fails.
 use handover::StreamFault;
 use thiserror::Error;
 
-/// Why a decode didn't end well.
+/// Why a decode failed.
 #[derive(Clone, Copy, Debug, PartialEq, Eq, Error)]
 pub enum DecodeError {
     /// The sink failed after `written` bytes.
@@ -11,8 +11,8 @@ pub enum DecodeError {
     /// 40 to 45: the first fault in the order of the segments; the bytes before it are written.
     #[error("Fault")]
     Fault(StreamFault),
-    /// 46: the pad bits are told otherwise than a file's: as 0 where no bit of 0 is padded, by a list where the padded
-    /// bits are all the same, or where it has 0 for an interval that pads none. All bytes are written.
+    /// 46: the pad bits are spelled in another way than a file's: as 0 if no bit of 0 is padded, by a list if the padded
+    /// bits are all the same, or with 0 for an interval that pads none. All bytes are written.
     #[error("PadSpelling")]
     PadSpelling,
 }

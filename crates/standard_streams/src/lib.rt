@@ -1,4 +1,5 @@
-//! The program's real ends: sources and sinks over std's readers and writers, and its arguments (this project's own).
+//! The program's stdin, stdout and stderr: sources and sinks over std's readers and writers; and its arguments (this
+//! project's own).
 //!
 //!     stdin  --read, again if interrupted-->  ReaderSource, a Source
 //!     stdout, stderr  <--write, again if interrupted--  WriterSink, a Sink

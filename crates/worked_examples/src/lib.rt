@@ -1,5 +1,5 @@
-//! What a row of `tests/rows.txt` can't say of the top call: ends that fail, threads that meet, each byte changed, and
-//! samples by their digests.
+//! What a row of `tests/rows.txt` can't say of the top call: sources and sinks that fail, threads that meet, each byte
+//! changed, and samples by their digests.
 #![tactic(auto)]
 
 #[cfg(test)]

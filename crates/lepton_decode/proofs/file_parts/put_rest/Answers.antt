@@ -2,7 +2,7 @@ use Rattle.std.proofs.Common.{◌≡◌, ◌<◌, ◌+◌, ◌∙◌, arith, sym
 use Rattle.scan_spec.specs.Pads.{PadBits, is_spelled}
 use Rattle.segment_worker.specs.Emitting.{Counts, Emits, joined_in}
 use Rattle.segment_worker.specs.Written.{HasWritten, HasFailed}
-use Rattle.segment_worker.specs.declared.ending.EmitStop.{EmitStop}
+use Rattle.segment_worker.specs.declared.emitted.EmitStop.{EmitStop}
 use Rattle.lepton_decode.proofs.FilesWritten.{pads_decide, whole_length, ends_at_fault, all_bytes, failed_in_segments, failed_in_trailer}
 use Rattle.lepton_decode.proofs.file_parts.put_rest.Goals as goal
 
