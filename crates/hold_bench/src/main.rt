@@ -47,7 +47,7 @@ fn add<R: Wait>(rt: &R, lock: &Lock<AnyNumber>, pass: &mut Pass<AnyNumber>, amou
     let mut held = lock.hold(rt, pass);
     let found = *held.value();
     *held.value() = found.wrapping_add(amount);
-    held.release(lock, 0, 0, &0);
+    held.release(lock, 0, 0, 0);
     found
 }
 

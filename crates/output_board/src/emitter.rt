@@ -30,33 +30,33 @@ impl<C: Content> Board<C> {
         let core = held.value();
         let seen = look(core, Actor::Emitter);
         if seen.cur == core.count() {
-            held.release(&self.lock, NOTHING, 0, &seen);
+            held.release(&self.lock, NOTHING, 0, seen);
             return Take::Over;
         }
         if seen.next == seen.cur {
-            held.release(&self.lock, NOTHING, 0, &seen);
+            held.release(&self.lock, NOTHING, 0, seen);
             return Take::Unclaimed;
         }
         if seen.length > 0 {
             let n = core.front(buf);
             core.step(&Event::Take(n as u64));
-            held.release(&self.lock, TAKE, n as u64, &seen);
+            held.release(&self.lock, TAKE, n as u64, seen);
             self.lock.ring_bell(&mut seat.pass);
             return Take::Bytes(n);
         }
         match core.done(seen.cur) {
             Some(Outcome::Good { pads }) => {
                 core.step(&Event::Advance);
-                held.release(&self.lock, ADVANCE, 0, &seen);
+                held.release(&self.lock, ADVANCE, 0, seen);
                 self.lock.ring_bell(&mut seat.pass);
                 Take::Ended(Outcome::Good { pads })
             }
             Some(Outcome::Bad(fault)) => {
-                held.release(&self.lock, NOTHING, 0, &seen);
+                held.release(&self.lock, NOTHING, 0, seen);
                 Take::Ended(Outcome::Bad(fault))
             }
             None => {
-                held.release(&self.lock, NOTHING, 0, &seen);
+                held.release(&self.lock, NOTHING, 0, seen);
                 Take::NotYet
             }
         }
@@ -74,15 +74,15 @@ impl<C: Content> Board<C> {
         let core = held.value();
         let seen = look(core, Actor::Emitter);
         if seen.next != seen.cur {
-            held.release(&self.lock, NOTHING, 0, &seen);
+            held.release(&self.lock, NOTHING, 0, seen);
             return Own::Other;
         }
         if seen.cur == core.count() {
-            held.release(&self.lock, NOTHING, 0, &seen);
+            held.release(&self.lock, NOTHING, 0, seen);
             return Own::Other;
         }
         core.step(&Event::Claim(Actor::Emitter));
-        held.release(&self.lock, CLAIM, 0, &seen);
+        held.release(&self.lock, CLAIM, 0, seen);
         self.lock.ring_bell(&mut seat.pass);
         Own::Mine(seen.cur)
     }
@@ -102,7 +102,7 @@ impl<C: Content> Board<C> {
         let core = held.value();
         let seen = look(core, Actor::Emitter);
         core.step(&Event::Pass(n));
-        held.release(&self.lock, PASS, n, &seen);
+        held.release(&self.lock, PASS, n, seen);
     }
 
     /// Ends the emitter's own segment, all of whose bytes are passed, with its outcome.
@@ -121,7 +121,7 @@ impl<C: Content> Board<C> {
         let core = held.value();
         let seen = look(core, Actor::Emitter);
         core.step(&Event::Finish(Actor::Emitter, outcome));
-        held.release(&self.lock, FINISH, 0, &seen);
+        held.release(&self.lock, FINISH, 0, seen);
         self.lock.ring_bell(&mut seat.pass);
     }
 
@@ -136,7 +136,7 @@ impl<C: Content> Board<C> {
         let core = held.value();
         let seen = look(core, Actor::Emitter);
         core.step(&Event::Stop);
-        held.release(&self.lock, STOP, 0, &seen);
+        held.release(&self.lock, STOP, 0, seen);
         self.lock.ring_bell(&mut seat.pass);
     }
 

@@ -28,15 +28,15 @@ impl<C: Content> Board<C> {
         let core = held.value();
         let seen = look(core, Actor::Worker(seat.number));
         if seen.stopped {
-            held.release(&self.lock, OVER, 0, &seen);
+            held.release(&self.lock, OVER, 0, seen);
             return Claim::Stopped;
         }
         if seen.next == core.count() {
-            held.release(&self.lock, OVER, 0, &seen);
+            held.release(&self.lock, OVER, 0, seen);
             return Claim::NoneLeft;
         }
         core.step(&Event::Claim(Actor::Worker(seat.number)));
-        held.release(&self.lock, CLAIM, 0, &seen);
+        held.release(&self.lock, CLAIM, 0, seen);
         self.lock.ring_bell(&mut seat.pass);
         Claim::Segment(seen.next)
     }
@@ -55,16 +55,16 @@ impl<C: Content> Board<C> {
         let core = held.value();
         let seen = look(core, Actor::Worker(seat.number));
         if seen.stopped {
-            held.release(&self.lock, OVER, 0, &seen);
+            held.release(&self.lock, OVER, 0, seen);
             return Put::Stopped;
         }
         let n = bytes.len().min(seen.free);
         if n == 0 {
-            held.release(&self.lock, NOTHING, 0, &seen);
+            held.release(&self.lock, NOTHING, 0, seen);
             return Put::Took(0);
         }
         core.step(&Event::Put(seat.number, &bytes[..n]));
-        held.release(&self.lock, PUT, n as u64, &seen);
+        held.release(&self.lock, PUT, n as u64, seen);
         self.lock.ring_bell(&mut seat.pass);
         Put::Took(n)
     }
@@ -82,11 +82,11 @@ impl<C: Content> Board<C> {
         let core = held.value();
         let seen = look(core, Actor::Worker(seat.number));
         if seen.stopped {
-            held.release(&self.lock, OVER, 0, &seen);
+            held.release(&self.lock, OVER, 0, seen);
             return Finish::Stopped;
         }
         core.step(&Event::Finish(Actor::Worker(seat.number), outcome));
-        held.release(&self.lock, FINISH, 0, &seen);
+        held.release(&self.lock, FINISH, 0, seen);
         self.lock.ring_bell(&mut seat.pass);
         Finish::Kept
     }
@@ -103,7 +103,7 @@ impl<C: Content> Board<C> {
         let core = held.value();
         let seen = look(core, Actor::Worker(seat.number));
         core.step(&Event::Leave(seat.number));
-        held.release(&self.lock, LEAVE, 0, &seen);
+        held.release(&self.lock, LEAVE, 0, seen);
     }
 
     /// Waits until the bell has rung since the worker's last hold. It may also return for no reason.

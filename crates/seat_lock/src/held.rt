@@ -35,19 +35,19 @@ impl<'a, L: Rule> Held<'a, L> {
     }
 
     /// Changes the pass's view by kind, amount, entry and the value found, gives the value and the turn back, and wakes
-    /// a thread that waits for the turn. `lock` is the lock that is held.
-    pub fn release(self, lock: &Lock<L>, kind: u64, amount: u64, entry: &L::Entry)
+    /// a thread that waits for the turn. Drops the entry after all that. `lock` is the lock that is held.
+    pub fn release(self, lock: &Lock<L>, kind: u64, amount: u64, entry: L::Entry)
         requires own { IsFor lock.now (pass_of self) }
         requires holds { IsHolding self }
-        requires tells { L.tells (view_of (pass_of self)) kind amount entry.now
+        requires tells { L.tells (view_of (pass_of self)) kind amount entry
             (found_of self) (value_of self) }
-        requires keeps { Refits L.fits self (view_after L.after self kind amount entry.now) }
+        requires keeps { Refits L.fits self (view_after L.after self kind amount entry) }
         ensures pass { IsSamePass (pass_of self.entry) self.exit.0.now }
         ensures ready { IsReady self.exit.0.now }
         ensures view { view_of self.exit.0.now
-            ≡ view_after L.after self.entry kind amount entry.now }
+            ≡ view_after L.after self.entry kind amount entry }
         ensures holds { holds_of self.exit.0.now ≡ holds_of (pass_of self.entry) + 1 }
-        ensures last { last_of self.exit.0.now ≡ Some (kind, amount, entry.now) }
+        ensures last { last_of self.exit.0.now ≡ Some (kind, amount, entry) }
         ensures splits { splits_of self.exit.0.now ≡ splits_of (pass_of self.entry) }
     {
         let Held {
@@ -56,17 +56,18 @@ impl<'a, L: Rule> Held<'a, L> {
             value,
         } = self;
         let shared = &lock.table.shared;
-        let note = Slot::Note(kind, amount, *entry);
+        let note = Slot::Note(kind, amount, entry);
         let slot = shared.exchange(&mut pass.seat, VALUE, note);
         let Slot::Out = slot else { unreachable!() };
         shared.store::<Tell<L>>(&mut pass.seat, TURN, TAKEN);
         let slot = shared.exchange(&mut pass.seat, VALUE, Slot::Home(value));
-        let Slot::Note(_, _, _) = slot else {
+        let Slot::Note(_, _, told) = slot else {
             unreachable!()
         };
         shared.store::<Give>(&mut pass.seat, TURN, FREE);
         if lock.turn_waiters.load(SeqCst) > 0 {
             shared.wake_one(TURN);
         }
+        drop(told);
     }
 }

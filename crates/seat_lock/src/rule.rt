@@ -12,7 +12,7 @@ pub trait Rule {
     type Value: Drop + Send;
 
     /// What a release notes of the value found and of the value left.
-    type Entry: Copy + Send;
+    type Entry: Drop + Send;
 
     // Holds of the value at home and the views of all passes, in the order of their numbers.
     ghost fits: { Self.Value → List Self.View → Type 0 };

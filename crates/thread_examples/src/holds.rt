@@ -52,9 +52,9 @@ fn add<R: Wait>(rt: &R, lock: &Lock<Sums>, pass: &mut Pass<Sums>, amount: u64) -
     let found = *held.value();
     if found <= u64::MAX - amount {
         *held.value() = found + amount;
-        held.release(lock, 1, amount, &found);
+        held.release(lock, 1, amount, found);
     } else {
-        held.release(lock, 1, 0, &found);
+        held.release(lock, 1, 0, found);
     }
     found
 }
@@ -140,9 +140,9 @@ fn add_in_turn<R: Wait>(rt: &R, lock: &Lock<Sums>, pass: &mut Pass<Sums>, rest: 
     let due = found % 2 == rest && found < u64::MAX;
     if due {
         *held.value() = found + 1;
-        held.release(lock, 1, 1, &found);
+        held.release(lock, 1, 1, found);
     } else {
-        held.release(lock, 1, 0, &found);
+        held.release(lock, 1, 0, found);
     }
     due
 }
