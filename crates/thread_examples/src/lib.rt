@@ -1,6 +1,8 @@
-//! Events on a board, holds of a lock, and a board under a lock, by hand and by threads.
+//! Events on a board, holds of a lock, and a board and a store of blobs under a lock, by hand and by threads.
 #![tactic(auto)]
 
+#[cfg(test)]
+mod blobs;
 #[cfg(test)]
 mod boards;
 #[cfg(test)]

@@ -1,0 +1,9 @@
+pub mod Journals
+pub mod States
+pub mod CallSteps
+pub mod StoreRule
+pub mod Splits
+pub mod Callers
+pub mod CallerPasses
+pub mod Keepers
+pub mod StoreLaws
