@@ -4,7 +4,8 @@ use Rattle.std.proofs.Common.{refl, sym, ◌∙◌, ap, append_assoc, arith}
 use Rattle.std.proofs.lemmas.List.{get_or-set_same, get_or-set_other, length-set, append-nil}
 use Rattle.std.proofs.lemmas.Bool.Decides.{nat_tests}
 use Rattle.adapt_bins.specs.Counts.{Counts, unseen, counted, prob_of}
-use Rattle.adapt_bins.specs.Events.{bits_in, counts_in, probability, bools_after, bools_of, HasCounted}
+use Rattle.adapt_bins.specs.Events.{bits_in, counts_in, probability, bools_after, bools_of}
+use Rattle.adapt_bins.specs.CountedBins.{HasCounted}
 
 -- the counts from some on, after the bits of a bin
 abbrev counts_from : Counts → ℕ → List (ℕ × Bool) → Counts

@@ -1,7 +1,7 @@
 -- `Get` after one event more.
 use Rattle.std.specs.Prelude.{◌≡◌, ◌<◌, ℕ, Bool, List, [], ◌∷◌, ◌++◌, length, get_or, set}
 use Rattle.std.proofs.Common.{◌∙◌, subst}
-use Rattle.bool_coder.specs.BoolReading.{Reads}
+use Rattle.bool_coder.specs.DecoderSeen.{Reads}
 use Rattle.adapt_bins.specs.Counts.{unseen, counted, prob_of}
 use Rattle.adapt_bins.specs.Events.{bools_of}
 use Rattle.adapt_bins.specs.GotEvents.{HasGot}

@@ -1,6 +1,6 @@
 -- Statement: events, which are bits, each in a bin, and the probabilities that the earlier events give them
 -- (docs/FORMAT.md, Bins).
-use Rattle.std.specs.Prelude.{◌≡◌, ℕ, ◌<◌, ◌==◌, Bool, if◌then◌else◌, List, [], ◌∷◌, ◌++◌, length, fold, get_or}
+use Rattle.std.specs.Prelude.{ℕ, ◌==◌, Bool, if◌then◌else◌, List, [], ◌∷◌, ◌++◌, fold}
 use Rattle.adapt_bins.specs.Counts.{Counts, unseen, counted, prob_of}
 
 -- the bits of the events in one bin
@@ -25,7 +25,3 @@ bools_after earlier (e ∷ es) =
 -- events as the bools of a stream
 abbrev pub bools_of : List (ℕ × Bool) → List (ℕ × Bool)
 bools_of es = bools_after [] es
-
--- each bin of a table has counted its bits of these events
-pub record HasCounted (table : List Counts) (events : List (ℕ × Bool)) : Type 0 where
-  pub each : (bin : ℕ) → bin < length table → get_or table bin unseen ≡ counts_in bin events

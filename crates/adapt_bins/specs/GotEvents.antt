@@ -1,8 +1,9 @@
 -- Steps: what `Get` does with events (own).
 use Rattle.std.specs.Prelude.{◌≡◌, ℕ, Bool, List, [], ◌++◌, length, refl}
 use Rattle.std.proofs.Common.{◌∙◌, append_assoc, sym, subst, append-nil}
-use Rattle.bool_coder.specs.BoolReading.{Reads}
-use Rattle.adapt_bins.specs.Events.{HasCounted, bools_of}
+use Rattle.bool_coder.specs.DecoderSeen.{Reads}
+use Rattle.adapt_bins.specs.Events.{bools_of}
+use Rattle.adapt_bins.specs.CountedBins.{HasCounted}
 use Rattle.adapt_bins.specs.declared.get.Get.{Get}
 
 -- the bins have counted these events, and the decoder has read them from the bytes

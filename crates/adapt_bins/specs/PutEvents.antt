@@ -2,7 +2,8 @@
 use Rattle.std.specs.Prelude.{◌≡◌, ℕ, Bool, List, [], ◌++◌, length, Some, refl}
 use Rattle.std.proofs.Common.{◌∙◌, append_assoc, sym, ap, subst, append-nil}
 use Rattle.bool_coder.specs.BoolStream.{coded}
-use Rattle.adapt_bins.specs.Events.{HasCounted, bools_of}
+use Rattle.adapt_bins.specs.Events.{bools_of}
+use Rattle.adapt_bins.specs.CountedBins.{HasCounted}
 use Rattle.adapt_bins.specs.declared.put.Put.{Put}
 use Rattle.adapt_bins.specs.declared.put_local.PutLocal.{PutLocal}
 

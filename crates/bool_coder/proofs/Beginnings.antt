@@ -4,7 +4,8 @@ use Rattle.std.specs.List.{AllByRecursion}
 use Rattle.std.specs.Int.Digits.{AllBelowBase}
 use Rattle.std.proofs.lemmas.Nat.{div_below, pow_pos}
 use Rattle.bool_coder.specs.BoolStream.{IsBool, opening, coded, stream}
-use Rattle.bool_coder.specs.BoolReading.{Seen, Reads, first_bits, next_bit, seen_bit}
+use Rattle.bool_coder.specs.BoolReading.{first_bits, next_bit}
+use Rattle.bool_coder.specs.DecoderSeen.{Seen, Reads, seen_bit}
 use Rattle.bool_coder.proofs.FirstBits.{first_bits_shr, prefix_start}
 use Rattle.bool_coder.proofs.Line.{coded-kept, opening-kept}
 use Rattle.bool_coder.proofs.ReadBack.{length-stream, prefix_stream, read_in_turn}

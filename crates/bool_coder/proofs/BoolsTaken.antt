@@ -5,7 +5,8 @@ use Rattle.std.proofs.Math.Nat.{mul-le-mul_right, min-eq_left, min-eq_right}
 use Rattle.std.proofs.lemmas.Bool.{cases_lt, leb-true}
 use Rattle.std.proofs.lemmas.List.Sums.{fold-append}
 use Rattle.bool_coder.specs.BoolStream.{Interval, opening, split, chosen, after, coded, IsBool}
-use Rattle.bool_coder.specs.BoolReading.{first_bits, next_bit, reading, Seen, end_position, seen_bit, seen_after, Reads}
+use Rattle.bool_coder.specs.BoolReading.{first_bits, next_bit, reading}
+use Rattle.bool_coder.specs.DecoderSeen.{Seen, end_position, seen_bit, seen_after, Reads}
 use Rattle.bool_coder.proofs.FirstBits.{prefix_more, prefix_at_position}
 use Rattle.bool_coder.proofs.Line.{shifted, Doublings, doublings_are, chosen-part, after_is, coded-kept, opening-kept}
 

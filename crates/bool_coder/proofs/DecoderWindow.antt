@@ -5,7 +5,8 @@ use Rattle.std.proofs.lemmas.Bool.{cases_lt, leb-false}
 use Rattle.std.proofs.lemmas.Nat.{pow_pos, pow-add, shr-shr, shr_split, shr_high, mod_low, mod_below, mod-pow-add}
 use Rattle.std.specs.Prelude.{nat_le}
 use Rattle.bool_coder.specs.BoolStream.{split, chosen}
-use Rattle.bool_coder.specs.BoolReading.{first_bits, Seen, end_position, seen_after}
+use Rattle.bool_coder.specs.BoolReading.{first_bits}
+use Rattle.bool_coder.specs.DecoderSeen.{Seen, end_position, seen_after}
 use Rattle.bool_coder.specs.DecoderInside.{seen_in, IsWindow}
 use Rattle.bool_coder.proofs.FirstBits.{first_bits_shr, first_bits_past, prefix_at_position}
 use Rattle.bool_coder.proofs.Line.{Doublings, split_less}

@@ -6,7 +6,8 @@ use Rattle.std.proofs.lemmas.Bool.{cases_lt}
 use Rattle.std.proofs.lemmas.Int.Digits.{number_lt}
 use Rattle.std.proofs.lemmas.List.{get_or_default, get_or-take, get_or-drop}
 use Rattle.std.proofs.lemmas.Nat.{pow_pos, pow-add, shl-shr, shr-shr, shr_split, mod_low, mod-pow-add}
-use Rattle.bool_coder.specs.BoolReading.{first_bits, end_position}
+use Rattle.bool_coder.specs.BoolReading.{first_bits}
+use Rattle.bool_coder.specs.DecoderSeen.{end_position}
 use Rattle.bool_coder.proofs.Bytes.{byte_power, number_first, all_below}
 
 pub first_bits_shr : (bytes : List ℕ) (c k : ℕ) → first_bits bytes (c + k) / 2 ^ k ≡ first_bits bytes c

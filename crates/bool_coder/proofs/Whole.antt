@@ -5,7 +5,8 @@ use Rattle.std.proofs.Math.Nat.{min-eq_left, min-eq_right, mod-eq_of_lt, div-eq_
 use Rattle.std.proofs.lemmas.Bool.{cases_lt}
 use Rattle.std.proofs.lemmas.Nat.{pow_pos, pow-add, shl-shr, shr_split, mod_low}
 use Rattle.bool_coder.specs.BoolStream.{Interval, opening, coded, stream, stream_length}
-use Rattle.bool_coder.specs.BoolReading.{first_bits, end_position, Reads}
+use Rattle.bool_coder.specs.BoolReading.{first_bits}
+use Rattle.bool_coder.specs.DecoderSeen.{end_position, Reads}
 use Rattle.bool_coder.specs.DecoderInside.{seen_in, IsWindow}
 use Rattle.bool_coder.proofs.Bytes.{bytes_number}
 use Rattle.bool_coder.proofs.FirstBits.{prefix_more, prefix_whole}

@@ -1,7 +1,8 @@
 -- View: how the decoder keeps what it looks at: the offset, and the next bits of the bytes after it, in a word (own).
 use Rattle.std.specs.Prelude.{◌≡◌, ℕ, ◌+◌, ◌-◌, ◌*◌, ◌/◌, ◌%◌, ◌^◌, ◌<◌, ◌≤◌, List, length, min}
 use Rattle.std.specs.Int.Digits.{AllBelowBase}
-use Rattle.bool_coder.specs.BoolReading.{Seen, first_bits, end_position}
+use Rattle.bool_coder.specs.BoolReading.{first_bits}
+use Rattle.bool_coder.specs.DecoderSeen.{Seen, end_position}
 use Rattle.bool_coder.specs.declared.decoder.Decoder.TheInside.{Inside}
 
 -- what contracts see: `fetched` bytes were fetched, and `bits` of their bits come after the offset

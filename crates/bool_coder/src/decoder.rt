@@ -11,7 +11,8 @@
 ghost use Rattle.std.specs.Prelude.{◌≡◌, ◌↔◌, ◌⊎◌, ℕ, Bool, ◌+◌, ◌-◌, ◌*◌, ◌/◌, ◌%◌, ◌^◌, ◌<◌, ◌≤◌, List, [], ◌∷◌, ◌++◌, length, nat_le, slice_index, IsSome, IsNone, IfSome, IfNone, IsTrue};
 ghost use Rattle.std.specs.List.{AllByRecursion};
 ghost use Rattle.bool_coder.specs.BoolStream.{IsBool, chosen, coded, split, stream};
-ghost use Rattle.bool_coder.specs.BoolReading.{first_bits, next_bit, Starts, Reads, seen_bit, seen_after};
+ghost use Rattle.bool_coder.specs.BoolReading.{first_bits, next_bit, Starts};
+ghost use Rattle.bool_coder.specs.DecoderSeen.{Reads, seen_bit, seen_after};
 ghost use Rattle.bool_coder.specs.DecoderInside.{seen_in, IsWindow};
 
 use crate::encoder::{doublings, split_of};
@@ -34,7 +35,7 @@ pub struct Decoder<'a> {
 }
 
 impl<'a> Model for Decoder<'a> {
-    ghost use Rattle.bool_coder.specs.BoolReading.{Seen};
+    ghost use Rattle.bool_coder.specs.DecoderSeen.{Seen};
 
     ghost Value = { Seen };
 

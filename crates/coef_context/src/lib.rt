@@ -25,4 +25,6 @@ pub use bin_bases::{
     BinBases, dc_bases, edge_bases, edge_count_base, inner_bases, inner_count_base,
 };
 pub use context::{Context, Kind};
-pub use numbers::{BINS, EDGE_VALUES, INNER_VALUES, different_numbers, low_bit};
+pub use numbers::{
+    AC_SIZES, BINS, DC_SIZES, EDGE_VALUES, INNER_VALUES, different_numbers, low_bit,
+};

@@ -27,11 +27,13 @@ pub(crate) const INNER_REMAIN_SIZES: usize = 6;
 
 pub(crate) const EDGE_REMAIN_SIZES: usize = 3;
 
-pub(crate) const AC_SIZES: usize = 10;
+/// How many sizes the steps of an AC coefficient distinguish.
+pub const AC_SIZES: usize = 10;
 
 pub(crate) const SPREADS: usize = 17;
 
-pub(crate) const DC_SIZES: usize = 16;
+/// How many sizes the steps of a residue distinguish.
+pub const DC_SIZES: usize = 16;
 
 pub(crate) const AC_LOW_BITS: usize = 45;
 

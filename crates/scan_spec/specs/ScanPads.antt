@@ -1,5 +1,5 @@
--- Statement: what the restart intervals of a scan that is read are padded with (ITU-T T.81, F.1.2.3; docs/FORMAT.md, Pad
--- bits).
+-- Steps: what the restart intervals of a scan are padded with, as a reader passes them (ITU-T T.81, F.1.2.3;
+-- docs/FORMAT.md, Pad bits).
 use Rattle.std.specs.Prelude.{ℕ, zero, suc, Bool, true, false, if◌then◌else◌, List, [], ◌∷◌, ◌++◌, ℤ, Option, Some, None, unwrap_or, Result, Ok, Err}
 use Rattle.handover.specs.PadSums.{no_pads, pads_with}
 use Rattle.handover.specs.declared.pads.PadSum.{PadSum}

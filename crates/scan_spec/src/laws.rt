@@ -98,8 +98,8 @@ pub fn scans_are_text()
     ensures one { OneScan }
 {}
 
-/// An accepted header gives the shape of a scan. A file determines its header's plan, its MCUs, the pad bit of each
-/// of its intervals and what follows the scan.
+/// A file determines its header's plan, its MCUs, the pad bit of each of its intervals and what follows the scan. An
+/// accepted header gives the shape of a scan.
 pub fn a_file_has_one_reading()
     ensures shape { AcceptedIsShape }
     ensures one { OneFile }

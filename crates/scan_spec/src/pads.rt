@@ -27,7 +27,8 @@ impl<'a> Pads<'a> {
         }
     }
 
-    /// What an interval comes to that pads its bit, or, if it pads `none`, whose bit is in vain.
+    /// What this interval adds to the `PadSum`: its pad bit, or, if it has no pad bits (`none`), whether its bit is a
+    /// needless 0.
     pub fn sum(&self, interval: u32, none: bool) -> PadSum
         requires { HasBit (pads_given self.now) interval }
         ensures { result ≡ interval_sum (pads_given self.now) interval none }

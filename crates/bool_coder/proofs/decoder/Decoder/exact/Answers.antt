@@ -1,6 +1,6 @@
 use Rattle.std.proofs.Common.{sym, ap, ◌∙◌, subst}
 use Rattle.std.proofs.lemmas.Bool.{eqb-true, eq-eqb}
-use Rattle.bool_coder.specs.BoolReading.{Seen, Reads}
+use Rattle.bool_coder.specs.DecoderSeen.{Seen, Reads}
 use Rattle.bool_coder.proofs.Whole.{exact_from, exact_to}
 use Rattle.bool_coder.proofs.decoder.Decoder.exact.Goals as goal
 

@@ -1,5 +1,5 @@
 use Rattle.std.proofs.Common.{◌≡◌, ◌<◌, ap, ◌∙◌, arith, length}
-use Rattle.bool_coder.specs.BoolReading.{Seen, seen_bit, seen_after}
+use Rattle.bool_coder.specs.DecoderSeen.{Seen, seen_bit, seen_after}
 use Rattle.bool_coder.proofs.BoolsTaken.{Reads-more}
 use Rattle.bool_coder.proofs.Beginnings.{next_in_turn}
 use Rattle.bool_coder.proofs.decoder.Decoder.take.Goals as goal
