@@ -5,6 +5,12 @@ usage: examples/recode.py FILE [PROGRAM]     (a trial: encodes the file, decodes
 """
 import subprocess
 import sys
+import threading
+
+# The longest that a call may take, in seconds, and the most bytes that it may write: those of the largest file that is encoded. A
+# container that isn't your own may decode to more than a million times its length.
+LONGEST = 60
+MOST = 67_108_864
 
 
 class Damaged(Exception):
@@ -12,34 +18,55 @@ class Damaged(Exception):
 
 
 class Failed(Exception):
-    """The program could not do its work, as for want of memory: try again."""
+    """The program could not do its work, as when it is out of memory or takes too long: try again."""
+
+
+def feed(stdin, data):
+    try:
+        with stdin:
+            stdin.write(data)
+    except BrokenPipeError:
+        pass
 
 
 def run(program, command, data):
-    # The program decodes to at most some hundred times its input: cap what you accept of a container that isn't your own.
-    return subprocess.run([program, command], input=data, capture_output=True, timeout=60)
+    """Returns the status, the bytes and the line of a command over some bytes."""
+    pipe = subprocess.PIPE
+    with subprocess.Popen([program, command], stdin=pipe, stdout=pipe, stderr=pipe) as process:
+        clock = threading.Timer(LONGEST, process.kill)
+        clock.start()
+        threading.Thread(target=feed, args=(process.stdin, data)).start()
+        made = process.stdout.read(MOST + 1)
+        if len(made) > MOST:
+            process.kill()
+        line = process.stderr.read().decode().strip()
+        status = process.wait()
+        clock.cancel()
+    if status < 0:
+        raise Failed("killed, for its time or for what it wrote")
+    return status, made, line
 
 
 def encode(data: bytes, program: str = "lepton") -> bytes | None:
-    """Returns the container of a JPEG file, or None if lepton doesn't accept the file: store it as it is."""
-    done = run(program, "encode", data)
-    if done.returncode == 1:
+    """Returns the container of a JPEG file, or None if lepton refuses the file: store it as it is."""
+    status, made, line = run(program, "encode", data)
+    if status == 1:
         return None
-    if done.returncode != 0:
-        raise Failed(done.stderr.decode().strip())
-    if decode(done.stdout, program) != data:
+    if status != 0:
+        raise Failed(line)
+    if decode(made, program) != data:
         raise Failed("the file did not come back")
-    return done.stdout
+    return made
 
 
 def decode(container: bytes, program: str = "lepton") -> bytes:
     """Returns the file of a container."""
-    done = run(program, "decode", container)
-    if done.returncode == 1:
-        raise Damaged(done.stderr.decode().strip())
-    if done.returncode != 0:
-        raise Failed(done.stderr.decode().strip())
-    return done.stdout
+    status, file, line = run(program, "decode", container)
+    if status == 1:
+        raise Damaged(line)
+    if status != 0:
+        raise Failed(line)
+    return file
 
 
 if __name__ == "__main__":

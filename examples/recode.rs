@@ -1,21 +1,30 @@
 //! Containers from Rust: the program as a process for each file.
 //!
 //! usage: recode FILE [PROGRAM]     (a trial: encodes the file, decodes it, compares, and prints both lengths)
-use std::io::Write;
+use std::io::{Read, Write};
 use std::process::{Command, Stdio};
+use std::sync::mpsc::{RecvTimeoutError, channel};
+use std::time::Duration;
 use std::{env, fs, io, thread};
+
+/// The longest that a call may take.
+const LONGEST: Duration = Duration::from_secs(60);
+
+/// The most bytes that a call may write: those of the largest file that is encoded. A container that isn't your own may decode to
+/// more than a million times its length.
+const MOST: u64 = 67_108_864;
 
 /// What the program made of some bytes.
 enum Answer {
     Bytes(Vec<u8>),
     /// Status 1, with the line: of `encode` store the file as it is, of `decode` raise an alarm.
     Refused(String),
-    /// Any other status: try again.
+    /// Any other status, or killed for its time or for what it wrote: try again.
     Failed(String),
 }
 
 /// Runs a command of the program over bytes. They are written by a thread of its own, since the program may answer before it
-/// has read them all.
+/// has read them all; another thread kills the program if it takes too long.
 fn run(program: &str, command: &str, data: &[u8]) -> io::Result<Answer> {
     let mut child = Command::new(program)
         .arg(command)
@@ -24,13 +33,29 @@ fn run(program: &str, command: &str, data: &[u8]) -> io::Result<Answer> {
         .stderr(Stdio::piped())
         .spawn()?;
     let mut input = child.stdin.take().expect("stdin is piped");
-    let done = thread::scope(|scope| {
+    let output = child.stdout.take().expect("stdout is piped");
+    let mut errors = child.stderr.take().expect("stderr is piped");
+    let (mut made, mut line) = (Vec::new(), String::new());
+    let status = thread::scope(|scope| {
         scope.spawn(move || input.write_all(data));
-        child.wait_with_output()
+        let (over, wait) = channel::<()>();
+        let watch = scope.spawn(move || {
+            if wait.recv_timeout(LONGEST) != Err(RecvTimeoutError::Disconnected) {
+                child.kill()?;
+            }
+            child.wait()
+        });
+        output.take(MOST + 1).read_to_end(&mut made)?;
+        if made.len() as u64 > MOST {
+            let _ = over.send(());
+        }
+        errors.read_to_string(&mut line)?;
+        drop(over);
+        watch.join().expect("the watch doesn't panic")
     })?;
-    let line = String::from_utf8_lossy(&done.stderr).trim().to_string();
-    Ok(match done.status.code() {
-        Some(0) => Answer::Bytes(done.stdout),
+    let line = line.trim().to_string();
+    Ok(match status.code() {
+        Some(0) => Answer::Bytes(made),
         Some(1) => Answer::Refused(line),
         _ => Answer::Failed(line),
     })
