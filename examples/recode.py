@@ -42,8 +42,8 @@ def run(program, command, data):
         line = process.stderr.read().decode().strip()
         status = process.wait()
         clock.cancel()
-    if status < 0:
-        raise Failed("killed, for its time or for what it wrote")
+    if status < 0 or len(made) > MOST:
+        raise Failed("it took too long, or wrote too much")
     return status, made, line
 
 

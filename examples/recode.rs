@@ -53,6 +53,9 @@ fn run(program: &str, command: &str, data: &[u8]) -> io::Result<Answer> {
         drop(over);
         watch.join().expect("the watch doesn't panic")
     })?;
+    if made.len() as u64 > MOST {
+        return Ok(Answer::Failed("it wrote too much".to_string()));
+    }
     let line = line.trim().to_string();
     Ok(match status.code() {
         Some(0) => Answer::Bytes(made),
