@@ -1,5 +1,7 @@
 mod BitCounts
+pub mod BlockMasks
 pub mod CategoryLemmas
+pub mod Masks
 mod Positions
 pub mod RowIndexes
 mod Shuffle

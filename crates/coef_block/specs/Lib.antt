@@ -1,5 +1,7 @@
 pub mod Block
+pub mod BlockInside
 pub mod Categories
+pub mod Nonzeros
 pub mod RowsInside
 pub mod TwoRows
 pub mod Zigzag

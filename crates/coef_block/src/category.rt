@@ -4,7 +4,7 @@ ghost use Rattle.coef_block.specs.Categories.{category};
 
 /// How many bits the absolute value has, from 0 to 32: the category SSSS of a difference or a coefficient (ITU-T T.81,
 /// F.1.2.1, Table F.1).
-#[inline]
+#[inline(always)]
 #[tactic(auto, using(crate::proofs::CategoryLemmas::categories))]
 pub fn size(x: i32) -> u8
     ensures category { result ≡ category (unsigned_abs x) }

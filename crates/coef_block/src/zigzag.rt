@@ -19,7 +19,7 @@ pub fn natural_positions() -> [u8; 64]
 }
 
 /// The natural position, from 0 to 63, at a zigzag index (ITU-T T.81, Figure A.6).
-#[inline]
+#[inline(always)]
 pub fn natural_position(index: usize) -> usize
     requires { index < 64 }
     ensures position { result ≡ slice_index zigzag index }
@@ -27,6 +27,23 @@ pub fn natural_position(index: usize) -> usize
     ensures later { 0 < index → 0 < result }
 {
     usize::from(ZIGZAG[index])
+}
+
+// The zigzag index, from 0 to 63, at each natural position.
+const INDEXES: [u8; 64] = [
+    0, 1, 5, 6, 14, 15, 27, 28, 2, 4, 7, 13, 16, 26, 29, 42, 3, 8, 12, 17, 25, 30, 41, 43, 9, 11,
+    18, 24, 31, 40, 44, 53, 10, 19, 23, 32, 39, 45, 52, 54, 20, 22, 33, 38, 46, 51, 55, 60, 21, 34,
+    37, 47, 50, 56, 59, 61, 35, 36, 48, 49, 57, 58, 62, 63,
+];
+
+/// The zigzag index, from 0 to 63, of a natural position (ITU-T T.81, Figure A.6).
+#[inline(always)]
+pub(crate) fn zigzag_index(position: usize) -> usize
+    requires { position < 64 }
+    ensures within { result < 64 }
+    ensures position { slice_index zigzag result ≡ position }
+{
+    usize::from(INDEXES[position])
 }
 
 /// The table goes over the walk of Figure A.6, from the upper left to the lower right.
