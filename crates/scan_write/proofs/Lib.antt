@@ -5,3 +5,4 @@ pub mod SmallNumbers
 pub mod DueTexts
 pub mod McuWriting
 pub mod SpotWriting
+pub mod Runs

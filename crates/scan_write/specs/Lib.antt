@@ -1,3 +1,4 @@
 pub mod Outputs
 pub mod Appending
+pub mod LeftInBlock
 pub mod WriterInside

@@ -1,8 +1,10 @@
 // The AC coefficients of a block.
-ghost use Rattle.std.specs.Prelude.{◌+◌, ◌*◌, ◌<◌, ◌≤◌, List, ℤ, ◌∷◌, IfOk, IfErr, OnOk};
+ghost use Rattle.std.specs.Prelude.{◌≡◌, ◌≢◌, ◌+◌, ◌-◌, ◌*◌, ◌<◌, ◌≤◌, ℕ, [], IfOk, IfErr, OnOk, slice_index};
+ghost use Rattle.std.specs.Int.{bit_at};
 ghost use Rattle.coef_block.specs.Block.{IsAc};
-ghost use Rattle.scan_spec.specs.BlockBits.{Text, zeros_text, coefficient_text, ac_text, ac_values};
-ghost use Rattle.scan_write.specs.Outputs.{OutputState, output_of, HasRoom, IsBegun};
+ghost use Rattle.coef_block.specs.Zigzag.{zigzag};
+ghost use Rattle.scan_spec.specs.BlockBits.{zeros_text, coefficient_at, coefficient_text, ac_text, ac_values};
+ghost use Rattle.scan_write.specs.Outputs.{output_of, HasRoom, IsBegun};
 ghost use Rattle.scan_spec.specs.TextBounds.{quarters, word_bits, coefficient_bits, ac_bits};
 ghost use Rattle.scan_write.specs.Appending.{IsWritten, HasAppended, IsStopped};
 
@@ -33,50 +35,92 @@ pub(crate) fn acs(
     ensures spent { OnOk result
         (quarters output.new out.new ≤ ac_bits + quarters output.old out.old) }
 {
-    let mut zeros = 0;
-    for index in 1..64 {
-        let value = block.get(natural_position(index));
-        zeros = go_on(codes, zeros, i32::from(value), output, out)?;
-    }
-    if zeros == 0 {
+    let last = coefficients(codes, block, output, out)?;
+    if last == 63 {
         return Ok(());
     }
     word(codes, END_OF_BLOCK, output, out)
 }
 
-// The next coefficient after zeros. Answers how many zeros there are before the one after it.
+// The AC coefficients that aren't 0, each with the zeros before it. Answers the zigzag index of the last one, or 0.
 #[inline(always)]
-fn go_on(
+fn coefficients(
     codes: &Codes,
-    zeros: u8,
-    value: i32,
+    block: &Block,
     output: &mut BitOut,
     out: &mut Piece,
-) -> Result<u8, WriteStop>
-    requires value { IsAc value }
-    requires zeros { zeros < 63 }
+) -> Result<usize, WriteStop>
     requires begun { IsBegun output.old }
-    requires room { HasRoom (coefficient_bits * (zeros + 1)) output.old out.old }
+    requires room { HasRoom ac_bits output.old out.old }
     ensures ok { IfOk result
-        (λ next. (whole : Text) (old : OutputState) (values : List ℤ)
-        → HasAppended whole old (output_of output.old out.old)
-        (ac_text codes.now zeros (value ∷ values))
-        → HasAppended whole old (output_of output.new out.new) (ac_text codes.now next values)) }
+        (λ last. HasAppended (ac_text codes.now 0 (ac_values block.now))
+        (output_of output.old out.old) (output_of output.new out.new)
+        (ac_text codes.now (63 - last) [])) }
     ensures err { IfErr result
-        (λ stop. (whole : Text) (old : OutputState) (values : List ℤ)
-        → HasAppended whole old (output_of output.old out.old)
-        (ac_text codes.now zeros (value ∷ values))
-        → IsStopped stop old (output_of output.new out.new) whole) }
-    ensures few { IfOk result (λ next. next ≤ zeros + 1) }
-    ensures spent { IfOk result (λ next. coefficient_bits * next + quarters output.new out.new
-        ≤ coefficient_bits * (zeros + 1) + quarters output.old out.old) }
+        (λ stop. IsStopped stop (output_of output.old out.old) (output_of output.new out.new)
+        (ac_text codes.now 0 (ac_values block.now))) }
+    ensures few { IfOk result (λ last. last < 64) }
+    ensures spent { IfOk result (λ last. quarters output.new out.new
+        ≤ coefficient_bits * last + quarters output.old out.old) }
     ensures begun { IsBegun output.new }
 {
-    if value == 0 {
-        return Ok(zeros + 1);
+    let mut left = without(block.nonzeros(), 0);
+    let mut last = 0;
+    while left != 0 {
+        let index = lowest(left);
+        after(codes, block, last, index, output, out)?;
+        left = without(left, index);
+        last = index;
     }
-    coefficient(codes, zeros, value, output, out)?;
-    Ok(0)
+    Ok(last)
+}
+
+// The index of the lowest bit that is 1.
+#[inline(always)]
+fn lowest(mask: u64) -> usize
+    requires { 0 < mask }
+    ensures within { result < 64 }
+    ensures here { bit_at mask result ≡ 1 }
+    ensures below { (index : ℕ) → index < result → bit_at mask index ≡ 0 }
+{
+    mask.trailing_zeros() as usize
+}
+
+// A mask with a bit cleared.
+#[inline(always)]
+fn without(mask: u64, index: usize) -> u64
+    requires { index < 64 }
+    ensures here { bit_at result index ≡ 0 }
+    ensures others { (other : ℕ) → other < 64 → other ≢ index
+        → bit_at result other ≡ bit_at mask other }
+{
+    mask & !(1 << index)
+}
+
+// The coefficient at a zigzag index after another one, and the zeros between both.
+#[inline(always)]
+fn after(
+    codes: &Codes,
+    block: &Block,
+    last: usize,
+    index: usize,
+    output: &mut BitOut,
+    out: &mut Piece,
+) -> Result<(), WriteStop>
+    requires after { last < index }
+    requires within { index < 64 }
+    requires begun { IsBegun output.old }
+    requires room { HasRoom (coefficient_bits * (index - last)) output.old out.old }
+    ensures is { IsWritten result (output_of output.old out.old) (output_of output.new out.new)
+        (coefficient_text codes.now (index - last - 1)
+        (coefficient_at block.now (slice_index zigzag index))) }
+    ensures begun { IsBegun output.new }
+    ensures spent { quarters output.new out.new
+        ≤ coefficient_bits * (index - last) + quarters output.old out.old }
+{
+    let value = block.get(natural_position(index));
+    let zeros = index - last - 1;
+    coefficient(codes, zeros as u8, i32::from(value), output, out)
 }
 
 // A coefficient and the zeros before it.
