@@ -10,7 +10,7 @@ ghost use Rattle.scan_spec.specs.declared.refusal.ScanRefusal.{ScanRefusal as Re
 
 use crate::values::{extended, symbol};
 use bit_list::BitIn;
-use coef_block::{Block, natural_position};
+use coef_block::Block;
 use huff_table::Codes;
 use scan_spec::ScanRefusal;
 
@@ -81,7 +81,7 @@ fn go_on(codes: &Codes, input: &mut BitIn, block: &mut Block, at: At) -> Result<
         Step::Value { zeros, size } => {
             let value = extended(size, input)?;
             let index = at.index + usize::from(zeros);
-            block.set(natural_position(index), value as i16);
+            block.set_in_zigzag(index, value as i16);
             Ok(At {
                 index: index + 1,
                 loose: false,

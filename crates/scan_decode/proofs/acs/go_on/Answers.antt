@@ -1,4 +1,4 @@
-use Rattle.std.proofs.Common.{ap₂, get_or, ◌+◌, ◌-◌, false, ◌≡◌, ◌∙◌, ℕ, List, ℤ, set, sym, ap, subst, Ok, Err, arith}
+use Rattle.std.proofs.Common.{rules, ap₂, get_or, ◌+◌, ◌-◌, false, ◌≡◌, ◌∙◌, ℕ, List, ℤ, set, sym, ap, subst, Ok, Err, arith}
 use Rattle.std.proofs.lemmas.Result.{err_from_is_err_and}
 use Rattle.scan_spec.specs.ScanReading.{extended_at}
 use Rattle.scan_spec.specs.ScanSymbols.{Past, Loose, Unknown}
@@ -6,6 +6,7 @@ use Rattle.scan_spec.specs.declared.refusal.ScanRefusal.TheVariants as refusals
 use Rattle.coef_block.specs.Zigzag.{zigzag}
 use Rattle.scan_decode.specs.BlockSteps.{Going}
 use Rattle.scan_decode.proofs.BlockStepLemmas.{no_symbol, no_value, value_comes, value_small, coefficient, cast_kept, sixteen_more, end_comes, said}
+use Rattle.coef_block.proofs.Positions.{zigzag-above}
 use Rattle.scan_decode.proofs.acs.go_on.Goals as goal
 
 pub returns-in_err-symbol-clause-err : goal.returns-in_err-symbol-clause-err
@@ -19,11 +20,12 @@ returns-in_err-value-in-Value-clause-err c =
     rw (p.1, p.2) (λ whole g. no_value whole c.args.codes.now c.args.input.now.bytes c.args.block.now c.args.at.index c.args.at.loose c.args.input.now.cursor c.symbol.new.input.cursor c.in_ok-symbol.symbol c.in-Value.zeros c.in-Value.size _ c.requires.left c.in_ok-symbol.ensures.is c.in-Value.ensures
     (subst (λ (bytes : List ℕ). Err c.in_err-value-in-Value.field-0.0 ≡ extended_at c.in-Value.size bytes c.symbol.new.input.cursor) c.symbol.ensures.bytes c.in_err-value-in-Value.ensures.is) g)
 
-pub set-requires-clause-coefficient : goal.set-requires-clause-coefficient
-set-requires-clause-coefficient c =
+pub set_in_zigzag-requires-clause-coefficient : goal.set_in_zigzag-requires-clause-coefficient
+set_in_zigzag-requires-clause-coefficient c =
     let v = c.in_ok-value-in-Value.value in
     let small = value_small c.in-Value.zeros c.in-Value.size (64 - c.args.at.index) c.in_ok-symbol.symbol c.args.at.loose v c.in-Value.ensures c.in_ok-value-in-Value.ensures.small in
-    coefficient c.natural_position.result v (c.natural_position.ensures.later (omega (arith, c.requires.some))) small
+    let within = c.args.at.index + c.from.result in
+    coefficient (get_or zigzag within 0) v (zigzag-above within (search rules) (omega (arith, c.requires.some))) small
 
 pub returns-in_ok-value-in-Value-clause-ok : goal.returns-in_ok-value-in-Value-clause-ok
 returns-in_ok-value-in-Value-clause-ok c = λ whole g.
@@ -33,8 +35,8 @@ returns-in_ok-value-in-Value-clause-ok c = λ whole g.
     let made = value_comes whole c.args.codes.now c.args.input.now.bytes c.args.block.now c.args.at.index c.args.at.loose c.args.input.now.cursor c.symbol.new.input.cursor c.extended.new.input.cursor c.in_ok-symbol.symbol c.in-Value.zeros c.in-Value.size v
     c.requires.left c.in_ok-symbol.ensures.is c.in-Value.ensures there g in
     let zeros = sym c.from.ensures in
-    let place = ap (λ (n : ℕ). get_or zigzag (c.args.at.index + n) 0) zeros ∙ sym c.natural_position.ensures.position in
-    let block = ap₂ (λ (p : ℕ) (z : ℤ). set c.args.block.now p z) place (sym (cast_kept v small)) ∙ sym c.set.ensures in
+    let place = ap (λ (n : ℕ). get_or zigzag (c.args.at.index + n) 0) zeros in
+    let block = ap₂ (λ (p : ℕ) (z : ℤ). set c.args.block.now p z) place (sym (cast_kept v small)) ∙ sym c.set_in_zigzag.ensures in
     let index = ap (λ (n : ℕ). c.args.at.index + n + 1) zeros in
     subst (λ (l : List ℤ). Going whole c.args.codes.now c.args.input.now.bytes l (c.args.at.index + c.from.result + 1) false c.extended.new.input.cursor) block
     (subst (λ (n : ℕ). Going whole c.args.codes.now c.args.input.now.bytes (set c.args.block.now (get_or zigzag (c.args.at.index + c.in-Value.zeros) 0) v) n false c.extended.new.input.cursor) index made)
