@@ -7,7 +7,7 @@ use Rattle.bit_list.specs.Units.{Cursor}
 use Rattle.coef_block.specs.Zigzag.{zigzag}
 use Rattle.jpeg_marker.specs.HuffmanTables.{TableFields}
 use Rattle.scan_spec.specs.ScanReading.{and_then, symbol_at, extended_at, prefixed_values, by_symbol, acs_at}
-use Rattle.scan_spec.specs.BlockBits.{in_zigzag}
+use Rattle.scan_spec.specs.BlockBits.{coefficient_at, ac_values, in_zigzag}
 use Rattle.scan_spec.specs.ScanSymbols.{Symbol, Value, Sixteen, End, symbol_of}
 use Rattle.scan_spec.specs.declared.refusal.ScanRefusal.{ScanRefusal}
 use Rattle.scan_spec.proofs.AcsRead.{Means, means}
@@ -42,6 +42,19 @@ one_symbol zero left table loose bytes cursor some few = absurd (omega arith)
 one_symbol (suc symbols) left table loose bytes cursor some few =
     let test : (left == 0) ≡ false = grind (arith, nat_tests) in
     (symbols, omega arith, if_not (left == 0) (Ok ([], cursor)) (and_then (symbol_at table bytes cursor) (on_symbol symbols table left loose bytes)) test)
+
+-- before the first symbol
+pub starts : (table : TableFields) (bytes : List ℕ) (block : List ℤ) (cursor : Cursor) → length block ≡ 64 → ac_values block ≡ replicate 63 (pos 0)
+    → Going (prefixed_values (coefficient_at block 0 ∷ []) (acs_at 63 table 63 false bytes cursor)) table bytes block 1 false cursor
+starts table bytes block cursor long zeros = record {
+  prefix = coefficient_at block 0 ∷ [];
+  symbols = 63;
+  enough = omega arith;
+  long = long;
+  count = refl;
+  kept = ap (λ (l : List ℤ). coefficient_at block 0 ∷ l) zeros;
+  rest = refl;
+}
 
 -- no symbol
 pub no_symbol : (whole : Whole) (table : TableFields) (bytes : List ℕ) (block : List ℤ) (index : ℕ) (loose : Bool) (cursor : Cursor) (refusal : ScanRefusal)

@@ -6,3 +6,4 @@ pub mod PadBits
 pub mod BytesBegun
 pub mod Standings
 pub mod IntervalEnds
+pub mod DcThenAcs

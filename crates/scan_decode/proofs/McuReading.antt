@@ -1,7 +1,8 @@
 -- The blocks of an MCU, one after the other.
-use Rattle.std.proofs.Common.{ap₂, unsigned_abs, ◌≡◌, set, ℕ, zero, suc, ◌+◌, ◌<◌, ◌≤◌, List, [], ◌∷◌, ◌++◌, length, take, drop, map, get_or, ℤ, pos, Result, Ok, Err, refl, sym, ap, ◌∙◌, arith, append_assoc, append-nil, drop-cons, add-one}
-use Rattle.std.proofs.lemmas.List.{drop_all, take_all, get_or_read}
+use Rattle.std.proofs.Common.{ap₂, unsigned_abs, ◌≡◌, set, ℕ, zero, suc, ◌+◌, ◌<◌, ◌≤◌, List, [], ◌∷◌, ◌++◌, length, take, drop, map, get_or, ℤ, pos, Result, Ok, Err, refl, subst, sym, ap, ◌∙◌, arith, append_assoc, append-nil, drop-cons, add-one}
+use Rattle.std.proofs.lemmas.List.{drop_all, get_or_read}
 use Rattle.std.specs.Int.{w16}
+use Rattle.std.specs.List.{AllZip}
 use mir.Val.{to_z, of_z}
 use Rattle.huff_table.specs.PlanWords.{no_codes}
 use Rattle.scan_spec.specs.BlockBits.{coefficient_at, in_zigzag}
@@ -67,24 +68,32 @@ block_more codes whole prefix slots i before bytes cursor to block below e there
     ∙ ap (λ (r : Result (List ℤ × Cursor) ScanRefusal). after_prefix prefix (rest_of (map (slot_in codes) (drop (i + 1) slots)) (slot_in codes (get_or slots i 0)) before bytes r)) (sym there)
     ∙ prefix_twice prefix block (blocks_at (map (slot_in codes) (drop (i + 1) slots)) (dcs_after_read before (slot_in codes (get_or slots i 0)) block) bytes to)
 
-pub no_more : (codes : List ComponentCodes) (whole : Read) (out : List (List ℤ)) (slots : List ℕ) (i : ℕ) (before : List ℤ) (bytes : List ℕ) (cursor : Cursor) → length slots ≤ i → length out ≡ length slots
-    → Whole codes whole (map in_zigzag (take i out)) (drop i slots) before bytes cursor → Ok (record { blocks = map in_zigzag out; before = before; cursor = cursor }) ≡ whole
-no_more codes whole out slots i before bytes cursor past long e =
-    let all : take i out ≡ out = take_all i out (omega (arith, long, past)) in
+pub no_more : (codes : List ComponentCodes) (whole : Read) (read : List (List ℤ)) (slots : List ℕ) (i : ℕ) (before : List ℤ) (bytes : List ℕ) (cursor : Cursor) → length slots ≤ i
+    → Whole codes whole (map in_zigzag read) (drop i slots) before bytes cursor → Ok (record { blocks = map in_zigzag read; before = before; cursor = cursor }) ≡ whole
+no_more codes whole read slots i before bytes cursor past e =
     let none : drop i slots ≡ [] = drop_all i slots past in
     sym (
-    e ∙ ap (λ (l : List ℕ). after_prefix (map in_zigzag (take i out)) (blocks_at (map (slot_in codes) l) before bytes cursor)) none
-    ∙ ap (after_prefix (map in_zigzag (take i out))) (none_of before bytes cursor)
-    ∙ ap (λ (l : List (List ℤ)). Ok (record { blocks = l; before = before; cursor = cursor })) (append-nil (map in_zigzag (take i out)) ∙ ap (map in_zigzag) all)
+    e ∙ ap (λ (l : List ℕ). after_prefix (map in_zigzag read) (blocks_at (map (slot_in codes) l) before bytes cursor)) none
+    ∙ ap (after_prefix (map in_zigzag read)) (none_of before bytes cursor)
+    ∙ ap (λ (l : List (List ℤ)). Ok (record { blocks = l; before = before; cursor = cursor })) (append-nil (map in_zigzag read))
     )
 
-taken_next : (out : List (List ℤ)) (i : ℕ) (block : List ℤ) → i < length out → map in_zigzag (take (suc i) (set out i block)) ≡ map in_zigzag (take i out) ++ in_zigzag block ∷ []
-taken_next [] i block below = absurd (omega arith)
-taken_next (x ∷ out) zero block below = refl
-taken_next (x ∷ out) (suc i) block below = ap (λ (l : List (List ℤ)). in_zigzag x ∷ l) (taken_next out i block (omega (arith, below)))
+-- what each of some targets holds, with one more
+module _ {A : Type 0} (holds : A → List ℤ → Type 0) where
+  each_next : (out : List A) (i : ℕ) (kept : A) (read : List (List ℤ)) (block : List ℤ) → i < length out
+      → AllZip holds (take i out) read → holds kept block → AllZip holds (take (suc i) (set out i kept)) (read ++ block ∷ [])
+  each_next [] i kept read block below each here = absurd (omega arith)
+  each_next (x ∷ out) zero kept [] block below each here = (here, tt)
+  each_next (x ∷ out) zero kept (first ∷ read) block below each here = elim each [ ]
+  each_next (x ∷ out) (suc i) kept [] block below each here = elim each [ ]
+  each_next (x ∷ out) (suc i) kept (first ∷ read) block below each here =
+      (each.0, each_next out i kept read block (omega (arith, below)) each.1 here)
 
-pub prefix_more : (out : List (List ℤ)) (i : ℕ) (block : List ℤ) → i < length out → map in_zigzag (take i out) ++ in_zigzag block ∷ [] ≡ map in_zigzag (take (i + 1) (set out i block))
-prefix_more out i block below = sym (ap (λ (k : ℕ). map in_zigzag (take k (set out i block))) (add-one i) ∙ taken_next out i block below)
+  pub each_more : (out : List A) (i : ℕ) (kept : A) (read : List (List ℤ)) (block : List ℤ) → i < length out
+      → AllZip holds (take i out) read → holds kept block → AllZip holds (take (i + 1) (set out i kept)) (read ++ block ∷ [])
+  each_more out i kept read block below each here =
+      subst (λ (k : ℕ). AllZip holds (take k (set out i kept)) (read ++ block ∷ [])) (sym (add-one i))
+      (each_next out i kept read block below each here)
 
 -- a block of the machine's component, tables and DC
 pub at_slot : (codes : List ComponentCodes) (slots : List ℕ) (i component : ℕ) (tables : ComponentCodes) (before : List ℤ) (bytes given : List ℕ) (cursor : Cursor) (r : Result (List ℤ × Cursor) ScanRefusal)

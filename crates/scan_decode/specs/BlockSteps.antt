@@ -31,3 +31,9 @@ pub record Going (whole : Result (List ℤ × Cursor) ScanRefusal) (table : Tabl
   pub count : length prefix ≡ index
   pub kept : in_zigzag block ≡ prefix ++ replicate (64 - index) (pos 0)
   pub rest : whole ≡ prefixed_values prefix (acs_at symbols table (64 - index) loose bytes cursor)
+
+-- the same, of some coefficients that a target holds
+abbrev pub IsGoing : (List ℤ → Type 0) → Result (List ℤ × Cursor) ScanRefusal → TableFields
+    → List ℕ → ℕ → Bool → Cursor → Type 0
+IsGoing holds whole table bytes index loose cursor =
+    (block : List ℤ) × holds block × Going whole table bytes block index loose cursor

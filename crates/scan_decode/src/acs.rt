@@ -1,16 +1,16 @@
 // The AC coefficients of a block.
-ghost use Rattle.std.specs.Prelude.{◌≡◌, ◌≤◌, ◌<◌, ◌-◌, List, ℤ, ◌∷◌, [], Bool, true, false, length, replicate, pos, Result, Err, IfOk, IfErr};
+ghost use Rattle.std.specs.Prelude.{◌≡◌, ◌≤◌, ◌<◌, ◌-◌, List, ℤ, ◌∷◌, [], Bool, true, false, length, replicate, pos, Result, Err, IfOk, IfErr, OnOk};
 ghost use Rattle.bit_list.specs.Units.{Cursor};
 ghost use Rattle.scan_spec.specs.BlockBits.{coefficient_at, ac_values, in_zigzag};
 ghost use Rattle.scan_spec.specs.ScanReading.{prefixed_values, acs_at};
 ghost use Rattle.scan_spec.specs.ScanSymbols.{symbol_of};
 ghost use Rattle.scan_decode.specs.ReadResults.{values_at_cursor};
-ghost use Rattle.scan_decode.specs.BlockSteps.{Going, step_symbol};
+ghost use Rattle.scan_decode.specs.BlockSteps.{IsGoing, step_symbol};
 ghost use Rattle.scan_spec.specs.declared.refusal.ScanRefusal.{ScanRefusal as Refusal};
 
+use crate::target::Target;
 use crate::values::{extended, symbol};
 use bit_list::BitIn;
-use coef_block::Block;
 use huff_table::Codes;
 use scan_spec::ScanRefusal;
 
@@ -61,18 +61,26 @@ fn step_of(left: usize, loose: bool, symbol: u8) -> Step
 
 // What one symbol says.
 #[inline(always)]
-fn go_on(codes: &Codes, input: &mut BitIn, block: &mut Block, at: At) -> Result<At, ScanRefusal>
+fn go_on<T: Target>(
+    codes: &Codes,
+    input: &mut BitIn,
+    out: &mut T,
+    at: At,
+) -> Result<At, ScanRefusal>
     requires some { 0 < at.index }
     requires left { at.index < 64 }
     ensures ok { IfOk result
         (λ next. (whole : Result (List ℤ × Cursor) Refusal)
-        → Going whole codes.now input.old.bytes block.old at.index at.loose input.old.cursor
-        → Going whole codes.now input.old.bytes block.new next.index next.loose input.new.cursor) }
+        → IsGoing (T.holds out.old) whole codes.now input.old.bytes at.index at.loose
+        input.old.cursor
+        → IsGoing (T.holds out.new) whole codes.now input.old.bytes next.index next.loose
+        input.new.cursor) }
     ensures some { IfOk result (λ next. (0 < next.index) × (next.index ≤ 64)) }
     ensures more { IfOk result (λ next. at.index < next.index) }
     ensures err { IfErr result
         (λ refusal. (whole : Result (List ℤ × Cursor) Refusal)
-        → Going whole codes.now input.old.bytes block.old at.index at.loose input.old.cursor
+        → IsGoing (T.holds out.old) whole codes.now input.old.bytes at.index at.loose
+        input.old.cursor
         → whole ≡ Err refusal) }
     ensures bytes { input.new.bytes ≡ input.old.bytes }
 {
@@ -81,7 +89,7 @@ fn go_on(codes: &Codes, input: &mut BitIn, block: &mut Block, at: At) -> Result<
         Step::Value { zeros, size } => {
             let value = extended(size, input)?;
             let index = at.index + usize::from(zeros);
-            block.set_in_zigzag(index, value as i16);
+            out.put(index, value as i16);
             Ok(At {
                 index: index + 1,
                 loose: false,
@@ -109,12 +117,17 @@ fn go_on(codes: &Codes, input: &mut BitIn, block: &mut Block, at: At) -> Result<
 
 /// The AC coefficients of a block that has none yet (ITU-T T.81, F.2.2.2).
 #[inline]
-pub(crate) fn acs(codes: &Codes, input: &mut BitIn, block: &mut Block) -> Result<(), ScanRefusal>
-    requires long { length block.old ≡ 64 }
-    requires zeros { ac_values block.old ≡ replicate 63 (pos 0) }
-    ensures is { values_at_cursor result (in_zigzag block.new) input.new.cursor
-        ≡ prefixed_values (coefficient_at block.old 0 ∷ [])
-        (acs_at 63 codes.now 63 false input.old.bytes input.old.cursor) }
+pub(crate) fn acs<T: Target>(
+    codes: &Codes,
+    input: &mut BitIn,
+    out: &mut T,
+) -> Result<(), ScanRefusal>
+    ensures is { (old : List ℤ) → T.holds out.old old → length old ≡ 64
+        → ac_values old ≡ replicate 63 (pos 0)
+        → (block : List ℤ) × OnOk result (T.holds out.new block)
+        × (values_at_cursor result (in_zigzag block) input.new.cursor
+        ≡ prefixed_values (coefficient_at old 0 ∷ [])
+        (acs_at 63 codes.now 63 false input.old.bytes input.old.cursor)) }
     ensures bytes { input.new.bytes ≡ input.old.bytes }
 {
     let mut at = At {
@@ -122,7 +135,7 @@ pub(crate) fn acs(codes: &Codes, input: &mut BitIn, block: &mut Block) -> Result
         loose: false,
     };
     while at.index < 64 {
-        at = go_on(codes, input, block, at)?;
+        at = go_on(codes, input, out, at)?;
     }
     Ok(())
 }

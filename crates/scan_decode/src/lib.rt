@@ -17,6 +17,7 @@ mod dc;
 mod pads;
 mod reader;
 mod refusals;
+mod target;
 mod values;
 
 pub use reader::Reader;

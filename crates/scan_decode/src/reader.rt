@@ -1,5 +1,6 @@
 // A scan, MCU by MCU.
-ghost use Rattle.std.specs.Prelude.{◌≡◌, ◌+◌, ◌*◌, ◌<◌, ◌≤◌, ◌==◌, length, map, OnErr};
+ghost use Rattle.std.specs.Prelude.{◌≡◌, ◌+◌, ◌*◌, ◌<◌, ◌≤◌, ◌==◌, List, ℤ, length, map, OnErr, OnOk};
+ghost use Rattle.std.specs.List.{AllZip};
 ghost use Rattle.scan_spec.specs.ScanCalls.{McuIsRead, reader_at, resume_place, stopped_at};
 ghost use Rattle.scan_spec.specs.Slots.{shape_of};
 ghost use Rattle.scan_spec.specs.Spots.{is_closed};
@@ -15,12 +16,13 @@ ghost use Rattle.scan_decode.specs.ReadResults.{mcu_read, standing_read};
 use crate::blocks::blocks;
 use crate::byte_begun::{after_bits, byte_begun};
 use crate::pads::{pads, restart};
+use crate::target::{Nothing, Target};
 use bit_list::BitIn;
 use coef_block::Block;
 use handover::Handover;
 use huff_table::PlanCodes;
 use jpeg_marker::Plan;
-use scan_spec::{ScanRefusal, ScanShape};
+use scan_spec::{MOST_SLOTS, ScanRefusal, ScanShape};
 use std::marker::Model;
 
 /// A scan that is read MCU by MCU (ITU-T T.81, F.2.2). It keeps the first refusal, and allocates nothing.
@@ -104,16 +106,19 @@ impl<'a> Reader<'a> {
         requires room { length out.old ≡ length self.old.shape.slots }
         ensures { McuIsRead self.old.stop self.old result self.new out.new }
     {
-        if let Some(refusal) = self.stop {
-            return Err(refusal);
-        }
-        match self.mcu(out) {
-            Ok(()) => Ok(()),
-            Err(refusal) => {
-                self.stop = Some(refusal);
-                Err(refusal)
-            }
-        }
+        self.read(out)
+    }
+
+    /// Reads the next MCU and keeps none of its coefficients. It is refused exactly if `next_mcu` is, and leaves the
+    /// reader as that does.
+    pub fn skip_mcu(&mut self) -> Result<(), ScanRefusal>
+        requires more { self.old.at.count < self.old.shape.mcus }
+        ensures { (blocks : List (List ℤ))
+            × McuIsRead self.old.stop self.old result self.new blocks }
+    {
+        let mut nothing = [Nothing {}; MOST_SLOTS];
+        let slots = self.mcu_blocks();
+        self.read(&mut nothing[..slots])
     }
 
     /// Blocks of an MCU, at most ten.
@@ -183,12 +188,33 @@ impl<'a> Reader<'a> {
         self.shape.interval_number(self.count.min(last))
     }
 
-    fn mcu(&mut self, out: &mut [Block]) -> Result<(), ScanRefusal>
+    #[inline]
+    fn read<T: Target>(&mut self, out: &mut [T]) -> Result<(), ScanRefusal>
+        requires more { self.old.at.count < self.old.shape.mcus }
+        requires room { length out.old ≡ length self.old.shape.slots }
+        ensures { (read : List (List ℤ)) × OnOk result (AllZip T.holds out.new read)
+            × McuIsRead self.old.stop self.old result self.new read }
+    {
+        if let Some(refusal) = self.stop {
+            return Err(refusal);
+        }
+        match self.mcu(out) {
+            Ok(()) => Ok(()),
+            Err(refusal) => {
+                self.stop = Some(refusal);
+                Err(refusal)
+            }
+        }
+    }
+
+    #[inline]
+    fn mcu<T: Target>(&mut self, out: &mut [T]) -> Result<(), ScanRefusal>
         requires more { self.old.at.count < self.old.shape.mcus }
         requires room { length out.old ≡ length self.old.shape.slots }
         ensures same { self.new ≡ record self.old { at = self.new.at } }
-        ensures is { mcu_read result (map in_zigzag out.new) self.new.at
-            ≡ mcu_at self.old.shape self.old.bytes self.old.at }
+        ensures is { (read : List (List ℤ)) × OnOk result (AllZip T.holds out.new read)
+            × (mcu_read result (map in_zigzag read) self.new.at
+            ≡ mcu_at self.old.shape self.old.bytes self.old.at) }
         ensures stays { OnErr result (self.new.at ≡ stopped_at self.old.at self.new.at) }
     {
         let (codes, slots) = self.shape.slots();

@@ -280,7 +280,7 @@ fn scans_are_refused(rt: HostRuntime) {
     }
 }
 
-// Whether the refusal is answered, and answered again.
+// Whether the refusal is answered, and answered again, also by a reader that skips MCUs.
 fn is_refused(
     rt: &impl Abort,
     plan: &Plan,
@@ -288,14 +288,26 @@ fn is_refused(
     place: usize,
     wanted: ScanRefusal,
 ) -> bool {
-    let mut reader = Reader::start(plan, &PlanCodes::build(plan), bytes, place);
+    let codes = PlanCodes::build(plan);
+    let mut reader = Reader::start(plan, &codes, bytes, place);
+    let mut skipping = Reader::start(plan, &codes, bytes, place);
     for _ in 0..plan.mcus() {
-        if let Err(refusal) = next_mcu(rt, &mut reader) {
+        let answer = next_mcu(rt, &mut reader);
+        if skip_mcu(rt, &mut skipping) != answer {
+            return false;
+        }
+        if let Err(refusal) = answer {
             return from_header(refusal, place) == wanted
-                && next_mcu(rt, &mut reader) == Err(refusal);
+                && next_mcu(rt, &mut reader) == Err(refusal)
+                && skip_mcu(rt, &mut skipping) == Err(refusal);
         }
     }
     false
+}
+
+fn skip_mcu(rt: &impl Abort, reader: &mut Reader) -> Result<(), ScanRefusal> {
+    assert!(rt; !reader.at_end());
+    reader.skip_mcu()
 }
 
 fn next_mcu(rt: &impl Abort, reader: &mut Reader) -> Result<(), ScanRefusal> {
