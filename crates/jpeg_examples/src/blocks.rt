@@ -66,6 +66,22 @@ fn first_and_last_coefficient(rt: HostRuntime) {
     assert!(rt; kept != block);
 }
 
+#[test]
+fn nonzero_coefficients(rt: HostRuntime) {
+    let mut block = Block::zero();
+    assert!(rt; block.nonzeros() == 0);
+    // Zigzag indexes 0, 2, 3 and 63.
+    block.set(0, 7);
+    block.set(8, -1);
+    block.set_in_zigzag(3, 2);
+    block.set(63, 1);
+    assert!(rt; block.get(16) == 2);
+    assert!(rt; block.nonzeros() == 0x8000_0000_0000_000d);
+    assert!(rt; block.nonzeros_among(0b0110) == 1 && block.nonzeros_among(u64::MAX) == 4);
+    block.set_in_zigzag(2, 0);
+    assert!(rt; block.nonzeros() == 0x8000_0000_0000_0009);
+}
+
 // The DC of a block that may be there; 0 if it isn't.
 fn dc_of(block: Option<&Block>) -> i16 {
     match block {
