@@ -1,11 +1,11 @@
+pub mod BandCounts
 pub mod BandSteps
 pub mod BitSteps
-pub mod BlocksByParts
+pub mod BlockCoefficients
+pub mod BlocksOfBands
 pub mod Counting
-pub mod Gathering
 pub mod McuCells
 pub mod McuSteps
-pub mod PartsOfBlocks
 pub mod Placing
 pub mod ValueSizes
 pub mod Weights

@@ -1,7 +1,6 @@
-pub mod BlockParts
+pub mod BandPositions
 pub mod GridInside
 pub mod NeighbourBlocks
-pub mod PutCoefficients
 pub mod SegmentInside
 pub mod SegmentUnderWay
 pub mod ValueRanges

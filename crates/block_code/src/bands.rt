@@ -1,19 +1,20 @@
 // The inner band and the edges.
-ghost use Rattle.std.specs.Prelude.{◌≡◌, ℕ, Bool, ◌<◌, ◌≤◌, ◌+◌, ◌-◌, ◌++◌, IfOk, OnOk, OnErr, IfSome, IsTrue, length, slice_index};
-ghost use Rattle.std.specs.List.{AllByRecursion};
-ghost use Rattle.std.specs.Option.{option_map};
+ghost use Rattle.std.specs.Prelude.{◌≡◌, ℕ, Bool, ◌<◌, ◌≤◌, ◌+◌, ◌-◌, ◌++◌, IfOk, OnOk, OnErr, IsTrue, slice_index};
+ghost use Rattle.coef_block.specs.Block.{IsBlock};
 ghost use Rattle.coef_context.specs.Runs.{edge_values, inner_values, bin_count};
-ghost use Rattle.block_spec.specs.Around.{inner_positions};
+ghost use Rattle.block_spec.specs.Around.{inner_count, inner_positions, values_in};
 ghost use Rattle.block_spec.specs.BlockEvents.{inner_bins, edge_bins, edge_positions, edge_events};
 ghost use Rattle.block_spec.specs.Values.{values_events, nonzeros};
+ghost use Rattle.block_code.specs.BandPositions.{AreSameElsewhere, IsAcPosition};
 ghost use Rattle.block_code.specs.NeighbourBlocks.{around_of};
-ghost use Rattle.block_code.specs.ValueRanges.{IsAc};
 
+use crate::coefficients::edge_count;
 use crate::counts::code_count;
 use crate::neighbours::{Neighbours, bits_of, edge_weight, inner_weight};
-use crate::parts::INNER;
-use crate::values::{Band, code_values, nonzeros_of};
+use crate::positions::INNER;
+use crate::values::{Band, code_values};
 use adapt_bins::Coder;
+use coef_block::Block;
 use coef_context::{BinBases, EDGE_VALUES, INNER_VALUES, edge_bases, edge_count_base, inner_bases};
 
 // How many bits an edge's count has, and 2 to them.
@@ -33,8 +34,7 @@ struct InnerBand<'a> {
 fn inner_position(place: usize) -> usize
     requires { place < inner_values }
     ensures value { result ≡ slice_index inner_positions place }
-    ensures some { 0 < result }
-    ensures within { result < 64 }
+    ensures ac { IsAcPosition result }
 {
     usize::from(INNER[place])
 }
@@ -42,8 +42,11 @@ fn inner_position(place: usize) -> usize
 impl Band for InnerBand<'_> {
     ghost use Rattle.std.specs.Prelude.{◌<◌};
     ghost use Rattle.coef_context.specs.Runs.{inner_values};
+    ghost use Rattle.block_spec.specs.Around.{inner_positions};
     ghost use Rattle.block_spec.specs.BlockEvents.{inner_bins};
     ghost use Rattle.block_code.specs.NeighbourBlocks.{around_of};
+
+    ghost positions = { λ band. inner_positions };
 
     ghost bins = { λ band place remain.
         inner_bins band.class (around_of band.neighbours) place remain };
@@ -55,6 +58,11 @@ impl Band for InnerBand<'_> {
     #[inline(always)]
     fn count(&self) -> usize {
         INNER_VALUES
+    }
+
+    #[inline(always)]
+    fn position(&self, place: usize) -> usize {
+        inner_position(place)
     }
 
     #[inline(always)]
@@ -71,23 +79,24 @@ pub(crate) fn code_inner<C: Coder>(
     class: u8,
     neighbours: Neighbours,
     count: u8,
-    wanted: Option<&[i32]>,
-    out: &mut [i32],
+    wanted: &Block,
+    out: &mut Block,
 ) -> Result<(), C::Stop>
     requires class { class < 2 }
     requires room { bin_count ≤ C.room coder.old }
-    requires places { length out.old ≡ inner_values }
     requires count { count ≤ inner_values }
-    requires wanted_length { IfSome wanted (λ w. length w.now ≡ inner_values) }
-    requires wanted { IsTrue C.given
-        → IfSome wanted (λ w. (nonzeros w.now ≡ count) × AllByRecursion IsAc w.now) }
+    requires wanted { IsTrue C.given → inner_count wanted.now ≡ count }
+    requires block { IsBlock out.old }
+    requires zeros { inner_count out.old ≡ 0 }
     ensures stopped { OnErr result (C.stopped coder.new) }
-    ensures coded { OnOk result (C.codes coder.old
-        (values_events (inner_bins class (around_of neighbours.entry)) 0 out.new) coder.new) }
-    ensures count { OnOk result (nonzeros out.new ≡ count) }
-    ensures ac { OnOk result (AllByRecursion IsAc out.new) }
-    ensures length { length out.new ≡ length out.old }
-    ensures same { IsTrue C.given → IfSome wanted.entry (λ w. OnOk result (out.new ≡ w.now)) }
+    ensures coded { OnOk result (C.codes coder.old (values_events
+        (inner_bins class (around_of neighbours.entry)) 0 (values_in inner_positions out.new))
+        coder.new) }
+    ensures count { OnOk result (inner_count out.new ≡ count) }
+    ensures block { OnOk result (IsBlock out.new) }
+    ensures others { OnOk result (AreSameElsewhere inner_positions out.old out.new) }
+    ensures same { IsTrue C.given → OnOk result
+        (values_in inner_positions out.new ≡ values_in inner_positions wanted.now) }
 {
     let band = InnerBand { class, neighbours };
     code_values(coder, &band, count, wanted, out)
@@ -106,8 +115,7 @@ struct EdgeBand<'a> {
 fn edge_position(column: bool, place: usize) -> usize
     requires { place < edge_values }
     ensures value { result ≡ slice_index (edge_positions column) place }
-    ensures some { 0 < result }
-    ensures within { result < 64 }
+    ensures ac { IsAcPosition result }
 {
     if column { 8 * (place + 1) } else { place + 1 }
 }
@@ -115,8 +123,10 @@ fn edge_position(column: bool, place: usize) -> usize
 impl Band for EdgeBand<'_> {
     ghost use Rattle.std.specs.Prelude.{◌<◌};
     ghost use Rattle.coef_context.specs.Runs.{edge_values};
-    ghost use Rattle.block_spec.specs.BlockEvents.{edge_bins};
+    ghost use Rattle.block_spec.specs.BlockEvents.{edge_bins, edge_positions};
     ghost use Rattle.block_code.specs.NeighbourBlocks.{around_of};
+
+    ghost positions = { λ band. edge_positions band.column };
 
     ghost bins = { λ band place remain.
         edge_bins band.class band.column (around_of band.neighbours) place remain };
@@ -128,6 +138,11 @@ impl Band for EdgeBand<'_> {
     #[inline(always)]
     fn count(&self) -> usize {
         EDGE_VALUES
+    }
+
+    #[inline(always)]
+    fn position(&self, place: usize) -> usize {
+        edge_position(self.column, place)
     }
 
     #[inline(always)]
@@ -143,18 +158,6 @@ impl Band for EdgeBand<'_> {
     }
 }
 
-// How many values are not 0, of an edge's that may be given.
-#[inline(always)]
-fn nonzeros_in(values: Option<&[i32]>) -> Option<u8>
-    requires { IfSome values (λ w. length w.now ≤ inner_values) }
-    ensures { result ≡ option_map (λ w. nonzeros w.now) values.entry }
-{
-    match values {
-        Some(values) => Some(nonzeros_of(values)),
-        None => None,
-    }
-}
-
 /// Codes an edge, the row's or the column's: how many of its coefficients are not 0, in three bits, and then these.
 /// `inner` is the block's inner count.
 #[inline(always)]
@@ -164,21 +167,22 @@ pub(crate) fn code_edge<C: Coder>(
     column: bool,
     neighbours: Neighbours,
     inner: u8,
-    wanted: Option<&[i32]>,
-    out: &mut [i32],
+    wanted: &Block,
+    out: &mut Block,
 ) -> Result<(), C::Stop>
     requires class { class < 2 }
     requires inner { inner ≤ inner_values }
     requires room { bin_count ≤ C.room coder.old }
-    requires places { length out.old ≡ edge_values }
-    requires wanted_length { IfSome wanted (λ w. length w.now ≡ edge_values) }
-    requires wanted { IsTrue C.given → IfSome wanted (λ w. AllByRecursion IsAc w.now) }
+    requires block { IsBlock out.old }
+    requires zeros { nonzeros (values_in (edge_positions column) out.old) ≡ 0 }
     ensures stopped { OnErr result (C.stopped coder.new) }
-    ensures coded { OnOk result (C.codes coder.old
-        (edge_events class column (around_of neighbours.entry) inner out.new) coder.new) }
-    ensures ac { OnOk result (AllByRecursion IsAc out.new) }
-    ensures length { length out.new ≡ length out.old }
-    ensures same { IsTrue C.given → IfSome wanted.entry (λ w. OnOk result (out.new ≡ w.now)) }
+    ensures coded { OnOk result (C.codes coder.old (edge_events class column
+        (around_of neighbours.entry) inner (values_in (edge_positions column) out.new))
+        coder.new) }
+    ensures block { OnOk result (IsBlock out.new) }
+    ensures others { OnOk result (AreSameElsewhere (edge_positions column) out.old out.new) }
+    ensures same { IsTrue C.given → OnOk result (values_in (edge_positions column) out.new
+        ≡ values_in (edge_positions column) wanted.now) }
 {
     let base = edge_count_base(class, column, bits_of(u32::from(inner)));
     let count = code_count(
@@ -186,7 +190,7 @@ pub(crate) fn code_edge<C: Coder>(
         base,
         EDGE_COUNT_BITS,
         EDGE_COUNT_TOP,
-        nonzeros_in(wanted),
+        Some(edge_count(wanted, column)),
     )?;
     let band = EdgeBand {
         class,

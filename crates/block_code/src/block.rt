@@ -1,18 +1,21 @@
 // A block as events in a stream, there and back.
-ghost use Rattle.std.specs.Prelude.{◌≡◌, ℕ, ◌<◌, ◌≤◌, IfOk, OnOk, OnErr, IfSome, IsTrue, None, Ok, Err, Result, List, ℤ, length, MatchResult, Bool};
-ghost use Rattle.coef_block.specs.Block.{IsBlock};
+ghost use Rattle.std.specs.Prelude.{◌≡◌, ℕ, ◌<◌, ◌≤◌, IfOk, OnOk, OnErr, IfSome, IfNone, IsTrue, None, Ok, Err, Result, List, ℤ, length, MatchResult, Bool};
+ghost use Rattle.coef_block.specs.Block.{IsBlock, IsDc};
 ghost use Rattle.coef_block.specs.TwoRows.{width, height};
 ghost use Rattle.adapt_bins.specs.PutEvents.{PutsEvents};
 ghost use Rattle.adapt_bins.specs.GotEvents.{GetsEvents};
+ghost use Rattle.adapt_bins.specs.declared.get.Get.{Get};
 ghost use Rattle.block_spec.specs.declared.fault.BlockFault.{BlockFault};
+ghost use Rattle.block_spec.specs.Around.{Around, prediction};
 ghost use Rattle.block_spec.specs.BlockEvents.{block_events};
 ghost use Rattle.block_spec.specs.HeldRows.{kept_around};
-ghost use Rattle.block_spec.specs.ReadBlocks.{IsRead};
+ghost use Rattle.block_spec.specs.ReadBlocks.{IsBlockCount, IsRead, residue_events};
 ghost use Rattle.coef_context.specs.Runs.{bin_count};
 ghost use Rattle.block_code.specs.NeighbourBlocks.{around_of, HasCorner};
+ghost use Rattle.block_code.specs.ValueRanges.{IsResidue};
 
+use crate::coefficients::{residue_of, with_dc};
 use crate::neighbours::{Neighbours, prediction};
-use crate::parts::Parts;
 use crate::parts_code::code_parts;
 use adapt_bins::{Get, Put};
 use block_spec::BlockFault;
@@ -20,6 +23,7 @@ use coef_block::{Block, Rows};
 use std::alloc::AllocError;
 
 // The blocks around one, as the rows hold them.
+#[inline(always)]
 fn neighbours_in(rows: &Rows, component: usize, row: u32, column: u32) -> Neighbours
     requires component { component < 4 }
     requires row { row < height rows.now.extents component }
@@ -58,10 +62,10 @@ pub fn put_block(
         (block_events class (kept_around rows.now component row column) block.now) coder.new) }
 {
     let neighbours = neighbours_in(rows, component, row, column);
-    let parts = Parts::of(block, prediction(neighbours));
-    let mut same = Parts::zero();
+    let residue = residue_of(block, prediction(neighbours));
+    let mut same = Block::zero();
     let mut local = coder.moved();
-    let coded = code_parts(&mut local, class, neighbours, &parts, &mut same);
+    let coded = code_parts(&mut local, class, neighbours, residue, block, &mut same);
     coder.back(local);
     let _ = coded?;
     Ok(())
@@ -90,14 +94,31 @@ pub fn get_block(
 {
     let neighbours = neighbours_in(rows, component, row, column);
     // A coder that gets the bits ignores what is wanted.
-    let wanted = Parts::zero();
-    let mut parts = Parts::zero();
+    let wanted = Block::zero();
+    let mut block = Block::zero();
     let mut local = coder.moved();
-    let coded = code_parts(&mut local, class, neighbours, &wanted, &mut parts);
+    let coded = code_parts(&mut local, class, neighbours, 0, &wanted, &mut block);
     *coder = local;
     match coded {
-        Ok(true) => parts.block(prediction(neighbours)),
-        Ok(false) => Err(BlockFault::BlockCount),
+        Ok(counted) => block_read(counted, block, prediction(neighbours)),
         Err(never) => match never {},
+    }
+}
+
+// The block with these AC coefficients, if a residue was coded after them, or why there is none.
+#[inline(always)]
+fn block_read(counted: Option<i32>, block: Block, predicted: i32) -> Result<Block, BlockFault>
+    requires prediction { IsDc predicted }
+    requires residue { IfSome counted IsResidue }
+    requires block { IfSome counted (λ _. IsBlock block) }
+    ensures { (from to : Get) (class : ℕ) (around : Around) → predicted ≡ prediction around
+        → IfSome counted (λ residue.
+        GetsEvents from (residue_events class around block residue) to)
+        → IfNone counted (IsBlockCount (λ events. GetsEvents from events to) class around)
+        → IsRead (λ events. GetsEvents from events to) class around result }
+{
+    match counted {
+        Some(residue) => with_dc(block, predicted, residue),
+        None => Err(BlockFault::BlockCount),
     }
 }

@@ -1,7 +1,7 @@
 //! Blocks and MCUs as events in a stream, there and back (docs/FORMAT.md).
 //!
-//!     put_block:  block --> Parts --> code_parts --> Put --> stream
-//!     get_block:  block <-- Parts <-- code_parts <-- Get <-- stream
+//!     put_block:  block --> code_parts --> Put --> stream
+//!     get_block:  block <-- code_parts <-- Get <-- stream
 //!
 //!     residue     | row edge, 7             inner count   6 bits
 //!     ------------+---------------          inner band    49 values in zigzag order, while some that are not 0 remain
@@ -21,13 +21,13 @@
 mod bands;
 mod bits;
 mod block;
+mod coefficients;
 mod counts;
-mod gather;
 mod mcu;
 mod mcu_grid;
 mod neighbours;
-mod parts;
 mod parts_code;
+mod positions;
 mod value;
 mod values;
 

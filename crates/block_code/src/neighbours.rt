@@ -1,17 +1,13 @@
 // The blocks around one, and what they say of it.
-ghost use Rattle.std.specs.Prelude.{◌≡◌, ℕ, ◌<◌, ◌≤◌, ◌+◌, ◌*◌, ◌/◌, ◌^◌, unsigned_abs, option_map, IfSome, length};
-ghost use Rattle.std.specs.List.{AllByRecursion};
+ghost use Rattle.std.specs.Prelude.{◌≡◌, ℕ, ◌<◌, ◌≤◌, ◌+◌, ◌*◌, ◌/◌, ◌^◌, unsigned_abs, option_map, IfSome};
 ghost use Rattle.coef_block.specs.Block.{IsDc};
 ghost use Rattle.coef_block.specs.Categories.{category};
 ghost use Rattle.coef_context.specs.Runs.{inner_values, spreads, weights};
-ghost use Rattle.block_spec.specs.Around.{magnitude, inner_weight, edge_weight, inner_positions, inner_count, guess, prediction, dc_spread, dc, mean};
+ghost use Rattle.block_spec.specs.Around.{magnitude, inner_weight, edge_weight, inner_count, guess, prediction, dc_spread, dc, mean};
 ghost use Rattle.block_code.specs.NeighbourBlocks.{around_of, HasCorner};
 
-use crate::gather::gather_values;
-use crate::parts::INNER;
-use crate::values::nonzeros_of;
+use crate::coefficients::inner_count;
 use coef_block::Block;
-use coef_context::INNER_VALUES;
 use dc_predict::predict;
 
 /// The blocks above, to the left and diagonally (above and left) of one, of the same component and segment. The
@@ -78,6 +74,7 @@ pub(crate) fn edge_weight(neighbours: Neighbours, position: usize) -> u8
 }
 
 /// The guess at the inner count, from 0 to 49: the mean of those above and left, rounded up; the one that is there; 0.
+#[inline(always)]
 pub(crate) fn guess(neighbours: Neighbours) -> u8
     ensures value { result ≡ guess (around_of neighbours.entry) }
     ensures few { result ≤ inner_values }
@@ -90,17 +87,8 @@ pub(crate) fn guess(neighbours: Neighbours) -> u8
     }
 }
 
-// How many inner coefficients are not 0.
-fn inner_count(block: &Block) -> u8
-    ensures value { result ≡ inner_count block.now }
-    ensures few { result ≤ inner_values }
-{
-    let mut inner = [0; INNER_VALUES];
-    gather_values(block, &INNER, &mut inner[..]);
-    nonzeros_of(&inner)
-}
-
 /// The predicted DC.
+#[inline(always)]
 pub(crate) fn prediction(neighbours: Neighbours) -> i32
     requires { HasCorner (around_of neighbours) }
     ensures value { result ≡ prediction (around_of neighbours.entry) }
@@ -114,6 +102,7 @@ pub(crate) fn prediction(neighbours: Neighbours) -> i32
 }
 
 /// How far the DCs above and left differ, from 0 to 16 bits.
+#[inline(always)]
 pub(crate) fn spread(neighbours: Neighbours) -> u8
     ensures value { result ≡ dc_spread (around_of neighbours.entry) }
     ensures few { result < spreads }
@@ -122,6 +111,7 @@ pub(crate) fn spread(neighbours: Neighbours) -> u8
 }
 
 // The DC of a block that may be there.
+#[inline(always)]
 fn dc_of(block: Option<&Block>) -> Option<i16>
     ensures value { result ≡ dc (option_map (λ b. b.now) block.entry) }
     ensures within { IfSome result IsDc }

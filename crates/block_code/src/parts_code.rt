@@ -1,22 +1,22 @@
 // The parts of a block in the order of their events, put or got by one body.
-ghost use Rattle.std.specs.Prelude.{◌≡◌, ℕ, Bool, ◌<◌, ◌≤◌, ◌+◌, ◌-◌, ◌++◌, IfOk, OnOk, OnErr, IfSome, IsTrue, IsOk, length, true, false, List};
-ghost use Rattle.std.specs.List.{AllByRecursion};
+ghost use Rattle.std.specs.Prelude.{◌≡◌, ℕ, Bool, ◌<◌, ◌≤◌, ◌+◌, ◌-◌, ◌++◌, IfOk, OnOk, OnErr, IfSome, IfNone, IsTrue, Some, pos, replicate, List};
+ghost use Rattle.coef_block.specs.Block.{IsBlock};
 ghost use Rattle.coef_context.specs.Runs.{bin_count, inner_values, spreads};
-ghost use Rattle.block_spec.specs.Around.{Around, dc_spread};
-ghost use Rattle.block_spec.specs.BlockEvents.{inner_bins, edge_events, inner_count_events, dc_events};
-ghost use Rattle.block_spec.specs.ReadBlocks.{IsBlockCount};
-ghost use Rattle.block_spec.specs.Values.{values_events, nonzeros, category_of};
-ghost use Rattle.block_code.specs.BlockParts.{AreParts, after_count_events, parts_events};
+ghost use Rattle.block_spec.specs.Around.{Around, dc_spread, inner_count};
+ghost use Rattle.block_spec.specs.BlockEvents.{ac_events, inner_count_events, dc_events};
+ghost use Rattle.block_spec.specs.ReadBlocks.{IsBlockCount, residue_events};
+ghost use Rattle.block_spec.specs.Values.{category_of};
+ghost use Rattle.block_code.specs.BandPositions.{HaveSameAcs};
 ghost use Rattle.block_code.specs.NeighbourBlocks.{around_of};
 ghost use Rattle.block_code.specs.ValueRanges.{IsResidue, IsSixBits};
 
 use crate::bands::{code_edge, code_inner};
+use crate::coefficients::inner_count;
 use crate::counts::code_count;
 use crate::neighbours::{Neighbours, bits_of, guess, spread};
-use crate::parts::Parts;
 use crate::value::code_value;
-use crate::values::nonzeros_of;
 use adapt_bins::Coder;
+use coef_block::Block;
 use coef_context::{DC_SIZES, INNER_VALUES, dc_bases, inner_count_base};
 
 /// The largest inner count.
@@ -30,132 +30,100 @@ const INNER_COUNT_TOP: u32 = 64;
 /// How many steps the size of a residue has.
 const DC_STEPS: u8 = DC_SIZES as u8;
 
-/// Codes the parts of a block, from the inner count on, and writes them to `out`. A coder that is given the bits codes
-/// `wanted`; one that gets them ignores it. Returns false if the six bits of the count are above 49, and then codes
-/// nothing after them.
+/// Codes the parts of a block, from the inner count on, puts its AC coefficients into `out` and returns its residue. A
+/// coder that is given the bits codes `wanted` and `residue`; one that gets them ignores both. Returns `None` if the six
+/// bits of the count are above 49, and then codes nothing after them.
 #[inline(always)]
 pub(crate) fn code_parts<C: Coder>(
     coder: &mut C,
     class: u8,
     neighbours: Neighbours,
-    wanted: &Parts,
-    out: &mut Parts,
-) -> Result<bool, C::Stop>
+    residue: i32,
+    wanted: &Block,
+    out: &mut Block,
+) -> Result<Option<i32>, C::Stop>
     requires class { class < 2 }
     requires room { bin_count ≤ C.room coder.old }
-    requires wanted { IsTrue C.given → AreParts wanted.now }
+    requires residue { IsTrue C.given → IsResidue residue }
+    requires zeros { out.old ≡ replicate 64 (pos 0) }
     ensures stopped { OnErr result (C.stopped coder.new) }
-    ensures coded { IfOk result (λ counted. IsTrue counted → AreParts out.new
-        × C.codes coder.old (parts_events class (around_of neighbours.entry) out.new) coder.new) }
-    ensures many { IfOk result (λ counted. counted ≡ false
-        → IsBlockCount (λ events. C.codes coder.old events coder.new) class
-        (around_of neighbours.entry)) }
-    ensures same { IsTrue C.given
-        → IfOk result (λ counted. IsTrue counted × (out.new ≡ wanted.now)) }
+    ensures coded { IfOk result (λ counted. IfSome counted (λ residue. C.codes coder.old
+        (residue_events class (around_of neighbours.entry) out.new residue) coder.new)) }
+    ensures small { IfOk result (λ counted. IfSome counted IsResidue) }
+    ensures block { IfOk result (λ counted. IfSome counted (λ _. IsBlock out.new)) }
+    ensures many { IfOk result (λ counted. IfNone counted (IsBlockCount
+        (λ events. C.codes coder.old events coder.new) class (around_of neighbours.entry))) }
+    ensures same { IsTrue C.given → IfOk result
+        (λ counted. (counted ≡ Some residue) × HaveSameAcs out.new wanted.now) }
 {
-    let inner_count = nonzeros_of(&wanted.inner);
-    let count = code_inner_count(coder, class, guess(neighbours), Some(inner_count))?;
+    let count = code_inner_count(coder, class, guess(neighbours), inner_count(wanted))?;
     if count > MOST_INNER {
-        return Ok(false);
+        return Ok(None);
     }
-    code_after_count(coder, class, neighbours, count, wanted, out)?;
-    Ok(true)
+    code_acs(coder, class, neighbours, count, wanted, out)?;
+    let residue = code_dc(coder, class, spread(neighbours), residue)?;
+    Ok(Some(residue))
 }
 
 // The inner count in six bits, by the guess at it.
 #[inline(always)]
-fn code_inner_count<C: Coder>(
-    coder: &mut C,
-    class: u8,
-    guess: u8,
-    count: Option<u8>,
-) -> Result<u8, C::Stop>
+fn code_inner_count<C: Coder>(coder: &mut C, class: u8, guess: u8, count: u8) -> Result<u8, C::Stop>
     requires class { class < 2 }
     requires guess { guess ≤ inner_values }
     requires room { bin_count ≤ C.room coder.old }
-    requires count { IsTrue C.given → IfSome count IsSixBits }
+    requires count { IsTrue C.given → IsSixBits count }
     ensures stopped { OnErr result (C.stopped coder.new) }
     ensures coded { IfOk result
         (λ n. C.codes coder.old (inner_count_events class guess n) coder.new) }
-    ensures same { IsTrue C.given → IfSome count (λ n. IfOk result (λ r. r ≡ n)) }
+    ensures same { IsTrue C.given → IfOk result (λ n. n ≡ count) }
     ensures below { IfOk result IsSixBits }
 {
     let base = inner_count_base(class, bits_of(u32::from(guess)));
-    let n = code_count(coder, base, INNER_COUNT_BITS, INNER_COUNT_TOP, count)?;
+    let n = code_count(coder, base, INNER_COUNT_BITS, INNER_COUNT_TOP, Some(count))?;
     Ok(n)
 }
 
-// All but the inner count, which is given.
+// The AC coefficients, of which `count` inner ones are not 0.
 #[inline(always)]
-fn code_after_count<C: Coder>(
+fn code_acs<C: Coder>(
     coder: &mut C,
     class: u8,
     neighbours: Neighbours,
     count: u8,
-    wanted: &Parts,
-    out: &mut Parts,
+    wanted: &Block,
+    out: &mut Block,
 ) -> Result<(), C::Stop>
     requires class { class < 2 }
     requires count { count ≤ inner_values }
     requires room { bin_count ≤ C.room coder.old }
-    requires wanted { IsTrue C.given
-        → (nonzeros wanted.now.inner ≡ count) × AreParts wanted.now }
+    requires wanted { IsTrue C.given → inner_count wanted.now ≡ count }
+    requires zeros { out.old ≡ replicate 64 (pos 0) }
     ensures stopped { OnErr result (C.stopped coder.new) }
     ensures coded { OnOk result (C.codes coder.old
-        (after_count_events class (around_of neighbours.entry) out.new) coder.new) }
-    ensures count { OnOk result (nonzeros out.new.inner ≡ count) }
-    ensures parts { OnOk result (AreParts out.new) }
-    ensures same { IsTrue C.given → OnOk result (out.new ≡ wanted.now) }
+        (ac_events class (around_of neighbours.entry) out.new) coder.new) }
+    ensures count { OnOk result (inner_count out.new ≡ count) }
+    ensures block { OnOk result (IsBlock out.new) }
+    ensures same { IsTrue C.given → OnOk result (HaveSameAcs out.new wanted.now) }
 {
-    code_inner(
-        coder,
-        class,
-        neighbours,
-        count,
-        Some(&wanted.inner[..]),
-        &mut out.inner[..],
-    )?;
-    code_edge(
-        coder,
-        class,
-        false,
-        neighbours,
-        count,
-        Some(&wanted.row[..]),
-        &mut out.row[..],
-    )?;
-    code_edge(
-        coder,
-        class,
-        true,
-        neighbours,
-        count,
-        Some(&wanted.column[..]),
-        &mut out.column[..],
-    )?;
-    let residue = code_dc(coder, class, spread(neighbours), Some(wanted.residue))?;
-    out.residue = residue;
+    code_inner(coder, class, neighbours, count, wanted, out)?;
+    code_edge(coder, class, false, neighbours, count, wanted, out)?;
+    code_edge(coder, class, true, neighbours, count, wanted, out)?;
     Ok(())
 }
 
 // The residue, by the spread of the DCs around.
 #[inline(always)]
-fn code_dc<C: Coder>(
-    coder: &mut C,
-    class: u8,
-    spread: u8,
-    residue: Option<i32>,
-) -> Result<i32, C::Stop>
+fn code_dc<C: Coder>(coder: &mut C, class: u8, spread: u8, residue: i32) -> Result<i32, C::Stop>
     requires class { class < 2 }
     requires spread { spread < spreads }
     requires room { bin_count ≤ C.room coder.old }
-    requires residue { IsTrue C.given → IfSome residue IsResidue }
+    requires residue { IsTrue C.given → IsResidue residue }
     ensures stopped { OnErr result (C.stopped coder.new) }
     ensures coded { IfOk result (λ x. (around : Around) → dc_spread around ≡ spread
         → C.codes coder.old (dc_events class around x) coder.new) }
-    ensures same { IsTrue C.given → IfSome residue (λ x. IfOk result (λ y. y ≡ x)) }
+    ensures same { IsTrue C.given → IfOk result (λ x. x ≡ residue) }
     ensures small { IfOk result IsResidue }
 {
-    let x = code_value(coder, dc_bases(class, spread), 0, DC_STEPS, residue)?;
+    let x = code_value(coder, dc_bases(class, spread), 0, DC_STEPS, Some(residue))?;
     Ok(x)
 }

@@ -1,23 +1,29 @@
 // The values of a band, place after place, while some that are not 0 remain.
-ghost use Rattle.std.specs.Prelude.{◌≡◌, ℕ, ◌+◌, ◌-◌, ◌<◌, ◌≤◌, ◌==◌, IfOk, OnErr, OnOk, IfSome, IsTrue, unsigned_abs, pos, length, get_or, if◌then◌else◌};
-ghost use Rattle.std.specs.Option.{option_map};
-ghost use Rattle.std.specs.List.{AllByRecursion};
+ghost use Rattle.std.specs.Prelude.{◌≡◌, ℕ, List, ◌+◌, ◌-◌, ◌<◌, ◌≤◌, ◌==◌, IfOk, OnErr, OnOk, IsTrue, unsigned_abs, pos, length, slice_index, if◌then◌else◌};
+ghost use Rattle.coef_block.specs.Block.{IsBlock};
 ghost use Rattle.coef_context.specs.Runs.{inner_values, bin_count};
 ghost use Rattle.coef_context.specs.ValueBins.{ValueBins};
+ghost use Rattle.block_spec.specs.Around.{values_in};
 ghost use Rattle.block_spec.specs.Values.{category_of, is_zero, nonzeros, one_events, values_events};
 ghost use Rattle.coef_context.specs.BinBases.{AreBases, bins_at};
+ghost use Rattle.block_code.specs.BandPositions.{AreSameElsewhere, IsAcPosition, IsBand};
 ghost use Rattle.block_code.specs.ValueRanges.{IsAc};
 
+use crate::coefficients::{coefficient, put_coefficient};
 use crate::value::code_value;
 use adapt_bins::Coder;
+use coef_block::Block;
 use coef_context::{AC_SIZES, BinBases};
 
 /// How many steps the size of an AC coefficient has.
 const AC_STEPS: u8 = AC_SIZES as u8;
 
-/// A band of coefficients: the inner ones, the row edge, or the column edge. It says where each has its bins, by its
-/// place in the band from 0 on and by how many values that are not 0 remain.
+/// A band of coefficients: the inner ones, the row edge, or the column edge. It says where each is in the block and
+/// where it has its bins, by its place in the band from 0 on and by how many values that are not 0 remain.
 pub(crate) trait Band {
+    /// The natural positions.
+    ghost positions: { Self → List ℕ };
+
     /// The bins of a value, by its place and by how many remain.
     ghost bins: { Self → ℕ → ℕ → ValueBins };
 
@@ -32,6 +38,12 @@ pub(crate) trait Band {
         ensures value { result ≡ count self.now }
         ensures few { result ≤ inner_values };
 
+    /// The natural position at a place.
+    fn position(&self, place: usize) -> usize
+        requires { place < count self.now }
+        ensures value { result ≡ slice_index (positions self.now) place }
+        ensures ac { IsAcPosition result };
+
     /// Where the bins of a value begin.
     fn bases(&self, place: usize, remain: u8) -> BinBases
         requires holds { holds self.now }
@@ -41,55 +53,39 @@ pub(crate) trait Band {
         ensures bases { AreBases result };
 }
 
-// The value at a place: nothing is coded if none remains, and the step 0 is left out if all that are left are not 0.
+// The value at a place, while some that are not 0 remain: the step 0 is left out if all that are left are not 0.
 #[inline(always)]
 fn code_one<C: Coder, B: Band>(
     coder: &mut C,
     band: &B,
     place: usize,
     remain: u8,
-    value: Option<i32>,
+    value: i32,
 ) -> Result<i32, C::Stop>
     requires band { B.holds band.now }
+    requires some { 1 ≤ remain }
     requires place { place + remain ≤ B.count band.now }
     requires room { bin_count ≤ C.room coder.old }
-    requires value { IsTrue C.given → IfSome value (λ x. IsAc x × (remain ≡ 0 → x ≡ pos 0)
-        × (1 ≤ remain → remain ≡ B.count band.now - place → 1 ≤ category_of x)) }
+    requires value { IsTrue C.given
+        → IsAc value × (remain ≡ B.count band.now - place → 1 ≤ category_of value) }
     ensures stopped { OnErr result (C.stopped coder.new) }
     ensures coded { IfOk result (λ x. C.codes coder.old
         (one_events (B.bins band.now place remain) remain (B.count band.now - place) x)
         coder.new) }
-    ensures same { IsTrue C.given → IfSome value (λ x. IfOk result (λ y. y ≡ x)) }
-    ensures none { IfOk result (λ x. remain ≡ 0 → x ≡ pos 0) }
-    ensures full { IfOk result
-        (λ x. 1 ≤ remain → remain ≡ B.count band.now - place → 1 ≤ category_of x) }
-    ensures within { IfOk result (λ x. IsAc x) }
+    ensures same { IsTrue C.given → IfOk result (λ x. x ≡ value) }
+    ensures full { IfOk result (λ x. remain ≡ B.count band.now - place → 1 ≤ category_of x) }
+    ensures within { IfOk result IsAc }
 {
-    if remain == 0 {
-        return Ok(0);
-    }
     let full = remain as usize == band.count() - place;
     let bases = band.bases(place, remain);
-    let x = code_value(coder, bases, u8::from(full), AC_STEPS, value)?;
+    let x = code_value(coder, bases, u8::from(full), AC_STEPS, Some(value))?;
     Ok(x)
-}
-
-// The value at a place, of values that may be given.
-#[inline(always)]
-fn value_at(values: Option<&[i32]>, place: usize) -> Option<i32>
-    requires { IfSome values (λ w. place < length w.now) }
-    ensures { result ≡ option_map (λ w. get_or w.now place (pos 0)) values.entry }
-{
-    match values {
-        Some(values) => Some(values[place]),
-        None => None,
-    }
 }
 
 // How many remain after a value.
 #[inline(always)]
 fn remain_after(remain: u8, x: i32) -> u8
-    requires { remain ≡ 0 → x ≡ pos 0 }
+    requires { 1 ≤ remain }
     ensures { result ≡ (if is_zero x then remain else remain - 1) }
 {
     if x.unsigned_abs() == 0 {
@@ -99,51 +95,42 @@ fn remain_after(remain: u8, x: i32) -> u8
     }
 }
 
-/// Codes the values of a band, of which `count` are not 0.
+/// Codes the values of a band, of which `count` are not 0, up to the last of these. A coder that is given the bits codes
+/// those of `wanted`; one that gets them ignores it. The values are put into `out`, where all of them are 0 before.
 #[inline(always)]
 pub(crate) fn code_values<C: Coder, B: Band>(
     coder: &mut C,
     band: &B,
     count: u8,
-    wanted: Option<&[i32]>,
-    out: &mut [i32],
+    wanted: &Block,
+    out: &mut Block,
 ) -> Result<(), C::Stop>
     requires room { bin_count ≤ C.room coder.old }
     requires band { B.holds band.now }
-    requires places { length out.old ≡ B.count band.now }
+    requires positions { IsBand (B.positions band.now) (B.count band.now) }
     requires few { B.count band.now ≤ inner_values }
     requires count { count ≤ B.count band.now }
-    requires wanted_length { IfSome wanted (λ w. length w.now ≡ B.count band.now) }
     requires wanted { IsTrue C.given
-        → IfSome wanted (λ w. (nonzeros w.now ≡ count) × AllByRecursion IsAc w.now) }
+        → nonzeros (values_in (B.positions band.now) wanted.now) ≡ count }
+    requires block { IsBlock out.old }
+    requires zeros { nonzeros (values_in (B.positions band.now) out.old) ≡ 0 }
     ensures stopped { OnErr result (C.stopped coder.new) }
-    ensures coded { OnOk result
-        (C.codes coder.old (values_events (B.bins band.now) 0 out.new) coder.new) }
-    ensures count { OnOk result (nonzeros out.new ≡ count) }
-    ensures ac { OnOk result (AllByRecursion IsAc out.new) }
-    ensures length { length out.new ≡ length out.old }
-    ensures same { IsTrue C.given → IfSome wanted.entry (λ w. OnOk result (out.new ≡ w.now)) }
+    ensures coded { OnOk result (C.codes coder.old
+        (values_events (B.bins band.now) 0 (values_in (B.positions band.now) out.new)) coder.new) }
+    ensures count { OnOk result (nonzeros (values_in (B.positions band.now) out.new) ≡ count) }
+    ensures block { OnOk result (IsBlock out.new) }
+    ensures others { OnOk result (AreSameElsewhere (B.positions band.now) out.old out.new) }
+    ensures same { IsTrue C.given → OnOk result
+        (values_in (B.positions band.now) out.new ≡ values_in (B.positions band.now) wanted.now) }
 {
     let mut remain = count;
-    for place in 0..out.len() {
-        let x = code_one(coder, band, place, remain, value_at(wanted, place))?;
+    let mut place = 0;
+    while remain > 0 {
+        let position = band.position(place);
+        let x = code_one(coder, band, place, remain, coefficient(wanted, position))?;
+        put_coefficient(out, position, x);
         remain = remain_after(remain, x);
-        out[place] = x;
+        place += 1;
     }
     Ok(())
-}
-
-/// How many values are not 0, of up to 49.
-pub(crate) fn nonzeros_of(values: &[i32]) -> u8
-    requires { length values.now ≤ inner_values }
-    ensures value { result ≡ nonzeros values.now }
-    ensures few { result ≤ length values.now }
-{
-    let mut count = 0;
-    for x in values {
-        if x.unsigned_abs() != 0 {
-            count += 1;
-        }
-    }
-    count
 }

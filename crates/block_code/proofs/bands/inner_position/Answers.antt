@@ -7,10 +7,8 @@ pub returns-clause-value : goal.returns-clause-value
 unfolding inner_positions
 returns-clause-value c = c.from.ensures
 
-pub returns-clause-some : goal.returns-clause-some
+pub returns-clause-ac : goal.returns-clause-ac
 unfolding inner_positions
-returns-clause-some c = rw c.from.ensures (ltb-true _ _ (and_parts _ _ (inner_within c.args.place c.requires)).0)
-
-pub returns-clause-within : goal.returns-clause-within
-unfolding inner_positions
-returns-clause-within c = rw c.from.ensures (ltb-true _ _ (and_parts _ _ (inner_within c.args.place c.requires)).1)
+returns-clause-ac c =
+    let within = and_parts _ _ (inner_within c.args.place c.requires) in
+    rw c.from.ensures (ltb-true _ _ within.0, ltb-true _ _ within.1)
