@@ -7,6 +7,7 @@ mod JoinedPieces
 mod McuMade
 mod McusCoded
 mod PadsOn
+mod PassesOn
 mod PadsPacked
 mod PiecesFilled
 mod ReadOn

@@ -23,8 +23,10 @@ use Rattle.cut_spec.specs.RowHandovers.{handover_at, markers_before}
 use Rattle.cut_spec.proofs.SegmentsRead.{first_are_read, segment_is_read}
 use Rattle.cut_spec.proofs.SpotsBegun.{each_has_rows}
 use Rattle.container_spec.specs.Files.{plan_cut, segment_mcus, segment_start}
+use Rattle.container_spec.specs.ScanStream.{stream_of}
 use Rattle.segment_code.specs.FileStarts.{StartsFields, starts_of}
 use Rattle.segment_code.specs.CodedMcus.{AreReadOn, next_of}
+use Rattle.segment_code.specs.ScanPasses.{IsPartOf, IsPartStream, PartFields, part_reader}
 use Rattle.segment_code.specs.Starting.{IsFileAt}
 use Rattle.segment_code.proofs.CutsOfPlans.{start_within}
 use Rattle.segment_code.proofs.ReadOn.{all_counted}
@@ -130,28 +132,44 @@ pub from_same : (shape : Shape) (bytes : List ℕ) (h g : HandoverFields)
     → reader_from shape bytes h count place ≡ reader_from shape bytes g other there
 from_same shape bytes h g count other place there e f d = rw (e, f, d) refl
 
--- the segment's reader reads its MCUs
-pub segment_reads : (bytes : List ℕ) (plan : PlanFields) (mcus : List Mcu) (pads : List Bool)
-    (trailer most : ℕ) (starts : StartsFields) (i n : ℕ) → AllByRecursion IsByte bytes
-    → IsFileAt bytes plan mcus pads trailer → SaidOf plan mcus pads most starts i
-    → first_mcu (plan_cut plan most) i + n ≡ first_mcu (plan_cut plan most) (i + 1)
-    → (reader : ScanReader)
-    → reader ≡ reader_from (shape_of plan) bytes (get_or starts.handovers i start)
-    (plan.across * get_or starts.rows i 0) (get_or starts.places i 0)
-    → (at : Standing) × (next_of n reader ≡ Ok (zigzag_of (segment_mcus plan mcus most i), at))
-segment_reads bytes plan mcus pads trailer most starts i n are file said ends reader is =
+-- a segment's reader reads its MCUs
+pub part_reads : (part : PartFields) (mcus : List Mcu) (pads : List Bool) (trailer most i : ℕ)
+    → AllByRecursion IsByte part.bytes → IsFileAt part.bytes part.plan mcus pads trailer
+    → IsPartOf part mcus pads most i → (reader : ScanReader) → reader ≡ part_reader part
+    → (at : Standing)
+    × (next_of part.mcus reader ≡ Ok (zigzag_of (segment_mcus part.plan mcus most i), at))
+part_reads part mcus pads trailer most i are file is reader from =
+    let plan = part.plan in
+    let bytes = part.bytes in
     let good = good_of bytes plan mcus pads trailer are file in
-    let has = has_mcus plan most i good.is_plan.wide said.under in
+    let has = has_mcus plan most i good.is_plan.wide is.under in
     let cut = plan_cut plan most in
+    let ends = is.ends in
     let read = segment_is_read (shape_of plan) bytes plan.header_length trailer mcus pads
     (first_mcu cut i) (first_mcu cut (i + 1)) good.shape file.scan has.some has.within in
-    let count : n ≡ first_mcu cut (i + 1) - first_mcu cut i = omega (arith, ends) in
+    let count : part.mcus ≡ first_mcu cut (i + 1) - first_mcu cut i = omega (arith, ends) in
     let there : reader ≡ reader_from (shape_of plan) bytes
     (handover_at (shape_of plan) (pad_at pads) mcus (first_mcu cut i)) (first_mcu cut i)
     (plan.header_length + bytes_done (shape_of plan) (pad_at pads) mcus (first_mcu cut i)) =
-    is ∙ from_same (shape_of plan) bytes _ _ _ _ _ _ said.handover
-    (ap (λ (r : ℕ). plan.across * r) said.row) said.place in
+    from ∙ from_same (shape_of plan) bytes _ _ _ _ _ _ is.handover
+    (ap (λ (r : ℕ). plan.across * r) is.row) is.place in
     (read.0, ap₂ next_of count there ∙ read.1)
+
+-- what starts say of a segment makes it one of the file
+pub part_said : (part : PartFields) (mcus : List Mcu) (pads : List Bool) (most : ℕ)
+    (starts : StartsFields) (i : ℕ) → SaidOf part.plan mcus pads most starts i
+    → part.row ≡ get_or starts.rows i 0 → part.place ≡ get_or starts.places i 0
+    → part.handover ≡ get_or starts.handovers i start
+    → first_mcu (plan_cut part.plan most) i + part.mcus
+    ≡ first_mcu (plan_cut part.plan most) (i + 1)
+    → IsPartOf part mcus pads most i
+part_said part mcus pads most starts i said row place handover ends = record {
+  under = said.under;
+  row = row ∙ said.row;
+  place = place ∙ said.place;
+  handover = handover ∙ said.handover;
+  ends = ends;
+}
 
 -- so it comes to no refusal
 pub not_refused : (n : ℕ) (reader : ScanReader) (read : List (List (List ℤ))) (at : Standing)
@@ -185,3 +203,13 @@ same_mcus plan mcus all most i n reader new at each blocks so read =
     (taken (shape_of plan).slots (first_mcu cut (i + 1) - first_mcu cut i)
     (drop (first_mcu cut i) mcus) (dropped (shape_of plan).slots (first_mcu cut i) mcus each))
     same.0
+
+pub part_streams : (part : PartFields) (reader new : ScanReader) (all : List Mcu) (stream : List ℕ)
+    → AllByRecursion IsByte part.bytes → reader ≡ part_reader part
+    → AllByRecursion (AllByRecursion IsBlock) all → AreReadOn part.mcus reader new (zigzag_of all)
+    → stream ≡ stream_of part.plan all → IsPartStream part stream
+part_streams part reader new all stream are from blocks so is =
+    λ mcus pads trailer most i file of_file.
+    let read = part_reads part mcus pads trailer most i are file of_file reader from in
+    is ∙ ap (stream_of part.plan) (same_mcus part.plan mcus all most i part.mcus reader new read.0
+    file.scan.is.grid.each blocks so read.1)

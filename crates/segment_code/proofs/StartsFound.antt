@@ -60,14 +60,14 @@ found_more first reader cut i row mcus so row_is s is place place_is handover ha
     rw (is, r, p, h) refl
 
 -- where the MCUs of a file are known, so are those that the reader stood after
-record FoundAt (plan : PlanFields) (mcus : List Mcu) (pads : List Bool) (bytes : List ℕ) (n : ℕ) : Type 0
+pub record FoundAt (plan : PlanFields) (mcus : List Mcu) (pads : List Bool) (bytes : List ℕ) (n : ℕ) : Type 0
   where
-    place : place_after (reader_at (shape_of plan) bytes plan.header_length) n
+    pub place : place_after (reader_at (shape_of plan) bytes plan.header_length) n
         ≡ plan.header_length + bytes_done (shape_of plan) (pad_at pads) mcus n
-    handover : handover_after (reader_at (shape_of plan) bytes plan.header_length) n
+    pub handover : handover_after (reader_at (shape_of plan) bytes plan.header_length) n
         ≡ handover_at (shape_of plan) (pad_at pads) mcus n
 
-found_at : (plan : PlanFields) (mcus : List Mcu) (pads : List Bool) (bytes : List ℕ) (after n : ℕ)
+pub found_at : (plan : PlanFields) (mcus : List Mcu) (pads : List Bool) (bytes : List ℕ) (after n : ℕ)
     → IsShape (shape_of plan) → Begins (shape_of plan) mcus pads bytes plan.header_length after
     → n ≤ plan.across * plan.down
     → FoundAt plan mcus pads bytes n

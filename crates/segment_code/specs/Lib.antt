@@ -3,7 +3,9 @@ pub mod CodedMcus
 pub mod FoundPads
 pub mod FoundStarts
 pub mod Starting
+pub mod ScanPasses
 pub mod StartsInside
+pub mod PassInside
 pub mod PadsInside
 pub mod Pieces
 pub mod PieceLaws

@@ -3,8 +3,9 @@
 //!     scan   --Reader-->  blocks of an MCU  --put_mcu-->  stream
 //!     stream --get_mcu--> blocks of an MCU  --Writer-->   scan
 //!
-//! `find_starts` reads a scan once and keeps where its segments start; `encode_segment` reads one of them from there.
-//! `SegmentDecoder` decodes the segments of a container, each in steps of a piece of bytes.
+//! `ScanPass` goes over a scan from segment to segment, and keeps where each starts. It reads a segment and codes it, or
+//! only reads it and hands out a `SegmentPart`, which is coded beside the pass. `find_starts` is a pass that codes nothing,
+//! and `encode_segment` codes one segment of the starts that it found. `SegmentDecoder` decodes the segments of a container, each in steps of a piece of bytes.
 //!
 //! Two MCU rows of blocks are kept, as neighbours. What a block's events are is `block_spec`'s, what a scan's bytes
 //! are is `scan_spec`'s, and what a segment's stream stands for is `container_spec`'s.
@@ -18,6 +19,8 @@ mod find;
 mod grid;
 mod laws;
 mod pads;
+mod part;
+mod pass;
 mod segment_stream;
 mod starts;
 mod step;
@@ -26,6 +29,8 @@ pub use decoder::SegmentDecoder;
 pub use error::ScanError;
 pub use find::find_starts;
 pub use laws::{rows_of_pieces, segments_come_in_pieces};
+pub use part::SegmentPart;
+pub use pass::ScanPass;
 pub use segment_stream::encode_segment;
 pub use starts::Starts;
 pub use step::Step;

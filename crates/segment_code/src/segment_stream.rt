@@ -13,11 +13,15 @@ ghost use Rattle.container_spec.specs.Files.{segment_mcus};
 ghost use Rattle.segment_code.specs.FileStarts.{starts_of};
 ghost use Rattle.container_spec.specs.ScanStream.{stream_of};
 ghost use Rattle.segment_code.specs.CodedMcus.{AreCoded, AreReadOn, next_of};
+ghost use Rattle.segment_code.specs.FoundPads.{pads_through};
 ghost use Rattle.segment_code.specs.Starting.{AreStarts, IsFileAt};
 
 use crate::cuts::mcus_in;
 use crate::error::ScanError;
+use crate::find::keep_pad;
 use crate::grid::grid_of;
+use crate::pads::PadsFound;
+use crate::part::SegmentPart;
 use crate::starts::Starts;
 use adapt_bins::{Bins, Put};
 use block_code::{SegmentRows, put_mcu};
@@ -48,11 +52,16 @@ pub fn encode_segment(
         ≡ stream_of plan.now (segment_mcus plan.now mcus most segment)) }
 {
     let codes = PlanCodes::build(plan);
-    let place = starts.place(segment);
-    let handover = starts.handover(segment);
-    let mut reader = Reader::at(plan, &codes, bytes, place, handover, starts.row(segment));
-    let mcus = mcus_in(plan, starts.segments(), segment);
-    match code_segment(alloc, plan, &mut reader, mcus) {
+    let part = SegmentPart {
+        plan,
+        codes: &codes,
+        bytes,
+        row: starts.row(segment),
+        place: starts.place(segment),
+        handover: starts.handover(segment),
+        mcus: mcus_in(plan, starts.segments(), segment),
+    };
+    match part.encode(alloc) {
         Ok(stream) => Ok(stream),
         Err(ScanError::NoMemory) => Err(AllocError),
         // A scan that was read once is read again.
@@ -60,11 +69,13 @@ pub fn encode_segment(
     }
 }
 
-// The stream of the reader's next `mcus` MCUs, as one segment of its plan's scan.
-fn code_segment(
+/// The stream of the reader's next `mcus` MCUs, as one segment of its plan's scan. The pad bit of each interval that ends
+/// is kept.
+pub(crate) fn code_segment(
     alloc: Global,
     plan: &Plan,
     reader: &mut Reader,
+    pads: &mut PadsFound,
     mcus: u32,
 ) -> Result<Vec<u8>, ScanError>
     requires start { reader.old.stop ≡ None }
@@ -74,6 +85,7 @@ fn code_segment(
         × AllByRecursion (AllByRecursion IsBlock) all
         × AreReadOn mcus reader.old reader.new (zigzag_of all)
         × (stream.items ≡ stream_of plan.now all)) }
+    ensures pads { OnOk result (pads.new ≡ pads_through mcus reader.old pads.old) }
     ensures refused { (refusal : ScanRefusal) → IsErrOf result (ScanError.Scan refusal)
         → next_of mcus reader.old ≡ Err refusal }
 {
@@ -84,6 +96,7 @@ fn code_segment(
         reader,
         &mut segment,
         &mut Put::new(&mut bins, &mut encoder),
+        pads,
         mcus,
     )?;
     Ok(encoder.finish()?)
@@ -94,6 +107,7 @@ fn code_mcus(
     reader: &mut Reader,
     segment: &mut SegmentRows,
     coder: &mut Put,
+    pads: &mut PadsFound,
     mcus: u32,
 ) -> Result<(), ScanError>
     requires start { reader.old.stop ≡ None }
@@ -103,6 +117,7 @@ fn code_mcus(
     requires held { HoldsUpTo segment.old [] }
     ensures coded { OnOk result ((all : List Mcu)
         × AreCoded mcus reader.old reader.new segment.old.grid segment.new coder.old coder.new all) }
+    ensures pads { OnOk result (pads.new ≡ pads_through mcus reader.old pads.old) }
     ensures refused { (refusal : ScanRefusal) → IsErrOf result (ScanError.Scan refusal)
         → next_of mcus reader.old ≡ Err refusal }
 {
@@ -112,6 +127,7 @@ fn code_mcus(
     for _ in 0..mcus {
         reader.next_mcu(blocks)?;
         put_mcu(coder, segment, blocks)?;
+        keep_pad(reader, pads)?;
     }
     Ok(())
 }

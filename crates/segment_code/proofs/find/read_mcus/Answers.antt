@@ -1,5 +1,6 @@
 use Rattle.std.proofs.Common.{rules, ◌≡◌, ◌≤◌, ◌+◌, [], ◌∷◌, ◌++◌, length, map, ap, ◌∙◌, sym, subst, arith}
 use Rattle.std.specs.Prelude.{Bool, true, Option, Ok, Err, None, unwrap_or}
+use Rattle.std.proofs.lemmas.List.{length-take-le}
 use Rattle.std.proofs.lemmas.Result.{err_from_is_err_and}
 use Rattle.handover.specs.PadSums.{pads_with}
 use Rattle.scan_spec.specs.BlockBits.{in_zigzag}
@@ -8,9 +9,8 @@ use Rattle.scan_spec.specs.Slots.{Shape}
 use Rattle.scan_spec.specs.Spots.{is_closed}
 use Rattle.segment_code.specs.FoundPads.{pads_through}
 use Rattle.segment_code.specs.CodedMcus.{next_of}
-use Rattle.segment_code.proofs.PadsOn.{ending_through, more_through, none_through, within_through}
+use Rattle.segment_code.proofs.PadsOn.{more_through, none_through}
 use Rattle.segment_code.proofs.ReadOn.{count_on, keeps, none_read, one_more, reads_on, refused_on}
-use Rattle.segment_code.proofs.find.read_mcus.Goals.{then-ends_interval+in_ok-push, else-ends_interval}
 use Rattle.segment_code.proofs.find.read_mcus.Goals as goal
 
 pub next_mcu-requires-clause-more : goal.next_mcu-requires-clause-more
@@ -23,7 +23,8 @@ next_mcu-requires-clause-more c =
 
 pub loop-init : goal.loop-init
 loop-init c = record {
-  long = c.requires.room;
+  long = length-take-le c.mcu_blocks-slots.result _ c.mcu_blocks-slots.ensures.few
+      ∙ c.mcu_blocks-slots.ensures.value;
   read = ([], none_read c.args.reader.now);
   pads = sym (none_through c.args.reader.now c.args.pads.now);
 }
@@ -37,11 +38,6 @@ loop-preserved c =
     c.next_mcu.new.out stop c.in_ok-next_mcu.ensures in
     let same : length c.next_mcu.new.out ≡ length c.loop.blocks = search rules in
     let mcu = map in_zigzag c.next_mcu.new.out in
-    let now = c.next_mcu.new.self.at in
-    let closes : is_closed c.loop.reader.shape now.count ≡ c.ends_interval.result =
-    sym (ap (λ (s : Shape). is_closed s now.count)
-    (keeps c.loop.reader c.next_mcu.new.self read.1).shape)
-    ∙ sym c.ends_interval.ensures in
     record {
       long = same ∙ c.loop.invariant.long ∙ sym
           (ap (λ (s : Shape). length s.slots)
@@ -51,18 +47,7 @@ loop-preserved c =
         one_more c.loop.counter c.args.reader.now c.loop.reader c.next_mcu.new.self so.0
             mcu so.1 read.0 read.1,
       );
-      pads = elim c.if-ends_interval.branch [
-        | then-ends_interval+in_ok-push w ↦ w.pads-is
-            ∙ ending_through c.loop.reader now mcu c.loop.pads w.push.new.self read.0
-            (closes ∙ w.if-ends_interval.true)
-            (w.in_ok-push.ensures.bits ∙ ap (λ (p : Option Bool). c.loop.pads.bits
-            ++ unwrap_or p true ∷ []) w.pad.ensures)
-            (w.in_ok-push.ensures.sum ∙ ap (λ (p : Option Bool). pads_with c.loop.pads.sum
-            (pad_sum p)) w.pad.ensures)
-        | else-ends_interval w ↦ w.pads-is
-            ∙ within_through c.loop.reader now mcu c.loop.pads read.0
-            (closes ∙ w.if-ends_interval.false)
-      ]
+      pads = c.in_ok-keep_pad.ensures c.loop.reader mcu read.0 read.1
           ∙ ap (pads_through 1 c.loop.reader) c.loop.invariant.pads
           ∙ more_through c.loop.counter 1 c.args.reader.now c.loop.reader so.0 c.args.pads.now so.1;
     }

@@ -1,12 +1,15 @@
-use Rattle.std.proofs.Common.{rules, ◌≡◌, ◌≤◌, ◌+◌, [], ◌∷◌, ◌++◌, length, refl, ap, ◌∙◌, sym, arith, subst}
+use Rattle.std.proofs.Common.{rules, ◌≡◌, ℕ, ◌≤◌, ◌+◌, [], ◌∷◌, ◌++◌, length, map, refl, ap, ◌∙◌, sym, arith, subst}
 use Rattle.std.specs.Prelude.{Ok, Err, None}
 use Rattle.std.proofs.lemmas.List.{length-take-le}
 use Rattle.std.proofs.lemmas.Result.{err_from_is_err_and}
 use Rattle.scan_spec.specs.ScanLaws.{zigzag_of}
 use Rattle.scan_spec.specs.Slots.{Shape}
 use Rattle.container_spec.specs.ScanStream.{blocks_of}
+use Rattle.scan_spec.specs.BlockBits.{in_zigzag}
 use Rattle.segment_code.specs.CodedMcus.{next_of}
+use Rattle.segment_code.specs.FoundPads.{pads_through}
 use Rattle.segment_code.proofs.McusCoded.{coded_none, coded_one}
+use Rattle.segment_code.proofs.PadsOn.{more_through, none_through}
 use Rattle.segment_code.proofs.ReadOn.{count_on, keeps, reads_on, refused_on}
 use Rattle.segment_code.proofs.segment_stream.code_mcus.Goals as goal
 
@@ -29,6 +32,7 @@ loop-init c = record {
     coded_none c.args.reader.now c.args.segment.now.grid c.args.segment.now
         c.args.coder.now c.requires.held,
   );
+  pads = sym (none_through c.args.reader.now c.args.pads.now);
 }
 
 pub loop-preserved : goal.loop-preserved
@@ -54,6 +58,10 @@ loop-preserved c =
             (c.in_ok-put_mcu.ensures.held (blocks_of i.coded.0) so.held)
             (rw (i.grid) at (c.in_ok-put_mcu.ensures.put (blocks_of i.coded.0) so.held)),
       );
+      pads = c.in_ok-keep_pad.ensures c.loop.reader (map in_zigzag c.next_mcu.new.out) read.0 read.1
+          ∙ ap (pads_through 1 c.loop.reader) i.pads
+          ∙ more_through c.loop.counter 1 c.args.reader.now c.loop.reader (zigzag_of i.coded.0)
+          c.args.pads.now so.on;
     }
 
 pub returns-in_err-next_mcu-clause-refused : goal.returns-in_err-next_mcu-clause-refused
@@ -69,3 +77,8 @@ returns-in_err-next_mcu-clause-refused c =
     (zigzag_of i.coded.0) c.in_err-next_mcu.field-0.0 so.on more read.0 in
     rw (p.1, p.2) (λ refusal is. let cause : c.in_err-next_mcu.field-0.0 ≡ refusal = cc in
     subst (λ r. next_of c.args.mcus c.args.reader.now ≡ Err r) cause all)
+
+pub returns-clause-pads : goal.returns-clause-pads
+returns-clause-pads c =
+    let last : c.loop.counter ≡ c.args.mcus = omega (arith, c.loop-test.false, c.loop.auto.counter-end) in
+    c.loop.invariant.pads ∙ ap (λ (n : ℕ). pads_through n c.args.reader.now c.args.pads.now) last

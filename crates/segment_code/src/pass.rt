@@ -1,0 +1,159 @@
+// A pass over a file's scan, from segment to segment.
+ghost use Rattle.std.specs.Prelude.{◌≡◌, ◌<◌, ◌≤◌, ◌-◌, List, IfOk, OnOk, IsErrOf, length, map, None, Err};
+ghost use Rattle.std.specs.List.{AllByRecursion};
+ghost use Rattle.jpeg_marker.specs.HeaderPlan.{Accepts};
+ghost use Rattle.huff_table.specs.ComponentTables.{tables_of};
+ghost use Rattle.scan_spec.specs.Items.{Refuses};
+ghost use Rattle.scan_spec.specs.Slots.{shape_of};
+ghost use Rattle.scan_spec.specs.declared.refusal.ScanRefusal.{ScanRefusal};
+ghost use Rattle.segment_code.specs.ScanPasses.{HasPassed, IsPass, IsPassedStream, next_part, pass_cut, passed, segments_left};
+ghost use Rattle.segment_code.specs.Starting.{AreStarts};
+
+use crate::cuts::{mcus_in, row_of, segment_count};
+use crate::error::ScanError;
+use crate::find::read_mcus;
+use crate::pads::PadsFound;
+use crate::part::SegmentPart;
+use crate::segment_stream::code_segment;
+use crate::starts::Starts;
+use huff_table::PlanCodes;
+use jpeg_marker::Plan;
+use scan_decode::Reader;
+use std::alloc::{AllocError, Global};
+use std::marker::Model;
+
+/// A pass over a file's scan, which finds where its segments start and how its intervals are padded: at most so many
+/// segments as are asked for, and at most as many as rows of MCUs.
+///
+/// Clauses see `PassFields`. `IsPass` holds between two segments.
+#[derive(Drop)]
+pub struct ScanPass<'a> {
+    plan: &'a Plan,
+    codes: &'a PlanCodes,
+    bytes: &'a [u8],
+    most: u8,
+    reader: Reader<'a>,
+    starts: Starts,
+    pads: PadsFound,
+}
+
+impl<'a> Model for ScanPass<'a> {
+    ghost use Rattle.segment_code.specs.ScanPasses.{PassFields};
+    ghost use Rattle.segment_code.specs.PassInside.{pass_in};
+
+    ghost Value = { PassFields };
+
+    ghost view = { pass_in };
+
+    ghost invariant = { λ p. Unit {0} };
+}
+
+impl<'a> ScanPass<'a> {
+    /// Before the first segment of a file, whose header's plan this is.
+    pub fn start(
+        alloc: Global,
+        plan: &'a Plan,
+        codes: &'a PlanCodes,
+        bytes: &'a [u8],
+        most: u8,
+    ) -> ScanPass<'a>
+        requires plan { Accepts bytes.now plan.now }
+        requires codes { codes.now ≡ map tables_of plan.now.components }
+        requires some { 0 < most }
+        ensures is { IsPass result }
+        ensures plan { result.plan ≡ plan.now }
+        ensures bytes { result.bytes ≡ bytes.now }
+        ensures most { result.most ≡ most }
+        ensures none { passed result ≡ 0 }
+    {
+        ScanPass {
+            plan,
+            codes,
+            bytes,
+            most,
+            reader: Reader::start(plan, codes, bytes, plan.header_length()),
+            starts: Starts::none(alloc),
+            pads: PadsFound::none(alloc),
+        }
+    }
+
+    /// How many segments are left.
+    pub fn left(&self) -> u8
+        requires { IsPass self.now }
+        ensures { result ≡ segments_left self.now }
+    {
+        segment_count(self.plan, self.most) - self.starts.segments()
+    }
+
+    /// The segment that comes next.
+    pub fn next(&self) -> SegmentPart<'a>
+        requires pass { IsPass self.now }
+        requires some { 0 < segments_left self.now }
+        ensures { result ≡ next_part self.now }
+    {
+        let count = segment_count(self.plan, self.most);
+        let segment = self.starts.segments();
+        SegmentPart {
+            plan: self.plan,
+            codes: self.codes,
+            bytes: self.bytes,
+            row: row_of(self.plan, count, segment),
+            place: self.reader.place(),
+            handover: self.reader.handover(),
+            mcus: mcus_in(self.plan, count, segment),
+        }
+    }
+
+    /// Reads the next segment, and keeps where it starts. On a refusal or out of memory the pass is of no worth.
+    pub fn skip(&mut self) -> Result<(), ScanError>
+        requires pass { IsPass self.old }
+        requires some { 0 < segments_left self.old }
+        ensures passed { OnOk result (HasPassed self.old self.new) }
+        ensures refused { (refusal : ScanRefusal) → IsErrOf result (ScanError.Scan refusal)
+            → Refuses (shape_of self.old.plan) self.old.bytes self.old.plan.header_length refusal }
+    {
+        let next = self.next();
+        self.starts.push(next.row, next.place, next.handover)?;
+        read_mcus(&mut self.reader, &mut self.pads, next.mcus)
+    }
+
+    /// Reads and codes the next segment, and keeps where it starts. On a refusal or out of memory the pass is of no
+    /// worth.
+    pub fn encode(&mut self, alloc: Global) -> Result<Vec<u8>, ScanError>
+        requires pass { IsPass self.old }
+        requires some { 0 < segments_left self.old }
+        ensures passed { OnOk result (HasPassed self.old self.new) }
+        ensures stream { IfOk result (λ stream. IsPassedStream self.old self.new stream.items) }
+        ensures refused { (refusal : ScanRefusal) → IsErrOf result (ScanError.Scan refusal)
+            → Refuses (shape_of self.old.plan) self.old.bytes self.old.plan.header_length refusal }
+    {
+        let next = self.next();
+        self.starts.push(next.row, next.place, next.handover)?;
+        code_segment(
+            alloc,
+            self.plan,
+            &mut self.reader,
+            &mut self.pads,
+            next.mcus,
+        )
+    }
+
+    /// Where the segments of the file start, after the last one. The one error is out of memory.
+    pub fn end(self) -> Result<Starts, AllocError>
+        requires pass { IsPass self }
+        requires none { segments_left self ≡ 0 }
+        ensures { IfOk result (λ starts. AreStarts self.entry.plan self.entry.bytes self.entry.most starts) }
+    {
+        let ScanPass {
+            plan: _,
+            codes: _,
+            bytes: _,
+            most: _,
+            reader,
+            mut starts,
+            pads,
+        } = self;
+        starts.end(pads, reader.end())?;
+        Ok(starts)
+    }
+}
