@@ -7,7 +7,7 @@ mod JoinedPieces
 mod McuMade
 mod McusCoded
 mod PadsOn
-mod PassesOn
+pub mod PassesOn
 mod PadsPacked
 mod PiecesFilled
 mod ReadOn

@@ -1,9 +1,10 @@
 -- A pass from segment to segment: it goes on, and ends with the file's starts.
-use Rattle.std.proofs.Common.{◌≡◌, ℕ, ◌+◌, ◌-◌, ◌*◌, ◌<◌, ◌≤◌, Bool, List, [], ◌∷◌, ◌++◌, length, refl, ap, ap₂, ◌∙◌, sym, subst, arith}
+use Rattle.std.proofs.Common.{◌≡◌, ℕ, ◌+◌, ◌-◌, ◌*◌, ◌<◌, ◌≤◌, Bool, List, [], ◌∷◌, ◌++◌, length, take, refl, ap, ap₂, ◌∙◌, sym, subst, arith}
 use Rattle.std.specs.Prelude.{ℤ, Result, IfOk, OnOk, Ok, Err, min, map}
 use Rattle.std.specs.List.{AllByRecursion}
-use Rattle.std.proofs.lemmas.List.{length-append}
+use Rattle.std.proofs.lemmas.List.{append_cancel_left, length-append, map-append}
 use Rattle.bit_list.specs.Bits.{IsByte}
+use Rattle.coef_block.specs.Block.{IsBlock}
 use Rattle.jpeg_marker.specs.Plans.{PlanFields, IsPlan}
 use Rattle.jpeg_marker.specs.HeaderPlan.{Accepts}
 use Rattle.jpeg_marker.proofs.HeadersTaken.{accepted_has_plan}
@@ -16,24 +17,29 @@ use Rattle.scan_spec.specs.Slots.{Shape, shape_of}
 use Rattle.scan_spec.specs.ScanCalls.{ScanReader, reader_at, resume_place}
 use Rattle.scan_spec.specs.ScanLaws.{zigzag_of}
 use Rattle.scan_spec.specs.ScanReading.{Standing}
+use Rattle.scan_spec.specs.BlockBits.{in_zigzag}
 use Rattle.scan_spec.specs.declared.refusal.ScanRefusal.{ScanRefusal}
+use Rattle.scan_spec.proofs.BitsTaken.{both_fine}
 use Rattle.handover.specs.Handovers.{HandoverFields}
 use Rattle.cut_spec.specs.Cuts.{Cut, first_mcu, row_of}
 use Rattle.cut_spec.specs.HandedOver.{spot_in}
-use Rattle.cut_spec.specs.RowHandovers.{handover_of, markers_before}
+use Rattle.cut_spec.specs.RowHandovers.{handover_of, markers_before, mcus_between}
+use Rattle.cut_spec.proofs.SegmentsRead.{first_are_read}
+use Rattle.cut_spec.proofs.Slices.{take_more}
 use Rattle.container_spec.specs.Files.{plan_cut}
+use Rattle.container_spec.specs.ScanStream.{stream_of}
 use Rattle.segment_code.specs.FileStarts.{StartsFields}
 use Rattle.segment_code.specs.CodedMcus.{AreReadOn, next_of}
 use Rattle.segment_code.specs.FoundPads.{FoundPads, none_found, pads_through}
 use Rattle.segment_code.specs.FoundStarts.{found}
-use Rattle.segment_code.specs.ScanPasses.{HasPassed, IsPart, IsPartOf, IsPass, PartFields, PassFields, first_reader, mcus_passed, next_part, pass_cut, passed, segments_left}
+use Rattle.segment_code.specs.ScanPasses.{HasPassed, IsNextStream, IsNoPart, IsPart, IsPartOf, IsPartStream, IsPass, PartFields, PassFields, first_reader, mcus_passed, next_part, pass_cut, passed, segments_left}
 use Rattle.segment_code.specs.Starting.{AreStarts, IsFileAt}
 use Rattle.segment_code.specs.StartsInside.{no_starts, starts_more}
 use Rattle.segment_code.proofs.CutsOfPlans.{end_of_all, first_of_all}
 use Rattle.segment_code.proofs.PadsOn.{more_through, none_through}
 use Rattle.segment_code.proofs.ReadOn.{Keeps, count_on, keeps, none_read, read_more, refused_in}
-use Rattle.segment_code.proofs.ScansCoded.{scan_refused}
-use Rattle.segment_code.proofs.SegmentsCoded.{HasMcus, good_of, has_mcus, row_within}
+use Rattle.segment_code.proofs.ScansCoded.{mcus_once, scan_refused}
+use Rattle.segment_code.proofs.SegmentsCoded.{HasMcus, between, good_of, has_mcus, row_within}
 use Rattle.segment_code.proofs.StartsFound.{are_starts, found_at, found_more, stands_there}
 
 -- its reader is one of the file's scan, with no refusal
@@ -166,6 +172,47 @@ has_refused p refusal is some refused =
     (refused_in (mcus_passed p) (next_part p).mcus (first_reader p).shape.mcus (first_reader p)
     p.reader is.read.0 refusal is.read.1 (omega (arith, ends, within)) refused)
 
+-- what a whole scan's first MCUs are
+first_ones : (p : PassFields) (mcus : List Mcu) (pads : List Bool) (trailer n : ℕ) (reader : ScanReader)
+    (read : List (List (List ℤ))) → IsPass p → IsFileAt p.bytes p.plan mcus pads trailer
+    → n ≤ (shape_of p.plan).mcus → AreReadOn n (first_reader p) reader read
+    → read ≡ zigzag_of (take n mcus)
+first_ones p mcus pads trailer n reader read is file few so =
+    let good = good_of p.bytes p.plan mcus pads trailer is.bytes file in
+    let all = first_are_read (shape_of p.plan) p.bytes p.plan.header_length trailer mcus pads n
+    good.shape file.scan few in
+    let long : n - 0 ≡ n = omega arith in
+    (both_fine (read, reader.at) (zigzag_of (mcus_between mcus 0 n), all.0)
+    (sym so.read ∙ all.1)).0 ∙ ap (λ (k : ℕ). zigzag_of (take k mcus)) long
+
+-- so what is read and coded next is the stream of the next segment
+pub coded_next : (p : PassFields) (reader : ScanReader) (all : List Mcu) (stream : List ℕ) → IsPass p
+    → 0 < segments_left p → AllByRecursion (AllByRecursion IsBlock) all
+    → AreReadOn (next_part p).mcus p.reader reader (zigzag_of all)
+    → stream ≡ stream_of p.plan all → IsNextStream p stream
+coded_next p reader all stream is some blocks on of_all = λ mcus pads trailer file.
+    let first = first_reader p in
+    let next = is_next p is some in
+    let from = mcus_passed p in
+    let to = first_mcu (pass_cut p) (passed p + 1) in
+    let begins = next.has.some in
+    let within = next.has.within in
+    let ends = next.ends in
+    let before = first_ones p mcus pads trailer from p.reader is.read.0 is file
+    (omega (arith, begins, within)) is.read.1 in
+    let more = read_more from (next_part p).mcus first p.reader reader is.read.0 (zigzag_of all)
+    is.read.1 on in
+    let through = first_ones p mcus pads trailer to reader (is.read.0 ++ zigzag_of all) is file
+    within (subst (λ (k : ℕ). AreReadOn k first reader (is.read.0 ++ zigzag_of all)) ends more) in
+    let parts = ap zigzag_of (take_more from to mcus (omega (arith, begins)))
+    ∙ map-append (λ (m : Mcu). map in_zigzag m) (take from mcus) (mcus_between mcus from to) in
+    let same : zigzag_of all ≡ zigzag_of (mcus_between mcus from to) =
+    append_cancel_left (zigzag_of (take from mcus)) (zigzag_of all)
+    (zigzag_of (mcus_between mcus from to)) (ap (λ (l : List (List (List ℤ))). l ++ zigzag_of all) (sym before) ∙ through ∙ parts) in
+    let each = file.scan.is.grid.each in
+    of_all ∙ ap (stream_of p.plan) (mcus_once (shape_of p.plan).slots all
+    (mcus_between mcus from to) blocks (between (shape_of p.plan).slots from to mcus each) same)
+
 -- so a call on a pass's fields, before the pass is known by them, meets what it asks
 pub fits : (q p : PassFields) (next : PartFields) → q ≡ p → next ≡ next_part p → IsPass p
     → 0 < segments_left p → q.reader.at.count + next.mcus ≤ q.reader.shape.mcus
@@ -249,6 +296,20 @@ has_ended p is none =
     (record s { pads = spelling_of p.pads.bits p.pads.sum; trailer = p.reader.at.cursor.next }))
     (sym starts) are
 
+pub then_coded : {A E : Type 0} (bytes_of : A → List ℕ) (result : Result A E) (q p : PassFields)
+    (next : PartFields) (reader : ScanReader) → q ≡ p → next ≡ next_part p → IsPass p
+    → 0 < segments_left p
+    → IfOk result (λ x. (all : List Mcu) × AllByRecursion (AllByRecursion IsBlock) all
+    × AreReadOn next.mcus q.reader reader (zigzag_of all) × (bytes_of x ≡ stream_of q.plan all))
+    → IfOk result (λ x. IsNextStream p (bytes_of x))
+then_coded bytes_of (Err error) q p next reader e f is some so = tt
+then_coded bytes_of (Ok x) q p next reader e f is some so =
+    let P : PassFields → PartFields → Type 0 = λ y n.
+    (all : List Mcu) × AllByRecursion (AllByRecursion IsBlock) all
+    × AreReadOn n.mcus y.reader reader (zigzag_of all) × (bytes_of x ≡ stream_of y.plan all) in
+    let here = subst (λ y. P y (next_part p)) e (subst (P q) f so) in
+    coded_next p reader here.0 (bytes_of x) is some here.1 here.2 here.3
+
 pub then_ended : (q p : PassFields) → q ≡ p → IsPass p → segments_left p ≡ 0
     → AreStarts p.plan p.bytes p.most
     (record q.starts { pads = spelling_of q.pads.bits q.pads.sum; trailer = q.reader.at.cursor.next })
@@ -295,3 +356,17 @@ next_is_part_of p mcus pads trailer is some file =
           ∙ at.handover;
       ends = next.ends;
     }
+
+-- a part's stream is that of the next segment
+pub stream_of_part : (p : PassFields) (part : PartFields) → part ≡ next_part p → IsPass p
+    → 0 < segments_left p → (stream : List ℕ) → IsPartStream part stream → IsNextStream p stream
+stream_of_part p part e is some stream of_part = λ mcus pads trailer file.
+    (subst (λ (x : PartFields). IsPartStream x stream) e of_part) mcus pads trailer p.most (passed p)
+    file (next_is_part_of p mcus pads trailer is some file)
+
+pub no_file_of : (p : PassFields) (part : PartFields) → part ≡ next_part p → IsPass p
+    → 0 < segments_left p → IsNoPart part → (mcus : List Mcu) (pads : List Bool) (trailer : ℕ)
+    → IsFileAt p.bytes p.plan mcus pads trailer → ⊥
+no_file_of p part e is some none mcus pads trailer file =
+    (subst (λ (x : PartFields). IsNoPart x) e none) mcus pads trailer p.most (passed p) file
+    (next_is_part_of p mcus pads trailer is some file)

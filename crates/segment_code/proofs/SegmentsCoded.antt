@@ -19,7 +19,7 @@ use Rattle.scan_spec.proofs.PlanShapes.{accepted_is_shape}
 use Rattle.handover.specs.Handovers.{HandoverFields, start}
 use Rattle.cut_spec.specs.Cuts.{first_mcu, row_of}
 use Rattle.cut_spec.specs.HandedOver.{reader_from}
-use Rattle.cut_spec.specs.RowHandovers.{handover_at, markers_before}
+use Rattle.cut_spec.specs.RowHandovers.{handover_at, markers_before, mcus_between}
 use Rattle.cut_spec.proofs.SegmentsRead.{first_are_read, segment_is_read}
 use Rattle.cut_spec.proofs.SpotsBegun.{each_has_rows}
 use Rattle.container_spec.specs.Files.{plan_cut, segment_mcus, segment_start}
@@ -190,6 +190,11 @@ dropped slots zero mcus each = each
 dropped slots (suc n) [] each = tt
 dropped slots (suc n) (mcu ∷ mcus) each = dropped slots n mcus each.1
 
+pub between : (slots : List Slot) (from to : ℕ) (mcus : List Mcu)
+    → AllByRecursion (IsMcu slots) mcus → AllByRecursion (IsMcu slots) (mcus_between mcus from to)
+between slots from to mcus each =
+    taken slots (to - from) (drop from mcus) (dropped slots from mcus each)
+
 pub same_mcus : (plan : PlanFields) (mcus all : List Mcu) (most i n : ℕ) (reader new : ScanReader)
     (at : Standing) → AllByRecursion (IsMcu (shape_of plan).slots) mcus
     → AllByRecursion (AllByRecursion IsBlock) all
@@ -200,9 +205,7 @@ same_mcus plan mcus all most i n reader new at each blocks so read =
     let same = both_fine (zigzag_of all, new.at) (zigzag_of (segment_mcus plan mcus most i), at)
     (sym so.read ∙ read) in
     mcus_once (shape_of plan).slots all (segment_mcus plan mcus most i) blocks
-    (taken (shape_of plan).slots (first_mcu cut (i + 1) - first_mcu cut i)
-    (drop (first_mcu cut i) mcus) (dropped (shape_of plan).slots (first_mcu cut i) mcus each))
-    same.0
+    (between (shape_of plan).slots (first_mcu cut i) (first_mcu cut (i + 1)) mcus each) same.0
 
 pub part_streams : (part : PartFields) (reader new : ScanReader) (all : List Mcu) (stream : List ℕ)
     → AllByRecursion IsByte part.bytes → reader ≡ part_reader part

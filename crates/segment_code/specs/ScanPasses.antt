@@ -131,10 +131,8 @@ IsNoPart part =
     (mcus : List Mcu) (pads : List Bool) (trailer most i : ℕ)
     → IsFileAt part.bytes part.plan mcus pads trailer → IsPartOf part mcus pads most i → ⊥
 
--- a stream is that of the segment that was passed between two passes
-abbrev pub IsPassedStream : PassFields → PassFields → List ℕ → Type 0
-IsPassedStream old new stream =
-    (all : List Mcu) × AllByRecursion (AllByRecursion IsBlock) all
-    × AreReadOn (first_mcu (pass_cut old) (passed old + 1) - mcus_passed old) old.reader new.reader
-        (zigzag_of all)
-    × (stream ≡ stream_of old.plan all)
+-- a stream is that of the segment that a pass comes to next, if the bytes are a file's
+abbrev pub IsNextStream : PassFields → List ℕ → Type 0
+IsNextStream p stream =
+    (mcus : List Mcu) (pads : List Bool) (trailer : ℕ) → IsFileAt p.bytes p.plan mcus pads trailer
+    → stream ≡ stream_of p.plan (segment_mcus p.plan mcus p.most (passed p))

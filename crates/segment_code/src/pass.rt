@@ -1,13 +1,14 @@
 // A pass over a file's scan, from segment to segment.
-ghost use Rattle.std.specs.Prelude.{◌≡◌, ◌<◌, ◌≤◌, ◌-◌, List, IfOk, OnOk, IsErrOf, length, map, None, Err};
+ghost use Rattle.std.specs.Prelude.{◌≡◌, ◌<◌, ◌≤◌, ℕ, Bool, List, IfOk, OnOk, IsErrOf, length, map, None, Err};
 ghost use Rattle.std.specs.List.{AllByRecursion};
 ghost use Rattle.jpeg_marker.specs.HeaderPlan.{Accepts};
 ghost use Rattle.huff_table.specs.ComponentTables.{tables_of};
 ghost use Rattle.scan_spec.specs.Items.{Refuses};
+ghost use Rattle.scan_spec.specs.Scans.{Mcu};
 ghost use Rattle.scan_spec.specs.Slots.{shape_of};
 ghost use Rattle.scan_spec.specs.declared.refusal.ScanRefusal.{ScanRefusal};
-ghost use Rattle.segment_code.specs.ScanPasses.{HasPassed, IsPass, IsPassedStream, next_part, pass_cut, passed, segments_left};
-ghost use Rattle.segment_code.specs.Starting.{AreStarts};
+ghost use Rattle.segment_code.specs.ScanPasses.{HasPassed, IsNextStream, IsNoPart, IsPart, IsPartStream, IsPass, next_part, passed, segments_left};
+ghost use Rattle.segment_code.specs.Starting.{AreStarts, IsFileAt};
 
 use crate::cuts::{mcus_in, row_of, segment_count};
 use crate::error::ScanError;
@@ -65,6 +66,7 @@ impl<'a> ScanPass<'a> {
         ensures bytes { result.bytes ≡ bytes.now }
         ensures most { result.most ≡ most }
         ensures none { passed result ≡ 0 }
+        ensures some { 0 < segments_left result }
     {
         ScanPass {
             plan,
@@ -85,8 +87,22 @@ impl<'a> ScanPass<'a> {
         segment_count(self.plan, self.most) - self.starts.segments()
     }
 
-    /// The segment that comes next.
+    /// The segment that comes next. If it is encoded, its stream is that of the pass's `encode`.
     pub fn next(&self) -> SegmentPart<'a>
+        requires pass { IsPass self.now }
+        requires some { 0 < segments_left self.now }
+        ensures part { IsPart result }
+        ensures is { result ≡ next_part self.now }
+        ensures stream { (stream : List ℕ) → IsPartStream result stream
+            → IsNextStream self.now stream }
+        ensures refused { IsNoPart result → (mcus : List Mcu) (pads : List Bool) (trailer : ℕ)
+            → IsFileAt self.now.bytes self.now.plan mcus pads trailer → ⊥ }
+    {
+        self.part()
+    }
+
+    // The segment that comes next.
+    fn part(&self) -> SegmentPart<'a>
         requires pass { IsPass self.now }
         requires some { 0 < segments_left self.now }
         ensures { result ≡ next_part self.now }
@@ -112,7 +128,7 @@ impl<'a> ScanPass<'a> {
         ensures refused { (refusal : ScanRefusal) → IsErrOf result (ScanError.Scan refusal)
             → Refuses (shape_of self.old.plan) self.old.bytes self.old.plan.header_length refusal }
     {
-        let next = self.next();
+        let next = self.part();
         self.starts.push(next.row, next.place, next.handover)?;
         read_mcus(&mut self.reader, &mut self.pads, next.mcus)
     }
@@ -123,11 +139,11 @@ impl<'a> ScanPass<'a> {
         requires pass { IsPass self.old }
         requires some { 0 < segments_left self.old }
         ensures passed { OnOk result (HasPassed self.old self.new) }
-        ensures stream { IfOk result (λ stream. IsPassedStream self.old self.new stream.items) }
+        ensures stream { IfOk result (λ stream. IsNextStream self.old stream.items) }
         ensures refused { (refusal : ScanRefusal) → IsErrOf result (ScanError.Scan refusal)
             → Refuses (shape_of self.old.plan) self.old.bytes self.old.plan.header_length refusal }
     {
-        let next = self.next();
+        let next = self.part();
         self.starts.push(next.row, next.place, next.handover)?;
         code_segment(
             alloc,

@@ -6,5 +6,6 @@ pub mod Emissions
 pub mod OwnPieces
 pub mod Putting
 pub mod StreamsMade
+mod StreamsPassed
 pub mod LonePieces
 pub mod LoneWritten

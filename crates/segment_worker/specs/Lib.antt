@@ -5,3 +5,4 @@ pub mod Emitting
 pub mod OwnSegments
 pub mod Working
 pub mod LoneSegments
+pub mod StreamsFound

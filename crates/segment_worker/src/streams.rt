@@ -1,17 +1,102 @@
 // The streams of a file's segments, side by side.
-ghost use Rattle.std.specs.Prelude.{◌≡◌, ◌<◌, ℕ, Bool, List, length, map, Ok, IfOk};
+ghost use Rattle.jpeg_marker.specs.HeaderPlan.{Accepts};
+ghost use Rattle.std.specs.Prelude.{◌≡◌, ◌<◌, ℕ, Bool, List, length, map, Ok, IfOk, IsErrOf};
+ghost use Rattle.scan_spec.specs.Items.{Refuses};
 ghost use Rattle.scan_spec.specs.Scans.{Mcu};
+ghost use Rattle.scan_spec.specs.Slots.{shape_of};
+ghost use Rattle.scan_spec.specs.declared.refusal.ScanRefusal.{ScanRefusal};
 ghost use Rattle.box_format.specs.Raws.{numbers};
 ghost use Rattle.container_spec.specs.Files.{plan_cut, segment_mcus};
 ghost use Rattle.segment_code.specs.FileStarts.{starts_of};
 ghost use Rattle.container_spec.specs.ScanStream.{stream_of};
 ghost use Rattle.segment_code.specs.Starting.{AreStarts, IsFileAt};
 
+use crate::relay::{Part, Pass, make_all};
+use huff_table::PlanCodes;
 use jpeg_marker::Plan;
-use segment_code::{Starts, encode_segment};
+use segment_code::{ScanError, ScanPass, SegmentPart, Starts, encode_segment};
 use std::alloc::{AllocError, Global};
 use std::thread;
 use std::thread::Threads;
+
+/// Where the segments of a file start, whose header's plan this is, and the stream of each, in order: at most `segments`,
+/// and at most as many as rows of MCUs. One pass over the scan finds the starts. Each segment but the last is coded in a
+/// thread of its own, if one can be had, once the pass is there; the pass codes the last one.
+pub fn encode_scan<R: Threads + Sync>(
+    rt: &R,
+    alloc: Global,
+    plan: &Plan,
+    bytes: &[u8],
+    segments: u8,
+) -> Result<(Starts, Vec<Vec<u8>>), ScanError>
+    requires plan { Accepts bytes.now plan.now }
+    requires some { 0 < segments }
+    ensures starts { IfOk result (λ made. AreStarts plan.now bytes.now segments made.0) }
+    ensures streams { (mcus : List Mcu) (pads : List Bool) (trailer : ℕ)
+        → IsFileAt bytes.now plan.now mcus pads trailer
+        → IfOk result (λ made. map (λ v. v.items) made.1.items
+        ≡ map (λ i. stream_of plan.now (segment_mcus plan.now mcus segments i))
+        (numbers 0 (plan_cut plan.now segments).segments)) }
+    ensures refused { (refusal : ScanRefusal) → IsErrOf result (ScanError.Scan refusal)
+        → Refuses (shape_of plan.now) bytes.now plan.now.header_length refusal }
+{
+    let codes = PlanCodes::build(plan);
+    let mut pass = ScanPass::start(alloc, plan, &codes, bytes, segments);
+    let streams = make_all(rt, alloc, &mut pass)?;
+    let starts = pass.end()?;
+    Ok((starts, streams))
+}
+
+impl<'a> Part for SegmentPart<'a> {
+    ghost use Rattle.segment_code.specs.ScanPasses.{IsNoPart, IsPart, IsPartStream};
+
+    ghost ready = { λ part. IsPart part };
+
+    ghost gives = { λ part stream. IsPartStream part stream };
+
+    ghost refused = { λ part. IsNoPart part };
+
+    fn make(&self, alloc: Global) -> Result<Vec<u8>, ScanError> {
+        self.encode(alloc)
+    }
+}
+
+impl<'a> Pass<SegmentPart<'a>> for ScanPass<'a> {
+    ghost use Rattle.segment_code.specs.ScanPasses.{HasPassed, IsNextStream, IsPass, segments_left};
+    ghost use Rattle.segment_worker.specs.StreamsFound.{AreStreams, PassRefuses, refused_later, streams_joined};
+
+    ghost holds = { λ pass. IsPass pass };
+
+    ghost left = { λ pass. segments_left pass };
+
+    ghost passed = { λ old new. HasPassed old new };
+
+    ghost gives_next = { λ pass stream. IsNextStream pass stream };
+
+    ghost gives_all = { λ old new streams. AreStreams old new streams };
+
+    ghost refuses = { λ pass refusal. PassRefuses pass refusal };
+
+    fn left(&self) -> u8 {
+        ScanPass::left(self)
+    }
+
+    fn next(&self) -> SegmentPart<'a> {
+        ScanPass::next(self)
+    }
+
+    fn skip(&mut self) -> Result<(), ScanError> {
+        ScanPass::skip(self)
+    }
+
+    fn last(&mut self, alloc: Global) -> Result<Vec<u8>, ScanError> {
+        self.encode(alloc)
+    }
+
+    ghost joined = { streams_joined };
+
+    ghost later = { refused_later };
+}
 
 /// The stream of each segment of a file, in order. Each is made in a thread of its own if one can be had. The one error
 /// is out of memory.

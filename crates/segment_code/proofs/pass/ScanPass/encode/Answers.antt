@@ -1,7 +1,7 @@
 use Rattle.std.proofs.Common.{◌∙◌, ap}
 use Rattle.segment_code.specs.PassInside.{part_in, pass_in}
 use Rattle.segment_code.specs.ScanPasses.{PartFields}
-use Rattle.segment_code.proofs.PassesOn.{coded_read, few_passed, fits, then_passed, then_refused}
+use Rattle.segment_code.proofs.PassesOn.{coded_read, few_passed, fits, then_coded, then_passed, then_refused}
 use Rattle.segment_code.proofs.pass.ScanPass.encode.Goals as goal
 
 pub push-requires : goal.push-requires
@@ -11,17 +11,24 @@ push-requires c = few_passed (pass_in c.self.inside) c.args.self.now c.self.view
 pub code_segment-requires-clause-count : goal.code_segment-requires-clause-count
 code_segment-requires-clause-count c =
     fits (pass_in c.self.inside) c.args.self.now (part_in c.next.inside) c.self.view_is
-    (c.next.view_is ∙ c.next-next.ensures) c.requires.pass c.requires.some
+    (c.next.view_is ∙ c.part-next.ensures) c.requires.pass c.requires.some
 
 pub returns-clause-passed : goal.returns-clause-passed
 returns-clause-passed c =
     then_passed c.code_segment.result (pass_in c.self.inside) c.args.self.now (part_in c.next.inside)
     c.code_segment.new.reader c.push.new.self c.code_segment.new.pads c.self.view_is
-    (c.next.view_is ∙ c.next-next.ensures) c.requires.pass c.requires.some c.in_ok-push.ensures
+    (c.next.view_is ∙ c.part-next.ensures) c.requires.pass c.requires.some c.in_ok-push.ensures
     (coded_read _ _ _ c.code_segment.result c.code_segment.ensures.coded) c.code_segment.ensures.pads
 
 pub returns-clause-refused : goal.returns-clause-refused
 returns-clause-refused c = λ refusal is.
     then_refused (pass_in c.self.inside) c.args.self.now (part_in c.next.inside) refusal
-    c.self.view_is (c.next.view_is ∙ c.next-next.ensures) c.requires.pass c.requires.some
+    c.self.view_is (c.next.view_is ∙ c.part-next.ensures) c.requires.pass c.requires.some
     (c.code_segment.ensures.refused refusal is)
+
+pub returns-clause-stream : goal.returns-clause-stream
+returns-clause-stream c =
+    then_coded (λ v. v.items) c.code_segment.result (pass_in c.self.inside) c.args.self.now
+    (part_in c.next.inside) c.code_segment.new.reader c.self.view_is
+    (c.next.view_is ∙ c.part-next.ensures) c.requires.pass c.requires.some
+    c.code_segment.ensures.coded

@@ -11,17 +11,17 @@ push-requires c = few_passed (pass_in c.self.inside) c.args.self.now c.self.view
 pub read_mcus-requires-clause-count : goal.read_mcus-requires-clause-count
 read_mcus-requires-clause-count c =
     fits (pass_in c.self.inside) c.args.self.now (part_in c.next.inside) c.self.view_is
-    (c.next.view_is ∙ c.next-next.ensures) c.requires.pass c.requires.some
+    (c.next.view_is ∙ c.part-next.ensures) c.requires.pass c.requires.some
 
 pub returns-clause-passed : goal.returns-clause-passed
 returns-clause-passed c =
     then_passed c.read_mcus.result (pass_in c.self.inside) c.args.self.now (part_in c.next.inside)
     c.read_mcus.new.reader c.push.new.self c.read_mcus.new.pads c.self.view_is
-    (c.next.view_is ∙ c.next-next.ensures) c.requires.pass c.requires.some c.in_ok-push.ensures
+    (c.next.view_is ∙ c.part-next.ensures) c.requires.pass c.requires.some c.in_ok-push.ensures
     c.read_mcus.ensures.read c.read_mcus.ensures.pads
 
 pub returns-clause-refused : goal.returns-clause-refused
 returns-clause-refused c = λ refusal is.
     then_refused (pass_in c.self.inside) c.args.self.now (part_in c.next.inside) refusal
-    c.self.view_is (c.next.view_is ∙ c.next-next.ensures) c.requires.pass c.requires.some
+    c.self.view_is (c.next.view_is ∙ c.part-next.ensures) c.requires.pass c.requires.some
     (c.read_mcus.ensures.refused refusal is)
