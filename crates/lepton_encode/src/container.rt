@@ -13,8 +13,7 @@ ghost use Rattle.container_spec.specs.Files.{IsContainerOf};
 use crate::error::EncodeError;
 use box_format::{Parts, write_box};
 use jpeg_marker::read_header;
-use segment_code::find_starts;
-use segment_worker::encode_all;
+use segment_worker::encode_scan;
 use std::alloc::Global;
 use std::thread::Threads;
 
@@ -37,8 +36,7 @@ pub fn encode<R: Threads + Sync>(
         × ScanRefuses (shape_of plan) bytes.now plan.header_length refusal }
 {
     let plan = read_header(bytes)?;
-    let starts = find_starts(alloc, &plan, bytes, segments)?;
-    let streams = encode_all(rt, alloc, &plan, bytes, &starts)?;
+    let (starts, streams) = encode_scan(rt, alloc, &plan, bytes, segments)?;
     let (header, _) = bytes.split_at(plan.header_length());
     let (_, trailer) = bytes.split_at(starts.trailer());
     let made = write_box(

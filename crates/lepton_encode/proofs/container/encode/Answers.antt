@@ -30,7 +30,7 @@ write_box-requires g c =
     let are : AllByRecursion IsByte bytes =
     are_bytes bytes (λ i. let h = c.type_inv.bytes i in search rules) in
     let streams = ap (map (λ v. v.items)) c.as_slice.ensures.value
-    ∙ c.in_ok-streams.ensures have.mcus have.pads c.args.segments have.file have.are in
+    ∙ c.in_ok-starts.ensures.streams have.mcus have.pads starts.trailer have.file in
     let same = found plan bytes c.args.segments starts have c.pad.ensures c.header_length.ensures
     c.split_at.ensures.front c.trailer.ensures c.split_at-2.ensures.back c.handovers.ensures streams in
     let is = is_box plan bytes c.args.segments starts have are c.requires.length c.requires.some
@@ -46,7 +46,7 @@ returns-clause-made g c =
     let are : AllByRecursion IsByte bytes =
     are_bytes bytes (λ i. let h = c.type_inv.bytes i in search rules) in
     let streams = ap (map (λ v. v.items)) c.as_slice.ensures.value
-    ∙ c.in_ok-streams.ensures have.mcus have.pads c.args.segments have.file have.are in
+    ∙ c.in_ok-starts.ensures.streams have.mcus have.pads starts.trailer have.file in
     let same = found plan bytes c.args.segments starts have c.pad.ensures c.header_length.ensures
     c.split_at.ensures.front c.trailer.ensures c.split_at-2.ensures.back c.handovers.ensures streams in
     let made = has_container plan bytes c.args.segments starts have are c.requires.length in
