@@ -16,6 +16,7 @@ pub mod StreamSizes
 pub mod FileParts
 pub mod ContainerSizes
 pub mod OneMeanings
+pub mod AcceptedFiles
 pub mod PaddedSlices
 pub mod RestoredFiles
 pub mod ScanBytes

@@ -2,6 +2,7 @@ pub mod ScanStream
 pub mod Segments
 pub mod Meanings
 pub mod Files
+pub mod Refusals
 pub mod Limits
 pub mod SegmentLaws
 pub mod MeaningLaws

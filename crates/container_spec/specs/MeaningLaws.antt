@@ -15,6 +15,7 @@ use Rattle.box_format.specs.declared.version.Version.TheVariants.{First, Second}
 use Rattle.container_spec.specs.Segments.{segment_output}
 use Rattle.container_spec.specs.Meanings.{Meaning, Restored, IsMeaning, segment_in}
 use Rattle.container_spec.specs.Files.{IsContainerOf, told_pads}
+use Rattle.container_spec.specs.Refusals.{IsRefusedFile}
 use Rattle.container_spec.specs.Limits.{most_of_a_container, most_of_a_file}
 
 -- bytes stand for one thing as a container
@@ -43,6 +44,12 @@ abbrev pub OneContainer : Type 0
 OneContainer =
     (version : Version) (most : ℕ) (made other file : List ℕ)
     → IsContainerOf version most made file → IsContainerOf version most other file → made ≡ other
+
+-- a file that has a container isn't refused
+abbrev pub AcceptedIsNotRefused : Type 0
+AcceptedIsNotRefused =
+    (version : Version) (most : ℕ) (made file : List ℕ)
+    → IsContainerOf version most made file → IsRefusedFile file → ⊥
 
 -- the second version can say the pad bits of each file
 abbrev pub SecondCanPad : Type 0

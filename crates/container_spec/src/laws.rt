@@ -1,6 +1,6 @@
 // What holds of all segments, containers and files.
 ghost use Rattle.container_spec.specs.SegmentLaws.{McusArePut, SegmentIsItsSlice, GoodHasItsStream};
-ghost use Rattle.container_spec.specs.MeaningLaws.{OneMeaning, ContainerIsRestored, RestoredIsContainer, OneContainer, FirstCanPad, SecondCanPad, ContainerIsShort, MigratedMeansTheSame, SegmentIsShort};
+ghost use Rattle.container_spec.specs.MeaningLaws.{OneMeaning, ContainerIsRestored, RestoredIsContainer, OneContainer, AcceptedIsNotRefused, FirstCanPad, SecondCanPad, ContainerIsShort, MigratedMeansTheSame, SegmentIsShort};
 ghost use Rattle.container_spec.specs.MeaningRows.{zeros_are_put, faults_are_told, containers_are_joined, pad_is_spelled, lists_are_spelled};
 
 /// MCUs that a stream gives are put, and so a segment of a scan stands for its slice of the scan.
@@ -16,12 +16,13 @@ pub fn good_segments_have_their_stream()
 
 /// A file's container stands for that file, in each version that can say its pad bits, and what stands for a file is its
 /// container. Version 2 can always say them, version 1 if no two intervals are padded with different bits. Bytes stand
-/// for one thing.
+/// for one thing. A file that has a container isn't refused.
 pub fn containers_stand_for_files()
     ensures one_meaning { OneMeaning }
     ensures restored { ContainerIsRestored }
     ensures spelling { RestoredIsContainer }
     ensures one_container { OneContainer }
+    ensures apart { AcceptedIsNotRefused }
     ensures first { FirstCanPad }
     ensures second { SecondCanPad }
     ensures short { ContainerIsShort }

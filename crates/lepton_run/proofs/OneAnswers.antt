@@ -1,26 +1,21 @@
 -- Bytes have one answer.
-use Rattle.std.proofs.Common.{◌≡◌, ℕ, ◌+◌, inl, inr, Bool, List, [], ◌++◌, length, drop, refl, sym, ap, ◌∙◌, subst, length-append, length-drop, drop-drop, arith}
+use Rattle.std.proofs.Common.{◌≡◌, ℕ, inl, inr, List, [], length, sym, ap, ◌∙◌, subst, arith}
 use Rattle.std.specs.List.{AllByRecursion}
-use Rattle.std.proofs.lemmas.List.{drop_at}
 use Rattle.bit_list.specs.Bits.{IsByte}
 use Rattle.jpeg_marker.specs.Plans.{PlanFields}
 use Rattle.jpeg_marker.proofs.HeaderLaws.{one_plan, one_refusal, never_both}
-use Rattle.jpeg_marker.proofs.HeadersTaken.{accepted_has_plan}
-use Rattle.scan_spec.specs.FileParts.{IsFileOf}
 use Rattle.scan_spec.specs.Items.{Refuses}
-use Rattle.scan_spec.specs.Scans.{Mcu}
-use Rattle.scan_spec.specs.ScanLaws.{Begins, IsShape}
+use Rattle.scan_spec.specs.ScanLaws.{IsShape}
 use Rattle.scan_spec.specs.Slots.{shape_of}
 use Rattle.scan_spec.specs.declared.refusal.ScanRefusal.{ScanRefusal}
 use Rattle.scan_spec.proofs.ItemsOnce.{one_outcome}
-use Rattle.scan_spec.proofs.ItemsRead.{ends_so}
 use Rattle.scan_spec.proofs.PlanShapes.{accepted_is_shape}
-use Rattle.scan_spec.proofs.ScanTaken.{read_again}
 use Rattle.cut_spec.specs.Cuts.{cut_of}
 use Rattle.box_format.specs.Parts.{BoxParts, box_bytes, migrated}
 use Rattle.box_format.specs.declared.version.Version.TheVariants.{Second}
 use Rattle.box_format.proofs.BoxLawsProved.{one_box, one_box_refusal, never_both as box_or_refused}
 use Rattle.container_spec.specs.Meanings.{Meaning}
+use Rattle.container_spec.proofs.AcceptedFiles.{scan_apart}
 use Rattle.container_spec.proofs.OneMeanings.{one_container, one_meaning}
 use Rattle.command_words.specs.declared.command.Command.{Command}
 use Rattle.command_words.specs.declared.command.Command.TheVariants.{Encode, Decode, Migrate, Sample}
@@ -29,47 +24,6 @@ use Rattle.lepton_run.specs.Summaries.{IsSummary, sample_segments, summary_of}
 use Rattle.lepton_run.specs.Answers.{Answer, Answers, Early, Late, Made, Makes, ScanRefuses, answer_by}
 use Rattle.lepton_run.specs.declared.refusal.Refusal.{Refusal}
 use Rattle.lepton_run.specs.declared.refusal.Refusal.TheVariants.{Header, Scan, Box, Fault, PadSpelling, TooLong}
-
--- the scan of a file begins at its place
-begins : (bytes : List ℕ) (plan : PlanFields) (mcus : List Mcu) (pads : List Bool) (trailer : List ℕ)
-    → AllByRecursion IsByte bytes → (is : IsFileOf bytes plan mcus pads trailer)
-    → Begins (shape_of plan) mcus pads bytes plan.header_length
-    (plan.header_length + length is.scan)
-begins bytes plan mcus pads trailer all is =
-    let place = plan.header_length in
-    let within = (accepted_has_plan bytes plan all is.header).within in
-    let rest : trailer ≡ drop (place + length is.scan) bytes =
-    sym (drop_at is.scan trailer (length is.scan) refl)
-    ∙ ap (drop (length is.scan)) (sym is.text) ∙ drop-drop (length is.scan) place bytes
-    ∙ ap (λ n. drop n bytes) (omega arith) in
-    record {
-      scan = is.scan;
-      is = is.is;
-      text = is.text ∙ ap (λ l. is.scan ++ l) rest;
-      within = omega (
-        arith,
-        within,
-        ap length is.text,
-        length-drop place bytes,
-        length-append is.scan trailer,
-      );
-      long = refl;
-    }
-
--- a file's scan isn't refused
-pub scan_apart : (bytes : List ℕ) (plan : PlanFields) (mcus : List Mcu) (pads : List Bool)
-    (trailer : List ℕ) (refusal : ScanRefusal) → AllByRecursion IsByte bytes
-    → IsFileOf bytes plan mcus pads trailer → ScanRefuses bytes refusal → ⊥
-scan_apart bytes plan mcus pads trailer refusal all is why =
-    let shape : IsShape (shape_of plan) = (accepted_is_shape bytes plan all is.header).0 in
-    let place = plan.header_length in
-    let read = read_again (shape_of plan) bytes place (place + length is.scan) mcus pads shape
-    (begins bytes plan mcus pads trailer all is) in
-    let ends = ends_so (shape_of plan) bytes place _ read.0 shape read.1 in
-    let same = one_plan bytes why.0 plan why.1 is.header in
-    let refuses = subst (λ (p : PlanFields). Refuses (shape_of p) bytes p.header_length refusal)
-    same why.2 in
-    (one_outcome (shape_of plan) bytes place _ _ refusal refusal shape refuses).1 ends
 
 one_scan_refusal : (bytes : List ℕ) (refusal other : ScanRefusal) → AllByRecursion IsByte bytes
     → ScanRefuses bytes refusal → ScanRefuses bytes other → refusal ≡ other

@@ -29,7 +29,7 @@ use Rattle.lepton_run.specs.Summaries.{IsSummary, sample_segments}
 use Rattle.lepton_run.specs.declared.ending.Ending.{Ending}
 use Rattle.lepton_run.specs.declared.ending.Ending.TheVariants.{Done, Refused, WordsRefused, ReadFailed, WriteFailed, NoMemory}
 use Rattle.lepton_run.proofs.BothWays.{container_are}
-use Rattle.lepton_run.proofs.OneAnswers.{scan_apart}
+use Rattle.container_spec.proofs.AcceptedFiles.{scan_apart}
 
 -- ---- encoding
 

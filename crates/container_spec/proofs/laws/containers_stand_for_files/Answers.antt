@@ -1,3 +1,4 @@
+use Rattle.container_spec.proofs.AcceptedFiles.{accepted_is_not_refused}
 use Rattle.container_spec.proofs.ContainerSizes.{container_is_short}
 use Rattle.container_spec.proofs.MigratedMeanings.{migrated_means_the_same}
 use Rattle.container_spec.proofs.OneMeanings.{one_meaning, one_container}
@@ -29,3 +30,6 @@ returns-clause-second c = second_can_pad
 
 pub returns-clause-migrated : goal.returns-clause-migrated
 returns-clause-migrated c = migrated_means_the_same
+
+pub returns-clause-apart : goal.returns-clause-apart
+returns-clause-apart c = accepted_is_not_refused
