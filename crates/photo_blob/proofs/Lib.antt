@@ -1,0 +1,3 @@
+pub mod ShownFiles
+pub mod PaidSteps
+pub mod BlobFiles

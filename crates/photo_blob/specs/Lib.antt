@@ -1,0 +1,3 @@
+pub mod Blobs
+pub mod BlobLaws
+pub mod Showing

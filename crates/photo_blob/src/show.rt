@@ -1,0 +1,80 @@
+// A blob's file.
+ghost use Rattle.std.specs.Prelude.{◌≡◌, ◌++◌, ℕ, List, IfOk, OnOk, true};
+ghost use Rattle.handover.specs.declared.outcome.Outcome.{Outcome};
+ghost use Rattle.segment_code.specs.Decoding.{Owes};
+ghost use Rattle.photo_blob.specs.Blobs.{IsBlobOf};
+ghost use Rattle.photo_blob.specs.Showing.{StandsFor};
+
+use bit_list::Piece;
+use box_format::read_box;
+use segment_code::{SegmentDecoder, Step};
+use std::alloc::{AllocError, Global};
+
+/// The first byte of a blob if the file follows it.
+pub const PLAIN: u8 = 0;
+
+/// The first byte of a blob if the file's container follows it.
+pub const CONTAINER: u8 = 1;
+
+/// Returns the file of a blob. It waits for nothing; its one error is out of memory.
+pub fn show_blob(alloc: Global, blob: &[u8]) -> Result<Vec<u8>, AllocError>
+    requires blob { (file : List ℕ) × IsBlobOf blob.now file }
+    ensures shown { (file : List ℕ) → IsBlobOf blob.now file
+        → IfOk result (λ shown. shown.items ≡ file) }
+{
+    let (mark, rest) = match blob {
+        [mark, rest @ ..] => (*mark, rest),
+        [] => unreachable!(),
+    };
+    if mark == PLAIN {
+        let mut file = Vec::new(alloc);
+        file.extend_from_slice(rest)?;
+        return Ok(file);
+    }
+    show_container(alloc, rest)
+}
+
+// The file that a container stands for.
+fn show_container(alloc: Global, bytes: &[u8]) -> Result<Vec<u8>, AllocError>
+    requires stands { (file : List ℕ) × StandsFor bytes.now file }
+    ensures shown { (file : List ℕ) → StandsFor bytes.now file
+        → IfOk result (λ shown. shown.items ≡ file) }
+{
+    let view = match read_box(bytes) {
+        Ok(view) => view,
+        Err(_) => unreachable!(),
+    };
+    let mut decoder = SegmentDecoder::prepare(alloc, view.plan())?;
+    let mut piece = Piece::new(alloc)?;
+    let mut file = Vec::new(alloc);
+    file.extend_from_slice(view.header())?;
+    for segment in 0..view.segments() {
+        decoder.begin(&view, segment);
+        append_segment(&mut decoder, &mut piece, &mut file)?;
+    }
+    file.extend_from_slice(view.trailer())?;
+    Ok(file)
+}
+
+// Appends the bytes of the segment that was begun.
+fn append_segment<'a>(
+    decoder: &mut SegmentDecoder<'a>,
+    piece: &mut Piece,
+    file: &mut Vec<u8>,
+) -> Result<(), AllocError>
+    requires running { decoder.old.running ≡ true }
+    requires owes { (bytes : List ℕ) × (outcome : Outcome) × Owes decoder.old bytes outcome }
+    ensures appended { (bytes : List ℕ) (outcome : Outcome) → Owes decoder.old bytes outcome
+        → OnOk result (file.new.items ≡ file.old.items ++ bytes) }
+    ensures begun { decoder.new.begun ≡ decoder.old.begun }
+    ensures plan { decoder.new.plan ≡ decoder.old.plan }
+{
+    loop {
+        let step = decoder.step(piece);
+        file.extend_from_slice(piece.bytes())?;
+        match step {
+            Step::More => {}
+            _ => return Ok(()),
+        }
+    }
+}
