@@ -1,6 +1,7 @@
 -- Statement: journals of calls, and what the store of one thread replies to each call (own). The store of one thread is
 -- a map from keys to blobs, each of which has its number among the blobs.
 use Rattle.std.specs.Prelude.{◌≡◌, ℕ, ◌+◌, ◌==◌, if◌then◌else◌, bytes_eq, List, [], ◌∷◌, ◌++◌, Option, Some, None}
+use Rattle.std.specs.List.{AllByRecursion}
 use Rattle.blob_store.specs.declared.record.Call.{Call}
 use Rattle.blob_store.specs.declared.record.Call.TheVariants.{Put, Find, Remove}
 use Rattle.blob_store.specs.declared.record.Reply.{Reply}
@@ -69,6 +70,10 @@ abbrev pub calls_by : ℕ → List Record → List Record
 calls_by caller [] = []
 calls_by caller (r ∷ rs) =
     if r.caller == caller then r ∷ calls_by caller rs else calls_by caller rs
+
+-- each of these entries is a call of this caller
+abbrev pub AreBy : ℕ → List Record → Type 0
+AreBy caller rs = AllByRecursion (λ (r : Record). r.caller ≡ caller) rs
 
 -- a list begins with another
 abbrev pub StartsWith : {A : Type 0} → List A → List A → Type 0

@@ -1,6 +1,6 @@
 // A store, its callers, and their calls.
 ghost use Rattle.std.specs.Prelude.{◌≡◌, ◌<◌, ◌≤◌, [], IfOk};
-ghost use Rattle.blob_store.specs.Journals.{StartsWith};
+ghost use Rattle.blob_store.specs.Journals.{AreBy, StartsWith};
 ghost use Rattle.blob_store.specs.States.{Puts, Finds, Removes, find_reply};
 ghost use Rattle.blob_store.specs.Callers.{CallGives, FoundBlob, new_callers};
 
@@ -133,13 +133,14 @@ impl<P: Keeper, F: Form> BlobStore<P, F> {
         holds::remove(rt, &self.lock, &mut caller.pass, caller.number, key)
     }
 
-    /// Gives the keeper back, by the first caller, if there is no other.
+    /// Gives the keeper back, by the first caller, if there is no other. So the journal has no entry of another.
     pub fn close(self, caller: BlobCaller<P, F>) -> P
         requires own { caller.table ≡ self }
         requires first { caller.number ≡ 0 }
         requires alone { caller.splits ≡ 0 }
         ensures blobs { StartsWith (P.blobs result) caller.view.blobs }
         ensures faults { caller.view.faults ≤ P.fault_count result }
+        ensures sole { AreBy 0 caller.view.seen }
     {
         self.lock.close(caller.pass).into_keeper()
     }
