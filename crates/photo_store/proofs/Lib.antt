@@ -1,0 +1,2 @@
+pub mod FileRuns
+pub mod Clashes

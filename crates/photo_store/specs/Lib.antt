@@ -1,0 +1,4 @@
+pub mod Photos
+pub mod FileStores
+pub mod FileEntries
+pub mod FileLaws
