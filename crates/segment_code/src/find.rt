@@ -14,11 +14,9 @@ use crate::error::ScanError;
 use crate::pads::PadsFound;
 use crate::pass::ScanPass;
 use crate::starts::Starts;
-use coef_block::Block;
 use huff_table::PlanCodes;
 use jpeg_marker::Plan;
 use scan_decode::Reader;
-use scan_spec::MOST_SLOTS;
 use std::alloc::{AllocError, Global};
 
 /// Where the segments of a file start, whose header's plan this is: at most `segments`, and at most as many as rows of
@@ -57,11 +55,8 @@ pub(crate) fn read_mcus(
     ensures refused { (refusal : ScanRefusal) → IsErrOf result (ScanError.Scan refusal)
         → next_of mcus reader.old ≡ Err refusal }
 {
-    let mut mcu = [Block::zero(); MOST_SLOTS];
-    let slots = reader.mcu_blocks();
-    let blocks = &mut mcu[..slots];
     for _ in 0..mcus {
-        reader.next_mcu(blocks)?;
+        reader.skip_mcu()?;
         keep_pad(reader, pads)?;
     }
     Ok(())

@@ -5,7 +5,6 @@ use Rattle.segment_code.proofs.find.read_mcus.Given as goal
 
 abbrev pub invariant-loop : goal.invariant-loop
 invariant-loop l = record {
-  long : length l.blocks ≡ length l.reader.shape.slots;
   read : (read : List (List (List ℤ))) × AreReadOn l.counter l.initial.reader l.reader read;
   pads : l.pads ≡ pads_through l.counter l.initial.reader l.initial.pads;
 }
