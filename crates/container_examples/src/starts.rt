@@ -6,8 +6,10 @@ use handover::Handover;
 use jpeg_marker::read_header;
 use scan_spec::ScanRefusal;
 use segment_code::{ScanError, Starts, encode_segment, find_starts};
+use segment_worker::{encode_all, encode_scan};
 use std::alloc::{AllocError, Global};
 use std::test::Fail;
+use std::thread::Threads;
 
 // A segment's row of MCUs, its place, and of its handover the byte begun, the bits of it, and the restart markers; each
 // DC is 0.
@@ -255,6 +257,72 @@ fn are_sixty_four(alloc: Global, bytes: &[u8], segments: u8) -> bool
         }
     }
     true
+}
+
+// Segments that are coded beside the pass over a scan are those that are coded after it.
+#[test]
+fn segments_beside_the_pass_are_those_after_it(rt: HostRuntime) {
+    let header = [START, SIXTY_FOUR_HIGH, LEVEL, END, GREY_SCAN];
+    let bytes = joined(rt.alloc(), &header, &[0; 16]).expect(&rt, "memory");
+    for segments in [1, 2, 3, 64] {
+        assert!(rt; are_alike(&rt, rt.alloc(), &bytes, segments).expect(&rt, "memory"));
+    }
+}
+
+fn are_alike<R: Threads + Sync>(
+    rt: &R,
+    alloc: Global,
+    bytes: &[u8],
+    segments: u8,
+) -> Result<bool, AllocError>
+    requires { 0 < segments }
+{
+    let Ok(plan) = read_header(bytes) else {
+        return Ok(false);
+    };
+    let Ok((starts, streams)) = encode_scan(rt, alloc, &plan, bytes, segments) else {
+        return Ok(false);
+    };
+    let Ok(found) = find_starts(alloc, &plan, bytes, segments) else {
+        return Ok(false);
+    };
+    let after = encode_all(rt, alloc, &plan, bytes, &found)?;
+    Ok(starts.segments() == found.segments()
+        && starts.trailer() == found.trailer()
+        && are_same(&streams, &after))
+}
+
+fn are_same(streams: &[Vec<u8>], others: &[Vec<u8>]) -> bool {
+    if streams.len() != others.len() {
+        return false;
+    }
+    for i in 0..streams.len() {
+        if streams[i].as_slice() != others[i].as_slice() {
+            return false;
+        }
+    }
+    true
+}
+
+// A scan without its last MCU, whose refusal the threads beside the pass don't hide.
+#[test]
+fn a_cut_scan_is_refused_beside_threads(rt: HostRuntime) {
+    let header = [START, FIVE_HIGH, LEVEL, END, GREY_SCAN];
+    let bytes = joined(rt.alloc(), &header, b"\0").expect(&rt, "memory");
+    assert!(rt; refused_beside(&rt, rt.alloc(), &bytes, 1));
+    assert!(rt; refused_beside(&rt, rt.alloc(), &bytes, 5));
+}
+
+fn refused_beside<R: Threads + Sync>(rt: &R, alloc: Global, bytes: &[u8], segments: u8) -> bool
+    requires { 0 < segments }
+{
+    let Ok(plan) = read_header(bytes) else {
+        return false;
+    };
+    match encode_scan(rt, alloc, &plan, bytes, segments) {
+        Err(ScanError::Scan(refusal)) => refusal == ScanRefusal::ScanCut { place: 70 },
+        Err(ScanError::NoMemory) | Ok(_) => false,
+    }
 }
 
 // A scan without its last MCU.

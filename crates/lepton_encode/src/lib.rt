@@ -1,9 +1,10 @@
 //! A file's container (this project's own; docs/FORMAT.md).
 //!
-//!     bytes --read_header--> plan --find_starts--> starts --encode_all--> streams --write_box--> container
+//!     bytes --read_header--> plan --encode_scan--> starts, streams --write_box--> container
 //!
-//! The segments are made side by side from the file's bytes: beside these, memory is for the streams, for each
-//! segment's two MCU rows of blocks and its bins, and for the container. What a segment's stream is is
+//! The segments are coded side by side from the file's bytes, each once a pass over the scan has found where it starts:
+//! beside the bytes, memory is for the streams, for each segment's two MCU rows of blocks and its bins, and for the
+//! container. What a segment's stream is is
 //! `container_spec`'s, how it is made `segment_code`'s, and in which thread `segment_worker`'s.
 #![tactic(auto)]
 
