@@ -5,6 +5,7 @@ use Rattle.std.specs.Int.{bit_at}
 use Rattle.std.specs.List.{count_by, range_with_len}
 use lib.Lanes.{mask_l}
 use Rattle.std.proofs.lemmas.Bool.{cases_eq}
+use Rattle.std.proofs.lemmas.Bool.Decides.{nat_tests}
 use Rattle.std.proofs.lemmas.List.FromFn.{get_or-map-range_with_len, length-map-range_with_len}
 use Rattle.std.proofs.lemmas.Nat.{and_le_l}
 use Rattle.std.proofs.lemmas.Nat.Bits.{bit_at_and, bit_at-lt, same_from_bits_below}
@@ -81,6 +82,9 @@ ones_among mask indexes block fits is =
 -- the bit of a value
 abbrev value_bit : ℤ → ℕ
 value_bit value = bit_of (not (unsigned_abs value == 0))
+
+pub some_bit : (value : ℤ) → 0 < unsigned_abs value → value_bit value ≡ 1
+some_bit value some = let test : (unsigned_abs value == 0) ≡ false = grind (arith, nat_tests) in rw test
 
 -- a coefficient that is put at an index
 module _ (block : List ℤ) (index : ℕ) (value : ℤ) (inside : slice_index zigzag index < length block) where

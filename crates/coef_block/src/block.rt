@@ -99,6 +99,18 @@ impl Block {
         self.put(index, natural_position(index), value);
     }
 
+    /// Puts a coefficient that isn't 0 at a zigzag index, from 0 to 63: cheaper than `set_in_zigzag`.
+    #[inline(always)]
+    pub fn put_in_zigzag(&mut self, index: usize, value: i16)
+        requires index { index < 64 }
+        requires coefficient { IsCoefficient (slice_index zigzag index) value }
+        requires some { 0 < unsigned_abs value }
+        ensures { self.new ≡ slice_set self.old (slice_index zigzag index) value }
+    {
+        self.values[natural_position(index)] = value;
+        self.mask = marked(self.mask, index);
+    }
+
     #[inline(always)]
     fn put(&mut self, index: usize, position: usize, value: i16)
         requires index { index < 64 }
@@ -122,4 +134,15 @@ fn masked(mask: u64, index: usize, value: i16) -> u64
         → bit_at result other ≡ bit_at mask other }
 {
     (mask & !(1 << index)) | (u64::from(value.unsigned_abs() != 0) << index)
+}
+
+// A mask with a bit set.
+#[inline(always)]
+fn marked(mask: u64, index: usize) -> u64
+    requires { index < 64 }
+    ensures here { bit_at result index ≡ 1 }
+    ensures others { (other : ℕ) → other < 64 → other ≢ index
+        → bit_at result other ≡ bit_at mask other }
+{
+    mask | (1 << index)
 }

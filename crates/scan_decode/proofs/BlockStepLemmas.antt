@@ -4,13 +4,14 @@ use Rattle.std.proofs.lemmas.Bool.Decides.{nat_tests}
 use Rattle.std.proofs.Math.Pow.{pow_mono}
 use Rattle.std.proofs.lemmas.List.{length-replicate, length-set, replicate-append-replicate, set-append_right}
 use Rattle.bit_list.specs.Units.{Cursor}
+use Rattle.coef_block.specs.Categories.{category}
 use Rattle.coef_block.specs.Zigzag.{zigzag}
 use Rattle.jpeg_marker.specs.HuffmanTables.{TableFields}
 use Rattle.scan_spec.specs.ScanReading.{and_then, symbol_at, extended_at, prefixed_values, by_symbol, acs_at}
 use Rattle.scan_spec.specs.BlockBits.{coefficient_at, ac_values, in_zigzag}
 use Rattle.scan_spec.specs.ScanSymbols.{Symbol, Value, Sixteen, End, symbol_of}
 use Rattle.scan_spec.specs.declared.refusal.ScanRefusal.{ScanRefusal}
-use Rattle.scan_spec.proofs.AcsRead.{Means, means}
+use Rattle.scan_spec.proofs.AcsRead.{Means, means, extended_fine, sized}
 use Rattle.scan_spec.proofs.ZigzagLaws.{set_in_zigzag}
 use Rattle.std.specs.Int.{w16, w32}
 use Rattle.scan_spec.proofs.MachineValues.{kept_word}
@@ -178,6 +179,11 @@ no_value whole table bytes block index loose cursor to value zeros size refusal 
     s.rest
     ∙ ap (λ (r : Result (ℤ × Cursor) ScanRefusal). prefixed_values g.prefix (and_then r (λ y. prefixed_values (replicate zeros (pos 0) ++ y.0 ∷ []) (acs_at s.more table (64 - index - (zeros + 1)) false bytes y.1)))) (sym there)
 
+-- a number that has bits isn't 0
+some_bits : (n : ℕ) → 0 < category n → 0 < n
+some_bits zero some = some
+some_bits (suc n) some = omega arith
+
 -- a value that a symbol tells is small
 pub value_small : (zeros size left value : ℕ) (loose : Bool) (v : ℤ) → Value zeros size ≡ symbol_of left loose value → unsigned_abs v < 2 ^ size → unsigned_abs v ≤ 1023
 value_small zeros size left value loose v is small =
@@ -185,6 +191,14 @@ value_small zeros size left value loose v is small =
     let few : size ≤ 10 = m.2 in
     let most : 2 ^ size ≤ 2 ^ 10 = pow_mono few in
     omega (arith, most, small)
+
+-- and it isn't 0
+pub value_some : (zeros size left value : ℕ) (loose : Bool) (v : ℤ) (bytes : List ℕ) (cursor to : Cursor) → Value zeros size ≡ symbol_of left loose value → Ok (v, to) ≡ extended_at size bytes cursor → 0 < unsigned_abs v
+value_some zeros size left value loose v bytes cursor to is there =
+    let m : Means left loose value (Value zeros size) = subst (λ (y : Symbol). Means left loose value y) (sym is) (means left value loose) in
+    let read = extended_fine size bytes cursor (v, to) (sym there) in
+    let bits : category (unsigned_abs v) ≡ size = ap (λ (z : ℤ). category (unsigned_abs z)) read.3 ∙ sized read.0 ∙ read.1 in
+    some_bits (unsigned_abs v) (omega (arith, bits, m.1))
 
 later : (place : ℕ) → 0 < place → limit place ≡ 1023
 later place some = let test : (place == 0) ≡ false = grind (arith, nat_tests) in ap (λ (t : Bool). if t then 32767 else 1023) test

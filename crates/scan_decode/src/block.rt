@@ -27,9 +27,8 @@ pub(crate) fn block<T: Target>(
     ensures small { IfOk result IsDc }
     ensures bytes { input.new.bytes ≡ input.old.bytes }
 {
-    out.clear();
     let value = dc(&codes.dc, before, input)?;
-    out.put(0, value);
+    out.begin(value);
     acs(&codes.ac, input, out)?;
     Ok(value)
 }

@@ -1,6 +1,6 @@
 // What the coefficients that are read are put into.
-ghost use Rattle.std.specs.Prelude.{◌≡◌, ◌<◌, List, ℤ, pos, replicate, slice_index, slice_set, ⊤};
-ghost use Rattle.coef_block.specs.Block.{IsCoefficient};
+ghost use Rattle.std.specs.Prelude.{◌≡◌, ◌<◌, List, ℤ, pos, replicate, slice_index, slice_set, unsigned_abs, ⊤};
+ghost use Rattle.coef_block.specs.Block.{IsCoefficient, IsDc};
 ghost use Rattle.coef_block.specs.Zigzag.{zigzag};
 
 use coef_block::Block;
@@ -10,14 +10,16 @@ pub(crate) trait Target {
     /// It may have been given these coefficients, in natural order.
     ghost holds: { Self → List ℤ → Type 0 };
 
-    /// Begins a block, of 64 zeros.
-    fn clear(&mut self)
-        ensures { holds self.new (replicate 64 (pos 0)) };
+    /// Begins a block: its DC, and 63 zeros.
+    fn begin(&mut self, dc: i16)
+        requires { IsDc dc }
+        ensures { holds self.new (slice_set (replicate 64 (pos 0)) 0 dc) };
 
-    /// Puts a coefficient at a zigzag index, from 0 to 63.
+    /// Puts a coefficient that isn't 0 at a zigzag index, from 0 to 63.
     fn put(&mut self, index: usize, value: i16)
         requires index { index < 64 }
         requires coefficient { IsCoefficient (slice_index zigzag index) value }
+        requires some { 0 < unsigned_abs value }
         ensures { (block : List ℤ) → holds self.old block
             → holds self.new (slice_set block (slice_index zigzag index) value) };
 }
@@ -26,13 +28,14 @@ impl Target for Block {
     ghost holds = { λ kept block. kept ≡ block };
 
     #[inline(always)]
-    fn clear(&mut self) {
+    fn begin(&mut self, dc: i16) {
         *self = Block::zero();
+        self.set(0, dc);
     }
 
     #[inline(always)]
     fn put(&mut self, index: usize, value: i16) {
-        self.set_in_zigzag(index, value);
+        self.put_in_zigzag(index, value);
     }
 }
 
@@ -44,7 +47,7 @@ impl Target for Nothing {
     ghost holds = { λ kept block. ⊤ };
 
     #[inline(always)]
-    fn clear(&mut self) {}
+    fn begin(&mut self, _dc: i16) {}
 
     #[inline(always)]
     fn put(&mut self, _index: usize, _value: i16) {}

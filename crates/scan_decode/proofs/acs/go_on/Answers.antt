@@ -1,11 +1,11 @@
-use Rattle.std.proofs.Common.{rules, get_or, ◌+◌, ◌-◌, false, ◌≡◌, ◌∙◌, ℕ, List, ℤ, set, sym, ap, subst, Ok, Err, arith}
+use Rattle.std.proofs.Common.{rules, ◌<◌, unsigned_abs, get_or, ◌+◌, ◌-◌, false, ◌≡◌, ◌∙◌, ℕ, List, ℤ, set, sym, ap, subst, Ok, Err, arith}
 use Rattle.std.proofs.lemmas.Result.{err_from_is_err_and}
 use Rattle.scan_spec.specs.ScanReading.{extended_at}
 use Rattle.scan_spec.specs.ScanSymbols.{Past, Loose, Unknown}
 use Rattle.scan_spec.specs.declared.refusal.ScanRefusal.TheVariants as refusals
 use Rattle.coef_block.specs.Zigzag.{zigzag}
 use Rattle.scan_decode.specs.BlockSteps.{Going}
-use Rattle.scan_decode.proofs.BlockStepLemmas.{no_symbol, no_value, value_comes, value_small, coefficient, cast_kept, sixteen_more, end_comes, said}
+use Rattle.scan_decode.proofs.BlockStepLemmas.{no_symbol, no_value, value_comes, value_small, value_some, coefficient, cast_kept, sixteen_more, end_comes, said}
 use Rattle.coef_block.proofs.Positions.{zigzag-above}
 use Rattle.scan_decode.proofs.acs.go_on.Goals as goal
 
@@ -26,6 +26,13 @@ put-requires-clause-coefficient g c =
     let small = value_small c.in-Value.zeros c.in-Value.size (64 - c.args.at.index) c.in_ok-symbol.symbol c.args.at.loose v c.in-Value.ensures c.in_ok-value-in-Value.ensures.small in
     let within = c.args.at.index + c.from.result in
     coefficient (get_or zigzag within 0) v (zigzag-above within (search rules) (omega (arith, c.requires.some))) small
+
+pub put-requires-clause-some : goal.put-requires-clause-some
+put-requires-clause-some g c =
+    let v = c.in_ok-value-in-Value.value in
+    let small = value_small c.in-Value.zeros c.in-Value.size (64 - c.args.at.index) c.in_ok-symbol.symbol c.args.at.loose v c.in-Value.ensures c.in_ok-value-in-Value.ensures.small in
+    let some = value_some c.in-Value.zeros c.in-Value.size (64 - c.args.at.index) c.in_ok-symbol.symbol c.args.at.loose v c.symbol.new.input.bytes c.symbol.new.input.cursor c.extended.new.input.cursor c.in-Value.ensures c.in_ok-value-in-Value.ensures.is in
+    subst (λ (z : ℤ). 0 < unsigned_abs z) (sym (cast_kept v small)) some
 
 pub returns-in_ok-value-in-Value-clause-ok : goal.returns-in_ok-value-in-Value-clause-ok
 returns-in_ok-value-in-Value-clause-ok g c = λ whole going.
