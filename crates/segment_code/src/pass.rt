@@ -23,8 +23,8 @@ use scan_decode::Reader;
 use std::alloc::{AllocError, Global};
 use std::marker::Model;
 
-/// A pass over a file's scan, which finds where its segments start and how its intervals are padded: at most so many
-/// segments as are asked for, and at most as many as rows of MCUs.
+/// A pass over a file's scan, which finds where its segments start and how its intervals are padded. There are at most
+/// the number of segments that is asked for, and at most as many as rows of MCUs.
 ///
 /// Clauses see `PassFields`. `IsPass` holds between two segments.
 #[derive(Drop)]
