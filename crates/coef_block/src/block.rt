@@ -111,6 +111,7 @@ impl Block {
         self.mask = marked(self.mask, index);
     }
 
+    // Puts a coefficient at a zigzag index and its natural position.
     #[inline(always)]
     fn put(&mut self, index: usize, position: usize, value: i16)
         requires index { index < 64 }
