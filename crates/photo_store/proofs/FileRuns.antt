@@ -11,18 +11,14 @@ use Rattle.blob_store.specs.declared.record.Record.{Record}
 use Rattle.blob_store.specs.Journals.{kept, kept_by, left_by, reply_to, stored_in, LegalAfter}
 use Rattle.blob_store.specs.States.{StoredWell}
 use Rattle.blob_store.proofs.JournalLaws.{kept_more}
-use Rattle.photo_store.specs.FileEntries.{IsFileAt, IsEntry, AreEntries, HasSame}
+use Rattle.photo_store.specs.FileEntries.{IsFileAt, IsEntry, AreEntries, AreSame, HasSame}
 use Rattle.photo_store.specs.FileLaws.{JournalIsARun}
 use Rattle.photo_store.specs.FileStores.{Files, FileCall, PutFile, FindFile, RemoveFile, FileReply, FileStored, FileHeld, FileFound, FileMissing, FileRemoved, IsRun, key_asked, file_reply, file_left, files_after, no_files}
 use Rattle.photo_store.specs.Photos.{SuitsKey}
 
 -- a list equals itself, byte by byte
-bytes_same : (xs : List ℕ) → bytes_eq xs xs ≡ true
+pub bytes_same : (xs : List ℕ) → bytes_eq xs xs ≡ true
 bytes_same xs = (bytes_eq-Decides xs xs).1 refl
-
--- a map of files has what a journal keeps
-abbrev pub AreSame : List (List ℕ) → List Record → Files → Type 0
-AreSame blobs journal files = (key : List ℕ) → HasSame blobs key (kept journal key) (files key)
 
 module _ (blobs : List (List ℕ)) (before : List Record) (r : Record) (files : Files)
     (same : AreSame blobs before files) where

@@ -4,8 +4,9 @@ use Rattle.sha2.specs.Sha256.{sha256}
 use Rattle.blob_store.specs.declared.record.Call.TheVariants.{Put, Find, Remove}
 use Rattle.blob_store.specs.declared.record.Reply.TheVariants.{Stored, Held, Found, Missing, Removed}
 use Rattle.blob_store.specs.declared.record.Record.{Record}
+use Rattle.blob_store.specs.Journals.{kept}
 use Rattle.photo_blob.specs.Blobs.{IsBlobOf}
-use Rattle.photo_store.specs.FileStores.{FileCall, PutFile, FindFile, RemoveFile, FileReply, FileStored, FileHeld, FileFound, FileMissing, FileRemoved}
+use Rattle.photo_store.specs.FileStores.{Files, FileCall, PutFile, FindFile, RemoveFile, FileReply, FileStored, FileHeld, FileFound, FileMissing, FileRemoved}
 
 -- the blob with this number is that of a file
 abbrev pub IsFileAt : List (List ℕ) → ℕ → List ℕ → Type 0
@@ -42,3 +43,7 @@ abbrev pub HasSame : List (List ℕ) → List ℕ → Option ℕ → Option (Lis
 HasSame blobs key None None = Unit {0}
 HasSame blobs key (Some number) (Some file) = (key ≡ sha256 file) × IsFileAt blobs number file
 HasSame blobs key number file = ⊥
+
+-- a map of files has for each key what a journal keeps
+abbrev pub AreSame : List (List ℕ) → List Record → Files → Type 0
+AreSame blobs journal files = (key : List ℕ) → HasSame blobs key (kept journal key) (files key)
