@@ -1,0 +1,5 @@
+pub mod RecordsRead
+pub mod SoleCalls
+pub mod Answered
+pub mod Turned
+pub mod Served

@@ -1,0 +1,25 @@
+use Rattle.std.proofs.Common.{[], refl}
+use Rattle.std.proofs.KnownBytes.{Appends-nil, Consumes-nil}
+use Rattle.store_run.specs.declared.ending.Ending.TheVariants.{NoMemory}
+use Rattle.store_run.proofs.run.run_store.Goals as goal
+
+pub returns-in_default-clause-ends : goal.returns-in_default-clause-ends
+returns-in_default-clause-ends g c = (
+  NoMemory,
+  c.status.ensures,
+  (
+    record {
+      records = [];
+      rest = [];
+      written = 0;
+      so_far = record {
+        whole = tt;
+        read = Consumes-nil (g.S.Source.left c.args.source.now);
+        wrote = Appends-nil (g.K.Sink.held c.args.sink.now);
+      };
+    },
+    refl,
+    refl,
+  ),
+  c.tell.ensures.notes,
+)

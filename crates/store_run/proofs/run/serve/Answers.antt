@@ -1,0 +1,57 @@
+use Rattle.std.proofs.Common.{◌≡◌, ◌≤◌, ◌<◌, ℕ, Option, None, ◌∙◌, subst, arith}
+use Rattle.store_run.specs.Answering.{IsSameCaller}
+use Rattle.store_run.specs.Records.{most_records}
+use Rattle.store_run.specs.Turns.{IsServing, Turns}
+use Rattle.store_run.specs.declared.ending.Ending.{Ending}
+use Rattle.store_run.proofs.Served.{last_failed, sole_before, turn_ends, turn_serves}
+use Rattle.store_run.proofs.run.serve.Goals as goal
+
+pub returns-in-Some-clause-ends : goal.returns-in-Some-clause-ends
+returns-in-Some-clause-ends g c = λ sole.
+    let before = c.loop.invariant.serving (sole_before c.loop.caller c.answer_next.new.caller c.in-Some.ensures.later.seen sole) in
+    let below = c.loop.invariant.same.faults in
+    turn_ends g.S.Source.left g.K.Sink.held g.S.Source.faults g.S.Source.full g.K.Sink.faults g.K.Sink.full
+    c.args.source.now c.loop.source c.answer_next.new.source c.args.sink.now c.loop.sink c.answer_next.new.sink
+    c.loop.caller c.answer_next.new.caller c.loop.counter before
+    (c.args.caller.now.view.faults < c.answer_next.new.caller.view.faults) c.in-Some.ending
+    (omega (arith, c.loop-test.true)) sole (λ rise. omega (arith, below, rise)) c.in-Some.ensures.turns
+
+pub loop-preserved : goal.loop-preserved
+loop-preserved g c =
+    let was = c.loop.invariant in
+    let later = c.in_default.ensures.later in
+    let below = was.same.faults in
+    let rises = later.faults in
+    let source = was.source_lasting in
+    let sink = was.sink_lasting in
+    let source_later = c.in_default.ensures.source_lasting in
+    let sink_later = c.in_default.ensures.sink_lasting in
+    let turns = subst (λ (r : Option Ending). Turns g.S.Source.left g.K.Sink.held g.S.Source.faults g.S.Source.full g.K.Sink.faults g.K.Sink.full
+    c.loop.source c.answer_next.new.source c.loop.sink c.answer_next.new.sink c.loop.caller c.answer_next.new.caller r)
+    c.in_default.is c.answer_next.ensures.turns in
+    record {
+      same = record {
+        table = later.table ∙ was.same.table;
+        number = later.number ∙ was.same.number;
+        splits = later.splits ∙ was.same.splits;
+        faults = omega (arith, below, rises);
+      };
+      source_lasting = omega (arith, source, source_later);
+      sink_lasting = omega (arith, sink, sink_later);
+      serving = λ sole.
+          turn_serves g.S.Source.left g.K.Sink.held g.S.Source.faults g.S.Source.full g.K.Sink.faults g.K.Sink.full
+          c.args.source.now c.loop.source c.answer_next.new.source c.args.sink.now c.loop.sink c.answer_next.new.sink
+          c.loop.caller c.answer_next.new.caller c.loop.counter
+          (was.serving (sole_before c.loop.caller c.answer_next.new.caller later.seen sole)) later sole turns;
+    }
+
+pub returns-in-Err-clause-ends : goal.returns-in-Err-clause-ends
+returns-in-Err-clause-ends g c = λ sole.
+    let test = c.loop-test.false in
+    let end = c.loop.auto.counter-end in
+    let all : c.loop.counter ≡ most_records = omega (arith, test, end) in
+    last_failed g.S.Source.left g.K.Sink.held g.S.Source.faults g.S.Source.full g.K.Sink.faults g.K.Sink.full
+    c.args.source.now c.loop.source c.next_byte.new.source c.args.sink.now c.loop.sink c.loop.caller
+    (subst (λ (n : ℕ). IsServing g.S.Source.left g.K.Sink.held g.S.Source.faults g.S.Source.full g.K.Sink.faults g.K.Sink.full
+    c.args.source.now c.loop.source c.args.sink.now c.loop.sink c.loop.caller n) all (c.loop.invariant.serving sole))
+    (c.args.caller.now.view.faults < c.loop.caller.view.faults) c.in-Err.ensures.stays c.in-Err.ensures.failed

@@ -1,0 +1,5 @@
+pub mod Records
+pub mod Reading
+pub mod Answering
+pub mod RunEnds
+pub mod Turns

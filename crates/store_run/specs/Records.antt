@@ -1,0 +1,79 @@
+-- Statement: the records of an input, and the replies to them (docs/STORE.md, Records).
+use Rattle.std.specs.Prelude.{ℕ, ◌≡◌, ◌≢◌, ◌⊎◌, ◌<◌, ◌≤◌, List, [], ◌∷◌, ◌++◌, length, flat_map, Option}
+use Rattle.std.specs.List.{AllByRecursion}
+use Rattle.std.specs.Io.KnownBytes.{IsAtEnd}
+use Rattle.byteorder.specs.Endian.{big_bytes}
+use Rattle.container_spec.specs.Limits.{most_of_a_file}
+use Rattle.photo_store.specs.FileStores.{Files, FileCall, PutFile, FindFile, RemoveFile, FileReply, FileStored, FileHeld, FileClash, FileFound, FileMissing, FileRemoved, key_asked, file_reply, files_after}
+
+-- the first byte of a record
+abbrev pub put_mark : ℕ
+put_mark = 0x50
+
+abbrev pub find_mark : ℕ
+find_mark = 0x47
+
+abbrev pub remove_mark : ℕ
+remove_mark = 0x44
+
+-- how many bytes a key has
+abbrev pub key_length : ℕ
+key_length = 32
+
+-- how many records are answered at most
+abbrev pub most_records : ℕ
+most_records = 1000000
+
+-- the bytes of a record: 50, the length in four bytes and the file; or 47 and the key; or 44 and the key
+abbrev pub record_bytes : FileCall → List ℕ
+record_bytes (PutFile file) = put_mark ∷ (big_bytes 4 (length file) ++ file)
+record_bytes (FindFile key) = find_mark ∷ key
+record_bytes (RemoveFile key) = remove_mark ∷ key
+
+-- a record is as long as it may be
+abbrev pub IsWhole : FileCall → Type 0
+IsWhole (PutFile file) = length file ≤ most_of_a_file
+IsWhole (FindFile key) = length key ≡ key_length
+IsWhole (RemoveFile key) = length key ≡ key_length
+
+-- bytes are those of whole records, one after another
+abbrev pub AreRecords : List ℕ → List FileCall → Type 0
+AreRecords bytes records =
+    (bytes ≡ flat_map record_bytes records) × AllByRecursion IsWhole records
+
+-- bytes with which no record begins: another first byte, or a length above the most
+abbrev pub IsForeign : List ℕ → Type 0
+IsForeign bytes =
+    ((mark : ℕ) × (bytes ≡ mark ∷ []) × (mark ≢ put_mark) × (mark ≢ find_mark)
+    × (mark ≢ remove_mark))
+    ⊎ ((long : ℕ) × (bytes ≡ put_mark ∷ big_bytes 4 long) × (most_of_a_file < long))
+
+-- a record without its last bytes
+abbrev pub IsCut : List ℕ → Type 0
+IsCut bytes =
+    ((part : List ℕ) × (bytes ≡ put_mark ∷ part) × (length part < 4))
+    ⊎ (((full : ℕ) × (part : List ℕ) × (bytes ≡ put_mark ∷ (big_bytes 4 full ++ part))
+    × (full ≤ most_of_a_file) × (length part < full))
+    ⊎ ((mark : ℕ) × (part : List ℕ) × (bytes ≡ mark ∷ part)
+    × ((mark ≡ find_mark) ⊎ (mark ≡ remove_mark)) × (length part < key_length)))
+
+-- a bad record was read, and this is left: no record begins with its bytes, or the input ended in it
+abbrev pub IsBad : List ℕ → Option (List ℕ) → Type 0
+IsBad bytes left = IsForeign bytes ⊎ (IsCut bytes × IsAtEnd left)
+
+-- the bytes of a reply: 01, 02 or 03 and the key; 04, the length in four bytes and the file; 05; 06; 07
+abbrev pub reply_bytes : FileCall → FileReply → List ℕ
+reply_bytes call FileStored = 1 ∷ key_asked call
+reply_bytes call FileHeld = 2 ∷ key_asked call
+reply_bytes call FileClash = 3 ∷ key_asked call
+reply_bytes call (FileFound file) = 4 ∷ (big_bytes 4 (length file) ++ file)
+reply_bytes (PutFile file) FileMissing = []
+reply_bytes (FindFile key) FileMissing = 5 ∷ []
+reply_bytes (RemoveFile key) FileMissing = 7 ∷ []
+reply_bytes call FileRemoved = 6 ∷ []
+
+-- the replies to records of the store of one thread that begins with these files
+abbrev pub replies : Files → List FileCall → List ℕ
+replies files [] = []
+replies files (c ∷ cs) =
+    reply_bytes c (file_reply (files (key_asked c)) c) ++ replies (files_after files c) cs

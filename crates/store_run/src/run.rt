@@ -1,0 +1,179 @@
+// The records of a source, each answered before the next one is read.
+ghost use Rattle.std.specs.Prelude.{◌≡◌, ◌≤◌, ◌<◌, ◌⊎◌, ℕ, [], IfSome, IfNone};
+ghost use Rattle.blob_store.specs.Callers.{new_caller};
+ghost use Rattle.blob_store.specs.Journals.{AreBy};
+ghost use Rattle.segment_worker.specs.Written.{HasWritten, HasFailed};
+ghost use Rattle.store_run.specs.Answering.{IsLater, IsSameCaller};
+ghost use Rattle.store_run.specs.Reading.{call_of};
+ghost use Rattle.store_run.specs.Records.{IsWhole, most_records};
+ghost use Rattle.store_run.specs.RunEnds.{Ends, KeeperRose, Notes, line_of, status_of};
+ghost use Rattle.store_run.specs.Turns.{CallTurns, Turns, ending_by};
+ghost use Rattle.store_run.specs.declared.ending.Ending.{Ending};
+
+use crate::answers::{answer_call, write_answer};
+use crate::calls::{Asked, RecordStop, next_call};
+use crate::ending::Ending;
+use crate::reading::next_byte;
+use blob_store::{Keeper, Stop};
+use outside_core::{Failed, Sink, Source, write_all};
+use photo_store::{Caller, Store};
+use std::alloc::Global;
+use std::sync::Wait;
+use std::thread::Threads;
+
+/// How many records are answered at most.
+pub const MOST_RECORDS: u32 = 1_000_000;
+
+/// Answers the records of a source by a store over a keeper that holds no blob, each before it reads the next one. It
+/// returns the program's status, and the keeper, unless memory was out at the start. `note` is stderr: it gets nothing,
+/// or one line.
+///
+/// | status | if | line |
+/// |---|---|---|
+/// | 0 | the source ended where a record begins | none |
+/// | 1 | a record has another first byte, or a length above 67,108,864, or is cut | `store: bad record` |
+/// | 3 | the source failed | `lepton: read failed` |
+/// | 4 | the sink failed | `lepton: write failed` |
+/// | 5 | out of memory | `lepton: no memory` |
+/// | 6 | the keeper failed | `store: keeper failed` |
+/// | 7 | 1,000,000 records were answered, and a further byte was read | `store: full` |
+///
+/// A failure of `note` changes no status.
+pub fn run_store<R: Threads + Wait + Sync, S: Source, K: Sink, N: Sink, P: Keeper>(
+    rt: &R,
+    alloc: Global,
+    keeper: P,
+    source: &mut S,
+    sink: &mut K,
+    note: &mut N,
+) -> (u8, Option<P>)
+    requires empty { P.blobs keeper ≡ [] }
+
+    // How it ends, by its status: what was read, and which replies were written.
+    ensures ends { (ending : Ending) × (result.0 ≡ status_of ending)
+        × Ends S.left K.held S.faults S.full K.faults K.full source.old source.new
+        sink.old sink.new (KeeperRose P.fault_count keeper result.1) ending
+        × Notes N.held N.faults N.full note.old note.new (line_of ending) }
+
+    // The keeper is given back on every status but 5.
+    ensures kept { IfNone result.1 (result.0 ≡ 5) }
+    ensures keeper_lasting { IfSome result.1 (λ last. P.fault_count keeper ≤ P.fault_count last) }
+    ensures source_lasting { S.faults source.old ≤ S.faults source.new }
+    ensures sink_lasting { K.faults sink.old ≤ K.faults sink.new }
+    ensures note_lasting { N.faults note.old ≤ N.faults note.new }
+{
+    let Ok((store, mut callers)) = Store::start(alloc, keeper, 1, MOST_RECORDS) else {
+        tell(note, Ending::NoMemory);
+        return (Ending::NoMemory.status(), None);
+    };
+    let Some(mut caller) = callers.pop() else {
+        unreachable!()
+    };
+    let ending = serve(rt, alloc, &store, &mut caller, source, sink);
+    tell(note, ending);
+    (ending.status(), Some(store.close(caller)))
+}
+
+// Writes the line of an ending.
+fn tell<N: Sink>(note: &mut N, ending: Ending)
+    ensures notes { Notes N.held N.faults N.full note.old note.new (line_of ending) }
+    ensures lasting { N.faults note.old ≤ N.faults note.new }
+{
+    // A note that fails changes no status: the status says what the line says.
+    let _ = write_all(note, ending.line());
+}
+
+// Answers record after record.
+fn serve<R: Threads + Wait + Sync, S: Source, K: Sink, P: Keeper>(
+    rt: &R,
+    alloc: Global,
+    store: &Store<P>,
+    caller: &mut Caller<P>,
+    source: &mut S,
+    sink: &mut K,
+) -> Ending
+    requires own { caller.old.table ≡ store.now }
+    requires first { caller.old.number ≡ 0 }
+    requires fresh { caller.old.view.mine ≡ [] }
+    requires limit { caller.old.view.limit ≡ most_records }
+    ensures ends { AreBy 0 caller.new.view.seen
+        → Ends S.left K.held S.faults S.full K.faults K.full
+        source.old source.new sink.old sink.new
+        (caller.old.view.faults < caller.new.view.faults) result }
+    ensures same { IsSameCaller caller.old caller.new }
+    ensures source_lasting { S.faults source.old ≤ S.faults source.new }
+    ensures sink_lasting { K.faults sink.old ≤ K.faults sink.new }
+{
+    for _ in 0..MOST_RECORDS {
+        if let Some(ending) = answer_next(rt, alloc, store, caller, source, sink) {
+            return ending;
+        }
+    }
+    match next_byte(source) {
+        Ok(None) => Ending::Answered,
+        Ok(Some(_)) => Ending::Full,
+        Err(Failed) => Ending::ReadFailed,
+    }
+}
+
+// Answers the next record. It returns how the run ends, if it ends there.
+fn answer_next<R: Threads + Wait + Sync, S: Source, K: Sink, P: Keeper>(
+    rt: &R,
+    alloc: Global,
+    store: &Store<P>,
+    caller: &mut Caller<P>,
+    source: &mut S,
+    sink: &mut K,
+) -> Option<Ending>
+    requires own { caller.old.table ≡ store.now }
+    ensures turns { Turns S.left K.held S.faults S.full K.faults K.full
+        source.old source.new sink.old sink.new caller.old caller.new result }
+    ensures later { IsLater caller.old caller.new }
+    ensures source_lasting { S.faults source.old ≤ S.faults source.new }
+    ensures sink_lasting { K.faults sink.old ≤ K.faults sink.new }
+{
+    match next_call(alloc, source) {
+        Ok(Some(asked)) => answer_asked(rt, alloc, store, caller, &asked, sink),
+        Ok(None) => Some(Ending::Answered),
+        Err(stop) => Some(ending_by(stop)),
+    }
+}
+
+// The ending if no record can be read.
+fn ending_by(stop: RecordStop) -> Ending
+    ensures { result ≡ ending_by stop }
+{
+    match stop {
+        RecordStop::Bad => Ending::BadRecord,
+        RecordStop::ReadFault => Ending::ReadFailed,
+        RecordStop::NoMemory => Ending::NoMemory,
+    }
+}
+
+// Makes a call and writes its reply.
+fn answer_asked<R: Threads + Wait + Sync, K: Sink, P: Keeper>(
+    rt: &R,
+    alloc: Global,
+    store: &Store<P>,
+    caller: &mut Caller<P>,
+    asked: &Asked,
+    sink: &mut K,
+) -> Option<Ending>
+    requires own { caller.old.table ≡ store.now }
+    requires whole { IsWhole (call_of asked.now) }
+    ensures turns { CallTurns K.held K.faults K.full
+        sink.old sink.new caller.old caller.new (call_of asked.now) result }
+    ensures later { IsLater caller.old caller.new }
+    ensures lasting { K.faults sink.old ≤ K.faults sink.new }
+{
+    match answer_call(rt, alloc, store, caller, asked) {
+        Ok(answer) => match write_answer(sink, &answer) {
+            Ok(()) => None,
+            Err(_) => Some(Ending::WriteFailed),
+        },
+        Err(Stop::Full) => Some(Ending::Full),
+        Err(Stop::Clash) => unreachable!(),
+        Err(Stop::KeeperFault) => Some(Ending::KeeperFailed),
+        Err(Stop::NoMemory) => Some(Ending::NoMemory),
+    }
+}
