@@ -1,5 +1,6 @@
 //! `lepton_store`: a store of photos in memory that answers the records of stdin (docs/STORE.md, Records). The program
-//! opens its three standard streams and calls `store_run::run_store`, which does everything else. It reads no arguments.
+//! opens its three standard streams and calls `store_run::run_store`, which does everything else. It reads no
+//! arguments.
 #![tactic(auto)]
 
 use blob_store::VecKeeper;

@@ -3,7 +3,7 @@
 //!     file --encode--> 1, container        a file that isn't accepted --> 0, file
 //!     blob --show_blob--> file
 //!
-//! A file has one blob, and a blob is that of one file. Not handled here: `encode` (see `photo_store`, which uses
+//! A file has one blob, and a blob is that of one file. Not handled here: `encode` (`photo_store` uses
 //! `lepton_encode`), and where blobs are kept.
 #![tactic(auto)]
 

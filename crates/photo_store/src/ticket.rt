@@ -23,6 +23,15 @@ impl Model for Ticket {
     ghost invariant = { λ t. (file : List ℕ) × IsBlobOf t.blob.items file };
 }
 
+impl Ticket {
+    /// The blob: a mark, and the file or its container.
+    pub fn blob(&self) -> &[u8]
+        ensures { result.now ≡ self.now }
+    {
+        self.blob.as_slice()
+    }
+}
+
 /// Returns the ticket's file, or the ticket if memory is out. It holds no lock, and waits for nothing.
 pub fn show(alloc: Global, ticket: Ticket) -> Result<Vec<u8>, Ticket>
     ensures shown { (file : List ℕ) → IsBlobOf ticket file

@@ -1,5 +1,5 @@
 -- What the calls of a store's sole caller are answered.
-use Rattle.std.proofs.Common.{◌≡◌, ◌≢◌, ℕ, ◌<◌, ◌≤◌, Bool, true, false, List, [], ◌∷◌, ◌++◌, length, Option, Some, None, inl, inr, sym, ap, ◌∙◌, subst, refl, arith}
+use Rattle.std.proofs.Common.{◌≡◌, ◌≢◌, ℕ, ◌<◌, Bool, true, false, List, ◌∷◌, ◌++◌, length, Option, Some, None, inl, inr, sym, ap, ◌∙◌, subst, refl, arith}
 use Rattle.std.specs.Prelude.{slice_get, if◌then◌else◌, bytes_eq}
 use Rattle.std.specs.Global.{Vec}
 use Rattle.std.specs.declared.result.Result.{Result}
@@ -7,19 +7,18 @@ use Rattle.std.specs.declared.result.Result.TheVariants.{Ok, Err}
 use Rattle.std.proofs.lemmas.Slice.Eq.{bytes_eq-Decides}
 use Rattle.sha2.specs.Sha256.{sha256}
 use Rattle.byteorder.specs.Endian.{big_bytes}
-use Rattle.container_spec.specs.Limits.{most_of_a_file}
 use Rattle.blob_store.specs.declared.record.Call.TheVariants.{Put, Find, Remove}
 use Rattle.blob_store.specs.declared.record.Record.{Record}
 use Rattle.blob_store.specs.declared.record.Reply.TheVariants.{Stored, Held, Found, Missing, Removed}
 use Rattle.blob_store.specs.declared.record.Stop.{Stop}
 use Rattle.blob_store.specs.declared.record.Stop.TheVariants.{Full, Clash, KeeperFault, NoMemory}
-use Rattle.blob_store.specs.Journals.{AreBy, kept, reply_to, stored_in}
+use Rattle.blob_store.specs.Journals.{AreBy, kept, reply_to}
 use Rattle.blob_store.specs.States.{Asked, Puts, Finds, Removes}
 use Rattle.blob_store.specs.Callers.{CallerValue, HasCalled}
 use Rattle.photo_blob.specs.Blobs.{IsBlobOf}
 use Rattle.photo_blob.proofs.BlobFiles.{one_blob, one_file}
-use Rattle.photo_store.specs.FileEntries.{IsFileAt, AreSame, HasSame}
-use Rattle.photo_store.specs.FileStores.{Files, FileCall, PutFile, FindFile, RemoveFile, FileReply, FileStored, FileHeld, FileClash, FileFound, FileMissing, FileRemoved, file_reply, file_left, files_after}
+use Rattle.photo_store.specs.FileEntries.{IsFileAt, HasSame}
+use Rattle.photo_store.specs.FileStores.{Files, PutFile, FindFile, RemoveFile, FileHeld, FileClash, file_reply, file_left, files_after}
 use Rattle.photo_store.specs.Photos.{SuitsKey, PutGives, FindGives, RemoveGives}
 use Rattle.photo_store.specs.declared.answers.Put.TheVariants.{Stored as PutStored, Held as PutHeld}
 use Rattle.photo_store.specs.declared.answers.Find.TheVariants.{Found as FindFound, Missing as FindMissing}
@@ -27,7 +26,7 @@ use Rattle.photo_store.specs.declared.answers.Remove.TheVariants.{Removed as Rem
 use Rattle.photo_store.specs.declared.answers.Put.{Put as PutAnswer}
 use Rattle.photo_store.specs.declared.answers.Remove.{Remove as RemoveAnswer}
 use Rattle.photo_store.proofs.FileRuns.{bytes_same}
-use Rattle.store_run.specs.Answering.{Gives, HasAnswered, IsTied, put_answer, remove_answer}
+use Rattle.store_run.specs.Answering.{Gives, HasAnswered, put_answer, remove_answer}
 use Rattle.store_run.specs.Records.{reply_bytes}
 use Rattle.store_run.specs.declared.answers.Answer.TheVariants.{Keyed, File, Mark}
 use Rattle.store_run.proofs.SoleCalls.{all_own, is_later, replied_own, stays_later, still_same, tied_after}

@@ -1,5 +1,5 @@
 -- Records answered one after another, and how that ends.
-use Rattle.std.proofs.Common.{◌≡◌, ℕ, ◌+◌, ◌<◌, ◌≤◌, List, [], ◌∷◌, ◌++◌, length, take, flat_map, Option, Some, None, inl, inr, sym, ap, ◌∙◌, subst, refl, length-append, append-nil, append_assoc, arith, ◌⊎◌}
+use Rattle.std.proofs.Common.{◌≡◌, ℕ, ◌+◌, ◌<◌, List, [], ◌∷◌, ◌++◌, length, take, flat_map, Option, Some, None, inl, inr, sym, ap, ◌∙◌, subst, refl, length-append, append-nil, append_assoc, arith, ◌⊎◌}
 use lib.Seq.{take-append-add}
 use Rattle.std.specs.List.{AllByRecursion}
 use Rattle.std.proofs.lemmas.List.{take_all}
@@ -13,7 +13,7 @@ use Rattle.blob_store.proofs.SoleCaller.{first_are_by}
 use Rattle.photo_store.specs.FileEntries.{AreSame}
 use Rattle.photo_store.specs.FileStores.{Files, FileCall, files_after, no_files}
 use Rattle.store_run.specs.Answering.{IsLater, IsTied}
-use Rattle.store_run.specs.Records.{IsBad, IsWhole, most_records, record_bytes, replies}
+use Rattle.store_run.specs.Records.{IsWhole, most_records, record_bytes, replies}
 use Rattle.store_run.specs.RunEnds.{Ends, HasAnsweredAll, HasAnsweredSome}
 use Rattle.store_run.specs.Turns.{CallTurns, Calls, IsServing, Stops, StopsFirst, Turns, files_by, reply_in}
 use Rattle.store_run.specs.declared.ending.Ending.{Ending}

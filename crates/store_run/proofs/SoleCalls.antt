@@ -1,27 +1,18 @@
 -- The calls of a store's sole caller are those of the store of one thread on files.
-use Rattle.std.proofs.Common.{◌≡◌, ◌≢◌, ℕ, zero, suc, ◌+◌, ◌<◌, ◌≤◌, Bool, true, false, List, [], ◌∷◌, ◌++◌, length, Option, Some, None, inl, inr, sym, ap, ◌∙◌, subst, refl, length-append, append-nil, arith}
-use Rattle.std.specs.Prelude.{slice_get, if◌then◌else◌, ◌==◌, bytes_eq}
+use Rattle.std.proofs.Common.{◌≡◌, ℕ, zero, suc, ◌+◌, Bool, true, List, [], ◌∷◌, ◌++◌, length, Option, Some, None, sym, ap, ◌∙◌, subst, refl, length-append, append-nil, arith}
+use Rattle.std.specs.Prelude.{slice_get, if◌then◌else◌, ◌==◌}
 use Rattle.std.specs.declared.result.Result.{Result}
 use Rattle.std.specs.declared.result.Result.TheVariants.{Ok, Err}
-use Rattle.std.proofs.lemmas.Slice.Eq.{bytes_eq-Decides}
-use Rattle.sha2.specs.Sha256.{sha256}
-use Rattle.byteorder.specs.Endian.{big_bytes}
-use Rattle.blob_store.specs.declared.record.Call.{Call}
-use Rattle.blob_store.specs.declared.record.Call.TheVariants.{Put, Find, Remove}
 use Rattle.blob_store.specs.declared.record.Record.{Record}
 use Rattle.blob_store.specs.declared.record.Reply.{Reply}
-use Rattle.blob_store.specs.declared.record.Reply.TheVariants.{Stored, Held, Found, Missing, Removed}
 use Rattle.blob_store.specs.declared.record.Stop.{Stop}
-use Rattle.blob_store.specs.declared.record.Stop.TheVariants.{Full, Clash, KeeperFault, NoMemory}
-use Rattle.blob_store.specs.Journals.{AreBy, StartsWith, IsReplied, calls_by, kept, left_by, reply_to, stored_in}
-use Rattle.blob_store.specs.States.{Asked, Puts, Finds, Removes, entry_of}
-use Rattle.blob_store.specs.Callers.{CallerValue, CallGives, HasCalled}
-use Rattle.photo_blob.specs.Blobs.{IsBlobOf}
-use Rattle.photo_blob.proofs.BlobFiles.{one_blob, one_file}
-use Rattle.photo_store.specs.FileEntries.{IsFileAt, AreSame, HasSame}
-use Rattle.photo_store.specs.FileStores.{Files, FileCall, PutFile, FindFile, RemoveFile, FileStored, FileHeld, FileClash, FileFound, FileMissing, FileRemoved, key_asked, file_reply, file_left, files_after}
+use Rattle.blob_store.specs.Journals.{AreBy, IsReplied, calls_by, kept, left_by}
+use Rattle.blob_store.specs.States.{Asked, entry_of}
+use Rattle.blob_store.specs.Callers.{CallerValue, HasCalled}
+use Rattle.photo_store.specs.FileEntries.{AreSame, HasSame}
+use Rattle.photo_store.specs.FileStores.{Files, FileCall, key_asked, file_left, files_after}
 use Rattle.photo_store.specs.Photos.{SuitsKey}
-use Rattle.photo_store.proofs.FileRuns.{bytes_same, same_after}
+use Rattle.photo_store.proofs.FileRuns.{same_after}
 use Rattle.store_run.specs.Answering.{IsLater, IsTied}
 
 -- entries of one caller alone are that caller's

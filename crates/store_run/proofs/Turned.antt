@@ -1,15 +1,14 @@
 -- What answering one record does.
-use Rattle.std.proofs.Common.{◌≡◌, ℕ, ◌<◌, List, [], ◌∷◌, take, Option, Some, None, inl, inr, sym, ap, ◌∙◌, subst, refl}
-use Rattle.std.specs.Io.KnownBytes.{Appends, Consumes}
+use Rattle.std.proofs.Common.{◌≡◌, ℕ, List, take, Option, Some, None, subst, refl}
+use Rattle.std.specs.Io.KnownBytes.{Appends}
 use Rattle.std.specs.declared.result.Result.TheVariants.{Ok, Err}
 use Rattle.outside_core.specs.Faults.{Rose}
 use Rattle.blob_store.specs.Callers.{CallerValue}
-use Rattle.blob_store.specs.Journals.{AreBy}
-use Rattle.photo_store.specs.FileStores.{Files, FileCall, files_after}
+use Rattle.photo_store.specs.FileStores.{FileCall}
 use Rattle.segment_worker.specs.Written.{HasWritten, HasFailed}
-use Rattle.store_run.specs.Answering.{Gives, IsTied, answer_bytes}
-use Rattle.store_run.specs.Reading.{IsRead, ReadsNext}
-use Rattle.store_run.specs.Turns.{CallTurns, Stops, ending_by, reply_in}
+use Rattle.store_run.specs.Answering.{Gives, answer_bytes}
+use Rattle.store_run.specs.Reading.{ReadsNext}
+use Rattle.store_run.specs.Turns.{CallTurns, Stops, ending_by}
 use Rattle.store_run.specs.declared.answers.Answer.{Answer}
 use Rattle.store_run.specs.declared.calls.RecordStop.{RecordStop}
 use Rattle.store_run.specs.declared.calls.RecordStop.TheVariants.{Bad, ReadFault, NoMemory as NoRoom}

@@ -1,6 +1,6 @@
 // The calls that the records of a source ask for.
-ghost use Rattle.std.specs.Prelude.{◌≡◌, ◌≢◌, ℕ, ◌∷◌, ◌++◌, ◌<◌, ◌≤◌, [], List, length, IfOk, IfErr, OnOk, OnErr, IsErrOf, true};
-ghost use Rattle.std.specs.Io.KnownBytes.{Consumes, IsAtEnd, Keeps};
+ghost use Rattle.std.specs.Prelude.{◌≡◌, ℕ, ◌∷◌, ◌++◌, ◌<◌, ◌≤◌, List, length, IfOk, IfErr, IsErrOf};
+ghost use Rattle.std.specs.Io.KnownBytes.{Consumes, IsAtEnd};
 ghost use Rattle.byteorder.specs.Endian.{big_bytes};
 ghost use Rattle.outside_core.specs.Faults.{Rose};
 ghost use Rattle.container_spec.specs.Limits.{most_of_a_file};

@@ -1,8 +1,6 @@
 // The records of a source, each answered before the next one is read.
-ghost use Rattle.std.specs.Prelude.{◌≡◌, ◌≤◌, ◌<◌, ◌⊎◌, ℕ, [], IfSome, IfNone};
-ghost use Rattle.blob_store.specs.Callers.{new_caller};
+ghost use Rattle.std.specs.Prelude.{◌≡◌, ◌≤◌, ◌<◌, [], IfSome, IfNone};
 ghost use Rattle.blob_store.specs.Journals.{AreBy};
-ghost use Rattle.segment_worker.specs.Written.{HasWritten, HasFailed};
 ghost use Rattle.store_run.specs.Answering.{IsLater, IsSameCaller};
 ghost use Rattle.store_run.specs.Reading.{call_of};
 ghost use Rattle.store_run.specs.Records.{IsWhole, most_records};

@@ -1,10 +1,7 @@
-use Rattle.std.proofs.Common.{ℕ, List, ◌≡◌, sym, ap, ◌∙◌, subst}
-use Rattle.std.specs.declared.result.Result.{Result}
-use Rattle.std.specs.declared.result.Result.TheVariants.{Ok, Err}
-use Rattle.blob_store.specs.declared.record.Stop.{Stop}
+use Rattle.std.proofs.Common.{subst}
+use Rattle.std.specs.declared.result.Result.TheVariants.{Ok}
 use Rattle.photo_store.specs.Photos.{FindGives}
 use Rattle.photo_store.specs.declared.answers.Find.{Find}
-use Rattle.photo_store.specs.declared.answers.Find.TheVariants.{Found, Missing}
 use Rattle.store_run.proofs.Answered.{find_stopped, found_answered, missing_answered}
 use Rattle.store_run.proofs.answers.answer_find.Goals as goal
 

@@ -1,4 +1,4 @@
-use Rattle.std.proofs.Common.{ℕ, List, [], ◌∷◌, Option, IfSome, subst}
+use Rattle.std.proofs.Common.{ℕ, [], ◌∷◌, Option, IfSome, subst}
 use Rattle.std.specs.Io.KnownBytes.{Consumes}
 use Rattle.std.proofs.KnownBytes.{Consumes-trans}
 use Rattle.store_run.proofs.calls.next_call.Goals as goal

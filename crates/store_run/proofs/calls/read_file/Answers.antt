@@ -1,7 +1,6 @@
-use Rattle.std.proofs.Common.{ℕ, List, length, ◌++◌, ◌≤◌, ◌<◌, ◌≡◌, sym, ap, ◌∙◌, subst, arith}
+use Rattle.std.proofs.Common.{◌++◌, sym, ap, ◌∙◌, arith}
 use Rattle.std.proofs.KnownBytes.{Consumes-trans}
 use Rattle.std.specs.declared.result.Result.TheVariants.{Err}
-use Rattle.byteorder.specs.Endian.{big_bytes}
 use Rattle.store_run.specs.declared.reading.ReadStop.{ReadStop}
 use Rattle.store_run.proofs.RecordsRead.{cut_is_bad, file_read, long_is_bad}
 use Rattle.store_run.proofs.calls.read_file.Goals as goal

@@ -1,4 +1,4 @@
-use Rattle.std.proofs.Common.{◌≡◌, ℕ, List, ◌∷◌, sym, subst, arith}
+use Rattle.std.proofs.Common.{◌≡◌, ℕ, ◌∷◌, subst, arith}
 use Rattle.store_run.specs.Records.{IsBad, put_mark}
 use Rattle.store_run.proofs.RecordsRead.{stops_read}
 use Rattle.store_run.proofs.calls.read_rest.Goals as goal

@@ -1,5 +1,4 @@
-use Rattle.std.proofs.Common.{◌≡◌, ◌≤◌, ◌<◌, ℕ, Option, None, ◌∙◌, subst, arith}
-use Rattle.store_run.specs.Answering.{IsSameCaller}
+use Rattle.std.proofs.Common.{◌≡◌, ◌<◌, ℕ, Option, ◌∙◌, subst, arith}
 use Rattle.store_run.specs.Records.{most_records}
 use Rattle.store_run.specs.Turns.{IsServing, Turns}
 use Rattle.store_run.specs.declared.ending.Ending.{Ending}

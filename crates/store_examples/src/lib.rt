@@ -1,0 +1,7 @@
+//! Stores of photos: the worked records, calls of one caller and of two in threads of their own, and keepers that fail.
+#![tactic(auto)]
+
+#[cfg(test)]
+mod calls;
+#[cfg(test)]
+mod records;
