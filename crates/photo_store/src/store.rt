@@ -73,8 +73,7 @@ impl<P: Keeper> Store<P> {
         self.blobs.close(caller)
     }
 
-    /// Keeps a file of at most 67,108,864 bytes under its digest. It encodes the file before it holds the store's lock,
-    /// in a thread of its own if it can be had.
+    /// Keeps a file of at most 67,108,864 bytes under its digest. It encodes the file before it holds the store's lock.
     ///
     /// It clashes only if another file has the same digest.
     pub fn put<R: Threads + Wait + Sync>(
