@@ -40,8 +40,8 @@ use std::thread::Threads;
 ///
 /// The commands are `encode` with `--segments`, `decode` with `--workers`, `migrate`, or `sample` with `--seed`,
 /// `--columns` and `--rows`, as `command_words` has them. The whole source is read before anything is written. Once the
-/// first byte is written, no memory is allocated. `sample` reads nothing. The segments of a file are made, and those of a
-/// container decoded, in threads of their own if these can be had. A failure of `note` changes no status.
+/// first byte is written, no memory is allocated. `sample` reads nothing. The segments of a file are coded, and those of a
+/// container decoded, in other threads too if these can be had. A failure of `note` changes no status.
 pub fn run<R: Threads + Wait + Sync, S: Source, K: Sink + Send, N: Sink + Send, G: Gate + Sync>(
     rt: &R,
     alloc: Global,
