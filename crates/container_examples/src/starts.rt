@@ -287,9 +287,11 @@ fn are_alike<R: Threads + Sync>(
         return Ok(false);
     };
     let after = encode_all(rt, alloc, &plan, bytes, &found)?;
-    Ok(starts.segments() == found.segments()
-        && starts.trailer() == found.trailer()
-        && are_same(&streams, &after))
+    Ok(
+        starts.segments() == found.segments()
+            && starts.trailer() == found.trailer()
+            && are_same(&streams, &after),
+    )
 }
 
 fn are_same(streams: &[Vec<u8>], others: &[Vec<u8>]) -> bool {
