@@ -3,3 +3,5 @@ pub mod SoleCalls
 pub mod Answered
 pub mod Turned
 pub mod Served
+pub mod OneReading
+pub mod RunsAsRead

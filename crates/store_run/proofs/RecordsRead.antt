@@ -1,5 +1,5 @@
 -- Records as they are read.
-use Rattle.std.proofs.Common.{◌≡◌, ℕ, ◌<◌, ◌≤◌, List, ◌∷◌, ◌++◌, length, Option, inl, inr, sym, ap, ◌∙◌, subst, refl}
+use Rattle.std.proofs.Common.{◌≡◌, ℕ, ◌<◌, ◌≤◌, ◌^◌, List, ◌∷◌, ◌++◌, length, Option, inl, inr, sym, ap, ◌∙◌, subst, refl}
 use Rattle.std.specs.Io.KnownBytes.{Consumes, IsAtEnd}
 use Rattle.std.proofs.KnownBytes.{Consumes-trans}
 use Rattle.std.specs.declared.result.Result.TheVariants.{Err}
@@ -27,9 +27,9 @@ stops_read bytes left NoMemory bad = tt
 
 -- a length above the most
 pub long_is_bad : (field : List ℕ) (long : ℕ) (left : Option (List ℕ)) → big_bytes 4 long ≡ field
-    → most_of_a_file < long → IsBad (put_mark ∷ field) left
-long_is_bad field long left e more =
-    inl (inr (long, ap (λ (l : List ℕ). put_mark ∷ l) (sym e), more))
+    → most_of_a_file < long → long < 2 ^ 32 → IsBad (put_mark ∷ field) left
+long_is_bad field long left e more fits =
+    inl (inr (long, ap (λ (l : List ℕ). put_mark ∷ l) (sym e), more, fits))
 
 -- a file that ends before its last byte
 pub cut_is_bad : (field part : List ℕ) (full : ℕ) (left : Option (List ℕ)) (stop : ReadStop)

@@ -3,3 +3,4 @@ pub mod Reading
 pub mod Answering
 pub mod RunEnds
 pub mod Turns
+pub mod RecordLaws

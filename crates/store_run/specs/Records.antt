@@ -1,5 +1,5 @@
 -- Statement: the records of an input, and the replies to them (docs/STORE.md, Records).
-use Rattle.std.specs.Prelude.{ℕ, ◌≡◌, ◌≢◌, ◌⊎◌, ◌<◌, ◌≤◌, List, [], ◌∷◌, ◌++◌, length, flat_map, Option}
+use Rattle.std.specs.Prelude.{ℕ, ◌≡◌, ◌≢◌, ◌⊎◌, ◌<◌, ◌≤◌, ◌^◌, List, [], ◌∷◌, ◌++◌, length, flat_map, Option}
 use Rattle.std.specs.List.{AllByRecursion}
 use Rattle.std.specs.Io.KnownBytes.{IsAtEnd}
 use Rattle.byteorder.specs.Endian.{big_bytes}
@@ -46,7 +46,8 @@ abbrev pub IsForeign : List ℕ → Type 0
 IsForeign bytes =
     ((mark : ℕ) × (bytes ≡ mark ∷ []) × (mark ≢ put_mark) × (mark ≢ find_mark)
     × (mark ≢ remove_mark))
-    ⊎ ((long : ℕ) × (bytes ≡ put_mark ∷ big_bytes 4 long) × (most_of_a_file < long))
+    ⊎ ((long : ℕ) × (bytes ≡ put_mark ∷ big_bytes 4 long) × (most_of_a_file < long)
+    × (long < 2 ^ 32))
 
 -- a record without its last bytes
 abbrev pub IsCut : List ℕ → Type 0

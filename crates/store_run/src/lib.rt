@@ -8,8 +8,10 @@
 mod answers;
 mod calls;
 mod ending;
+mod laws;
 mod reading;
 mod run;
 
 pub use ending::Ending;
+pub use laws::{a_run_ends_as_its_input_says, an_input_has_one_reading};
 pub use run::{MOST_RECORDS, run_store};

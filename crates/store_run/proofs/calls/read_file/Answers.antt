@@ -10,7 +10,7 @@ returns-then-length-gt-MOST_BYTES-clause-stop g c = (
   c.in-Ok.field.items,
   c.in-Ok.ensures.whole,
   λ _. long_is_bad c.in-Ok.field.items c.number_in-length.result _
-      (c.number_in-length.ensures ∙ c.as_slice.ensures.value) (omega arith),
+      (c.number_in-length.ensures ∙ c.as_slice.ensures.value) (omega arith) (omega arith),
 )
 
 pub returns-in-Ok-read_exactly-clause-file : goal.returns-in-Ok-read_exactly-clause-file
