@@ -162,9 +162,9 @@ module _ {Source Sink : Type 0} (left : Source → Option (List ℕ)) (held : Si
           sink_still still,
         )
     by_stop rose ReadFailed room still h =
-        (some_so_far h.0 h.1 still, rose_later h.2, sink_still still)
+        (s.records, h.0, all_so_far h.0 h.1 still, rose_later h.2, sink_still still)
     by_stop rose NoMemory room still h =
-        (some_so_far h.0 h.1 still, h.2 ∙ s.source_worked, sink_still still)
+        (s.records, h.0, all_so_far h.0 h.1 still, h.2 ∙ s.source_worked, sink_still still)
     by_stop rose WriteFailed room still h = absurd h
     by_stop rose KeeperFailed room still h = absurd h
     by_stop rose Full room still h = absurd h
@@ -217,9 +217,12 @@ module _ {Source Sink : Type 0} (left : Source → Option (List ℕ)) (held : Si
           worked ∙ s.source_worked,
         )
     by_call rose NoMemory room sole rises call whole read worked h =
-        (some_so_far (record_bytes call) read h, worked ∙ s.source_worked, sink_still h)
+        (s.records, record_bytes call, all_so_far (record_bytes call) read h, worked ∙ s.source_worked, sink_still h)
     by_call rose KeeperFailed room sole rises call whole read worked h = (
-      some_so_far (record_bytes call) read h.0,
+      s.records,
+      call,
+      whole,
+      all_so_far (record_bytes call) read h.0,
       rises h.1,
       worked ∙ s.source_worked,
       sink_still h.0,
@@ -285,7 +288,9 @@ module _ {Source Sink : Type 0} (left : Source → Option (List ℕ)) (held : Si
     pub last_failed : (rose : Type 0) → Keeps (left now) (left new)
         → Rose source_faults source_full now new → EndHere rose ReadFailed
     last_failed rose kept failed = (
-      some_so_far old now new from to to caller caller most_records s []
+      s.records,
+      [],
+      all_so_far old now new from to to caller caller most_records s []
           (Consumes-kept (left now) (left now) (left new) [] (Consumes-nil (left now)) kept) refl,
       rose_later old now new from to to caller caller most_records s failed,
       s.sink_worked,

@@ -89,13 +89,17 @@ module _ {Source Sink : Type 0} (left : Source → Option (List ℕ)) (held : Si
           × HasAnsweredAll old new from to records (byte ∷ []) × (length records ≡ most_records)
           × SourceWorked old new × SinkWorked from to
       Ends old new from to KeeperRose ReadFailed =
-          HasAnsweredSome old new from to × Rose source_faults source_full old new
+          (records : List FileCall) × (bytes : List ℕ)
+          × HasAnsweredAll old new from to records bytes × Rose source_faults source_full old new
           × SinkWorked from to
       Ends old new from to KeeperRose WriteFailed =
           HasAnsweredSome old new from to × Rose sink_faults sink_full from to
           × SourceWorked old new
       Ends old new from to KeeperRose KeeperFailed =
-          HasAnsweredSome old new from to × KeeperRose × SourceWorked old new
-          × SinkWorked from to
+          (records : List FileCall) × (call : FileCall) × IsWhole call
+          × HasAnsweredAll old new from to records (record_bytes call) × KeeperRose
+          × SourceWorked old new × SinkWorked from to
       Ends old new from to KeeperRose NoMemory =
-          HasAnsweredSome old new from to × SourceWorked old new × SinkWorked from to
+          (records : List FileCall) × (bytes : List ℕ)
+          × HasAnsweredAll old new from to records bytes
+          × SourceWorked old new × SinkWorked from to

@@ -8,15 +8,12 @@ returns-in_default-clause-ends g c = (
   NoMemory,
   c.status.ensures,
   (
+    [],
+    [],
     record {
-      records = [];
-      rest = [];
-      written = 0;
-      so_far = record {
-        whole = tt;
-        read = Consumes-nil (g.S.Source.left c.args.source.now);
-        wrote = Appends-nil (g.K.Sink.held c.args.sink.now);
-      };
+      whole = tt;
+      read = Consumes-nil (g.S.Source.left c.args.source.now);
+      wrote = Appends-nil (g.K.Sink.held c.args.sink.now);
     },
     refl,
     refl,
