@@ -19,7 +19,7 @@ const SMALL: [u8; 72] = [
 ];
 
 // A store and its one caller.
-fn one_caller<P: Keeper>(
+pub(crate) fn one_caller<P: Keeper>(
     alloc: Global,
     keeper: P,
     limit: u32,
