@@ -27,7 +27,7 @@ use Rattle.photo_store.specs.declared.answers.Put.{Put as PutAnswer}
 use Rattle.photo_store.specs.declared.answers.Remove.{Remove as RemoveAnswer}
 use Rattle.photo_store.proofs.FileRuns.{bytes_same}
 use Rattle.store_run.specs.Answering.{Gives, HasAnswered, put_answer, remove_answer}
-use Rattle.store_run.specs.Records.{reply_bytes}
+use Rattle.store_run.specs.Records.{clash_mark, found_mark, held_mark, not_found_mark, reply_bytes, stored_mark}
 use Rattle.store_run.specs.declared.answers.Answer.TheVariants.{Keyed, File, Mark}
 use Rattle.store_run.proofs.SoleCalls.{all_own, is_later, replied_own, stays_later, still_same, tied_after}
 
@@ -124,7 +124,7 @@ module _ (old new : CallerValue) (file blob : List ℕ) (is : IsBlobOf blob file
 
   pub stored_gives : (number : ℕ) (k : List ℕ) → k ≡ sha256 file
       → HasCalled SuitsKey old new (Puts (sha256 file) blob) (Ok (Stored number))
-      → Gives old new (PutFile file) (Ok (Keyed 1 k))
+      → Gives old new (PutFile file) (Ok (Keyed stored_mark k))
   stored_gives number k k_is h = (
     tt,
     λ files sole tied.
@@ -135,7 +135,7 @@ module _ (old new : CallerValue) (file blob : List ℕ) (is : IsBlobOf blob file
         let own : HasSame new.view.blobs (sha256 file) (Some number) (file_left (files (sha256 file)) (PutFile file)) =
         subst (λ (o : Option (List ℕ)). HasSame new.view.blobs (sha256 file) (Some number) (file_left o (PutFile file)))
         (sym none) (refl, (blob, h.answered.names, is)) in (
-          ap (λ (l : List ℕ). 1 ∷ l) k_is
+          ap (λ (l : List ℕ). stored_mark ∷ l) k_is
               ∙ ap (λ (o : Option (List ℕ)). reply_bytes (PutFile file) (file_reply o (PutFile file))) (sym none),
           tied_after old new asked (Stored number) h tied.first sole files (PutFile file) tied.same refl own,
         ),
@@ -143,7 +143,7 @@ module _ (old new : CallerValue) (file blob : List ℕ) (is : IsBlobOf blob file
 
   pub held_gives : (number : ℕ) (k : List ℕ) → k ≡ sha256 file
       → HasCalled SuitsKey old new (Puts (sha256 file) blob) (Ok (Held number))
-      → Gives old new (PutFile file) (Ok (Keyed 2 k))
+      → Gives old new (PutFile file) (Ok (Keyed held_mark k))
   held_gives number k k_is h = (
     tt,
     λ files sole tied.
@@ -160,13 +160,13 @@ module _ (old new : CallerValue) (file blob : List ℕ) (is : IsBlobOf blob file
         (subst (λ (o : Option (List ℕ)). HasSame new.view.blobs (sha256 file) now o) held has) in
         let reply : FileHeld ≡ file_reply (files (sha256 file)) (PutFile file) =
         sym (by_test file file true (bytes_same file)) ∙ ap (λ (o : Option (List ℕ)). file_reply o (PutFile file)) (sym held) in (
-          ap (λ (l : List ℕ). 2 ∷ l) k_is ∙ ap (reply_bytes (PutFile file)) reply,
+          ap (λ (l : List ℕ). held_mark ∷ l) k_is ∙ ap (reply_bytes (PutFile file)) reply,
           tied_after old new asked (Held number) h tied.first sole files (PutFile file) tied.same refl own,
         ),
   )
 
   pub clash_gives : HasCalled SuitsKey old new (Puts (sha256 file) blob) (Err Clash)
-      → Gives old new (PutFile file) (Ok (Keyed 3 (sha256 file)))
+      → Gives old new (PutFile file) (Ok (Keyed clash_mark (sha256 file)))
   clash_gives h = (
     tt,
     λ files sole tied.
@@ -224,7 +224,7 @@ put_answered old new file (Err NoMemory) (inr g) =
 
 module _ (old new : CallerValue) (key : List ℕ) where
   pub missing_answered : (front : ℕ) → FindGives old new key (Ok (FindMissing front))
-      → HasAnswered old new (FindFile key) (Ok (Mark 5))
+      → HasAnswered old new (FindFile key) (Ok (Mark not_found_mark))
   missing_answered front g =
       let h = g.0 in
       record {
@@ -260,7 +260,7 @@ module _ (old new : CallerValue) (key : List ℕ) where
               let now = kept old.view.mine key in
               let had = had_some new.view.blobs key now (files key) g.0 (found_now now g.0 _ replied) has in
               let is : shown.items ≡ had.file = shows had.file (file_there new.view.blobs g.0 ticket had.file g.2 had.at) in (
-                ap (λ (l : List ℕ). 4 ∷ (big_bytes 4 (length l) ++ l)) is
+                ap (λ (l : List ℕ). found_mark ∷ (big_bytes 4 (length l) ++ l)) is
                     ∙ ap (λ (o : Option (List ℕ)). reply_bytes (FindFile key) (file_reply o (FindFile key))) (sym had.is),
                 tied_after old new (Finds key) (Found g.0) h tied.first sole files (FindFile key) tied.same refl has,
               ),

@@ -15,14 +15,14 @@ use Rattle.photo_store.specs.declared.answers.Put.{Put}
 use Rattle.photo_store.specs.declared.answers.Put.TheVariants.{Stored, Held}
 use Rattle.photo_store.specs.declared.answers.Remove.{Remove}
 use Rattle.photo_store.specs.declared.answers.Remove.TheVariants.{Removed, Missing}
-use Rattle.store_run.specs.Records.{reply_bytes}
+use Rattle.store_run.specs.Records.{clash_mark, found_mark, held_mark, not_removed_mark, removed_mark, reply_bytes, stored_mark}
 use Rattle.store_run.specs.declared.answers.Answer.{Answer}
 use Rattle.store_run.specs.declared.answers.Answer.TheVariants.{Keyed, File, Mark}
 
 -- the bytes that are written of an answer
 abbrev pub answer_bytes : Answer → List ℕ
 answer_bytes (Keyed mark key) = mark ∷ key
-answer_bytes (File file) = 4 ∷ (big_bytes 4 (length file.items) ++ file.items)
+answer_bytes (File file) = found_mark ∷ (big_bytes 4 (length file.items) ++ file.items)
 answer_bytes (Mark mark) = mark ∷ []
 
 -- a file in an answer is as long as it may be
@@ -33,17 +33,17 @@ IsShort (Mark mark) = Unit {0}
 
 -- the answer that is written of a put
 abbrev pub put_answer : List ℕ → Result Put Stop → Result Answer Stop
-put_answer file (Ok (Stored key front)) = Ok (Keyed 1 key)
-put_answer file (Ok (Held key front)) = Ok (Keyed 2 key)
-put_answer file (Err Clash) = Ok (Keyed 3 (sha256 file))
+put_answer file (Ok (Stored key front)) = Ok (Keyed stored_mark key)
+put_answer file (Ok (Held key front)) = Ok (Keyed held_mark key)
+put_answer file (Err Clash) = Ok (Keyed clash_mark (sha256 file))
 put_answer file (Err Full) = Err Full
 put_answer file (Err KeeperFault) = Err KeeperFault
 put_answer file (Err NoMemory) = Err NoMemory
 
 -- and of a removal
 abbrev pub remove_answer : Result Remove Stop → Result Answer Stop
-remove_answer (Ok (Removed front)) = Ok (Mark 6)
-remove_answer (Ok (Missing front)) = Ok (Mark 7)
+remove_answer (Ok (Removed front)) = Ok (Mark removed_mark)
+remove_answer (Ok (Missing front)) = Ok (Mark not_removed_mark)
 remove_answer (Err stop) = Err stop
 
 -- the first caller, whose own entries keep these files

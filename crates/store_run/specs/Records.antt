@@ -62,16 +62,38 @@ IsCut bytes =
 abbrev pub IsBad : List ℕ → Option (List ℕ) → Type 0
 IsBad bytes left = IsForeign bytes ⊎ (IsCut bytes × IsAtEnd left)
 
--- the bytes of a reply: 01, 02 or 03 and the key; 04, the length in four bytes and the file; 05; 06; 07
+-- the first byte of a reply: to a put, to a find, to a removal
+abbrev pub stored_mark : ℕ
+stored_mark = 1
+
+abbrev pub held_mark : ℕ
+held_mark = 2
+
+abbrev pub clash_mark : ℕ
+clash_mark = 3
+
+abbrev pub found_mark : ℕ
+found_mark = 4
+
+abbrev pub not_found_mark : ℕ
+not_found_mark = 5
+
+abbrev pub removed_mark : ℕ
+removed_mark = 6
+
+abbrev pub not_removed_mark : ℕ
+not_removed_mark = 7
+
+-- the bytes of a reply: its mark, and the key of a put; the length in four bytes and the file, if it is found
 abbrev pub reply_bytes : FileCall → FileReply → List ℕ
-reply_bytes call FileStored = 1 ∷ key_asked call
-reply_bytes call FileHeld = 2 ∷ key_asked call
-reply_bytes call FileClash = 3 ∷ key_asked call
-reply_bytes call (FileFound file) = 4 ∷ (big_bytes 4 (length file) ++ file)
+reply_bytes call FileStored = stored_mark ∷ key_asked call
+reply_bytes call FileHeld = held_mark ∷ key_asked call
+reply_bytes call FileClash = clash_mark ∷ key_asked call
+reply_bytes call (FileFound file) = found_mark ∷ (big_bytes 4 (length file) ++ file)
 reply_bytes (PutFile file) FileMissing = []
-reply_bytes (FindFile key) FileMissing = 5 ∷ []
-reply_bytes (RemoveFile key) FileMissing = 7 ∷ []
-reply_bytes call FileRemoved = 6 ∷ []
+reply_bytes (FindFile key) FileMissing = not_found_mark ∷ []
+reply_bytes (RemoveFile key) FileMissing = not_removed_mark ∷ []
+reply_bytes call FileRemoved = removed_mark ∷ []
 
 -- the replies to records of the store of one thread that begins with these files
 abbrev pub replies : Files → List FileCall → List ℕ

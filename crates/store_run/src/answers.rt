@@ -15,6 +15,21 @@ use std::alloc::Global;
 use std::sync::Wait;
 use std::thread::Threads;
 
+// The first byte of a reply.
+const STORED: u8 = 1;
+
+const HELD: u8 = 2;
+
+const CLASH: u8 = 3;
+
+const FOUND: u8 = 4;
+
+const NOT_FOUND: u8 = 5;
+
+const REMOVED: u8 = 6;
+
+const NOT_REMOVED: u8 = 7;
+
 /// An answer.
 #[derive(Drop)]
 pub(crate) enum Answer {
@@ -64,9 +79,9 @@ fn put_answer(put: Result<Put, Stop>, file: &[u8]) -> Result<Answer, Stop>
     ensures { result ≡ put_answer file.now put }
 {
     match put {
-        Ok(Put::Stored(key, _)) => Ok(Answer::Keyed(1, key)),
-        Ok(Put::Held(key, _)) => Ok(Answer::Keyed(2, key)),
-        Err(Stop::Clash) => Ok(Answer::Keyed(3, key_of(file))),
+        Ok(Put::Stored(key, _)) => Ok(Answer::Keyed(STORED, key)),
+        Ok(Put::Held(key, _)) => Ok(Answer::Keyed(HELD, key)),
+        Err(Stop::Clash) => Ok(Answer::Keyed(CLASH, key_of(file))),
         Err(Stop::Full) => Err(Stop::Full),
         Err(Stop::KeeperFault) => Err(Stop::KeeperFault),
         Err(Stop::NoMemory) => Err(Stop::NoMemory),
@@ -88,7 +103,7 @@ fn answer_find<R: Wait, P: Keeper>(
             Ok(file) => Ok(Answer::File(file)),
             Err(_) => Err(Stop::NoMemory),
         },
-        Ok(Find::Missing(_)) => Ok(Answer::Mark(5)),
+        Ok(Find::Missing(_)) => Ok(Answer::Mark(NOT_FOUND)),
         Err(stop) => Err(stop),
     }
 }
@@ -110,8 +125,8 @@ fn remove_answer(removal: Result<Remove, Stop>) -> Result<Answer, Stop>
     ensures { result ≡ remove_answer removal }
 {
     match removal {
-        Ok(Remove::Removed(_)) => Ok(Answer::Mark(6)),
-        Ok(Remove::Missing(_)) => Ok(Answer::Mark(7)),
+        Ok(Remove::Removed(_)) => Ok(Answer::Mark(REMOVED)),
+        Ok(Remove::Missing(_)) => Ok(Answer::Mark(NOT_REMOVED)),
         Err(stop) => Err(stop),
     }
 }
@@ -129,7 +144,7 @@ pub(crate) fn write_answer<K: Sink>(sink: &mut K, answer: &Answer) -> Result<(),
         Answer::Keyed(mark, key) => write_both(sink, &[*mark], key),
         Answer::File(file) => {
             let [a, b, c, d] = (file.len() as u32).to_be_bytes();
-            write_both(sink, &[4, a, b, c, d], file.as_slice())
+            write_both(sink, &[FOUND, a, b, c, d], file.as_slice())
         }
         Answer::Mark(mark) => write_both(sink, &[*mark], &[]),
     }
