@@ -1,6 +1,6 @@
 -- Each new caller is of its store.
 use Rattle.std.proofs.Common.{◌≡◌, ℕ, zero, suc, ◌<◌, List, [], ◌∷◌, ◌++◌, length, refl, arith}
-use Rattle.std.specs.Prelude.{slice_index_or}
+use Rattle.std.specs.Prelude.{All, slice_index_or}
 use Rattle.std.specs.List.{AllByRecursion}
 use Rattle.atomic_table.specs.Seated.{TableId}
 use Rattle.blob_store.specs.Callers.{CallerValue, later_callers, new_caller, new_callers}
@@ -33,3 +33,10 @@ each_is_of table faults limit zero i d within = absurd (omega (arith, within))
 each_is_of table faults limit (suc n) i d within =
     at_index table (new_callers table faults limit (suc n)) i d
     (refl, later_are table faults limit n) within
+
+-- those after the first one
+pub tail_is : {A : Type 0} (P : A → Type 0) (x : A) (xs : List A) → All P (x ∷ xs) → All P xs
+tail_is P x xs all = λ k d within. all (suc k) d (omega (arith, within))
+
+pub head_is : {A : Type 0} (P : A → Type 0) (x : A) (xs : List A) → All P (x ∷ xs) → P x
+head_is P x xs all = all 0 x (omega arith)

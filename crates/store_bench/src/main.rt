@@ -1,10 +1,9 @@
 //! `store_bench PUTS FINDS THREADS < FILE`, for `bench/store`: each of THREADS callers of a store in memory, in a thread of
 //! its own, puts PUTS files, and finds the first of them FINDS times. Each file is that of stdin with bytes of its own
-//! after it. Prints how many calls that is; if one of them stores or finds nothing, it panics. Ends with 2 if the
-//! arguments aren't three such numbers.
+//! after it. Prints how many calls stored or found one. Ends with 2 if the arguments aren't three such numbers.
 #![tactic(auto)]
 
-ghost use Rattle.std.specs.Prelude.{◌≡◌, ◌+◌, ◌<◌, ◌≤◌, IfOk, length};
+ghost use Rattle.std.specs.Prelude.{◌≡◌, ◌+◌, ◌<◌, ◌≤◌, All, IfOk, length};
 ghost use Rattle.container_spec.specs.Limits.{most_of_a_file};
 
 use blob_store::{Key, VecKeeper};
@@ -12,7 +11,7 @@ use outside_core::read_all;
 use photo_store::{Caller, Find, Put, Store, key_of};
 use standard_streams::ReaderSource;
 use std::alloc::{AllocError, Global};
-use std::process::{Abort, ExitCode};
+use std::process::ExitCode;
 use std::sync::Wait;
 use std::thread::Threads;
 use std::{env, thread};
@@ -31,6 +30,13 @@ struct Work<'a> {
     finds: u32,
 }
 
+// A thread's caller, and how many of its calls stored or found a file.
+#[derive(Drop)]
+struct Task {
+    caller: Caller<VecKeeper>,
+    done: u64,
+}
+
 // A file that no other call puts.
 fn own_file(alloc: Global, file: &[u8], thread: usize, number: u32) -> Result<Vec<u8>, AllocError>
     requires { length file.now + 12 ≤ most_of_a_file }
@@ -43,91 +49,106 @@ fn own_file(alloc: Global, file: &[u8], thread: usize, number: u32) -> Result<Ve
     Ok(own)
 }
 
-fn put_once<R: Threads + Wait + Sync + Abort>(
+// Whether a put stores a file.
+fn stores<R: Threads + Wait + Sync>(
     rt: &R,
     alloc: Global,
     store: &Store<VecKeeper>,
     caller: &mut Caller<VecKeeper>,
     file: &[u8],
-)
+) -> bool
     requires own { caller.old.table ≡ store.now }
     requires short { length file.now ≤ most_of_a_file }
     ensures { caller.new.table ≡ store.now }
 {
     match store.put(rt, alloc, caller, file) {
-        Ok(Put::Stored(_, _)) => {}
-        _ => panic!(rt; "nothing was stored"),
+        Ok(Put::Stored(_, _)) => true,
+        _ => false,
     }
 }
 
-fn find_once<R: Wait + Abort>(
+// Whether a key has a file.
+fn finds<R: Wait>(
     rt: &R,
     store: &Store<VecKeeper>,
     caller: &mut Caller<VecKeeper>,
     key: Key,
-)
+) -> bool
     requires { caller.old.table ≡ store.now }
     ensures { caller.new.table ≡ store.now }
 {
     match store.find(rt, caller, key) {
-        Ok(Find::Found(_, _)) => {}
-        _ => panic!(rt; "nothing was found"),
+        Ok(Find::Found(_, _)) => true,
+        _ => false,
     }
 }
 
-fn put_all<R: Threads + Wait + Sync + Abort>(
+fn put_all<R: Threads + Wait + Sync>(
     rt: &R,
     alloc: Global,
     store: &Store<VecKeeper>,
-    caller: &mut Caller<VecKeeper>,
+    task: &mut Task,
     thread: usize,
     work: Work,
 )
-    requires own { caller.old.table ≡ store.now }
+    requires own { task.old.caller.table ≡ store.now }
     requires short { length work.file.now + 12 ≤ most_of_a_file }
-    ensures { caller.new.table ≡ store.now }
+    ensures { task.new.caller.table ≡ store.now }
 {
     for number in 0..work.puts {
-        let own = own_file(alloc, work.file, thread, number).expect(rt, "memory");
-        put_once(rt, alloc, store, caller, &own);
+        if let Ok(own) = own_file(alloc, work.file, thread, number) {
+            let stored = stores(rt, alloc, store, &mut task.caller, &own);
+            task.done = task.done.saturating_add(u64::from(stored));
+        }
     }
 }
 
-fn find_all<R: Wait + Abort>(
-    rt: &R,
-    store: &Store<VecKeeper>,
-    caller: &mut Caller<VecKeeper>,
-    key: Key,
-    finds: u32,
-)
-    requires { caller.old.table ≡ store.now }
-    ensures { caller.new.table ≡ store.now }
+fn find_all<R: Wait>(rt: &R, store: &Store<VecKeeper>, task: &mut Task, key: Key, times: u32)
+    requires { task.old.caller.table ≡ store.now }
+    ensures { task.new.caller.table ≡ store.now }
 {
-    for _ in 0..finds {
-        find_once(rt, store, caller, key);
+    for _ in 0..times {
+        let found = finds(rt, store, &mut task.caller, key);
+        task.done = task.done.saturating_add(u64::from(found));
     }
 }
 
 // The calls of one thread.
-fn perform<R: Threads + Wait + Sync + Abort>(
+fn perform<R: Threads + Wait + Sync>(
     rt: &R,
     alloc: Global,
     store: &Store<VecKeeper>,
-    caller: &mut Caller<VecKeeper>,
+    task: &mut Task,
     thread: usize,
     work: Work,
 )
-    requires own { caller.old.table ≡ store.now }
+    requires own { task.old.caller.table ≡ store.now }
     requires short { length work.file.now + 12 ≤ most_of_a_file }
-    ensures { caller.new.table ≡ store.now }
 {
-    put_all(rt, alloc, store, caller, thread, work);
-    let first = own_file(alloc, work.file, thread, 0).expect(rt, "memory");
-    find_all(rt, store, caller, key_of(&first), work.finds);
+    put_all(rt, alloc, store, task, thread, work);
+    if let Ok(first) = own_file(alloc, work.file, thread, 0) {
+        find_all(rt, store, task, key_of(&first), work.finds);
+    }
 }
 
-// How many calls all threads made.
-fn calls_made<R: Threads + Wait + Sync + Abort>(
+// A task for each caller.
+fn tasks_of(
+    alloc: Global,
+    store: &Store<VecKeeper>,
+    callers: Vec<Caller<VecKeeper>>,
+) -> Result<Vec<Task>, AllocError>
+    requires { All (λ caller. caller.table ≡ store.now) callers.items }
+    ensures { IfOk result (λ tasks. All (λ task. task.caller.table ≡ store.now) tasks.items) }
+{
+    let mut tasks = Vec::new(alloc);
+    for caller in callers {
+        tasks.push(Task { caller, done: 0 })?;
+    }
+    Ok(tasks)
+}
+
+// How many calls stored or found a file.
+fn calls_done<R: Threads + Wait + Sync>(
     rt: &R,
     alloc: Global,
     work: Work,
@@ -138,16 +159,21 @@ fn calls_made<R: Threads + Wait + Sync + Abort>(
 {
     let calls = u64::from(threads).saturating_mul(u64::from(work.puts) + u64::from(work.finds));
     let limit = calls.min(MOST_CALLS) as u32;
-    let (store, mut callers) = Store::start(alloc, VecKeeper::new(alloc), threads, limit)?;
+    let (store, callers) = Store::start(alloc, VecKeeper::new(alloc), threads, limit)?;
+    let mut tasks = tasks_of(alloc, &store, callers)?;
     thread::for_each_mut(
         rt,
-        callers.as_mut_slice(),
+        tasks.as_mut_slice(),
         threads as usize,
-        &|thread: usize, caller: &mut Caller<VecKeeper>|
-            requires { (caller.now.table ≡ store) × (length work.file.now + 12 ≤ most_of_a_file) }
-        { perform(rt, alloc, &store, caller, thread, work) },
+        &|thread: usize, task: &mut Task|
+            requires { (task.now.caller.table ≡ store) × (length work.file.now + 12 ≤ most_of_a_file) }
+        { perform(rt, alloc, &store, task, thread, work) },
     );
-    Ok(calls)
+    let mut done: u64 = 0;
+    for task in &tasks {
+        done = done.saturating_add(task.done);
+    }
+    Ok(done)
 }
 
 // The numbers that the arguments are.
@@ -184,7 +210,7 @@ fn main(rt: HostRuntime) -> ExitCode {
         puts,
         finds,
     };
-    match calls_made(&rt, alloc, work, threads) {
+    match calls_done(&rt, alloc, work, threads) {
         Ok(calls) => match println!(rt; "{calls}") {
             Ok(()) => ExitCode::from(0),
             Err(_) => ExitCode::from(1),
