@@ -30,9 +30,9 @@ const INNER_COUNT_TOP: u32 = 64;
 /// How many steps the size of a residue has.
 const DC_STEPS: u8 = DC_SIZES as u8;
 
-/// Codes the parts of a block, from the inner count on, puts its AC coefficients into `out` and returns its residue. A
-/// coder that is given the bits codes `wanted` and `residue`; one that gets them ignores both. Returns `None` if the six
-/// bits of the count are above 49, and then codes nothing after them.
+/// Codes the parts of a block, from the inner count on, puts its AC coefficients into `out` and returns its residue.
+/// A coder that is given the bits codes `wanted` and `residue`; one that gets them ignores both. Returns `None` if
+/// the six bits of the count are above 49, and then codes nothing after them.
 #[inline(always)]
 pub(crate) fn code_parts<C: Coder>(
     coder: &mut C,

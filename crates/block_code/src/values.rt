@@ -95,8 +95,9 @@ fn remain_after(remain: u8, x: i32) -> u8
     }
 }
 
-/// Codes the values of a band, of which `count` are not 0, up to the last of these. A coder that is given the bits codes
-/// those of `wanted`; one that gets them ignores it. The values are put into `out`, where all of them are 0 before.
+/// Codes the values of a band, of which `count` are not 0, up to the last of these. A coder that is given the bits
+/// codes those of `wanted`; one that gets them ignores it. The values are put into `out`, where all of them are 0
+/// before.
 #[inline(always)]
 pub(crate) fn code_values<C: Coder, B: Band>(
     coder: &mut C,

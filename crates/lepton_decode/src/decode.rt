@@ -16,9 +16,9 @@ use segment_worker::Told;
 use std::sync::Wait;
 use std::thread::Threads;
 
-/// Writes the file that a container stands for, or if a segment's stream has a fault, the bytes before it. It returns how
-/// many bytes these are, whatever the number of workers and the order of their calls. It asks no allocator for memory. If
-/// a thread can't be had, it does without.
+/// Writes the file that a container stands for, or if a segment's stream has a fault, the bytes before it. It returns
+/// how many bytes these are, whatever the number of workers and the order of their calls. It asks no allocator for
+/// memory. If a thread can't be had, it does without.
 ///
 /// The gate is called before each segment that the emitter asks for, and before and after each put of a worker.
 pub fn run<R: Threads + Wait + Sync, K: Sink + Send, G: Gate + Sync>(

@@ -11,8 +11,8 @@ pub enum DecodeError {
     /// 40 to 45: the first fault in the order of the segments; the bytes before it are written.
     #[error("Fault")]
     Fault(StreamFault),
-    /// 46: the pad bits are spelled in another way than a file's: as 0 if no bit of 0 is padded, by a list if the padded
-    /// bits are all the same, or with 0 for an interval that pads none. All bytes are written.
+    /// 46: the pad bits are spelled in another way than a file's: as 0 if no bit of 0 is padded, by a list if the
+    /// padded bits are all the same, or with 0 for an interval that pads none. All bytes are written.
     #[error("PadSpelling")]
     PadSpelling,
 }

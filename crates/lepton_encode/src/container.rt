@@ -17,8 +17,9 @@ use segment_worker::encode_scan;
 use std::alloc::Global;
 use std::thread::Threads;
 
-/// The container of a file, of version 2, in at most `segments` segments, and at most as many as rows of MCUs. A refusal
-/// is the header's, or else the scan's. Each segment but the last is coded in a thread of its own if one can be had.
+/// The container of a file, of version 2, in at most `segments` segments, and at most as many as rows of MCUs. A
+/// refusal is the header's, or else the scan's. Each segment but the last is coded in a thread of its own if one can
+/// be had.
 pub fn encode<R: Threads + Sync>(
     rt: &R,
     alloc: Global,

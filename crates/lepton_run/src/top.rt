@@ -30,7 +30,7 @@ use std::thread::Threads;
 /// | status | if | line |
 /// |---|---|---|
 /// | 0 | the container, the file, the container in version 2, or a sample's five lines were written | none |
-/// | 1 | the bytes are refused: with 40 to 45 the file's bytes before the fault were written, with 46 all, else none | (a) |
+/// | 1 | the bytes are refused: with 40 to 45 what is before the fault was written, with 46 all, else none | (a) |
 /// | 2 | the arguments mean no command | `lepton: words refused` |
 /// | 3 | the source failed | `lepton: read failed` |
 /// | 4 | the sink failed | `lepton: write failed` |
@@ -39,9 +39,9 @@ use std::thread::Threads;
 /// (a) `lepton: refused `, the refusal's number and name, and the code, the place or the segment that it holds.
 ///
 /// The commands are `encode` with `--segments`, `decode` with `--workers`, `migrate`, or `sample` with `--seed`,
-/// `--columns` and `--rows`, as `command_words` has them. The whole source is read before anything is written. Once the
-/// first byte is written, no memory is allocated. `sample` reads nothing. The segments of a file are coded, and those of a
-/// container decoded, in other threads too if these can be had. A failure of `note` changes no status.
+/// `--columns` and `--rows`, as `command_words` has them. The whole source is read before anything is written. Once
+/// the first byte is written, no memory is allocated. `sample` reads nothing. The segments of a file are coded, and
+/// those of a container decoded, in other threads too if these can be had. A failure of `note` changes no status.
 pub fn run<R: Threads + Wait + Sync, S: Source, K: Sink + Send, N: Sink + Send, G: Gate + Sync>(
     rt: &R,
     alloc: Global,

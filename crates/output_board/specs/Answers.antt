@@ -1,6 +1,6 @@
--- Steps: what the calls ask of a seat's view, and what they make of it and return (own). Each answer says what changed of
--- the view, then facts of the result, then what the call's one hold found (`seen`) and recorded. `ss` and `os` are the
--- bytes and the outcomes of the segments.
+-- Steps: what the calls ask of a seat's view, and what they make of it and return (own). Each answer says what
+-- changed of the view, then facts of the result, then what the call's one hold found (`seen`) and recorded. `ss` and
+-- `os` are the bytes and the outcomes of the segments.
 use Rattle.std.specs.Prelude.{◌≡◌, ◌≢◌, ℕ, ◌+◌, ◌<◌, ◌≤◌, ◌⊎◌, min, take, drop, ◌==◌, if◌then◌else◌, List, ◌++◌, length, true, false, Some, None, slice_get}
 use Rattle.handover.specs.declared.outcome.Outcome.{Outcome}
 use Rattle.handover.specs.declared.outcome.Outcome.TheVariants.{Good, Bad}

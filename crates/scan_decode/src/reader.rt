@@ -109,8 +109,8 @@ impl<'a> Reader<'a> {
         self.read(out)
     }
 
-    /// Reads the next MCU and keeps none of its coefficients. It is refused exactly if `next_mcu` is, and leaves the
-    /// reader as that does.
+    /// Reads the next MCU and keeps none of its coefficients. It is refused exactly if `next_mcu` is, with the same
+    /// refusal, and continues where that does.
     pub fn skip_mcu(&mut self) -> Result<(), ScanRefusal>
         requires more { self.old.at.count < self.old.shape.mcus }
         ensures { (blocks : List (List ℤ))

@@ -1,5 +1,5 @@
--- Statement: what a symbol of AC coefficients says, what pad bits come to, where a restart marker ends, and the refusals
--- of bits and code words that aren't there (ITU-T T.81, E.1.4, F.1.2.3, F.2.2.2; docs/JPEG.md, Scans).
+-- Statement: what a symbol of AC coefficients says, what pad bits come to, where a restart marker ends, and the
+-- refusals of bits and code words that aren't there (ITU-T T.81, E.1.4, F.1.2.3, F.2.2.2; docs/JPEG.md, Scans).
 use Rattle.std.specs.Prelude.{ℕ, ◌+◌, ◌/◌, ◌%◌, Bool, true, false, ◌&&◌, ◌==◌, nat_lt, nat_le, if◌then◌else◌, List, [], ◌∷◌, length, drop, Option, Some, None, Result, Ok, Err}
 use Rattle.bit_list.specs.declared.fault.BitFault.{BitFault}
 use Rattle.bit_list.specs.declared.fault.BitFault.TheVariants.{Cut, MarkerInScan}

@@ -3,10 +3,10 @@
 //!     scan   --Reader-->  blocks of an MCU  --put_mcu-->  stream
 //!     stream --get_mcu--> blocks of an MCU  --Writer-->   scan
 //!
-//! `ScanPass` goes over a scan from segment to segment, and keeps where each starts. It reads a segment and codes it, or
-//! only reads it, and gives a `SegmentPart` that is coded beside the pass. `find_starts` is a pass that codes nothing, and
-//! `encode_segment` codes one segment whose start it found. `SegmentDecoder` decodes the segments of a container, each in
-//! steps of a piece of bytes.
+//! `ScanPass` goes over a scan from segment to segment, and keeps where each starts. It reads a segment and codes it,
+//! or only reads it, and gives a `SegmentPart` that is coded beside the pass. `find_starts` is a pass that codes
+//! nothing, and `encode_segment` codes one segment whose start it found. `SegmentDecoder` decodes the segments of a
+//! container, each in steps of a piece of bytes.
 //!
 //! Two MCU rows of blocks are kept, as neighbours. What a block's events are is `block_spec`'s, what a scan's bytes
 //! are is `scan_spec`'s, and what a segment's stream stands for is `container_spec`'s.

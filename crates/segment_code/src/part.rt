@@ -41,7 +41,8 @@ impl<'a> Model for SegmentPart<'a> {
 
 impl<'a> SegmentPart<'a> {
     /// The segment's stream. Each MCU is read, coded and forgotten: beside the stream, memory is for two MCU rows of
-    /// blocks and the bins. If the bytes are no file's, it may be refused, or the stream be of no worth.
+    /// blocks, the bins, and a bit for each restart interval. If the bytes are no file's, it may be refused, or give
+    /// bytes that mean nothing.
     pub fn encode(&self, alloc: Global) -> Result<Vec<u8>, ScanError>
         requires { IsPart self.now }
         ensures stream { IfOk result (λ stream. IsPartStream self.now stream.items) }

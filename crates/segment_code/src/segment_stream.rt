@@ -69,8 +69,8 @@ pub fn encode_segment(
     }
 }
 
-/// The stream of the reader's next `mcus` MCUs, as one segment of its plan's scan. The pad bit of each interval that ends
-/// is kept.
+/// The stream of the reader's next `mcus` MCUs, as one segment of its plan's scan. The pad bit of each interval that
+/// ends is kept.
 pub(crate) fn code_segment(
     alloc: Global,
     plan: &Plan,

@@ -19,8 +19,9 @@ use std::sync::Wait;
 /// The most bytes of one take from a ring.
 const MOST_TAKEN: usize = 4_096;
 
-/// Writes the segments in order, the bytes of each from its ring, or decoded here if nobody has claimed it when its turn
-/// comes. It returns after the last one; or it stops the board, after the first with a fault, or if the sink fails.
+/// Writes the segments in order, the bytes of each from its ring, or decoded here if nobody has claimed it when its
+/// turn comes. It returns after the last one; or it stops the board, after the first with a fault, or if the sink
+/// fails.
 ///
 /// The gate is called before each segment that the emitter asks for.
 pub fn emit<'a, R: Wait, K: Sink, G: Gate>(

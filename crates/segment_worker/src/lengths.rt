@@ -5,8 +5,8 @@ ghost use Rattle.segment_worker.specs.Contents.{AreShort};
 
 use box_format::BoxView;
 
-// Whatever its streams, a container has few segments, and none has more bytes than 64 bits count. This is called for its
-// clauses and does no work.
+// Whatever its streams, a container has few segments, and none has more bytes than 64 bits count. This is called for
+// its clauses and does no work.
 pub(crate) fn segments_are_short(view: &BoxView)
     ensures short { AreShort view.now }
     ensures few { length view.now.parts.handovers ≤ most_segments }

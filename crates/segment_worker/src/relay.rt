@@ -1,4 +1,6 @@
-// A pass that goes over some work part by part, while other threads do the parts that it has passed.
+// A pass that goes over some work part by part, while other threads do the parts that it has passed. The traits have
+// one impl each (`streams.rt`): a closure over a type that names a lifetime can't be proved, one over a type
+// parameter can.
 ghost use Rattle.std.specs.Prelude.{◌≡◌, ◌+◌, ◌<◌, ◌≤◌, ℕ, List, [], ◌∷◌, map, IfOk, OnOk, IsErrOf};
 ghost use denote.Param.Send.{IsSync};
 ghost use Rattle.scan_spec.specs.declared.refusal.ScanRefusal.{ScanRefusal};

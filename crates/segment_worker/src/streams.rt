@@ -19,9 +19,9 @@ use std::alloc::{AllocError, Global};
 use std::thread;
 use std::thread::Threads;
 
-/// Where the segments of a file start, whose header's plan this is, and the stream of each, in order: at most `segments`,
-/// and at most as many as rows of MCUs. One pass over the scan finds the starts. Each segment but the last is coded in a
-/// thread of its own, if one can be had, once the pass is there; the pass codes the last one.
+/// Where the segments of a file start, whose header's plan this is, and the stream of each, in order: at most
+/// `segments`, and at most as many as rows of MCUs. One pass over the scan finds the starts. Each segment but the
+/// last is coded in a thread of its own, if one can be had, once the pass is there; the pass codes the last one.
 pub fn encode_scan<R: Threads + Sync>(
     rt: &R,
     alloc: Global,

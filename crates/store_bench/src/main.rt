@@ -1,6 +1,7 @@
-//! `store_bench PUTS FINDS THREADS < FILE`, for `bench/store`: each of THREADS callers of a store in memory, in a thread of
-//! its own, puts PUTS files, and finds the first of them FINDS times. Each file is that of stdin with bytes of its own
-//! after it. Prints how many calls stored or found one. Ends with 2 if the arguments aren't three such numbers.
+//! `store_bench PUTS FINDS THREADS < FILE`, for `bench/store`: each of THREADS callers of a store in memory, in a
+//! thread of its own, puts PUTS files, and finds the first of them FINDS times. Each file is that of stdin with bytes
+//! of its own after it. Prints how many calls stored or found one. Ends with 2 if the arguments aren't three such
+//! numbers.
 #![tactic(auto)]
 
 ghost use Rattle.std.specs.Prelude.{◌≡◌, ◌+◌, ◌<◌, ◌≤◌, All, IfOk, length};

@@ -1,5 +1,5 @@
-//! Stores of photos: the worked records, calls of one caller, and of two and of eight in threads of their own, and keepers
-//! that fail.
+//! Stores of photos: the worked records, calls of one caller, and of two and of eight in threads of their own, and
+//! keepers that fail.
 #![tactic(auto)]
 
 #[cfg(test)]

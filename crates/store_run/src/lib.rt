@@ -1,6 +1,6 @@
 //! A store of photos that answers the records of an input (docs/STORE.md, Records).
 //!
-//!     source --read_call--> call --answer--> reply --> sink, before the next record is read
+//!     source --next_call--> call --answer--> reply --> sink, before the next record is read
 //!
 //! The store is `photo_store`'s, with one caller. Not handled here: the program's streams (see `lepton_store`).
 #![tactic(auto)]
