@@ -2,6 +2,7 @@
 ghost use Rattle.std.specs.Prelude.{◌≡◌, ◌<◌, ◌≤◌, ◌↔◌, Some, [], ◌++◌, length, take, drop, IsErr, IfOk, OnOk, OnErr, IsTrue, ◌⊎◌};
 ghost use Rattle.std.specs.Io.KnownBytes.{Appends, Consumes, IsAtEnd, Keeps};
 ghost use Rattle.outside_core.specs.Faults.{Rose, Never};
+ghost use Rattle.outside_core.specs.Takes.{Always, Anything, MovesOn};
 ghost use Rattle.outside_core.specs.Memory.{past_calls, supply_faults, store_faults, StoreFull, counted, FailsNext, Refuses, given, accepted};
 
 use crate::{Failed, Sink, Source};
@@ -60,6 +61,8 @@ impl<'a> Source for MemSource<'a> {
 
     ghost full = { Never };
 
+    ghost readable = { Always };
+
     fn read(&mut self, buf: &mut [u8]) -> Result<usize, Failed>
         ensures count { IfOk result (λ n. n ≤ length buf.old) }
         ensures moved { IfOk result (λ n.
@@ -67,6 +70,7 @@ impl<'a> Source for MemSource<'a> {
         ensures rest { IfOk result (λ n. drop n buf.new ≡ drop n buf.old) }
         ensures end { IfOk result (λ n. n ≡ 0 → 0 < length buf.old → IsAtEnd (Some self.new.left)) }
         ensures stays { OnErr result (Keeps (Some self.old.left) (Some self.new.left)) }
+        ensures readable { OnOk result (Always self.new) }
         ensures failed { OnErr result (Rose supply_faults Never self.old self.new) }
         ensures unfailed { OnOk result (supply_faults self.new ≡ supply_faults self.old) }
         ensures lasting { supply_faults self.old ≤ supply_faults self.new }
@@ -165,12 +169,15 @@ impl<'a> Sink for MemSink<'a> {
 
     ghost full = { StoreFull };
 
+    ghost takes = { Anything };
+
     fn write(&mut self, bytes: &[u8]) -> Result<usize, Failed>
         ensures count { IfOk result (λ n. n ≤ length bytes.now) }
         ensures some { IfOk result (λ n. 0 < length bytes.now → 0 < n) }
         ensures appended { IfOk result (λ n.
             Appends (Some self.old.held) (Some self.new.held) (take n bytes.now)) }
         ensures stays { OnErr result (Keeps (Some self.old.held) (Some self.new.held)) }
+        ensures onward { IfOk result (λ n. MovesOn Anything self.old self.new (take n bytes.now)) }
         ensures failed { OnErr result (Rose store_faults StoreFull self.old self.new) }
         ensures unfailed { OnOk result (store_faults self.new ≡ store_faults self.old) }
         ensures lasting { store_faults self.old ≤ store_faults self.new }

@@ -2,6 +2,7 @@
 ghost use Rattle.std.specs.Prelude.{◌≡◌, ℕ, ◌+◌, ◌<◌, ◌≤◌, List, length, take, drop, IfOk, IfErr, OnOk, OnErr, IsErr, IsErrOf, IfSome};
 ghost use Rattle.std.specs.Io.KnownBytes.{Appends, Consumes, IsAtEnd, Keeps};
 ghost use Rattle.outside_core.specs.Faults.{Rose};
+ghost use Rattle.outside_core.specs.Takes.{MovesOn, TakesNext};
 
 use crate::{Failed, Sink, Source};
 use std::alloc::Global;
@@ -31,6 +32,7 @@ const FIRST_PIECE: usize = 1 << 16;
 /// All that a source has left, at most `limit` bytes. It is read into the room of the result itself, in pieces that
 /// grow, and asked for no more once it gave a byte past the limit.
 pub fn read_all<S: Source>(alloc: Global, source: &mut S, limit: u64) -> Result<Vec<u8>, ReadAll>
+    requires readable { S.readable source.old }
     // All that was left is read, and nothing is left.
     ensures whole { IfOk result (λ bytes.
         Consumes (S.left source.old) (S.left source.new) bytes.items) }
@@ -75,10 +77,12 @@ pub fn read_all<S: Source>(alloc: Global, source: &mut S, limit: u64) -> Result<
 
 /// Appends the bytes, whole or up to where the sink fails.
 pub fn write_all<K: Sink>(sink: &mut K, bytes: &[u8]) -> Result<(), WriteFault>
+    requires next { TakesNext K.takes sink.old bytes.now }
     ensures whole { OnOk result (Appends (K.held sink.old) (K.held sink.new) bytes.now) }
     ensures part { IfErr result (λ fault.
         Appends (K.held sink.old) (K.held sink.new) (take fault.written bytes.now)) }
     ensures short { IfErr result (λ fault. fault.written < length bytes.now) }
+    ensures onward { OnOk result (MovesOn K.takes sink.old sink.new bytes.now) }
     ensures failed { OnErr result (Rose K.faults K.full sink.old sink.new) }
     ensures unfailed { OnOk result (K.faults sink.new ≡ K.faults sink.old) }
     ensures lasting { K.faults sink.old ≤ K.faults sink.new }
@@ -92,12 +96,15 @@ pub fn write_all<K: Sink>(sink: &mut K, bytes: &[u8]) -> Result<(), WriteFault>
 
 // One write of the bytes from the first that isn't written.
 fn put<K: Sink>(sink: &mut K, bytes: &[u8], written: usize) -> Result<usize, WriteFault>
-    requires { written < length bytes.now }
+    requires below { written < length bytes.now }
+    requires next { TakesNext K.takes sink.old (drop written bytes.now) }
     ensures count { IfOk result (λ n. written + n ≤ length bytes.now) }
     ensures some { IfOk result (λ n. 0 < n) }
     ensures appended { IfOk result (λ n.
         Appends (K.held sink.old) (K.held sink.new) (take n (drop written bytes.now))) }
     ensures stays { OnErr result (Keeps (K.held sink.old) (K.held sink.new)) }
+    ensures onward { IfOk result (λ n.
+        MovesOn K.takes sink.old sink.new (take n (drop written bytes.now))) }
     ensures fault { IfErr result (λ fault. fault.written ≡ written) }
     ensures failed { OnErr result (Rose K.faults K.full sink.old sink.new) }
     ensures unfailed { OnOk result (K.faults sink.new ≡ K.faults sink.old) }
@@ -146,7 +153,8 @@ fn grow(bytes: &mut Vec<u8>, left: u64) -> Result<(), ReadAll>
 
 // One read into the part of the buffer that isn't filled.
 fn fill<S: Source>(source: &mut S, bytes: &mut Vec<u8>, filled: usize) -> Result<usize, ReadAll>
-    requires { filled < length bytes.old.items }
+    requires below { filled < length bytes.old.items }
+    requires readable { S.readable source.old }
     ensures len { length bytes.new.items ≡ length bytes.old.items }
     ensures kept { take filled bytes.new.items ≡ take filled bytes.old.items }
     ensures count { IfOk result (λ n. filled + n ≤ length bytes.old.items) }
@@ -154,6 +162,7 @@ fn fill<S: Source>(source: &mut S, bytes: &mut Vec<u8>, filled: usize) -> Result
         (take n (drop filled bytes.new.items))) }
     ensures end { IfOk result (λ n. n ≡ 0 → IsAtEnd (S.left source.new)) }
     ensures stays { OnErr result (Keeps (S.left source.old) (S.left source.new)) }
+    ensures readable { OnOk result (S.readable source.new) }
     ensures fault { IfErr result (λ error. error ≡ ReadAll.ReadFault) }
     ensures failed { OnErr result (Rose S.faults S.full source.old source.new) }
     ensures unfailed { OnOk result (S.faults source.new ≡ S.faults source.old) }

@@ -2,6 +2,7 @@
 ghost use Rattle.std.specs.Prelude.{◌≡◌, ◌<◌, ◌≤◌, Some, None, length, take, drop, min, IfOk, OnOk, OnErr};
 ghost use Rattle.std.specs.Io.KnownBytes.{Appends, Consumes, IsAtEnd, Keeps};
 ghost use Rattle.outside_core.specs.Faults.{Rose, Never, no_faults};
+ghost use Rattle.outside_core.specs.Takes.{Always, Anything, MovesOn};
 ghost use Rattle.outside_core.specs.Memory.{shared_prefix, after_bytes};
 
 use crate::{Failed, Sink, Source};
@@ -36,6 +37,8 @@ impl<'a> Source for NeverSource<'a> {
 
     ghost full = { Never };
 
+    ghost readable = { Always };
+
     fn read(&mut self, buf: &mut [u8]) -> Result<usize, Failed>
         ensures count { IfOk result (λ n. n ≤ length buf.old) }
         ensures moved { IfOk result (λ n.
@@ -43,6 +46,7 @@ impl<'a> Source for NeverSource<'a> {
         ensures rest { IfOk result (λ n. drop n buf.new ≡ drop n buf.old) }
         ensures end { IfOk result (λ n. n ≡ 0 → 0 < length buf.old → IsAtEnd (Some self.new)) }
         ensures stays { OnErr result (Keeps (Some self.old) (Some self.new)) }
+        ensures readable { OnOk result (Always self.new) }
         ensures failed { OnErr result (Rose no_faults Never self.old self.new) }
         ensures unfailed { OnOk result (no_faults self.new ≡ no_faults self.old) }
         ensures lasting { no_faults self.old ≤ no_faults self.new }
@@ -102,11 +106,14 @@ impl<'a> Sink for Compare<'a> {
 
     ghost full = { Never };
 
+    ghost takes = { Anything };
+
     fn write(&mut self, bytes: &[u8]) -> Result<usize, Failed>
         ensures count { IfOk result (λ n. n ≤ length bytes.now) }
         ensures some { IfOk result (λ n. 0 < length bytes.now → 0 < n) }
         ensures appended { IfOk result (λ n. Appends None None (take n bytes.now)) }
         ensures stays { OnErr result (Keeps None None) }
+        ensures onward { IfOk result (λ n. MovesOn Anything self.old self.new (take n bytes.now)) }
         ensures failed { OnErr result (Rose no_faults Never self.old self.new) }
         ensures unfailed { OnOk result (no_faults self.new ≡ no_faults self.old) }
         ensures lasting { no_faults self.old ≤ no_faults self.new }

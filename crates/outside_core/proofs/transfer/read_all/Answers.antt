@@ -11,6 +11,7 @@ loop-bytes-preserved g c =
       in_range = omega (arith, told.count, told.len);
       bounded = omega (arith, told.len, room.within c.loop-bytes.invariant.bounded);
       so_far = Consumes-filled _ _ _ _ _ _ _ c.loop-bytes.invariant.so_far (told.kept ∙ room.kept) told.moved;
+      readable = told.readable;
       unfailed = told.unfailed ∙ c.loop-bytes.invariant.unfailed;
     }
 
