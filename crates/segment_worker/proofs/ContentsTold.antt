@@ -61,17 +61,6 @@ outcome_within v i o is =
     absurd (let e : None ≡ Some o = sym none ∙ is in cc))
     (cases_lt i (length v.parts.handovers))
 
--- where a segment has bytes left, it is a segment
-pub bytes_within : (v : BoxSeen) (i n : ℕ) → n < length (bytes_at (segments_bytes v) i)
-    → i < length v.parts.handovers
-bytes_within v i n some =
-    ⊎_elim (λ (within : i < length v.parts.handovers). within)
-    (λ (past : length v.parts.handovers ≤ i).
-    let long = bytes_long v in
-    let none = ap length (past_end (segments_bytes v) i (omega (arith, long, past))) in
-    absurd (omega (arith, none, some)))
-    (cases_lt i (length v.parts.handovers))
-
 -- none is long
 pub are_short : (v : BoxSeen) → IsBox v.plan v.parts → AreShort v
 are_short v is i =

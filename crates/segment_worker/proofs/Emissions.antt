@@ -1,8 +1,10 @@
 -- What an emitter has written, call by call.
-use Rattle.std.proofs.Common.{◌≡◌, ℕ, zero, suc, ◌+◌, ◌-◌, ◌*◌, ◌<◌, ◌≤◌, List, [], ◌++◌, length, map, take, drop, refl, sym, ap, subst, ◌∙◌, arith, append_assoc, append-nil, length-append, Option, Some, Ok, Err}
+use Rattle.std.proofs.Common.{◌≡◌, ℕ, zero, suc, ◌+◌, ◌-◌, ◌*◌, ◌<◌, ◌≤◌, List, [], ◌++◌, length, map, take, drop, refl, sym, ap, subst, ◌∙◌, arith, append_assoc, append-nil, length-append, Option, Some, Ok, Err, ⊎_elim}
 use Rattle.std.specs.Prelude.{slice_get}
+use Rattle.std.proofs.lemmas.Bool.{cases_lt}
 use lib.Seq.{length-take-le, take_all, take-add}
 use lib.ListN.{take-append-drop, length-drop}
+use Rattle.outside_core.specs.Takes.{TakesNext}
 use Rattle.atomic_table.specs.Seated.{TableId}
 use Rattle.handover.specs.PadSums.{no_pads, pads_with}
 use Rattle.handover.specs.declared.pads.PadSum.{PadSum}
@@ -27,32 +29,77 @@ use Rattle.segment_worker.specs.Written.{HasWritten, HasFailed}
 use Rattle.segment_worker.specs.Joining.{joined_from, joined_onto}
 use Rattle.segment_worker.specs.Emitting.{joined_in, IsNewEmitter, IsUsedEmitter, Emits, IsWrittenTo, IsEmitting}
 use Rattle.segment_worker.specs.OwnSegments.{own_rest, OwnEnds}
-use Rattle.segment_worker.proofs.Tails.{some_left, past_end, front}
-use Rattle.segment_worker.proofs.ContentsTold.{output_of, bytes_of, bytes_long, outcome_of, outcome_within, bytes_within}
+use Rattle.segment_worker.proofs.Tails.{past_end, front}
+use Rattle.segment_worker.proofs.ContentsTold.{output_of, bytes_of, bytes_long, outcome_of, outcome_within}
 use Rattle.segment_worker.proofs.SegmentsJoined.{good_next, bad_next, bytes_next}
-use Rattle.segment_worker.proofs.Writing.{written_none, written_later, failed_first, failed_later}
+use Rattle.segment_worker.proofs.Writing.{written_none, written_later, failed_first, failed_later, next_first, next_between}
 
 some_same : {A : Type 0} (a b : A) → ◌≡◌ {A = Option A} (Some a) (Some b) → a ≡ b
 some_same a b e = cc
 
-module _ {Sink : Type 0} (held : Sink → Option (List ℕ)) (faults : Sink → ℕ)
-    (full : Sink → Type 0) (v : BoxSeen) where
+-- after good segments the next one's bytes follow, if there is one
+segment_behind : (v : BoxSeen) (cur : ℕ) (bytes : List ℕ) (padded : PadSum) → cur < length v.parts.handovers
+    → joined_in v ≡ joined_onto bytes padded (joined_from v.plan v.parts cur)
+    → (more : List ℕ) × ((joined_in v).bytes ≡ bytes ++ (bytes_at (segments_bytes v) cur ++ more))
+segment_behind v cur bytes padded under all =
+    let next = bytes_next v.plan v.parts cur bytes padded under all in
+    (next.0, next.1 ∙ ap (λ (l : List ℕ). bytes ++ (l ++ next.0)) (sym (bytes_of v cur under)))
+
+none_behind : (v : BoxSeen) (cur : ℕ) (bytes : List ℕ) (padded : PadSum) → length v.parts.handovers ≤ cur
+    → joined_in v ≡ joined_onto bytes padded (joined_from v.plan v.parts cur)
+    → (more : List ℕ) × ((joined_in v).bytes ≡ bytes ++ (bytes_at (segments_bytes v) cur ++ more))
+none_behind v cur bytes padded past all =
+    let more = (joined_from v.plan v.parts cur).bytes in
+    let long = bytes_long v in
+    let none : bytes_at (segments_bytes v) cur ≡ [] =
+    past_end (segments_bytes v) cur (omega (arith, long, past)) in
+    (more, ap (λ (j : Joined). j.bytes) all ∙ ap (λ (l : List ℕ). bytes ++ (l ++ more)) (sym none))
+
+module _ {Sink : Type 0} (held : Sink → Option (List ℕ))
+    (takes : Sink → List ℕ → Type 0) (faults : Sink → ℕ) (full : Sink → Type 0) (v : BoxSeen) where
   -- by equal counts
   pub moved : (cur now taken more : ℕ) (old new : Sink) (written : ℕ) (padded : PadSum)
-      → now ≡ cur → more ≡ taken → IsWrittenTo held faults v cur taken old new written padded
-      → IsWrittenTo held faults v now more old new written padded
+      → now ≡ cur → more ≡ taken → IsWrittenTo held takes faults v cur taken old new written padded
+      → IsWrittenTo held takes faults v now more old new written padded
   moved cur now taken more old new written padded e f w =
-      subst (λ (z : ℕ × ℕ). IsWrittenTo held faults v z.0 z.1 old new written padded)
+      subst (λ (z : ℕ × ℕ). IsWrittenTo held takes faults v z.0 z.1 old new written padded)
       (λ i. (sym e i, sym f i)) w
 
+  -- the rest of the segment follows what is written
+  rest_behind : (cur taken : ℕ) (old new : Sink) (written : ℕ) (padded : PadSum)
+      (w : IsWrittenTo held takes faults v cur taken old new written padded)
+      → (more : List ℕ) × ((joined_in v).bytes ≡ (w.bytes ++ take taken (bytes_at (segments_bytes v) cur))
+      ++ (drop taken (bytes_at (segments_bytes v) cur) ++ more))
+  rest_behind cur taken old new written padded w =
+      let s = bytes_at (segments_bytes v) cur in
+      let next = ⊎_elim (λ (under : cur < length v.parts.handovers). segment_behind v cur w.bytes padded under w.all)
+      (λ (past : length v.parts.handovers ≤ cur). none_behind v cur w.bytes padded past w.all)
+      (cases_lt cur (length v.parts.handovers)) in
+      let parts : s ≡ take taken s ++ drop taken s = sym (take-append-drop taken s) in (
+        next.0,
+        next.1 ∙ ap (λ (l : List ℕ). w.bytes ++ (l ++ next.0)) parts
+            ∙ ap (λ (l : List ℕ). w.bytes ++ l) (append_assoc (take taken s) (drop taken s) next.0)
+            ∙ sym (append_assoc w.bytes (take taken s) (drop taken s ++ next.0)),
+      )
+
+  -- the sink takes it
+  pub rest_taken : (cur taken : ℕ) (old new : Sink) (written : ℕ) (padded : PadSum)
+      → TakesNext takes old (joined_in v).bytes
+      → IsWrittenTo held takes faults v cur taken old new written padded
+      → TakesNext takes new (drop taken (bytes_at (segments_bytes v) cur))
+  rest_taken cur taken old new written padded next w =
+      let s = bytes_at (segments_bytes v) cur in
+      let b = rest_behind cur taken old new written padded w in
+      next_between takes old new (w.bytes ++ take taken s) (drop taken s) b.0 (joined_in v).bytes next w.has.onward b.1
+
   -- nothing yet
-  pub none_emitted : (sink : Sink) → IsWrittenTo held faults v 0 0 sink sink 0 no_pads
+  pub none_emitted : (sink : Sink) → IsWrittenTo held takes faults v 0 0 sink sink 0 no_pads
   none_emitted sink = record {
     bytes = [];
     all =
         let e : length v.parts.handovers ≡ length v.parts.handovers - 0 = omega arith in
         ap (λ (n : ℕ). joined (map (λ i. segment_output (segment_in v.plan v.parts i)) (numbers 0 n))) e;
-    has = written_none held faults full sink;
+    has = written_none held takes faults full sink;
     count = refl;
     within = omega arith;
     few = omega arith;
@@ -61,18 +108,18 @@ module _ {Sink : Type 0} (held : Sink → Option (List ℕ)) (faults : Sink → 
 
   -- the next bytes of the segment
   pub more_emitted : (cur taken n : ℕ) (old mid new : Sink) (written : ℕ) (padded : PadSum)
-      → IsWrittenTo held faults v cur taken old mid written padded
+      → IsWrittenTo held takes faults v cur taken old mid written padded
       → taken + n ≤ length (bytes_at (segments_bytes v) cur)
-      → HasWritten held faults mid new (take n (drop taken (bytes_at (segments_bytes v) cur)))
-      → IsWrittenTo held faults v cur (taken + n) old new (written + n) padded
+      → HasWritten held takes faults mid new (take n (drop taken (bytes_at (segments_bytes v) cur)))
+      → IsWrittenTo held takes faults v cur (taken + n) old new (written + n) padded
   more_emitted cur taken n old mid new written padded w within has =
       let s = bytes_at (segments_bytes v) cur in record {
         bytes = w.bytes;
         all = w.all;
-        has = subst (HasWritten held faults old new)
+        has = subst (HasWritten held takes faults old new)
             (append_assoc w.bytes (take taken s) (take n (drop taken s))
             ∙ ap (λ (l : List ℕ). w.bytes ++ l) (sym (take-add taken n s)))
-            (written_later held faults full old mid new _ _ w.has has);
+            (written_later held takes faults full old mid new _ _ w.has has);
         count = let count = w.count in omega arith;
         within = within;
         few = w.few;
@@ -81,10 +128,10 @@ module _ {Sink : Type 0} (held : Sink → Option (List ℕ)) (faults : Sink → 
 
   -- the segment ended well
   pub good_emitted : AreShort v → (cur taken : ℕ) (old new : Sink) (written : ℕ) (padded more : PadSum)
-      → IsWrittenTo held faults v cur taken old new written padded
+      → IsWrittenTo held takes faults v cur taken old new written padded
       → taken ≡ length (bytes_at (segments_bytes v) cur)
       → slice_get (segments_outcomes v) cur ≡ Some (Good more)
-      → IsWrittenTo held faults v (cur + 1) 0 old new written (pads_with padded more)
+      → IsWrittenTo held takes faults v (cur + 1) 0 old new written (pads_with padded more)
   good_emitted short cur taken old new written padded more w whole good =
       let s = bytes_at (segments_bytes v) cur in
       let under = outcome_within v cur (Good more) good in
@@ -96,7 +143,7 @@ module _ {Sink : Type 0} (held : Sink → Option (List ℕ)) (faults : Sink → 
         all = good_next v.plan v.parts cur w.bytes padded more under w.all end
             ∙ ap (λ (l : List ℕ). joined_onto (w.bytes ++ l) (pads_with padded more)
             (joined_from v.plan v.parts (cur + 1))) (sym is);
-        has = subst (HasWritten held faults old new)
+        has = subst (HasWritten held takes faults old new)
             (ap (λ (l : List ℕ). w.bytes ++ l) all ∙ sym (append-nil (w.bytes ++ s))) w.has;
         count =
             let count = w.count in let long = length-append w.bytes s in omega (arith, count, long, whole);
@@ -109,10 +156,10 @@ module _ {Sink : Type 0} (held : Sink → Option (List ℕ)) (faults : Sink → 
 
   -- the segment ended badly
   pub bad_emitted : (cur taken : ℕ) (old new : Sink) (written : ℕ) (padded : PadSum) (fault : StreamFault)
-      → IsWrittenTo held faults v cur taken old new written padded
+      → IsWrittenTo held takes faults v cur taken old new written padded
       → taken ≡ length (bytes_at (segments_bytes v) cur)
       → slice_get (segments_outcomes v) cur ≡ Some (Bad fault)
-      → Emits held faults full old new (joined_in v) (Err (Fault fault))
+      → Emits held takes faults full old new (joined_in v) (Err (Fault fault))
   bad_emitted cur taken old new written padded fault w whole bad =
       let s = bytes_at (segments_bytes v) cur in
       let under = outcome_within v cur (Bad fault) bad in
@@ -121,35 +168,29 @@ module _ {Sink : Type 0} (held : Sink → Option (List ℕ)) (faults : Sink → 
       let next = bad_next v.plan v.parts cur w.bytes padded fault under w.all end in
       let all : take taken s ≡ s = take_all taken s (omega (arith, whole)) in (
         next.0,
-        subst (HasWritten held faults old new)
+        subst (HasWritten held takes faults old new)
             (ap (λ (l : List ℕ). w.bytes ++ l) (all ∙ bytes_of v cur under) ∙ sym next.1) w.has,
       )
 
   -- a write failed in the segment's next bytes
   pub cut_short : (cur taken : ℕ) (old mid new : Sink) (written more : ℕ) (padded : PadSum)
-      → IsWrittenTo held faults v cur taken old mid written padded
+      → IsWrittenTo held takes faults v cur taken old mid written padded
       → HasFailed held faults full mid new (drop taken (bytes_at (segments_bytes v) cur)) more
       → HasFailed held faults full old new (joined_in v).bytes (written + more)
   cut_short cur taken old mid new written more padded w failed =
       let s = bytes_at (segments_bytes v) cur in
-      let under = bytes_within v cur (taken + more) (some_left s taken more failed.short) in
-      let next = bytes_next v.plan v.parts cur w.bytes padded under w.all in
-      let parts : s ≡ take taken s ++ drop taken s = sym (take-append-drop taken s) in
-      let whole : (joined_in v).bytes ≡ (w.bytes ++ take taken s) ++ (drop taken s ++ next.0) =
-      next.1 ∙ ap (λ (l : List ℕ). w.bytes ++ (l ++ next.0)) (sym (bytes_of v cur under) ∙ parts)
-      ∙ ap (λ (l : List ℕ). w.bytes ++ l) (append_assoc (take taken s) (drop taken s) next.0)
-      ∙ sym (append_assoc w.bytes (take taken s) (drop taken s ++ next.0)) in
+      let next = rest_behind cur taken old mid written padded w in
       let count = w.count in
       let long = length-append w.bytes (take taken s) in
       let first = length-take-le taken s w.within in
-      failed_later held faults full old mid new (w.bytes ++ take taken s) (drop taken s) next.0
-      (joined_in v).bytes written more w.has failed whole (omega (arith, count, long, first))
+      failed_later held takes faults full old mid new (w.bytes ++ take taken s) (drop taken s) next.0
+      (joined_in v).bytes written more w.has failed next.1 (omega (arith, count, long, first))
 
   -- all are emitted
   pub all_emitted : (cur taken : ℕ) (old new : Sink) (written : ℕ) (padded : PadSum)
-      → IsWrittenTo held faults v cur taken old new written padded
+      → IsWrittenTo held takes faults v cur taken old new written padded
       → cur ≡ length v.parts.handovers
-      → Emits held faults full old new (joined_in v) (Ok (record { bytes = written; pads = padded }))
+      → Emits held takes faults full old new (joined_in v) (Ok (record { bytes = written; pads = padded }))
   all_emitted cur taken old new written padded w over =
       let s = bytes_at (segments_bytes v) cur in
       let long = bytes_long v in
@@ -165,17 +206,17 @@ module _ {Sink : Type 0} (held : Sink → Option (List ℕ)) (faults : Sink → 
         ap (λ (j : Joined). j.fault) last,
         omega (arith, count, within, empty, whole),
         sym (ap (λ (j : Joined). j.padded) last ∙ sums_none padded),
-        subst (HasWritten held faults old new)
+        subst (HasWritten held takes faults old new)
             (ap (λ (l : List ℕ). w.bytes ++ l)
             (ap (take taken) none ∙ take_all taken [] (omega arith))
             ∙ sym (ap (λ (j : Joined). j.bytes) last)) w.has,
       )
 
-module _ {Sink : Type 0} (held : Sink → Option (List ℕ)) (faults : Sink → ℕ)
-    (full : Sink → Type 0) (table : TableId) (v : BoxSeen) where
+module _ {Sink : Type 0} (held : Sink → Option (List ℕ))
+    (takes : Sink → List ℕ → Type 0) (faults : Sink → ℕ) (full : Sink → Type 0) (table : TableId) (v : BoxSeen) where
   -- before the first call
   pub starts_emitting : (s : SeatValue BoxSeen EmitterView) (d : DecoderSeen) (sink : Sink)
-      → IsNewEmitter table v s d → IsEmitting held faults table v s d sink sink 0 no_pads
+      → IsNewEmitter table v s d → IsEmitting held takes faults table v s d sink sink 0 no_pads
   starts_emitting s d sink n = record {
     used = record {
       own = n.own;
@@ -185,8 +226,8 @@ module _ {Sink : Type 0} (held : Sink → Option (List ℕ)) (faults : Sink → 
     };
     free = n.free;
     going = n.going;
-    so_far = moved held faults full v 0 s.view.cur 0 s.view.taken sink sink 0 no_pads n.cur n.taken
-        (none_emitted held faults full v sink);
+    so_far = moved held takes faults full v 0 s.view.cur 0 s.view.taken sink sink 0 no_pads n.cur n.taken
+        (none_emitted held takes faults full v sink);
   }
 
   -- the seat after one hold that claims nothing
@@ -208,13 +249,38 @@ module _ {Sink : Type 0} (held : Sink → Option (List ℕ)) (faults : Sink → 
       subst (λ (c : BoxSeen). TakeGives (segments_bytes c) (segments_outcomes c) s t before now answer)
       is give
 
+  -- the sink takes bytes that were taken
+  pub taken_next : (s t : SeatValue BoxSeen EmitterView) (d : DecoderSeen) (old mid : Sink)
+      (written n : ℕ) (padded : PadSum) (before now : List ℕ) → TakesNext takes old (joined_in v).bytes
+      → IsEmitting held takes faults table v s d old mid written padded
+      → TakeGives (segments_bytes s.content) (segments_outcomes s.content) s t before now (Bytes n)
+      → length now ≡ length before → TakesNext takes mid (take n now)
+  taken_next s t d old mid written n padded before now next e give same =
+      let g = gives_in s t before now (Bytes n) e.used.content give in
+      let xs = drop s.view.taken (bytes_at (segments_bytes v) s.view.cur) in
+      let least = g.5 in
+      let f = front xs before now n g.1 same (omega (arith, least)) in
+      subst (TakesNext takes mid) (sym f.0)
+      (next_first takes mid (take n xs) (drop n xs) xs
+      (rest_taken held takes faults full v s.view.cur s.view.taken old mid written padded next e.so_far)
+      (sym (take-append-drop n xs)))
+
+  -- and a segment of the emitter's own
+  pub own_next : (s : SeatValue BoxSeen EmitterView) (d : DecoderSeen) (old mid : Sink) (written : ℕ)
+      (padded : PadSum) → TakesNext takes old (joined_in v).bytes
+      → IsEmitting held takes faults table v s d old mid written padded → TakesNext takes mid (own_rest s)
+  own_next s d old mid written padded next e =
+      subst (λ (c : BoxSeen). TakesNext takes mid (drop s.view.taken (bytes_at (segments_bytes c) s.view.cur)))
+      (sym e.used.content)
+      (rest_taken held takes faults full v s.view.cur s.view.taken old mid written padded next e.so_far)
+
   -- bytes were taken and written
   pub bytes_taken : (s t : SeatValue BoxSeen EmitterView) (d : DecoderSeen) (old mid new : Sink)
       (written n : ℕ) (padded : PadSum) (before now : List ℕ)
-      → IsEmitting held faults table v s d old mid written padded → HasHeldOnce s t
+      → IsEmitting held takes faults table v s d old mid written padded → HasHeldOnce s t
       → TakeGives (segments_bytes s.content) (segments_outcomes s.content) s t before now (Bytes n)
-      → length now ≡ length before → HasWritten held faults mid new (take n now)
-      → IsEmitting held faults table v t d old new (written + n) padded
+      → length now ≡ length before → HasWritten held takes faults mid new (take n now)
+      → IsEmitting held takes faults table v t d old new (written + n) padded
   bytes_taken s t d old mid new written n padded before now e h give same has =
       let g = gives_in s t before now (Bytes n) e.used.content give in
       let view : t.view ≡ record s.view { taken = s.view.taken + n } = g.0 in
@@ -228,18 +294,18 @@ module _ {Sink : Type 0} (held : Sink → Option (List ℕ)) (faults : Sink → 
         used = used_after s t d e.used h g.3.0.claims;
         free = ap (λ (w : EmitterView). w.owns) view ∙ e.free;
         going = ap (λ (w : EmitterView). w.stopped) view ∙ e.going;
-        so_far = moved held faults full v s.view.cur t.view.cur (s.view.taken + n) t.view.taken
+        so_far = moved held takes faults full v s.view.cur t.view.cur (s.view.taken + n) t.view.taken
             old new (written + n) padded (ap (λ (w : EmitterView). w.cur) view)
             (ap (λ (w : EmitterView). w.taken) view)
-            (more_emitted held faults full v s.view.cur s.view.taken n old mid new written padded
+            (more_emitted held takes faults full v s.view.cur s.view.taken n old mid new written padded
             e.so_far (omega (arith, few, long, within))
-            (subst (HasWritten held faults mid new) f.0 has));
+            (subst (HasWritten held takes faults mid new) f.0 has));
       }
 
   -- a write of bytes that were taken failed
   pub taken_failed : (s t : SeatValue BoxSeen EmitterView) (d : DecoderSeen) (old mid new : Sink)
       (written n more : ℕ) (padded : PadSum) (before now : List ℕ)
-      → IsEmitting held faults table v s d old mid written padded
+      → IsEmitting held takes faults table v s d old mid written padded
       → TakeGives (segments_bytes s.content) (segments_outcomes s.content) s t before now (Bytes n)
       → length now ≡ length before → HasFailed held faults full mid new (take n now) more
       → HasFailed held faults full old new (joined_in v).bytes (written + more)
@@ -248,18 +314,18 @@ module _ {Sink : Type 0} (held : Sink → Option (List ℕ)) (faults : Sink → 
       let xs = drop s.view.taken (bytes_at (segments_bytes v) s.view.cur) in
       let least = g.5 in
       let f = front xs before now n g.1 same (omega (arith, least)) in
-      cut_short held faults full v s.view.cur s.view.taken old mid new written more padded e.so_far
-      (failed_first held faults full mid new (take n xs) (drop n xs) xs more
+      cut_short held takes faults full v s.view.cur s.view.taken old mid new written more padded e.so_far
+      (failed_first held takes faults full mid new (take n xs) (drop n xs) xs more
       (subst (λ (l : List ℕ). HasFailed held faults full mid new l more) f.0 failed)
       (sym (take-append-drop n xs)))
 
   -- the segment that is emitted ended well
   pub good_taken : AreShort v → (s t : SeatValue BoxSeen EmitterView) (d : DecoderSeen)
       (old new : Sink) (written : ℕ) (padded more both : PadSum) (outcome : Outcome)
-      (before now : List ℕ) → IsEmitting held faults table v s d old new written padded
+      (before now : List ℕ) → IsEmitting held takes faults table v s d old new written padded
       → HasHeldOnce s t → outcome ≡ Good more → both ≡ pads_with padded more
       → TakeGives (segments_bytes s.content) (segments_outcomes s.content) s t before now (Ended outcome)
-      → IsEmitting held faults table v t d old new written both
+      → IsEmitting held takes faults table v t d old new written both
   good_taken short s t d old new written padded more both outcome before now e h is sum give =
       let g = subst (λ (o : Outcome). TakeGives (segments_bytes v) (segments_outcomes v) s t before now (Ended o))
       is (gives_in s t before now (Ended outcome) e.used.content give) in
@@ -268,46 +334,46 @@ module _ {Sink : Type 0} (held : Sink → Option (List ℕ)) (faults : Sink → 
         used = used_after s t d e.used h g.5.0.claims;
         free = ap (λ (w : EmitterView). w.owns) view ∙ e.free;
         going = ap (λ (w : EmitterView). w.stopped) view ∙ e.going;
-        so_far = moved held faults full v (s.view.cur + 1) t.view.cur 0 t.view.taken
+        so_far = moved held takes faults full v (s.view.cur + 1) t.view.cur 0 t.view.taken
             old new written both (ap (λ (w : EmitterView). w.cur) view)
             (ap (λ (w : EmitterView). w.taken) view)
-            (subst (IsWrittenTo held faults v (s.view.cur + 1) 0 old new written) (sym sum)
-            (good_emitted held faults full v short s.view.cur s.view.taken old new written padded more
+            (subst (IsWrittenTo held takes faults v (s.view.cur + 1) 0 old new written) (sym sum)
+            (good_emitted held takes faults full v short s.view.cur s.view.taken old new written padded more
             e.so_far g.3 g.2));
       }
 
   -- and badly
   pub bad_taken : (s t : SeatValue BoxSeen EmitterView) (d : DecoderSeen) (old new : Sink)
       (written : ℕ) (padded : PadSum) (fault : StreamFault) (outcome : Outcome)
-      (before now : List ℕ) → IsEmitting held faults table v s d old new written padded
+      (before now : List ℕ) → IsEmitting held takes faults table v s d old new written padded
       → outcome ≡ Bad fault
       → TakeGives (segments_bytes s.content) (segments_outcomes s.content) s t before now (Ended outcome)
-      → Emits held faults full old new (joined_in v) (Err (Fault fault))
+      → Emits held takes faults full old new (joined_in v) (Err (Fault fault))
   bad_taken s t d old new written padded fault outcome before now e is give =
       let g = subst (λ (o : Outcome). TakeGives (segments_bytes v) (segments_outcomes v) s t before now (Ended o))
       is (gives_in s t before now (Ended outcome) e.used.content give) in
-      bad_emitted held faults full v s.view.cur s.view.taken old new written padded fault e.so_far g.3 g.2
+      bad_emitted held takes faults full v s.view.cur s.view.taken old new written padded fault e.so_far g.3 g.2
 
   -- a take that gave nothing
   pub same_emitted : (s t : SeatValue BoxSeen EmitterView) (d : DecoderSeen) (old new : Sink)
-      (written : ℕ) (padded : PadSum) → IsEmitting held faults table v s d old new written padded
+      (written : ℕ) (padded : PadSum) → IsEmitting held takes faults table v s d old new written padded
       → HasHeldOnce s t → t.claims ≡ s.claims → t.view ≡ s.view
-      → IsEmitting held faults table v t d old new written padded
+      → IsEmitting held takes faults table v t d old new written padded
   same_emitted s t d old new written padded e h claims view = record {
     used = used_after s t d e.used h claims;
     free = ap (λ (w : EmitterView). w.owns) view ∙ e.free;
     going = ap (λ (w : EmitterView). w.stopped) view ∙ e.going;
-    so_far = moved held faults full v s.view.cur t.view.cur s.view.taken t.view.taken old new written
+    so_far = moved held takes faults full v s.view.cur t.view.cur s.view.taken t.view.taken old new written
         padded (ap (λ (w : EmitterView). w.cur) view) (ap (λ (w : EmitterView). w.taken) view) e.so_far;
   }
 
   -- a segment of the emitter's own
   pub own_emitted : (s t : SeatValue BoxSeen EmitterView) (d later : DecoderSeen) (old mid new : Sink)
       (written count : ℕ) (padded : PadSum)
-      → IsEmitting held faults table v s d old mid written padded
-      → OwnEnds held faults full s t mid new (Ok count)
+      → IsEmitting held takes faults table v s d old mid written padded
+      → OwnEnds held takes faults full s t mid new (Ok count)
       → t.table ≡ s.table → t.content ≡ s.content → later.begun ≡ t.claims → later.plan ≡ d.plan
-      → IsEmitting held faults table v t later old new (written + count) padded
+      → IsEmitting held takes faults table v t later old new (written + count) padded
   own_emitted s t d later old mid new written count padded e own same content begun plan =
       let view = own.2 in
       let is : own_rest s ≡ drop s.view.taken (bytes_at (segments_bytes v) s.view.cur) =
@@ -321,24 +387,24 @@ module _ {Sink : Type 0} (held : Sink → Option (List ℕ)) (faults : Sink → 
         };
         free = ap (λ (w : EmitterView). w.owns) view;
         going = ap (λ (w : EmitterView). w.stopped) view ∙ e.going;
-        so_far = moved held faults full v s.view.cur t.view.cur (s.view.taken + count) t.view.taken
+        so_far = moved held takes faults full v s.view.cur t.view.cur (s.view.taken + count) t.view.taken
             old new (written + count) padded (ap (λ (w : EmitterView). w.cur) view)
             (ap (λ (w : EmitterView). w.taken) view)
-            (more_emitted held faults full v s.view.cur s.view.taken count old mid new written padded
+            (more_emitted held takes faults full v s.view.cur s.view.taken count old mid new written padded
             e.so_far
             (subst (λ (c : BoxSeen). s.view.taken + count ≤ length (bytes_at (segments_bytes c) s.view.cur))
             e.used.content own.1)
-            (subst (λ (l : List ℕ). HasWritten held faults mid new (take count l)) is own.0));
+            (subst (λ (l : List ℕ). HasWritten held takes faults mid new (take count l)) is own.0));
       }
 
   -- in which a write failed
   pub own_failed : (s t : SeatValue BoxSeen EmitterView) (d : DecoderSeen) (old mid new : Sink)
       (written more : ℕ) (padded : PadSum)
-      → IsEmitting held faults table v s d old mid written padded
-      → OwnEnds held faults full s t mid new (Err more)
+      → IsEmitting held takes faults table v s d old mid written padded
+      → OwnEnds held takes faults full s t mid new (Err more)
       → HasFailed held faults full old new (joined_in v).bytes (written + more)
   own_failed s t d old mid new written more padded e own =
-      cut_short held faults full v s.view.cur s.view.taken old mid new written more padded e.so_far
+      cut_short held takes faults full v s.view.cur s.view.taken old mid new written more padded e.so_far
       (subst (λ (c : BoxSeen). HasFailed held faults full mid new
       (drop s.view.taken (bytes_at (segments_bytes c) s.view.cur)) more) e.used.content own.0)
 

@@ -3,6 +3,8 @@ use Rattle.std.proofs.Common.{◌≡◌, ℕ, ◌+◌, ◌*◌, ◌^◌, ◌<◌
 use Rattle.std.specs.Io.KnownBytes.{Appends}
 use Rattle.std.proofs.KnownBytes.{Appends-trans, Appends-nil}
 use Rattle.outside_core.specs.Faults.{Rose}
+use Rattle.outside_core.specs.Takes.{TakesNext}
+use Rattle.outside_core.proofs.TextTaken.{moves_later}
 use Rattle.bit_list.specs.Pieces.{piece_room}
 use Rattle.handover.specs.declared.pads.PadSum.{PadSum}
 use Rattle.handover.specs.declared.outcome.Outcome.{Outcome}
@@ -13,7 +15,7 @@ use Rattle.segment_code.specs.declared.step.Step.{Step}
 use Rattle.segment_code.specs.declared.step.Step.TheVariants.{More, Done, Fault}
 use Rattle.segment_worker.specs.Written.{HasWritten, HasFailed}
 use Rattle.segment_worker.specs.LoneSegments.{OwesSome, UnderWay}
-use Rattle.segment_worker.proofs.Writing.{take_into}
+use Rattle.segment_worker.proofs.Writing.{take_into, next_between}
 
 -- a step gives the first of the bytes that were owed
 paid_first : (step : Step) (bytes out : List ℕ) (outcome : Outcome) (old new : DecoderSeen)
@@ -28,11 +30,11 @@ PaysAll step out old new =
     (bytes : List ℕ) (outcome : Outcome) → Owes old bytes outcome
     → Pays step bytes outcome out old new
 
-module _ {Sink : Type 0} (held : Sink → Option (List ℕ)) (faults : Sink → ℕ)
-    (full : Sink → Type 0) where
+module _ {Sink : Type 0} (held : Sink → Option (List ℕ))
+    (takes : Sink → List ℕ → Type 0) (faults : Sink → ℕ) (full : Sink → Type 0) where
   -- before the first piece
   pub none_written : (d : DecoderSeen) (sink : Sink) → d.running ≡ true → OwesSome d
-      → UnderWay held faults d d sink sink 0
+      → UnderWay held takes faults d d sink sink 0
   none_written d sink running some = record {
     running = running;
     some = some;
@@ -42,6 +44,7 @@ module _ {Sink : Type 0} (held : Sink → Option (List ℕ)) (faults : Sink → 
       parts = refl;
       owes = owes;
       appended = Appends-nil (held sink);
+      onward = λ rest t. t;
       count = refl;
     };
     unfailed = refl;
@@ -50,13 +53,24 @@ module _ {Sink : Type 0} (held : Sink → Option (List ℕ)) (faults : Sink → 
     plan = refl;
   }
 
+  -- the sink takes the next piece
+  pub piece_taken : (step : Step) (from now new : DecoderSeen) (old mid : Sink) (written : ℕ) (out : List ℕ)
+      (owed : OwesSome from) → TakesNext takes old owed.bytes
+      → UnderWay held takes faults from now old mid written → PaysAll step out now new
+      → TakesNext takes mid out
+  piece_taken step from now new old mid written out owed next u pays =
+      let f = u.each owed.bytes owed.outcome owed.owes in
+      let p = paid_first step f.more out owed.outcome now new (pays f.more owed.outcome f.owes) in
+      next_between takes old mid f.first out p.0 owed.bytes next f.onward
+      (f.parts ∙ ap (λ (m : List ℕ). f.first ++ m) p.1)
+
   -- a piece more
   pub more_written : (from now new : DecoderSeen) (old mid sink : Sink) (written : ℕ) (out : List ℕ)
-      (count : ℕ) → UnderWay held faults from now old mid written → PaysAll More out now new
-      → Appends (held mid) (held sink) out → faults sink ≡ faults mid → count ≡ length out
+      (count : ℕ) → UnderWay held takes faults from now old mid written → PaysAll More out now new
+      → HasWritten held takes faults mid sink out → count ≡ length out
       → length out ≤ piece_room → new.begun ≡ now.begun → new.plan ≡ now.plan
-      → (new.left < now.left) × UnderWay held faults from new old sink (written + count)
-  more_written from now new old mid sink written out count u pays appended same e room begun plan =
+      → (new.left < now.left) × UnderWay held takes faults from new old sink (written + count)
+  more_written from now new old mid sink written out count u pays has e room begun plan =
       let paid = pays u.some.bytes u.some.outcome u.some.owes in (
         paid.2,
         record {
@@ -71,10 +85,11 @@ module _ {Sink : Type 0} (held : Sink → Option (List ℕ)) (faults : Sink → 
                 parts = f.parts ∙ ap (λ (l : List ℕ). f.first ++ l) p.1
                     ∙ sym (append_assoc f.first out p.0);
                 owes = p.5;
-                appended = Appends-trans (held old) (held mid) (held sink) f.first out f.appended appended;
+                appended = Appends-trans (held old) (held mid) (held sink) f.first out f.appended has.appended;
+                onward = moves_later takes old mid sink f.first out f.onward has.onward;
                 count = ap₂ (λ (a b : ℕ). a + b) f.count e ∙ sym (length-append f.first out);
               };
-          unfailed = same ∙ u.unfailed;
+          unfailed = has.unfailed ∙ u.unfailed;
           few = omega (arith, u.few, paid.2, e, room);
           begun = begun ∙ u.begun;
           plan = plan ∙ u.plan;
@@ -83,24 +98,24 @@ module _ {Sink : Type 0} (held : Sink → Option (List ℕ)) (faults : Sink → 
 
   -- the last piece
   pub all_written : (step : Step) (from now new : DecoderSeen) (old mid sink : Sink) (written : ℕ)
-      (out : List ℕ) (count : ℕ) (end : Outcome) → UnderWay held faults from now old mid written
+      (out : List ℕ) (count : ℕ) (end : Outcome) → UnderWay held takes faults from now old mid written
       → PaysAll step out now new
       → ((bytes : List ℕ) (outcome : Outcome) → Pays step bytes outcome out now new
       → (bytes ≡ out) × (outcome ≡ end))
-      → Appends (held mid) (held sink) out → faults sink ≡ faults mid → count ≡ length out
+      → HasWritten held takes faults mid sink out → count ≡ length out
       → (bytes : List ℕ) (outcome : Outcome) → Owes from bytes outcome
-      → (written + count ≡ length bytes) × (end ≡ outcome) × HasWritten held faults old sink bytes
-  all_written step from now new old mid sink written out count end u pays last appended same e bytes outcome owes =
+      → (written + count ≡ length bytes) × (end ≡ outcome) × HasWritten held takes faults old sink bytes
+  all_written step from now new old mid sink written out count end u pays last has e bytes outcome owes =
       let f = u.each bytes outcome owes in
       let l = last f.more outcome (pays f.more outcome f.owes) in
       let whole : bytes ≡ f.first ++ out = f.parts ∙ ap (λ (m : List ℕ). f.first ++ m) l.0 in (
         ap₂ (λ (a b : ℕ). a + b) f.count e ∙ sym (length-append f.first out) ∙ ap length (sym whole),
         sym l.1,
-        record {
-          appended = subst (Appends (held old) (held sink)) (sym whole)
-              (Appends-trans (held old) (held mid) (held sink) f.first out f.appended appended);
-          unfailed = same ∙ u.unfailed;
-        },
+        subst (HasWritten held takes faults old sink) (sym whole) (record {
+          appended = Appends-trans (held old) (held mid) (held sink) f.first out f.appended has.appended;
+          unfailed = has.unfailed ∙ u.unfailed;
+          onward = moves_later takes old mid sink f.first out f.onward has.onward;
+        }),
       )
 
   pub done_last : (pads : PadSum) (out : List ℕ) (now new : DecoderSeen) (bytes : List ℕ)
@@ -115,7 +130,7 @@ module _ {Sink : Type 0} (held : Sink → Option (List ℕ)) (faults : Sink → 
 
   -- a write of a piece that failed
   pub write_failed : (step : Step) (from now new : DecoderSeen) (old mid sink : Sink) (written more : ℕ)
-      (out : List ℕ) → UnderWay held faults from now old mid written → PaysAll step out now new
+      (out : List ℕ) → UnderWay held takes faults from now old mid written → PaysAll step out now new
       → Appends (held mid) (held sink) (take more out) → more < length out
       → Rose faults full mid sink
       → (bytes : List ℕ) (outcome : Outcome) → Owes from bytes outcome
@@ -140,7 +155,7 @@ module _ {Sink : Type 0} (held : Sink → Option (List ℕ)) (faults : Sink → 
 
   -- a piece is no more than what was left room for
   pub piece_fits : (from now : DecoderSeen) (old mid : Sink) (written count : ℕ)
-      → UnderWay held faults from now old mid written → count ≤ piece_room
+      → UnderWay held takes faults from now old mid written → count ≤ piece_room
       → from.left < 2 ^ 32 → written + count ≤ piece_room * 2 ^ 32
   piece_fits from now old mid written count u room few =
       let stands = u.some.owes.stands in

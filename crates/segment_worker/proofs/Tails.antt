@@ -1,5 +1,5 @@
 -- Lists from an item on.
-use Rattle.std.proofs.Common.{◌≡◌, ℕ, zero, suc, ◌+◌, ◌<◌, ◌≤◌, List, [], ◌∷◌, ◌++◌, length, take, drop, map, min, refl, sym, ap, ◌∙◌, arith, length-append}
+use Rattle.std.proofs.Common.{◌≡◌, ℕ, zero, suc, ◌+◌, ◌≤◌, List, [], ◌∷◌, ◌++◌, length, take, drop, map, min, refl, sym, ap, ◌∙◌, arith, length-append}
 use Rattle.std.specs.Prelude.{slice_index_or}
 use lib.Seq.{take-append-le, take_all, take-append_seam, drop-append_seam, drop-drop, take-add}
 use lib.ListN.{length-drop, length-take}
@@ -36,10 +36,6 @@ rest_ends xs out from within e =
 pub more_taken : (xs : List ℕ) (from n : ℕ)
     → take (from + n) xs ≡ take from xs ++ take n (drop from xs)
 more_taken xs from n = take-add from n xs
-
--- where an item is left, there are items
-pub some_left : (xs : List ℕ) (from n : ℕ) → n < length (drop from xs) → from + n < length xs
-some_left xs from n few = let rest = length-drop from xs in omega (arith, rest, few)
 
 -- past the end of a list of lists nothing stands
 pub past_end : (xs : List (List ℕ)) (i : ℕ) → length xs ≤ i → slice_index_or xs i [] ≡ []

@@ -1,8 +1,10 @@
 -- Bytes that were written, one part after another.
-use Rattle.std.proofs.Common.{◌≡◌, ℕ, ◌+◌, ◌<◌, ◌≤◌, List, [], ◌++◌, length, take, refl, sym, ap, ap₂, subst, ◌∙◌, arith, length-append, Option, ◌⊎◌}
+use Rattle.std.proofs.Common.{◌≡◌, ℕ, ◌+◌, ◌<◌, ◌≤◌, List, [], ◌++◌, length, take, refl, sym, ap, ap₂, subst, ◌∙◌, arith, length-append, Option, ◌⊎◌, append_assoc}
 use lib.Seq.{take-append-le, take-append-add}
 use Rattle.std.specs.Io.KnownBytes.{Appends}
 use Rattle.std.proofs.KnownBytes.{Appends-trans, Appends-nil}
+use Rattle.outside_core.specs.Takes.{MovesOn, TakesNext}
+use Rattle.outside_core.proofs.TextTaken.{moves_later}
 use Rattle.segment_worker.specs.Written.{HasWritten, HasFailed}
 
 -- the first bytes, and some of those that come next
@@ -12,18 +14,45 @@ take_into first out more n few =
     take-append-add first (out ++ more) n
     ∙ ap (λ (l : List ℕ). first ++ l) (take-append-le n out more few)
 
-module _ {Sink : Type 0} (held : Sink → Option (List ℕ)) (faults : Sink → ℕ)
-    (full : Sink → Type 0) where
+module _ {Sink : Type 0} (takes : Sink → List ℕ → Type 0) where
+  -- a sink that takes bytes takes the first of them
+  pub next_first : (sink : Sink) (first more bytes : List ℕ) → TakesNext takes sink bytes
+      → bytes ≡ first ++ more → TakesNext takes sink first
+  next_first sink first more bytes next e =
+      let rest = next.0 in (
+        more ++ rest,
+        subst (takes sink) (ap (λ (l : List ℕ). l ++ rest) e ∙ append_assoc first more rest) next.1,
+      )
+
+  -- and after them the others
+  pub next_later : (old new : Sink) (first more bytes : List ℕ) → TakesNext takes old bytes
+      → MovesOn takes old new first → bytes ≡ first ++ more → TakesNext takes new more
+  next_later old new first more bytes next onward e =
+      let rest = next.0 in (
+        rest,
+        onward (more ++ rest)
+            (subst (takes old) (ap (λ (l : List ℕ). l ++ rest) e ∙ append_assoc first more rest) next.1),
+      )
+
+  -- bytes between those that are written and others
+  pub next_between : (old new : Sink) (first out more bytes : List ℕ) → TakesNext takes old bytes
+      → MovesOn takes old new first → bytes ≡ first ++ (out ++ more) → TakesNext takes new out
+  next_between old new first out more bytes next onward e =
+      next_first new out more (out ++ more) (next_later old new first (out ++ more) bytes next onward e) refl
+
+module _ {Sink : Type 0} (held : Sink → Option (List ℕ))
+    (takes : Sink → List ℕ → Type 0) (faults : Sink → ℕ) (full : Sink → Type 0) where
   -- nothing was written
-  pub written_none : (sink : Sink) → HasWritten held faults sink sink []
-  written_none sink = record { appended = Appends-nil (held sink); unfailed = refl }
+  pub written_none : (sink : Sink) → HasWritten held takes faults sink sink []
+  written_none sink = record { appended = Appends-nil (held sink); unfailed = refl; onward = λ rest t. t }
 
   -- bytes, and then others
-  pub written_later : (old mid sink : Sink) (a b : List ℕ) → HasWritten held faults old mid a
-      → HasWritten held faults mid sink b → HasWritten held faults old sink (a ++ b)
+  pub written_later : (old mid sink : Sink) (a b : List ℕ) → HasWritten held takes faults old mid a
+      → HasWritten held takes faults mid sink b → HasWritten held takes faults old sink (a ++ b)
   written_later old mid sink a b p q = record {
     appended = Appends-trans (held old) (held mid) (held sink) a b p.appended q.appended;
     unfailed = q.unfailed ∙ p.unfailed;
+    onward = moves_later takes old mid sink a b p.onward q.onward;
   }
 
   -- a write failed in the first of some bytes
@@ -42,7 +71,7 @@ module _ {Sink : Type 0} (held : Sink → Option (List ℕ)) (faults : Sink → 
 
   -- a write failed after the first of some bytes
   pub failed_later : (old mid sink : Sink) (first out more bytes : List ℕ) (count written : ℕ)
-      → HasWritten held faults old mid first → HasFailed held faults full mid sink out written
+      → HasWritten held takes faults old mid first → HasFailed held faults full mid sink out written
       → bytes ≡ first ++ (out ++ more) → count ≡ length first
       → HasFailed held faults full old sink bytes (count + written)
   failed_later old mid sink first out more bytes count written w f e n =

@@ -51,33 +51,35 @@ Counts all (Ok emitted) = emitted.bytes ≡ length all.bytes
 Counts all (Err (Fault fault)) = Unit {0}
 Counts all (Err (WriteFault written)) = written < length all.bytes
 
-module _ {Sink : Type 0} (held : Sink → Option (List ℕ)) (faults : Sink → ℕ)
-    (full : Sink → Type 0) where
+module _ {Sink : Type 0} (held : Sink → Option (List ℕ))
+    (takes : Sink → List ℕ → Type 0) (faults : Sink → ℕ) (full : Sink → Type 0) where
   -- how it ends: all segments, or all through the first bad one, or their first bytes
   abbrev pub Emits : Sink → Sink → Joined → Result Emitted EmitStop → Type 0
   Emits old new all (Ok emitted) =
       (all.fault ≡ None) × (emitted.bytes ≡ length all.bytes) × (emitted.pads ≡ all.padded)
-      × HasWritten held faults old new all.bytes
+      × HasWritten held takes faults old new all.bytes
   Emits old new all (Err (Fault fault)) =
-      (all.fault ≡ Some fault) × HasWritten held faults old new all.bytes
+      (all.fault ≡ Some fault) × HasWritten held takes faults old new all.bytes
   Emits old new all (Err (WriteFault written)) = HasFailed held faults full old new all.bytes written
 
 -- the segments before one ended well, and they and the first `taken` bytes of that one are written
-pub record IsWrittenTo {Sink : Type 0} (held : Sink → Option (List ℕ)) (faults : Sink → ℕ)
+pub record IsWrittenTo {Sink : Type 0} (held : Sink → Option (List ℕ))
+    (takes : Sink → List ℕ → Type 0) (faults : Sink → ℕ)
     (v : BoxSeen) (cur taken : ℕ) (old new : Sink) (written : ℕ) (padded : PadSum) : Type 0 where
   pub bytes : List ℕ
   pub all : joined_in v ≡ joined_onto bytes padded (joined_from v.plan v.parts cur)
-  pub has : HasWritten held faults old new (bytes ++ take taken (bytes_at (segments_bytes v) cur))
+  pub has : HasWritten held takes faults old new (bytes ++ take taken (bytes_at (segments_bytes v) cur))
   pub count : written ≡ length bytes + taken
   pub within : taken ≤ length (bytes_at (segments_bytes v) cur)
   pub few : length bytes ≤ segment_room * cur
   pub low : cur ≤ length v.parts.handovers
 
 -- between two calls
-pub record IsEmitting {Sink : Type 0} (held : Sink → Option (List ℕ)) (faults : Sink → ℕ)
+pub record IsEmitting {Sink : Type 0} (held : Sink → Option (List ℕ))
+    (takes : Sink → List ℕ → Type 0) (faults : Sink → ℕ)
     (table : TableId) (v : BoxSeen) (seat : SeatValue BoxSeen EmitterView)
     (decoder : DecoderSeen) (old new : Sink) (written : ℕ) (padded : PadSum) : Type 0 where
   pub used : IsUsedEmitter table v seat decoder
   pub free : seat.view.owns ≡ false
   pub going : seat.view.stopped ≡ false
-  pub so_far : IsWrittenTo held faults v seat.view.cur seat.view.taken old new written padded
+  pub so_far : IsWrittenTo held takes faults v seat.view.cur seat.view.taken old new written padded

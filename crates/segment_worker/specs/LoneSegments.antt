@@ -1,6 +1,7 @@
 -- Steps: segments that one thread decodes into a sink (own).
 use Rattle.std.specs.Prelude.{ℕ, ◌≡◌, ◌+◌, ◌*◌, ◌^◌, ◌≤◌, true, List, ◌++◌, length, Option, Result, Ok, Err}
 use Rattle.std.specs.Io.KnownBytes.{Appends}
+use Rattle.outside_core.specs.Takes.{MovesOn}
 use Rattle.bit_list.specs.Pieces.{piece_room}
 use Rattle.jpeg_marker.specs.Plans.{PlanFields}
 use Rattle.handover.specs.declared.outcome.Outcome.{Outcome}
@@ -22,42 +23,47 @@ pub record OwesSome (d : DecoderSeen) : Type 0 where
   pub owes : Owes d bytes outcome
 
 -- the first bytes that a decoder owed were written, and it owes the others
-pub record FirstWritten {Sink : Type 0} (held : Sink → Option (List ℕ)) (now : DecoderSeen)
-    (old new : Sink) (written : ℕ) (bytes : List ℕ) (outcome : Outcome) : Type 0 where
+pub record FirstWritten {Sink : Type 0} (held : Sink → Option (List ℕ))
+    (takes : Sink → List ℕ → Type 0) (now : DecoderSeen) (old new : Sink) (written : ℕ)
+    (bytes : List ℕ) (outcome : Outcome) : Type 0 where
   pub first : List ℕ
   pub more : List ℕ
   pub parts : bytes ≡ first ++ more
   pub owes : Owes now more outcome
   pub appended : Appends (held old) (held new) first
+  pub onward : MovesOn takes old new first
   pub count : written ≡ length first
 
 -- between two pieces of a segment
-pub record UnderWay {Sink : Type 0} (held : Sink → Option (List ℕ)) (faults : Sink → ℕ)
+pub record UnderWay {Sink : Type 0} (held : Sink → Option (List ℕ))
+    (takes : Sink → List ℕ → Type 0) (faults : Sink → ℕ)
     (from now : DecoderSeen) (old new : Sink) (written : ℕ) : Type 0 where
   pub running : now.running ≡ true
   pub some : OwesSome now
   pub each : (bytes : List ℕ) (outcome : Outcome) → Owes from bytes outcome
-      → FirstWritten held now old new written bytes outcome
+      → FirstWritten held takes now old new written bytes outcome
   pub unfailed : faults new ≡ faults old
   pub few : written + piece_room * now.left ≤ piece_room * from.left
   pub begun : now.begun ≡ from.begun
   pub plan : now.plan ≡ from.plan
 
 -- how a segment with these bytes and this outcome ends
-abbrev pub SegmentEnds : {Sink : Type 0} → (Sink → Option (List ℕ)) → (Sink → ℕ)
-    → (Sink → Type 0) → Sink → Sink → List ℕ → Outcome → Result (ℕ × Outcome) ℕ → Type 0
-SegmentEnds held faults full old new bytes outcome (Ok ended) =
-    (ended.0 ≡ length bytes) × (ended.1 ≡ outcome) × HasWritten held faults old new bytes
-SegmentEnds held faults full old new bytes outcome (Err written) =
+abbrev pub SegmentEnds : {Sink : Type 0} → (Sink → Option (List ℕ))
+    → (Sink → List ℕ → Type 0) → (Sink → ℕ) → (Sink → Type 0) → Sink → Sink → List ℕ → Outcome
+    → Result (ℕ × Outcome) ℕ → Type 0
+SegmentEnds held takes faults full old new bytes outcome (Ok ended) =
+    (ended.0 ≡ length bytes) × (ended.1 ≡ outcome) × HasWritten held takes faults old new bytes
+SegmentEnds held takes faults full old new bytes outcome (Err written) =
     HasFailed held faults full old new bytes written
 
 -- before the segment with a number, if the segments before it ended well
-pub record SegmentsWritten {Sink : Type 0} (held : Sink → Option (List ℕ)) (faults : Sink → ℕ)
+pub record SegmentsWritten {Sink : Type 0} (held : Sink → Option (List ℕ))
+    (takes : Sink → List ℕ → Type 0) (faults : Sink → ℕ)
     (plan : PlanFields) (b : BoxParts) (i : ℕ) (now : DecoderSeen) (old new : Sink)
     (written : ℕ) (padded : PadSum) : Type 0 where
   pub bytes : List ℕ
   pub all : joined (outputs_of plan b) ≡ joined_onto bytes padded (joined_from plan b i)
-  pub has : HasWritten held faults old new bytes
+  pub has : HasWritten held takes faults old new bytes
   pub count : written ≡ length bytes
   pub few : written ≤ pieces_room * i
   pub plan_is : now.plan ≡ plan

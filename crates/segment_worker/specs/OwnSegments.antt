@@ -29,25 +29,26 @@ abbrev pub own_rest : SeatValue BoxSeen EmitterView → List ℕ
 own_rest seat = drop seat.view.taken (bytes_at (segments_bytes seat.content) seat.view.cur)
 
 -- between two pieces of the emitter's own segment
-pub record IsPassing {Sink : Type 0} (held : Sink → Option (List ℕ)) (faults : Sink → ℕ)
+pub record IsPassing {Sink : Type 0} (held : Sink → Option (List ℕ))
+    (takes : Sink → List ℕ → Type 0) (faults : Sink → ℕ)
     (from now : SeatValue BoxSeen EmitterView) (begun d : DecoderSeen) (old new : Sink)
     (written : ℕ) : Type 0 where
   pub same : IsSameSeat from now
   pub view : now.view ≡ record from.view { taken = from.view.taken + written }
   pub running : d.running ≡ true
   pub owes : OwesRest from.content from.view.cur (from.view.taken + written) d
-  pub has : HasWritten held faults old new (take written (own_rest from))
+  pub has : HasWritten held takes faults old new (take written (own_rest from))
   pub begun_is : d.begun ≡ begun.begun
   pub plan : d.plan ≡ begun.plan
 
 -- bytes of the segment that is emitted were written, and the emitter owns none; or a write failed in them
-abbrev pub OwnEnds : {Sink : Type 0} → (Sink → Option (List ℕ)) → (Sink → ℕ) → (Sink → Type 0)
-    → SeatValue BoxSeen EmitterView → SeatValue BoxSeen EmitterView → Sink → Sink
-    → Result ℕ ℕ → Type 0
-OwnEnds held faults full from now old new (Ok written) =
-    HasWritten held faults old new (take written (own_rest from))
+abbrev pub OwnEnds : {Sink : Type 0} → (Sink → Option (List ℕ)) → (Sink → List ℕ → Type 0)
+    → (Sink → ℕ) → (Sink → Type 0) → SeatValue BoxSeen EmitterView → SeatValue BoxSeen EmitterView
+    → Sink → Sink → Result ℕ ℕ → Type 0
+OwnEnds held takes faults full from now old new (Ok written) =
+    HasWritten held takes faults old new (take written (own_rest from))
     × (from.view.taken + written ≤ length (bytes_at (segments_bytes from.content) from.view.cur))
     × (now.view ≡ record from.view { taken = from.view.taken + written; owns = false })
-OwnEnds held faults full from now old new (Err written) =
+OwnEnds held takes faults full from now old new (Err written) =
     HasFailed held faults full old new (own_rest from) written
     × (now.view.stopped ≡ from.view.stopped)

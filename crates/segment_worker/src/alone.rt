@@ -1,5 +1,6 @@
 // A container's segments decoded on one thread, with no board.
 ghost use Rattle.std.specs.Prelude.{◌≡◌, ◌*◌, ◌≤◌, ◌<◌, ◌^◌, ℕ, List, length, IfOk, IfErr, true};
+ghost use Rattle.outside_core.specs.Takes.{TakesNext};
 ghost use Rattle.handover.specs.declared.outcome.Outcome.{Outcome};
 ghost use Rattle.box_format.specs.Versions.{most_segments};
 ghost use Rattle.segment_code.specs.Decoding.{Owes};
@@ -18,6 +19,9 @@ use segment_code::{SegmentDecoder, Step};
 /// Writes the segments in order, each decoded on the calling thread when its turn comes: what `emit` writes, with no
 /// other thread to wait for. It returns after the last segment, or after the first with a fault, or if the sink fails.
 ///
+/// At each moment, also while the call is under way, what was written is a prefix of the joined segments, since the sink
+/// need take nothing else.
+///
 /// The gate is called before each segment.
 pub fn emit_alone<'a, K: Sink, G: Gate>(
     decoder: &mut SegmentDecoder<'a>,
@@ -28,7 +32,8 @@ pub fn emit_alone<'a, K: Sink, G: Gate>(
 ) -> Result<Emitted, EmitStop>
     requires plan { decoder.old.plan ≡ view.now.plan }
     requires fresh { decoder.old.begun ≡ 0 }
-    ensures ends { Emits K.held K.faults K.full sink.old sink.new (joined_in view.now) result }
+    requires takes { TakesNext K.takes sink.old (joined_in view.now).bytes }
+    ensures ends { Emits K.held K.takes K.faults K.full sink.old sink.new (joined_in view.now) result }
     ensures few { length (joined_in view.now).bytes ≤ segment_room * most_segments }
     ensures plan { decoder.new.plan ≡ decoder.old.plan }
     ensures lasting { K.faults sink.old ≤ K.faults sink.new }
@@ -47,7 +52,8 @@ fn emit_segments<'a, K: Sink, G: Gate>(
 ) -> Result<Emitted, EmitStop>
     requires plan { decoder.old.plan ≡ view.now.plan }
     requires fresh { decoder.old.begun ≡ 0 }
-    ensures ends { Emits K.held K.faults K.full sink.old sink.new (joined_in view.now) result }
+    requires takes { TakesNext K.takes sink.old (joined_in view.now).bytes }
+    ensures ends { Emits K.held K.takes K.faults K.full sink.old sink.new (joined_in view.now) result }
     ensures plan { decoder.new.plan ≡ decoder.old.plan }
     ensures lasting { K.faults sink.old ≤ K.faults sink.new }
 {
@@ -83,10 +89,10 @@ fn emit_segment<K: Sink>(
     sink: &mut K,
 ) -> Result<(u64, Outcome), u64>
     requires running { decoder.old.running ≡ true }
-    requires owes { OwesSome decoder.old }
+    requires owes { (owed : OwesSome decoder.old) × TakesNext K.takes sink.old owed.bytes }
     requires few { decoder.old.left < 2 ^ 32 }
     ensures ends { (bytes : List ℕ) (outcome : Outcome) → Owes decoder.old bytes outcome
-        → SegmentEnds K.held K.faults K.full sink.old sink.new bytes outcome result }
+        → SegmentEnds K.held K.takes K.faults K.full sink.old sink.new bytes outcome result }
     ensures few { IfOk result (λ ended. ended.0 ≤ pieces_room) }
     ensures short { IfErr result (λ written. written ≤ pieces_room) }
     ensures begun { decoder.new.begun ≡ decoder.old.begun }

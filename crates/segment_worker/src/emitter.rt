@@ -1,5 +1,6 @@
 // The emitter.
 ghost use Rattle.std.specs.Prelude.{◌≡◌, ◌*◌, ◌≤◌, length, OnOk, OnErr, true};
+ghost use Rattle.outside_core.specs.Takes.{TakesNext};
 ghost use Rattle.box_format.specs.Versions.{most_segments};
 ghost use Rattle.segment_worker.specs.Contents.{AreShort, segment_room};
 ghost use Rattle.segment_worker.specs.Emitting.{Emits, IsNewEmitter, IsThrough, IsUsedEmitter, joined_in};
@@ -23,6 +24,9 @@ const MOST_TAKEN: usize = 4_096;
 /// turn comes. It returns after the last one; or it stops the board, after the first with a fault, or if the sink
 /// fails.
 ///
+/// At each moment, also while the call is under way, what was written is a prefix of the joined segments, since the sink
+/// need take nothing else.
+///
 /// The gate is called before each segment that the emitter asks for.
 pub fn emit<'a, R: Wait, K: Sink, G: Gate>(
     rt: &R,
@@ -34,8 +38,9 @@ pub fn emit<'a, R: Wait, K: Sink, G: Gate>(
     sink: &mut K,
     gate: &G,
 ) -> Result<Emitted, EmitStop>
-    requires { IsNewEmitter board.now view.now seat.old decoder.old }
-    ensures ends { Emits K.held K.faults K.full sink.old sink.new (joined_in view.now) result }
+    requires new { IsNewEmitter board.now view.now seat.old decoder.old }
+    requires takes { TakesNext K.takes sink.old (joined_in view.now).bytes }
+    ensures ends { Emits K.held K.takes K.faults K.full sink.old sink.new (joined_in view.now) result }
     ensures through { OnOk result (IsThrough (length view.now.parts.handovers) seat.new.view) }
     ensures stopped { OnErr result (seat.new.view.stopped ≡ true) }
     ensures used { IsUsedEmitter board.now view.now seat.new decoder.new }
@@ -73,7 +78,8 @@ fn emit_through<'a, R: Wait, K: Sink, G: Gate>(
     requires short { AreShort view.now }
     requires count { length view.now.parts.handovers ≤ most_segments }
     requires some { 1 ≤ length buffer.old }
-    ensures ends { Emits K.held K.faults K.full sink.old sink.new (joined_in view.now) result }
+    requires takes { TakesNext K.takes sink.old (joined_in view.now).bytes }
+    ensures ends { Emits K.held K.takes K.faults K.full sink.old sink.new (joined_in view.now) result }
     ensures through { OnOk result (IsThrough (length view.now.parts.handovers) seat.new.view) }
     ensures stopped { OnErr result (seat.new.view.stopped ≡ true) }
     ensures used { IsUsedEmitter board.now view.now seat.new decoder.new }

@@ -1,8 +1,9 @@
 // The emitter's own segment, decoded into the sink.
 ghost use Rattle.std.specs.Prelude.{◌≡◌, ◌+◌, ◌≤◌, true, false, length};
+ghost use Rattle.outside_core.specs.Takes.{TakesNext};
 ghost use Rattle.board_core.specs.BoardInvariants.{bytes_at};
 ghost use Rattle.segment_worker.specs.Contents.{AreShort, segments_bytes};
-ghost use Rattle.segment_worker.specs.OwnSegments.{IsSameSeat, OwesRest, OwnEnds};
+ghost use Rattle.segment_worker.specs.OwnSegments.{IsSameSeat, OwesRest, OwnEnds, own_rest};
 
 use crate::content::Told;
 use bit_list::Piece;
@@ -35,7 +36,8 @@ pub(crate) fn emit_unclaimed<'a, R: Wait, K: Sink, G: Gate>(
     requires plan { decoder.old.plan ≡ view.now.plan }
     requires begun { decoder.old.begun ≡ seat.old.claims }
     requires short { AreShort view.now }
-    ensures ends { OwnEnds K.held K.faults K.full seat.old seat.new sink.old sink.new result }
+    requires takes { TakesNext K.takes sink.old (own_rest seat.old) }
+    ensures ends { OwnEnds K.held K.takes K.faults K.full seat.old seat.new sink.old sink.new result }
     ensures own { seat.new.table ≡ seat.old.table }
     ensures content { seat.new.content ≡ seat.old.content }
     ensures begun { decoder.new.begun ≡ seat.new.claims }
@@ -67,7 +69,8 @@ fn emit_own<'a, R: Wait, K: Sink>(
     requires running { decoder.old.running ≡ true }
     requires owes { OwesRest seat.old.content seat.old.view.cur seat.old.view.taken decoder.old }
     requires short { AreShort seat.old.content }
-    ensures ends { OwnEnds K.held K.faults K.full seat.old seat.new sink.old sink.new result }
+    requires takes { TakesNext K.takes sink.old (own_rest seat.old) }
+    ensures ends { OwnEnds K.held K.takes K.faults K.full seat.old seat.new sink.old sink.new result }
     ensures same { IsSameSeat seat.old seat.new }
     ensures begun { decoder.new.begun ≡ decoder.old.begun }
     ensures plan { decoder.new.plan ≡ decoder.old.plan }

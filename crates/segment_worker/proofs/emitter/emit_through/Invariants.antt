@@ -4,7 +4,7 @@ use Rattle.segment_worker.proofs.emitter.emit_through.Given as goal
 
 abbrev pub invariant-loop : goal.invariant-loop
 invariant-loop g l = record {
-  emitting : IsEmitting g.K.Sink.held g.K.Sink.faults l.board l.view l.seat l.decoder l.initial.sink
+  emitting : IsEmitting g.K.Sink.held g.K.Sink.takes g.K.Sink.faults l.board l.view l.seat l.decoder l.initial.sink
       l.sink l.written l.pads;
   current : l.current ≡ l.seat.view.cur;
   some : 1 ≤ length l.buffer;

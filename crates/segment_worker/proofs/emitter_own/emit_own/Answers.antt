@@ -1,28 +1,38 @@
 use Rattle.std.proofs.Common.{◌+◌, sym, subst, List, ℕ, length}
 use Rattle.segment_code.specs.declared.step.Step.TheVariants.{Done, Fault}
 use Rattle.handover.specs.declared.outcome.Outcome.TheVariants.{Good, Bad}
+use Rattle.outside_core.specs.Takes.{TakesNext}
 use Rattle.segment_worker.specs.Written.{HasWritten, HasFailed}
 use Rattle.segment_worker.specs.OwnSegments.{IsPassing}
-use Rattle.segment_worker.proofs.OwnPieces.{starts_passing, piece_passed, piece_within, all_passed, piece_failed, owed_later, owed_done, owed_fault, ends_there}
+use Rattle.segment_worker.proofs.OwnPieces.{starts_passing, piece_taken, piece_passed, piece_within, all_passed, piece_failed, owed_later, owed_done, owed_fault, ends_there}
 use Rattle.segment_worker.proofs.emitter_own.emit_own.Goals as goal
 
 pub loop-more-init : goal.loop-more-init
 loop-more-init g c =
-    starts_passing g.K.Sink.held g.K.Sink.faults g.K.Sink.full c.args.seat.now c.args.decoder.now
+    starts_passing g.K.Sink.held g.K.Sink.takes g.K.Sink.faults g.K.Sink.full c.args.seat.now c.args.decoder.now
     c.args.sink.now c.requires.running c.requires.owes
+
+pub write_all-requires : goal.write_all-requires
+write_all-requires g c =
+    record {
+      next = subst (TakesNext g.K.Sink.takes c.loop-more.sink) (sym c.bytes.ensures.bytes)
+          (piece_taken g.K.Sink.held g.K.Sink.takes g.K.Sink.faults g.K.Sink.full c.args.seat.now c.loop-more.seat
+          c.args.decoder.now c.loop-more.decoder c.step-step.new.self c.args.sink.now c.loop-more.sink c.loop-more.written
+          c.step-step.result c.step-step.new.out c.requires.takes c.loop-more.invariant c.step-step.ensures.pays);
+    }
 
 pub returns-in-Err-clause-ends : goal.returns-in-Err-clause-ends
 returns-in-Err-clause-ends g c =
     let failed = subst (λ (l : List ℕ). HasFailed g.K.Sink.held g.K.Sink.faults g.K.Sink.full c.loop-more.sink c.write_all.new.sink l c.in-Err.field-0.written)
     c.bytes.ensures.bytes
     (record { rose = c.in-Err.ensures.failed; short = c.in-Err.ensures.short; appended = c.in-Err.ensures.part }) in
-    piece_failed g.K.Sink.held g.K.Sink.faults g.K.Sink.full c.args.seat.now c.loop-more.seat c.args.decoder.now
+    piece_failed g.K.Sink.held g.K.Sink.takes g.K.Sink.faults g.K.Sink.full c.args.seat.now c.loop-more.seat c.args.decoder.now
     c.loop-more.decoder c.step-step.new.self c.args.sink.now c.loop-more.sink c.write_all.new.sink c.loop-more.written
     c.in-Err.field-0.written c.step-step.result c.step-step.new.out c.loop-more.invariant c.step-step.ensures.pays failed
 
 pub pass-requires-clause-within : goal.pass-requires-clause-within
 pass-requires-clause-within g c =
-    piece_within g.K.Sink.held g.K.Sink.faults g.K.Sink.full c.args.seat.now c.loop-more.seat c.args.decoder.now
+    piece_within g.K.Sink.held g.K.Sink.takes g.K.Sink.faults g.K.Sink.full c.args.seat.now c.loop-more.seat c.args.decoder.now
     c.loop-more.decoder c.step-step.new.self c.args.sink.now c.loop-more.sink c.loop-more.written
     c.step-step.result c.step-step.new.out c.loop-more.invariant c.step-step.ensures.pays
 
@@ -34,11 +44,11 @@ loop-more-smaller g c =
 
 pub loop-more-preserved : goal.loop-more-preserved
 loop-more-preserved g c =
-    let has = subst (HasWritten g.K.Sink.held g.K.Sink.faults c.loop-more.sink c.write_all.new.sink) c.bytes.ensures.bytes
-    (record { appended = c.in_default.ensures.whole; unfailed = c.in_default.ensures.unfailed }) in
-    subst (λ (n : ℕ). IsPassing g.K.Sink.held g.K.Sink.faults c.args.seat.now c.pass.new.seat c.args.decoder.now c.step-step.new.self c.args.sink.now c.write_all.new.sink (c.loop-more.written + n))
+    let has = subst (HasWritten g.K.Sink.held g.K.Sink.takes g.K.Sink.faults c.loop-more.sink c.write_all.new.sink) c.bytes.ensures.bytes
+    (record { appended = c.in_default.ensures.whole; unfailed = c.in_default.ensures.unfailed; onward = c.in_default.ensures.onward }) in
+    subst (λ (n : ℕ). IsPassing g.K.Sink.held g.K.Sink.takes g.K.Sink.faults c.args.seat.now c.pass.new.seat c.args.decoder.now c.step-step.new.self c.args.sink.now c.write_all.new.sink (c.loop-more.written + n))
     (sym c.len.ensures.count)
-    (piece_passed g.K.Sink.held g.K.Sink.faults g.K.Sink.full c.args.seat.now c.loop-more.seat c.pass.new.seat c.args.decoder.now
+    (piece_passed g.K.Sink.held g.K.Sink.takes g.K.Sink.faults g.K.Sink.full c.args.seat.now c.loop-more.seat c.pass.new.seat c.args.decoder.now
     c.loop-more.decoder c.step-step.new.self c.args.sink.now c.loop-more.sink c.write_all.new.sink c.loop-more.written
     c.step-step.new.out c.loop-more.invariant c.in-More.ensures.pays has c.pass.ensures.same c.pass.ensures.view
     c.in-More.ensures.begun c.in-More.ensures.plan).1
@@ -61,10 +71,10 @@ finish_own-requires-clause-outcome g c =
 
 pub returns-in-Done-clause-ends : goal.returns-in-Done-clause-ends
 returns-in-Done-clause-ends g c =
-    let has = subst (HasWritten g.K.Sink.held g.K.Sink.faults c.loop-more.sink c.write_all.new.sink) c.bytes.ensures.bytes
-    (record { appended = c.in_default.ensures.whole; unfailed = c.in_default.ensures.unfailed }) in
+    let has = subst (HasWritten g.K.Sink.held g.K.Sink.takes g.K.Sink.faults c.loop-more.sink c.write_all.new.sink) c.bytes.ensures.bytes
+    (record { appended = c.in_default.ensures.whole; unfailed = c.in_default.ensures.unfailed; onward = c.in_default.ensures.onward }) in
     rw c.len.ensures.count
-    (all_passed g.K.Sink.held g.K.Sink.faults g.K.Sink.full c.args.seat.now c.loop-more.seat c.pass.new.seat c.finish_own.new.seat
+    (all_passed g.K.Sink.held g.K.Sink.takes g.K.Sink.faults g.K.Sink.full c.args.seat.now c.loop-more.seat c.pass.new.seat c.finish_own.new.seat
     c.args.decoder.now c.loop-more.decoder c.step-step.new.self c.args.sink.now c.loop-more.sink c.write_all.new.sink
     c.loop-more.written (Done c.in-Done.pads) c.step-step.new.out c.loop-more.invariant c.in-Done.ensures.pays has
     c.pass.ensures.view c.finish_own.ensures.told.0)
@@ -87,10 +97,10 @@ finish_own-requires-in-Fault-clause-outcome g c =
 
 pub returns-in-Fault-clause-ends : goal.returns-in-Fault-clause-ends
 returns-in-Fault-clause-ends g c =
-    let has = subst (HasWritten g.K.Sink.held g.K.Sink.faults c.loop-more.sink c.write_all.new.sink) c.bytes.ensures.bytes
-    (record { appended = c.in_default.ensures.whole; unfailed = c.in_default.ensures.unfailed }) in
+    let has = subst (HasWritten g.K.Sink.held g.K.Sink.takes g.K.Sink.faults c.loop-more.sink c.write_all.new.sink) c.bytes.ensures.bytes
+    (record { appended = c.in_default.ensures.whole; unfailed = c.in_default.ensures.unfailed; onward = c.in_default.ensures.onward }) in
     rw c.len.ensures.count
-    (all_passed g.K.Sink.held g.K.Sink.faults g.K.Sink.full c.args.seat.now c.loop-more.seat c.pass.new.seat c.finish_own-in-Fault.new.seat
+    (all_passed g.K.Sink.held g.K.Sink.takes g.K.Sink.faults g.K.Sink.full c.args.seat.now c.loop-more.seat c.pass.new.seat c.finish_own-in-Fault.new.seat
     c.args.decoder.now c.loop-more.decoder c.step-step.new.self c.args.sink.now c.loop-more.sink c.write_all.new.sink
     c.loop-more.written (Fault c.in-Fault.fault) c.step-step.new.out c.loop-more.invariant c.in-Fault.ensures.pays has
     c.pass.ensures.view c.finish_own-in-Fault.ensures.told.0)

@@ -3,7 +3,7 @@ use Rattle.segment_worker.proofs.emitter_own.emit_own.Given as goal
 
 abbrev pub invariant-loop-more : goal.invariant-loop-more
 invariant-loop-more g l =
-    IsPassing g.K.Sink.held g.K.Sink.faults l.initial.seat l.seat l.initial.decoder l.decoder
+    IsPassing g.K.Sink.held g.K.Sink.takes g.K.Sink.faults l.initial.seat l.seat l.initial.decoder l.decoder
     l.initial.sink l.sink l.written
 
 abbrev pub decreases-loop-more : goal.decreases-loop-more

@@ -1,4 +1,5 @@
 use Rattle.std.proofs.Common.{◌≡◌, ◌<◌, ◌∙◌, sym, ap, subst, arith, ℕ, length}
+use Rattle.outside_core.specs.Takes.{TakesNext}
 use Rattle.jpeg_marker.specs.Plans.{PlanFields}
 use Rattle.box_format.specs.Seen.{BoxSeen}
 use Rattle.container_spec.specs.Segments.{segment_output}
@@ -7,7 +8,7 @@ use Rattle.segment_code.specs.Decoding.{Owes}
 use Rattle.output_board.specs.declared.view.EmitterView.{EmitterView}
 use Rattle.segment_worker.specs.OwnSegments.{OwesRest}
 use Rattle.segment_worker.proofs.ContentsTold.{bytes_long}
-use Rattle.segment_worker.proofs.OwnPieces.{owes_all}
+use Rattle.segment_worker.proofs.OwnPieces.{owes_all, claimed_rest}
 use Rattle.segment_worker.proofs.emitter_own.emit_unclaimed.Goals as goal
 
 pub begin-requires-clause-segment : goal.begin-requires-clause-segment
@@ -38,3 +39,9 @@ emit_own-requires-clause-owes g c =
     subst (λ (z : BoxSeen × ℕ). OwesRest z.0 z.1 c.claim_own.new.seat.view.taken c.begin.new.self)
     (λ i. (sym content i, sym cur i))
     (owes_all v c.in-Mine.segment c.claim_own.new.seat.view.taken c.begin.new.self within none owes)
+
+pub emit_own-requires-clause-takes : goal.emit_own-requires-clause-takes
+emit_own-requires-clause-takes g c =
+    subst (TakesNext g.K.Sink.takes c.args.sink.now)
+    (sym (claimed_rest c.args.seat.now c.claim_own.new.seat c.claim_own.ensures.hold.content c.in-Mine.ensures.answer.0))
+    c.requires.takes
