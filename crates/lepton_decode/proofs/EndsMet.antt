@@ -13,12 +13,12 @@ use Rattle.lepton_decode.specs.declared.error.DecodeError.TheVariants.{WriteFaul
 use Rattle.lepton_decode.specs.Ends.{Follows, HasEmitted, HaveLeft}
 
 -- it counted what it wrote
-pub counted : {Sink : Type 0} (held : Sink → Option (List ℕ)) (faults : Sink → ℕ) (full : Sink → Type 0)
-    (old new : Sink) (all : Joined) (emitted : Result Emitted EmitStop)
-    → Emits held faults full old new all emitted → Counts all emitted
-counted held faults full old new all (Ok emitted) e = e.1
-counted held faults full old new all (Err (Stops.Fault fault)) e = tt
-counted held faults full old new all (Err (Stops.WriteFault written)) e = e.short
+pub counted : {Sink : Type 0} (held : Sink → Option (List ℕ)) (takes : Sink → List ℕ → Type 0) (faults : Sink → ℕ)
+    (full : Sink → Type 0) (old new : Sink) (all : Joined) (emitted : Result Emitted EmitStop)
+    → Emits held takes faults full old new all emitted → Counts all emitted
+counted held takes faults full old new all (Ok emitted) e = e.1
+counted held takes faults full old new all (Err (Stops.Fault fault)) e = tt
+counted held takes faults full old new all (Err (Stops.WriteFault written)) e = e.short
 
 -- the emitter's view says so
 pub has_emitted : (count : ℕ) (view : EmitterView) (emitted : Result Emitted EmitStop)

@@ -35,16 +35,16 @@ pub record AloneSeen : Type 0 where
 abbrev pub lone_meaning_in : AloneSeen → Meaning
 lone_meaning_in ready = meaning_of ready.plan ready.parts
 
-module _ {Sink : Type 0} (held : Sink → Option (List ℕ)) (faults : Sink → ℕ)
-    (full : Sink → Type 0) where
+module _ {Sink : Type 0} (held : Sink → Option (List ℕ))
+    (takes : Sink → List ℕ → Type 0) (faults : Sink → ℕ) (full : Sink → Type 0) where
   -- a decode of this meaning
   abbrev pub Ends : Sink → Sink → Meaning → Result ℕ DecodeError → Type 0
   Ends old new m (Ok written) =
-      (m.verdict ≡ Restored) × (written ≡ length m.bytes) × HasWritten held faults old new m.bytes
+      (m.verdict ≡ Restored) × (written ≡ length m.bytes) × HasWritten held takes faults old new m.bytes
   Ends old new m (Err PadSpelling) =
-      (m.verdict ≡ PadSpelled) × HasWritten held faults old new m.bytes
+      (m.verdict ≡ PadSpelled) × HasWritten held takes faults old new m.bytes
   Ends old new m (Err (Fault fault)) =
-      (m.verdict ≡ Faulty fault) × HasWritten held faults old new m.bytes
+      (m.verdict ≡ Faulty fault) × HasWritten held takes faults old new m.bytes
   Ends old new m (Err (WriteFault written)) =
       HasFailed held faults full old new m.bytes written
 

@@ -30,10 +30,10 @@ abbrev pub IsNewLead : TableId → BoxSeen → Emitter → Type 0
 IsNewLead table v emitter = IsNewEmitter table v emitter.seat emitter.decoder
 
 -- and after its last one
-pub record LeadEnds {Sink : Type 0} (held : Sink → Option (List ℕ)) (faults : Sink → ℕ)
-    (full : Sink → Type 0) (v : BoxSeen) (emitter : Emitter) (old new : Sink)
-    (result : Result Emitted EmitStop) : Type 0 where
-  pub ends : Emits held faults full old new (joined_in v) result
+pub record LeadEnds {Sink : Type 0} (held : Sink → Option (List ℕ))
+    (takes : Sink → List ℕ → Type 0) (faults : Sink → ℕ) (full : Sink → Type 0)
+    (v : BoxSeen) (emitter : Emitter) (old new : Sink) (result : Result Emitted EmitStop) : Type 0 where
+  pub ends : Emits held takes faults full old new (joined_in v) result
   pub through : OnOk result (IsThrough (length v.parts.handovers) emitter.seat.view)
   pub stopped : OnErr result (emitter.seat.view.stopped ≡ true)
   pub few : length (joined_in v).bytes ≤ segment_room * most_segments

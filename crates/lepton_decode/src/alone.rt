@@ -4,6 +4,7 @@ ghost use Rattle.box_format.specs.Parts.{IsBoxOf};
 ghost use Rattle.box_format.specs.BoxChecks.{IsRefusedBox};
 ghost use Rattle.box_format.specs.declared.refusal.BoxRefusal.{BoxRefusal};
 ghost use Rattle.container_spec.specs.Meanings.{meaning_of};
+ghost use Rattle.outside_core.specs.Takes.{TakesNext};
 ghost use Rattle.lepton_decode.specs.Ends.{Ends, lone_meaning_in};
 
 use crate::error::DecodeError;
@@ -73,14 +74,18 @@ pub fn prepare_alone(alloc: Global, bytes: &[u8]) -> Result<ReadyAlone<'_>, Prep
 /// Writes what `run` writes, and answers what it answers, on the calling thread. Nothing in it waits, so it returns, on
 /// any container. It allocates nothing.
 ///
+/// At each moment, also while the call is under way, what was written is a prefix of the bytes that the container
+/// stands for, since the sink need take nothing else.
+///
 /// The gate is called before each segment.
 pub fn run_alone<K: Sink, G: Gate>(
     ready: &mut ReadyAlone,
     sink: &mut K,
     gate: &G,
 ) -> Result<u64, DecodeError>
-    requires { ready.old.used ≡ false }
-    ensures ends { Ends K.held K.faults K.full sink.old sink.new (lone_meaning_in ready.old) result }
+    requires fresh { ready.old.used ≡ false }
+    requires takes { TakesNext K.takes sink.old (lone_meaning_in ready.old).bytes }
+    ensures ends { Ends K.held K.takes K.faults K.full sink.old sink.new (lone_meaning_in ready.old) result }
     ensures used { ready.new.used ≡ true }
     ensures lasting { K.faults sink.old ≤ K.faults sink.new }
 {
@@ -104,7 +109,9 @@ fn restore_alone<'a, K: Sink, G: Gate>(
 ) -> Result<u64, DecodeError>
     requires plan { decoder.old.plan ≡ view.now.plan }
     requires fresh { decoder.old.begun ≡ 0 }
-    ensures ends { Ends K.held K.faults K.full sink.old sink.new
+    requires takes { TakesNext K.takes sink.old
+        (meaning_of view.now.plan view.now.parts).bytes }
+    ensures ends { Ends K.held K.takes K.faults K.full sink.old sink.new
         (meaning_of view.now.plan view.now.parts) result }
     ensures plan { decoder.new.plan ≡ decoder.old.plan }
     ensures lasting { K.faults sink.old ≤ K.faults sink.new }

@@ -1,6 +1,7 @@
 // A container decoded into a sink.
 ghost use Rattle.std.specs.Prelude.{◌≡◌, ◌≤◌, All, false, length, true};
 ghost use Rattle.container_spec.specs.Meanings.{meaning_of};
+ghost use Rattle.outside_core.specs.Takes.{TakesNext};
 ghost use Rattle.lepton_decode.specs.Ends.{Ends, HasEmitted, HaveLeft, meaning_in};
 ghost use Rattle.lepton_decode.specs.Teams.{IsIdleWorker, IsNewLead, views_of};
 
@@ -20,6 +21,9 @@ use std::thread::Threads;
 /// how many bytes these are, whatever the number of workers and the order of their calls. It asks no allocator for
 /// memory. If a thread can't be had, it does without.
 ///
+/// At each moment, also while the call is under way, what was written is a prefix of the bytes that the container
+/// stands for, since the sink need take nothing else.
+///
 /// The gate is called before each segment that the emitter asks for, and before and after each put of a worker.
 pub fn run<R: Threads + Wait + Sync, K: Sink + Send, G: Gate + Sync>(
     ready: &mut Ready,
@@ -27,8 +31,9 @@ pub fn run<R: Threads + Wait + Sync, K: Sink + Send, G: Gate + Sync>(
     sink: &mut K,
     gate: &G,
 ) -> Result<u64, DecodeError>
-    requires { ready.old.used ≡ false }
-    ensures ends { Ends K.held K.faults K.full sink.old sink.new (meaning_in ready.old) result }
+    requires fresh { ready.old.used ≡ false }
+    requires takes { TakesNext K.takes sink.old (meaning_in ready.old).bytes }
+    ensures ends { Ends K.held K.takes K.faults K.full sink.old sink.new (meaning_in ready.old) result }
     // What the emitter's seat knows then of the board, and that each worker has left it.
     ensures emitted { HasEmitted (length ready.old.parts.handovers) ready.new.emitter result }
     ensures left { HaveLeft ready.new.team result }
@@ -60,7 +65,9 @@ fn restore<'a, R: Threads + Wait + Sync, K: Sink + Send, G: Gate + Sync>(
 ) -> Result<u64, DecodeError>
     requires new { IsNewLead board.now view.now emitter.old }
     requires team { All (IsIdleWorker board.now view.now) team.old.items }
-    ensures ends { Ends K.held K.faults K.full sink.old sink.new
+    requires takes { TakesNext K.takes sink.old
+        (meaning_of view.now.plan view.now.parts).bytes }
+    ensures ends { Ends K.held K.takes K.faults K.full sink.old sink.new
         (meaning_of view.now.plan view.now.parts) result }
     ensures emitted { HasEmitted (length view.now.parts.handovers) emitter.new.seat.view result }
     ensures left { HaveLeft (views_of team.new.items) result }

@@ -1,5 +1,6 @@
 // What a decode writes before its segments and after them.
-ghost use Rattle.std.specs.Prelude.{◌≡◌, ◌*◌, ◌^◌, ◌<◌, ◌≤◌, length, IfOk, IfErr};
+ghost use Rattle.std.specs.Prelude.{◌≡◌, ◌*◌, ◌^◌, ◌<◌, ◌≤◌, length, IfOk, IfErr, OnOk};
+ghost use Rattle.outside_core.specs.Takes.{TakesNext};
 ghost use Rattle.box_format.specs.Versions.{most_segments};
 ghost use Rattle.container_spec.specs.Meanings.{meaning_of};
 ghost use Rattle.segment_worker.specs.Contents.{segment_room};
@@ -14,10 +15,12 @@ use segment_worker::{EmitStop, Emitted};
 
 // Writes the header. Answers how many bytes it has, or how many of them were written before the sink failed.
 pub(crate) fn put_header<K: Sink>(view: &BoxView, sink: &mut K) -> Result<u64, u64>
+    requires takes { TakesNext K.takes sink.old
+        (meaning_of view.now.plan view.now.parts).bytes }
     ensures count { IfOk result (λ before. before ≡ length view.now.parts.header) }
     ensures fits { IfOk result (λ before. before < 2 ^ 32) }
     ensures whole { IfOk result (λ _.
-        HasWritten K.held K.faults sink.old sink.new view.now.parts.header) }
+        HasWritten K.held K.takes K.faults sink.old sink.new view.now.parts.header) }
     ensures failed { IfErr result (λ written. HasFailed K.held K.faults K.full sink.old sink.new
         (meaning_of view.now.plan view.now.parts).bytes written) }
     ensures lasting { K.faults sink.old ≤ K.faults sink.new }
@@ -41,9 +44,10 @@ pub(crate) fn put_rest<K: Sink>(
     requires fits { before < 2 ^ 32 }
     requires counts { Counts (joined_in view.now) emitted }
     requires few { length (joined_in view.now).bytes ≤ segment_room * most_segments }
-    ensures ends { (first mid : K) → HasWritten K.held K.faults first mid view.now.parts.header
-        → Emits K.held K.faults K.full mid sink.old (joined_in view.now) emitted
-        → Ends K.held K.faults K.full first sink.new (meaning_of view.now.plan view.now.parts)
+    requires takes { OnOk emitted (TakesNext K.takes sink.old view.now.parts.trailer) }
+    ensures ends { (first mid : K) → HasWritten K.held K.takes K.faults first mid view.now.parts.header
+        → Emits K.held K.takes K.faults K.full mid sink.old (joined_in view.now) emitted
+        → Ends K.held K.takes K.faults K.full first sink.new (meaning_of view.now.plan view.now.parts)
         result }
     ensures follows { Follows emitted result }
     ensures lasting { K.faults sink.old ≤ K.faults sink.new }

@@ -57,14 +57,18 @@ impl<'s, 'a, G: Gate> Task<Shared<'s, 'a, G>> for Worker<'a> {
 }
 
 impl<'s, 'a, G: Gate, K: Sink> Lead<Shared<'s, 'a, G>, K> for Emitter<'a> {
+    ghost use Rattle.outside_core.specs.Takes.{TakesNext};
+    ghost use Rattle.segment_worker.specs.Emitting.{joined_in};
     ghost use Rattle.lepton_decode.specs.Teams.{IsNewLead, LeadEnds};
 
     type Answer = Result<Emitted, EmitStop>;
 
     ghost begins = { λ emitter shared. IsNewLead shared.board.now shared.view.now emitter };
 
+    ghost takes = { λ shared sink. TakesNext K.takes sink (joined_in shared.view.now).bytes };
+
     ghost ends = { λ old new shared from to answer.
-        LeadEnds K.held K.faults K.full shared.view.now new from to answer };
+        LeadEnds K.held K.takes K.faults K.full shared.view.now new from to answer };
 
     fn lead<R: Wait>(
         &mut self,

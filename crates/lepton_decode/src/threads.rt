@@ -25,11 +25,15 @@ pub(crate) trait Lead<S, K> {
     // What it starts from.
     ghost begins: { Self → S → Type 0 };
 
+    // What the value takes then.
+    ghost takes: { S → K → Type 0 };
+
     // What it comes to: from one state to another, from what the value was to what it is, and with which answer.
     ghost ends: { Self → Self → S → K → K → Self.Answer → Type 0 };
 
     fn lead<R: Wait>(&mut self, rt: &R, shared: &S, sink: &mut K) -> Self::Answer
-        requires { begins self.old shared.now }
+        requires begins { begins self.old shared.now }
+        requires takes { takes shared.now sink.old }
         ensures { ends self.old self.new shared.now sink.old sink.new result };
 }
 
@@ -58,6 +62,7 @@ pub(crate) fn lead_beside<R: Threads + Wait + Sync, S: Sync, K, L: Lead<S, K>, T
     sink: &mut K,
 ) -> L::Answer
     requires lead { L.begins lead.old shared.now }
+    requires takes { L.takes shared.now sink.old }
     requires tasks { All (λ task. T.ready task shared.now) tasks.old }
     ensures lead { L.ends lead.old lead.new shared.now sink.old sink.new result }
     ensures tasks { All (λ task. T.done task shared.now) tasks.new }

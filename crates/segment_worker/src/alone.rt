@@ -19,8 +19,8 @@ use segment_code::{SegmentDecoder, Step};
 /// Writes the segments in order, each decoded on the calling thread when its turn comes: what `emit` writes, with no
 /// other thread to wait for. It returns after the last segment, or after the first with a fault, or if the sink fails.
 ///
-/// At each moment, also while the call is under way, what was written is a prefix of the joined segments, since the sink
-/// need take nothing else.
+/// At each moment, also while the call is under way, what was written is a prefix of the joined segments, since the
+/// sink need take nothing else.
 ///
 /// The gate is called before each segment.
 pub fn emit_alone<'a, K: Sink, G: Gate>(

@@ -24,8 +24,8 @@ const MOST_TAKEN: usize = 4_096;
 /// turn comes. It returns after the last one; or it stops the board, after the first with a fault, or if the sink
 /// fails.
 ///
-/// At each moment, also while the call is under way, what was written is a prefix of the joined segments, since the sink
-/// need take nothing else.
+/// At each moment, also while the call is under way, what was written is a prefix of the joined segments, since the
+/// sink need take nothing else.
 ///
 /// The gate is called before each segment that the emitter asks for.
 pub fn emit<'a, R: Wait, K: Sink, G: Gate>(

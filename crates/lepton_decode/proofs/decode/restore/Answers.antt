@@ -6,12 +6,13 @@ use Rattle.segment_worker.specs.Emitting.{joined_in}
 use Rattle.lepton_decode.specs.declared.team.Worker.{Worker}
 use Rattle.lepton_decode.specs.Teams.{views_of}
 use Rattle.lepton_decode.proofs.EndsMet.{counted, has_emitted, have_left}
+use Rattle.lepton_decode.proofs.FilesWritten.{segments_taken, trailer_taken}
 use Rattle.lepton_decode.proofs.NewTeams.{left_views}
 use Rattle.lepton_decode.proofs.decode.restore.Goals as goal
 
 pub put_rest-requires-clause-counts : goal.put_rest-requires-clause-counts
 put_rest-requires-clause-counts g c =
-    counted g.K.Sink.held g.K.Sink.faults g.K.Sink.full c.put_header.new.sink c.lead_beside-emitted.new.sink
+    counted g.K.Sink.held g.K.Sink.takes g.K.Sink.faults g.K.Sink.full c.put_header.new.sink c.lead_beside-emitted.new.sink
     (joined_in c.args.view.now) c.lead_beside-emitted.result c.lead_beside-emitted.ensures.lead.ends
 
 pub returns-clause-ends : goal.returns-clause-ends
@@ -32,3 +33,16 @@ returns-clause-left g c =
     (subst (λ (workers : List Worker). All (λ (w : WorkerView). w.left ≡ true) (views_of workers))
     (sym (with_items_is c.args.team.now c.lead_beside-emitted.new.tasks e))
     (left_views c.args.board.now c.args.view.now c.lead_beside-emitted.new.tasks c.lead_beside-emitted.ensures.tasks))
+
+pub lead_beside-emitted-requires-clause-takes : goal.lead_beside-emitted-requires-clause-takes
+lead_beside-emitted-requires-clause-takes g c κs within =
+    let view = c.args.view.now in
+    segments_taken g.K.Sink.held g.K.Sink.takes g.K.Sink.faults g.K.Sink.full view.plan view.parts c.args.sink.now
+    c.put_header.new.sink c.requires.takes c.in-Ok.ensures.whole
+
+pub put_rest-requires-clause-takes : goal.put_rest-requires-clause-takes
+put_rest-requires-clause-takes g c =
+    let view = c.args.view.now in
+    trailer_taken g.K.Sink.held g.K.Sink.takes g.K.Sink.faults g.K.Sink.full view.plan view.parts c.args.sink.now
+    c.put_header.new.sink c.lead_beside-emitted.new.sink c.lead_beside-emitted.result c.requires.takes
+    c.in-Ok.ensures.whole c.lead_beside-emitted.ensures.lead.ends

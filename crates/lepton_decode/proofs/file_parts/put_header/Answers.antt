@@ -1,8 +1,18 @@
-use Rattle.std.proofs.Common.{List, ℕ, subst}
+use Rattle.std.proofs.Common.{List, ℕ, subst, sym}
+use Rattle.outside_core.specs.Takes.{TakesNext}
 use Rattle.segment_worker.specs.Written.{HasFailed}
 use Rattle.segment_worker.proofs.Writing.{failed_first}
-use Rattle.lepton_decode.proofs.FilesWritten.{first_bytes}
+use Rattle.lepton_decode.proofs.FilesWritten.{first_bytes, header_taken}
 use Rattle.lepton_decode.proofs.file_parts.put_header.Goals as goal
+
+pub write_all-requires : goal.write_all-requires
+write_all-requires g c =
+    let view = c.args.view.now in
+    record {
+      next = subst (TakesNext g.K.Sink.takes c.args.sink.now) (sym c.header-header.ensures.bytes)
+          (header_taken g.K.Sink.held g.K.Sink.takes g.K.Sink.faults g.K.Sink.full view.plan view.parts c.args.sink.now
+          c.requires.takes);
+    }
 
 pub returns-in-Err-clause-failed : goal.returns-in-Err-clause-failed
 returns-in-Err-clause-failed g c =
@@ -11,4 +21,4 @@ returns-in-Err-clause-failed g c =
     let failed : HasFailed g.K.Sink.held g.K.Sink.faults g.K.Sink.full c.args.sink.now c.write_all.new.sink view.parts.header c.in-Err.field-0.written =
     subst (λ (l : List ℕ). HasFailed g.K.Sink.held g.K.Sink.faults g.K.Sink.full c.args.sink.now c.write_all.new.sink l c.in-Err.field-0.written) c.header-header.ensures.bytes
     (record { rose = c.in-Err.ensures.failed; short = c.in-Err.ensures.short; appended = c.in-Err.ensures.part }) in
-    failed_first g.K.Sink.held g.K.Sink.faults g.K.Sink.full c.args.sink.now c.write_all.new.sink view.parts.header _ _ _ failed f.1
+    failed_first g.K.Sink.held g.K.Sink.takes g.K.Sink.faults g.K.Sink.full c.args.sink.now c.write_all.new.sink view.parts.header _ _ _ failed f.1

@@ -1,7 +1,10 @@
-use Rattle.std.proofs.Common.{◌≡◌, ◌<◌, ◌+◌, ◌∙◌, arith, sym, ap, subst, List, ℕ, true, false, length, Err}
+use Rattle.std.proofs.Common.{◌≡◌, ◌<◌, ◌+◌, ◌∙◌, arith, sym, ap, subst, List, ℕ, true, false, length, Result, Err}
+use Rattle.std.specs.Prelude.{OnOk}
+use Rattle.outside_core.specs.Takes.{TakesNext}
 use Rattle.scan_spec.specs.Pads.{PadBits, is_spelled}
 use Rattle.segment_worker.specs.Emitting.{Counts, Emits, joined_in}
 use Rattle.segment_worker.specs.Written.{HasWritten, HasFailed}
+use Rattle.segment_worker.specs.declared.emitted.Emitted.{Emitted}
 use Rattle.segment_worker.specs.declared.emitted.EmitStop.{EmitStop}
 use Rattle.lepton_decode.proofs.FilesWritten.{pads_decide, whole_length, ends_at_fault, all_bytes, failed_in_segments, failed_in_trailer}
 use Rattle.lepton_decode.proofs.file_parts.put_rest.Goals as goal
@@ -19,17 +22,17 @@ pub returns-in-Err-WriteFault-clause-ends : goal.returns-in-Err-WriteFault-claus
 returns-in-Err-WriteFault-clause-ends g c = λ first mid has emits.
     let view = c.args.view.now in
     let e = c.in-Err-WriteFault.is ∙ ap (λ (stop : EmitStop). Err stop) c.in-Err-WriteFault.field-0-is in
-    failed_in_segments g.K.Sink.held g.K.Sink.faults g.K.Sink.full view.plan view.parts first mid c.args.sink.now
+    failed_in_segments g.K.Sink.held g.K.Sink.takes g.K.Sink.faults g.K.Sink.full view.plan view.parts first mid c.args.sink.now
     c.args.before c.in-Err-WriteFault.written c.requires.before has
-    (subst (Emits g.K.Sink.held g.K.Sink.faults g.K.Sink.full mid c.args.sink.now (joined_in view)) e emits)
+    (subst (Emits g.K.Sink.held g.K.Sink.takes g.K.Sink.faults g.K.Sink.full mid c.args.sink.now (joined_in view)) e emits)
 
 pub returns-in-Err-Fault-clause-ends : goal.returns-in-Err-Fault-clause-ends
 returns-in-Err-Fault-clause-ends g c = λ first mid has emits.
     let view = c.args.view.now in
     let e = c.in-Err-Fault.is ∙ ap (λ (stop : EmitStop). Err stop) c.in-Err-Fault.field-0-is in
-    ends_at_fault g.K.Sink.held g.K.Sink.faults g.K.Sink.full view.plan view.parts first mid c.args.sink.now
+    ends_at_fault g.K.Sink.held g.K.Sink.takes g.K.Sink.faults g.K.Sink.full view.plan view.parts first mid c.args.sink.now
     c.in-Err-Fault.fault has
-    (subst (Emits g.K.Sink.held g.K.Sink.faults g.K.Sink.full mid c.args.sink.now (joined_in view)) e emits)
+    (subst (Emits g.K.Sink.held g.K.Sink.takes g.K.Sink.faults g.K.Sink.full mid c.args.sink.now (joined_in view)) e emits)
 
 pub overflow_add-result-in-Err : goal.overflow_add-result-in-Err
 overflow_add-result-in-Err g c =
@@ -49,27 +52,36 @@ overflow_add-result-in-Err-2 g c =
     let short = c.in-Err.ensures.short in
     omega (arith, counts, few, fits, trailer, short)
 
+pub write_all-requires : goal.write_all-requires
+write_all-requires g c =
+    let trailer = c.args.view.now.parts.trailer in
+    record {
+      next = subst (TakesNext g.K.Sink.takes c.args.sink.now) (sym c.trailer-trailer.ensures.bytes)
+          (subst (λ (emitted : Result Emitted EmitStop). OnOk emitted (TakesNext g.K.Sink.takes c.args.sink.now trailer))
+          c.in-Ok.is c.requires.takes);
+    }
+
 pub returns-in-Err-clause-ends : goal.returns-in-Err-clause-ends
 returns-in-Err-clause-ends g c = λ first mid has emits.
     let view = c.args.view.now in
-    let all = subst (Emits g.K.Sink.held g.K.Sink.faults g.K.Sink.full mid c.args.sink.now (joined_in view)) c.in-Ok.is emits in
+    let all = subst (Emits g.K.Sink.held g.K.Sink.takes g.K.Sink.faults g.K.Sink.full mid c.args.sink.now (joined_in view)) c.in-Ok.is emits in
     let failed : HasFailed g.K.Sink.held g.K.Sink.faults g.K.Sink.full c.args.sink.now c.write_all.new.sink view.parts.trailer c.in-Err.field-0.written =
     subst (λ (l : List ℕ). HasFailed g.K.Sink.held g.K.Sink.faults g.K.Sink.full c.args.sink.now c.write_all.new.sink l c.in-Err.field-0.written) c.trailer-trailer.ensures.bytes
     (record { rose = c.in-Err.ensures.failed; short = c.in-Err.ensures.short; appended = c.in-Err.ensures.part }) in
-    failed_in_trailer g.K.Sink.held g.K.Sink.faults g.K.Sink.full view.plan view.parts first mid c.args.sink.now c.write_all.new.sink
+    failed_in_trailer g.K.Sink.held g.K.Sink.takes g.K.Sink.faults g.K.Sink.full view.plan view.parts first mid c.args.sink.now c.write_all.new.sink
     c.args.before c.in-Ok.emitted.bytes c.in-Err.field-0.written all.0 has all.3 failed c.requires.before all.1
 
 pub returns-then-not-is_spelled-clause-ends : goal.returns-then-not-is_spelled-clause-ends
 returns-then-not-is_spelled-clause-ends g c = λ first mid has emits.
     let view = c.args.view.now in
-    let all = subst (Emits g.K.Sink.held g.K.Sink.faults g.K.Sink.full mid c.args.sink.now (joined_in view)) c.in-Ok.is emits in
-    let last : HasWritten g.K.Sink.held g.K.Sink.faults c.args.sink.now c.write_all.new.sink view.parts.trailer =
-    subst (HasWritten g.K.Sink.held g.K.Sink.faults c.args.sink.now c.write_all.new.sink) c.trailer-trailer.ensures.bytes
-    (record { appended = c.in_default.ensures.whole; unfailed = c.in_default.ensures.unfailed }) in
+    let all = subst (Emits g.K.Sink.held g.K.Sink.takes g.K.Sink.faults g.K.Sink.full mid c.args.sink.now (joined_in view)) c.in-Ok.is emits in
+    let last : HasWritten g.K.Sink.held g.K.Sink.takes g.K.Sink.faults c.args.sink.now c.write_all.new.sink view.parts.trailer =
+    subst (HasWritten g.K.Sink.held g.K.Sink.takes g.K.Sink.faults c.args.sink.now c.write_all.new.sink) c.trailer-trailer.ensures.bytes
+    (record { appended = c.in_default.ensures.whole; unfailed = c.in_default.ensures.unfailed; onward = c.in_default.ensures.onward }) in
     let told = ap (λ (pads : PadBits). is_spelled pads c.in-Ok.emitted.pads) (sym c.pad.ensures.value)
     ∙ sym c.is_spelled.ensures in (
       pads_decide view.plan view.parts c.in-Ok.emitted.pads false all.0 all.2 (told ∙ c.if-not-is_spelled.true),
-      all_bytes g.K.Sink.held g.K.Sink.faults g.K.Sink.full view.plan view.parts first mid c.args.sink.now c.write_all.new.sink all.0 has all.3 last,
+      all_bytes g.K.Sink.held g.K.Sink.takes g.K.Sink.faults g.K.Sink.full view.plan view.parts first mid c.args.sink.now c.write_all.new.sink all.0 has all.3 last,
     )
 
 pub overflow_add-result-2 : goal.overflow_add-result-2
@@ -92,14 +104,14 @@ overflow_add-result-3 g c =
 pub returns-clause-ends : goal.returns-clause-ends
 returns-clause-ends g c = λ first mid has emits.
     let view = c.args.view.now in
-    let all = subst (Emits g.K.Sink.held g.K.Sink.faults g.K.Sink.full mid c.args.sink.now (joined_in view)) c.in-Ok.is emits in
-    let last : HasWritten g.K.Sink.held g.K.Sink.faults c.args.sink.now c.write_all.new.sink view.parts.trailer =
-    subst (HasWritten g.K.Sink.held g.K.Sink.faults c.args.sink.now c.write_all.new.sink) c.trailer-trailer.ensures.bytes
-    (record { appended = c.in_default.ensures.whole; unfailed = c.in_default.ensures.unfailed }) in
+    let all = subst (Emits g.K.Sink.held g.K.Sink.takes g.K.Sink.faults g.K.Sink.full mid c.args.sink.now (joined_in view)) c.in-Ok.is emits in
+    let last : HasWritten g.K.Sink.held g.K.Sink.takes g.K.Sink.faults c.args.sink.now c.write_all.new.sink view.parts.trailer =
+    subst (HasWritten g.K.Sink.held g.K.Sink.takes g.K.Sink.faults c.args.sink.now c.write_all.new.sink) c.trailer-trailer.ensures.bytes
+    (record { appended = c.in_default.ensures.whole; unfailed = c.in_default.ensures.unfailed; onward = c.in_default.ensures.onward }) in
     let told = ap (λ (pads : PadBits). is_spelled pads c.in-Ok.emitted.pads) (sym c.pad.ensures.value)
     ∙ sym c.is_spelled.ensures in (
       pads_decide view.plan view.parts c.in-Ok.emitted.pads true all.0 all.2 (told ∙ c.if-not-is_spelled.false),
       ap (λ (k : ℕ). c.args.before + c.in-Ok.emitted.bytes + k) (ap length c.trailer-trailer.ensures.bytes)
           ∙ whole_length view.plan view.parts c.args.before c.in-Ok.emitted.bytes all.0 c.requires.before all.1,
-      all_bytes g.K.Sink.held g.K.Sink.faults g.K.Sink.full view.plan view.parts first mid c.args.sink.now c.write_all.new.sink all.0 has all.3 last,
+      all_bytes g.K.Sink.held g.K.Sink.takes g.K.Sink.faults g.K.Sink.full view.plan view.parts first mid c.args.sink.now c.write_all.new.sink all.0 has all.3 last,
     )
