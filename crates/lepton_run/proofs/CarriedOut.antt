@@ -1,10 +1,11 @@
 -- How a command ends that has bytes, from what the encoder and the decoder say.
-use Rattle.std.proofs.Common.{◌≡◌, ℕ, ◌+◌, ◌<◌, ◌≤◌, Bool, true, false, if◌then◌else◌, inl, inr, List, [], length, take, Option, Some, None, refl, sym, ap, subst, arith, Result, Ok, Err}
+use Rattle.std.proofs.Common.{◌≡◌, ℕ, ◌+◌, ◌<◌, ◌≤◌, ◌∙◌, append-nil, Bool, true, false, if◌then◌else◌, inl, inr, List, [], length, take, Option, Some, None, refl, sym, ap, subst, arith, Result, Ok, Err}
 use Rattle.std.specs.List.{AllByRecursion}
 use Rattle.std.specs.Io.KnownBytes.{Appends}
 use Rattle.std.proofs.KnownBytes.{Appends-nil}
 use Rattle.bit_list.specs.Bits.{IsByte}
 use Rattle.outside_core.specs.Faults.{Rose}
+use Rattle.outside_core.specs.Takes.{TakesNext}
 use Rattle.jpeg_marker.specs.Plans.{PlanFields}
 use Rattle.handover.specs.declared.outcome.StreamFault.{StreamFault}
 use Rattle.box_format.specs.Parts.{BoxParts, IsBoxOf}
@@ -14,7 +15,7 @@ use Rattle.container_spec.specs.Meanings.{Joined, Meaning, Restored, PadSpelled,
 use Rattle.segment_worker.specs.Written.{HasFailed, HasWritten}
 use Rattle.command_words.specs.declared.command.Command.{Command}
 use Rattle.command_words.specs.declared.command.Command.TheVariants.{Decode}
-use Rattle.lepton_run.specs.Answers.{Answer, Answers, Early, Late, Made, Makes, Writes, answer_by, bytes_of, limit_of}
+use Rattle.lepton_run.specs.Answers.{Answer, Answers, Early, Late, Made, Makes, TakesAnswers, Writes, answer_by, bytes_of, limit_of}
 use Rattle.lepton_decode.specs.Ends.{Ends}
 use Rattle.lepton_decode.specs.declared.error.DecodeError.{DecodeError}
 use Rattle.lepton_decode.specs.declared.error.DecodeError.TheVariants as DecodeErrors
@@ -114,8 +115,8 @@ module _ {Sink : Type 0} (held : Sink → Option (List ℕ)) (faults : Sink → 
       refl,
     )
 
-    module _ (workers : ℕ) (short : length bytes ≤ limit_of (Decode workers)) (plan : PlanFields)
-        (b : BoxParts) (of : IsBoxOf plan b bytes) where
+    module _ (takes : Sink → List ℕ → Type 0) (workers : ℕ) (short : length bytes ≤ limit_of (Decode workers))
+        (plan : PlanFields) (b : BoxParts) (of : IsBoxOf plan b bytes) where
       answers_by : (answer : Answer)
           → answer ≡ answer_by (meaning_of plan b).bytes (meaning_of plan b).verdict
           → Answers (Decode workers) bytes answer
@@ -123,7 +124,7 @@ module _ {Sink : Type 0} (held : Sink → Option (List ℕ)) (faults : Sink → 
           answers_so (Decode workers) answer short (meaning_of plan b, inr (plan, b, of, refl), e)
 
       decoded : (meaning_of plan b).verdict ≡ Restored
-          → HasWritten held faults old new (meaning_of plan b).bytes
+          → HasWritten held takes faults old new (meaning_of plan b).bytes
           → CarriedOut held faults full (Decode workers) bytes old new Done
       decoded e has = let file = (meaning_of plan b).bytes in (
         Made file,
@@ -140,7 +141,7 @@ module _ {Sink : Type 0} (held : Sink → Option (List ℕ)) (faults : Sink → 
       refused_late : (refusal : Refusal)
           → Late (meaning_of plan b).bytes refusal
           ≡ answer_by (meaning_of plan b).bytes (meaning_of plan b).verdict
-          → HasWritten held faults old new (meaning_of plan b).bytes
+          → HasWritten held takes faults old new (meaning_of plan b).bytes
           → CarriedOut held faults full (Decode workers) bytes old new (Refused refusal)
       refused_late refusal e has = (
         Late (meaning_of plan b).bytes refusal,
@@ -154,13 +155,13 @@ module _ {Sink : Type 0} (held : Sink → Option (List ℕ)) (faults : Sink → 
       )
 
       pad_spelled : (meaning_of plan b).verdict ≡ PadSpelled
-          → HasWritten held faults old new (meaning_of plan b).bytes
+          → HasWritten held takes faults old new (meaning_of plan b).bytes
           → CarriedOut held faults full (Decode workers) bytes old new (Refused PadSpelling)
       pad_spelled e has =
           refused_late PadSpelling (sym (ap (answer_by (meaning_of plan b).bytes) e)) has
 
       faulty : (fault : StreamFault) → (meaning_of plan b).verdict ≡ Faulty fault
-          → HasWritten held faults old new (meaning_of plan b).bytes
+          → HasWritten held takes faults old new (meaning_of plan b).bytes
           → CarriedOut held faults full (Decode workers) bytes old new (Refused (Fault fault))
       faulty fault e has =
           refused_late (Fault fault) (sym (ap (answer_by (meaning_of plan b).bytes) e)) has
@@ -184,8 +185,15 @@ module _ {Sink : Type 0} (held : Sink → Option (List ℕ)) (faults : Sink → 
             },
           )
 
+      -- the sink takes what they stand for
+      pub meaning_taken : TakesAnswers takes (Decode workers) bytes old → TakesNext takes old (meaning_of plan b).bytes
+      meaning_taken all =
+          let m = meaning_of plan b in
+          ([], subst (takes old) ((parts_written plan b).1 ∙ sym (append-nil m.bytes))
+          (all (answer_by m.bytes m.verdict) (answers_by (answer_by m.bytes m.verdict) refl)))
+
       -- however it ended
-      pub ended : (end : Result ℕ DecodeError) → Ends held faults full old new (meaning_of plan b) end
+      pub ended : (end : Result ℕ DecodeError) → Ends held takes faults full old new (meaning_of plan b) end
           → CarriedOut held faults full (Decode workers) bytes old new (decode_ending end)
       ended (Ok written) e = decoded e.0 e.2
       ended (Err DecodeErrors.PadSpelling) e = pad_spelled e.0 e.1

@@ -74,8 +74,8 @@ box_is_taken made file refusal of why =
     let verdicts : NoBox refusal ≡ Restored = ap (λ (m : Meaning). m.verdict) e in
     absurd cc
 
-module _ {Sink : Type 0} (held : Sink → Option (List ℕ)) (faults : Sink → ℕ)
-    (full : Sink → Type 0) (old new : Sink) (made file : List ℕ) (plan : PlanFields)
+module _ {Sink : Type 0} (held : Sink → Option (List ℕ)) (takes : Sink → List ℕ → Type 0)
+    (faults : Sink → ℕ) (full : Sink → Type 0) (old new : Sink) (made file : List ℕ) (plan : PlanFields)
     (parts : BoxParts) (of : IsContainerOf Second sample_segments made file)
     (is : IsBoxOf plan parts made) where
   abbrev meaning : Meaning
@@ -85,13 +85,13 @@ module _ {Sink : Type 0} (held : Sink → Option (List ℕ)) (faults : Sink → 
   restored = meaning_restored made file meaning of (inr (plan, parts, is, refl))
 
   -- as many bytes come back as the file has
-  all_back : (written : ℕ) → Ends held faults full old new meaning (Ok written)
+  all_back : (written : ℕ) → Ends held takes faults full old new meaning (Ok written)
       → written ≡ length file
   all_back written ends = ends.1 ∙ ap (λ (m : Meaning). length m.bytes) restored
 
   -- and over a sink that never fails it ends so
   never_ends : (error : DecodeError) → (Rose faults full old new → ⊥)
-      → Ends held faults full old new meaning (Err error) → ⊥
+      → Ends held takes faults full old new meaning (Err error) → ⊥
   never_ends (WriteFault written) calm ends = calm ends.rose
   never_ends (Fault fault) calm ends =
       let e = ap (λ (m : Meaning). m.verdict) restored in
@@ -103,24 +103,24 @@ module _ {Sink : Type 0} (held : Sink → Option (List ℕ)) (faults : Sink → 
       absurd cc
 
 -- the same of what the decoder answered
-pub decoded_whole : {Sink : Type 0} (held : Sink → Option (List ℕ)) (faults : Sink → ℕ)
-    (full : Sink → Type 0) (old new : Sink) (made file : List ℕ) (plan : PlanFields)
+pub decoded_whole : {Sink : Type 0} (held : Sink → Option (List ℕ)) (takes : Sink → List ℕ → Type 0)
+    (faults : Sink → ℕ) (full : Sink → Type 0) (old new : Sink) (made file : List ℕ) (plan : PlanFields)
     (parts : BoxParts) → IsContainerOf Second sample_segments made file → IsBoxOf plan parts made
     → (result : Result ℕ DecodeError) (written : ℕ) → result ≡ Ok written
-    → Ends held faults full old new (meaning_of plan parts) result → written ≡ length file
-decoded_whole held faults full old new made file plan parts of is result written ok ends =
-    all_back held faults full old new made file plan parts of is written
-    (subst (λ (r : Result ℕ DecodeError). Ends held faults full old new (meaning_of plan parts) r)
+    → Ends held takes faults full old new (meaning_of plan parts) result → written ≡ length file
+decoded_whole held takes faults full old new made file plan parts of is result written ok ends =
+    all_back held takes faults full old new made file plan parts of is written
+    (subst (λ (r : Result ℕ DecodeError). Ends held takes faults full old new (meaning_of plan parts) r)
     ok ends)
 
-pub never_fails : {Sink : Type 0} (held : Sink → Option (List ℕ)) (old new : Sink) (made file : List ℕ) (plan : PlanFields) (parts : BoxParts)
+pub never_fails : {Sink : Type 0} (held : Sink → Option (List ℕ)) (takes : Sink → List ℕ → Type 0) (old new : Sink) (made file : List ℕ) (plan : PlanFields) (parts : BoxParts)
     → IsContainerOf Second sample_segments made file → IsBoxOf plan parts made
     → (result : Result ℕ DecodeError) (error : DecodeError) → result ≡ Err error
-    → Ends held no_faults Never old new (meaning_of plan parts) result → ⊥
-never_fails held old new made file plan parts of is result error err ends =
-    never_ends held no_faults Never old new made file plan parts of is error
+    → Ends held takes no_faults Never old new (meaning_of plan parts) result → ⊥
+never_fails held takes old new made file plan parts of is result error err ends =
+    never_ends held takes no_faults Never old new made file plan parts of is error
     (λ rose. elim rose [ inl higher ↦ omega (arith, higher) | inr at_end ↦ at_end ])
-    (subst (λ (r : Result ℕ DecodeError). Ends held no_faults Never old new (meaning_of plan parts)
+    (subst (λ (r : Result ℕ DecodeError). Ends held takes no_faults Never old new (meaning_of plan parts)
     r) err ends)
 
 -- ---- the ending

@@ -136,6 +136,15 @@ abbrev pub IsInput : Command → Option (List ℕ) → List ℕ → Type 0
 IsInput (Sample seed columns rows) left bytes = bytes ≡ []
 IsInput other left bytes = left ≡ Some bytes
 
+-- bytes that a command may get of a source with these left
+abbrev pub MayTake : Command → Option (List ℕ) → List ℕ → Type 0
+MayTake command left bytes = (rest : Option (List ℕ)) × Took command left rest bytes
+
+-- a sink takes the answer to these bytes, whichever it is
+abbrev pub TakesAnswers : {Sink : Type 0} → (Sink → List ℕ → Type 0) → Command → List ℕ → Sink → Type 0
+TakesAnswers takes command bytes sink =
+    (answer : Answer) → Answers command bytes answer → takes sink (bytes_of answer)
+
 -- a proper prefix of these bytes was appended
 abbrev pub AppendsPart : Option (List ℕ) → Option (List ℕ) → List ℕ → Type 0
 AppendsPart old new bytes = (n : ℕ) × (n < length bytes) × Appends old new (take n bytes)

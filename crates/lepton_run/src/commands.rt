@@ -2,7 +2,7 @@
 ghost use Rattle.std.specs.Prelude.{◌≡◌, ◌≤◌, length};
 ghost use Rattle.command_words.specs.Meaning.{IsInRange};
 ghost use Rattle.command_words.specs.declared.command.Command.TheVariants.{Encode, Decode, Migrate};
-ghost use Rattle.lepton_run.specs.Answers.{limit_of, reads};
+ghost use Rattle.lepton_run.specs.Answers.{TakesAnswers, limit_of, reads};
 ghost use Rattle.lepton_run.specs.DecodeEndings.{decode_ending};
 ghost use Rattle.lepton_run.specs.CommandEnds.{CarriedOut};
 
@@ -56,6 +56,7 @@ pub(crate) fn carry_out<R: Threads + Wait + Sync, K: Sink + Send, G: Gate + Sync
 ) -> Ending
     requires short { length bytes.now ≤ limit_of command }
     requires in_range { IsInRange command }
+    requires takes { TakesAnswers K.takes command bytes.now sink.old }
     ensures ending { CarriedOut K.held K.faults K.full command bytes.now sink.old sink.new result }
     ensures lasting { K.faults sink.old ≤ K.faults sink.new }
 {
@@ -82,6 +83,7 @@ fn encode<R: Threads + Sync, K: Sink>(
 ) -> Ending
     requires short { length bytes.now ≤ limit_of (Encode segments) }
     requires in_range { IsInRange (Encode segments) }
+    requires takes { TakesAnswers K.takes (Encode segments) bytes.now sink.old }
     ensures ending { CarriedOut K.held K.faults K.full (Encode segments) bytes.now sink.old sink.new
         result }
     ensures lasting { K.faults sink.old ≤ K.faults sink.new }
@@ -104,7 +106,8 @@ fn decode<R: Threads + Wait + Sync, K: Sink + Send, G: Gate + Sync>(
     sink: &mut K,
     gate: &G,
 ) -> Ending
-    requires { length bytes.now ≤ limit_of (Decode workers) }
+    requires short { length bytes.now ≤ limit_of (Decode workers) }
+    requires takes { TakesAnswers K.takes (Decode workers) bytes.now sink.old }
     ensures ending { CarriedOut K.held K.faults K.full (Decode workers) bytes.now sink.old sink.new
         result }
     ensures lasting { K.faults sink.old ≤ K.faults sink.new }
@@ -120,7 +123,8 @@ fn decode<R: Threads + Wait + Sync, K: Sink + Send, G: Gate + Sync>(
 
 // The file of a container, decoded on this thread. It has no `Wait`, so it returns.
 fn decode_alone<K: Sink, G: Gate>(alloc: Global, bytes: &[u8], sink: &mut K, gate: &G) -> Ending
-    requires { length bytes.now ≤ limit_of (Decode 0) }
+    requires short { length bytes.now ≤ limit_of (Decode 0) }
+    requires takes { TakesAnswers K.takes (Decode 0) bytes.now sink.old }
     ensures ending { CarriedOut K.held K.faults K.full (Decode 0) bytes.now sink.old sink.new
         result }
     ensures lasting { K.faults sink.old ≤ K.faults sink.new }
@@ -136,7 +140,8 @@ fn decode_alone<K: Sink, G: Gate>(alloc: Global, bytes: &[u8], sink: &mut K, gat
 
 // The same container in version 2, written once it is whole. It has no `Wait`, so it returns.
 fn migrate<K: Sink>(alloc: Global, bytes: &[u8], sink: &mut K) -> Ending
-    requires { length bytes.now ≤ limit_of Migrate }
+    requires short { length bytes.now ≤ limit_of Migrate }
+    requires takes { TakesAnswers K.takes Migrate bytes.now sink.old }
     ensures ending { CarriedOut K.held K.faults K.full Migrate bytes.now sink.old sink.new result }
     ensures lasting { K.faults sink.old ≤ K.faults sink.new }
 {

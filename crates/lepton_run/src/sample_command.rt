@@ -4,6 +4,7 @@ ghost use Rattle.box_format.specs.declared.version.Version.TheVariants.{Second};
 ghost use Rattle.container_spec.specs.Files.{IsContainerOf};
 ghost use Rattle.command_words.specs.Meaning.{IsInRange};
 ghost use Rattle.command_words.specs.declared.command.Command.TheVariants.{Sample};
+ghost use Rattle.lepton_run.specs.Answers.{TakesAnswers};
 ghost use Rattle.lepton_run.specs.CommandEnds.{CarriedOut};
 ghost use Rattle.lepton_run.specs.Lines.{line_room};
 ghost use Rattle.lepton_run.specs.Samples.{IsSampleFile};
@@ -36,7 +37,8 @@ pub(crate) fn show_sample<R: Threads + Wait + Sync, K: Sink + Send, G: Gate + Sy
     sink: &mut K,
     gate: &G,
 ) -> Ending
-    requires { IsInRange (Sample seed columns rows) }
+    requires in_range { IsInRange (Sample seed columns rows) }
+    requires takes { TakesAnswers K.takes (Sample seed columns rows) [] sink.old }
     ensures ending { CarriedOut K.held K.faults K.full (Sample seed columns rows) [] sink.old
         sink.new result }
     ensures lasting { K.faults sink.old ≤ K.faults sink.new }

@@ -2,6 +2,7 @@
 ghost use Rattle.std.specs.Prelude.{◌≡◌, ◌≢◌, ◌⊎◌, ◌+◌, ◌<◌, ◌≤◌, ℕ, List, Some, String, string_bytes, map, length};
 ghost use Rattle.std.specs.Io.KnownBytes.{Appends};
 ghost use Rattle.outside_core.specs.Faults.{Rose};
+ghost use Rattle.outside_core.specs.Takes.{TakesAll};
 ghost use Rattle.jpeg_marker.specs.Plans.{PlanFields};
 ghost use Rattle.container_spec.specs.Files.{IsContainerOf};
 ghost use Rattle.container_spec.specs.Meanings.{Meaning, IsMeaning};
@@ -11,7 +12,7 @@ ghost use Rattle.box_format.specs.declared.version.Version.{Version};
 ghost use Rattle.command_words.specs.Meaning.{IsInRange, Means};
 ghost use Rattle.command_words.specs.declared.command.Command.{Command};
 ghost use Rattle.command_words.specs.declared.command.Command.TheVariants.{Encode, Decode, Migrate, Sample};
-ghost use Rattle.lepton_run.specs.Answers.{Answer, Answers, AppendsPart, IsInput, Made, TakenWithin, Took, Writes, bytes_of, limit_of, line_of, status_of};
+ghost use Rattle.lepton_run.specs.Answers.{Answer, Answers, AppendsPart, IsInput, Made, MayTake, TakenWithin, TakesAnswers, Took, Writes, bytes_of, limit_of, line_of, status_of};
 ghost use Rattle.lepton_run.specs.Endings.{Notes, ending_line, line_at};
 ghost use Rattle.lepton_run.specs.CommandEnds.{Answered, SampleEnds, Transferred};
 
@@ -51,6 +52,14 @@ pub fn run<R: Threads + Wait + Sync, S: Source, K: Sink + Send, N: Sink + Send, 
     note: &mut N,
     gate: &G,
 ) -> u8
+    // The sink need take nothing but the answer to the bytes that the source may give. So at each moment, also of a call
+    // that never returns, what was written is a prefix of it.
+    requires takes { (command : Command) (bytes : List ℕ) → Means (map string_bytes words.now) command
+        → MayTake command (S.left source.old) bytes
+        → TakesAnswers K.takes command bytes sink.old }
+    requires readable { S.readable source.old }
+    requires notes { TakesAll N.takes note.old }
+
     ensures statuses { result ≤ 5 }
 
     // 0 and 1: the answer to the command and the bytes: exactly its bytes are appended, and its line is noted.
@@ -146,6 +155,7 @@ pub fn run<R: Threads + Wait + Sync, S: Source, K: Sink + Send, N: Sink + Send, 
 /// The status of a program that has no memory for its arguments, and so can't call `run`: nothing is read or written,
 /// and `note` gets the line of status 5.
 pub fn no_memory_for_words<N: Sink>(note: &mut N) -> u8
+    requires { TakesAll N.takes note.old }
     ensures status { result ≡ 5 }
     ensures said { Notes N.held N.faults N.full note.old note.new (line_at 5) }
     ensures note_lasting { N.faults note.old ≤ N.faults note.new }
@@ -163,6 +173,10 @@ fn answer<R: Threads + Wait + Sync, S: Source, K: Sink + Send, G: Gate + Sync>(
     sink: &mut K,
     gate: &G,
 ) -> Ending
+    requires takes { (command : Command) (bytes : List ℕ) → Means (map string_bytes words.now) command
+        → MayTake command (S.left source.old) bytes
+        → TakesAnswers K.takes command bytes sink.old }
+    requires readable { S.readable source.old }
     ensures ending { Answered K.held K.faults K.full S.left S.faults S.full
         (map string_bytes words.now) source.old source.new sink.old sink.new result }
     ensures taken { (command : Command) → Means (map string_bytes words.now) command
@@ -189,7 +203,10 @@ fn transfer<R: Threads + Wait + Sync, S: Source, K: Sink + Send, G: Gate + Sync>
     sink: &mut K,
     gate: &G,
 ) -> Ending
-    requires { IsInRange command }
+    requires in_range { IsInRange command }
+    requires takes { (bytes : List ℕ) → MayTake command (S.left source.old) bytes
+        → TakesAnswers K.takes command bytes sink.old }
+    requires readable { S.readable source.old }
     ensures ending { Transferred K.held K.faults K.full S.left S.faults S.full command
         source.old source.new sink.old sink.new result }
     ensures taken { TakenWithin (limit_of command + 1) (S.left source.old) (S.left source.new) }
@@ -212,6 +229,7 @@ fn transfer<R: Threads + Wait + Sync, S: Source, K: Sink + Send, G: Gate + Sync>
 
 // Notes how a command ended.
 fn tell<N: Sink>(note: &mut N, ending: &Ending)
+    requires { TakesAll N.takes note.old }
     ensures notes { Notes N.held N.faults N.full note.old note.new (ending_line ending.now) }
     ensures lasting { N.faults note.old ≤ N.faults note.new }
 {

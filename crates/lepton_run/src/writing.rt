@@ -10,6 +10,7 @@ use outside_core::{Sink, write_all};
 
 /// Writes bytes, and how the command ends whose answer they are.
 pub(crate) fn write_made<K: Sink>(made: &[u8], sink: &mut K) -> Ending
+    requires takes { K.takes sink.old made.now }
     ensures ending { (command : Command) (bytes : List ℕ) → Answers command bytes (Made made.now)
         → CarriedOut K.held K.faults K.full command bytes sink.old sink.new result }
     ensures ends { (result ≡ Done) ⊎ (result ≡ WriteFailed) }

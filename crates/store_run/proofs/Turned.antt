@@ -14,11 +14,11 @@ use Rattle.store_run.specs.declared.calls.RecordStop.{RecordStop}
 use Rattle.store_run.specs.declared.calls.RecordStop.TheVariants.{Bad, ReadFault, NoMemory as NoRoom}
 use Rattle.store_run.specs.declared.ending.Ending.TheVariants.{WriteFailed}
 
-module _ {Sink : Type 0} (held : Sink → Option (List ℕ)) (faults : Sink → ℕ)
-    (full : Sink → Type 0) (from to : Sink) (before after : CallerValue) (call : FileCall)
+module _ {Sink : Type 0} (held : Sink → Option (List ℕ)) (takes : Sink → List ℕ → Type 0)
+    (faults : Sink → ℕ) (full : Sink → Type 0) (from to : Sink) (before after : CallerValue) (call : FileCall)
     (answer : Answer) (gives : Gives before after call (Ok answer)) where
   -- the reply was written
-  pub written_turns : HasWritten held faults from to (answer_bytes answer)
+  pub written_turns : HasWritten held takes faults from to (answer_bytes answer)
       → CallTurns held faults full from to before after call None
   written_turns w = (
     w.unfailed,

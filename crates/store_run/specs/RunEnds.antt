@@ -4,7 +4,7 @@ use Rattle.std.specs.List.{AllByRecursion}
 use Rattle.std.specs.Io.KnownBytes.{Appends, Consumes, IsAtEnd}
 use Rattle.outside_core.specs.Faults.{Rose}
 use Rattle.photo_store.specs.FileStores.{FileCall, no_files}
-use Rattle.segment_worker.specs.Written.{HasWritten, HasFailed}
+use Rattle.segment_worker.specs.Written.{HasFailed}
 use Rattle.store_run.specs.Records.{IsBad, IsWhole, most_records, record_bytes, replies}
 use Rattle.store_run.specs.declared.ending.Ending.{Ending}
 use Rattle.store_run.specs.declared.ending.Ending.TheVariants.{Answered, BadRecord, ReadFailed, WriteFailed, NoMemory, KeeperFailed, Full}
@@ -38,7 +38,7 @@ KeeperRose faults given (Some back) = faults given < faults back
 abbrev pub Notes : {Note : Type 0} → (Note → Option (List ℕ)) → (Note → ℕ) → (Note → Type 0)
     → Note → Note → List ℕ → Type 0
 Notes held faults full old new line =
-    HasWritten held faults old new line
+    (Appends (held old) (held new) line × (faults new ≡ faults old))
     ⊎ ((written : ℕ) × HasFailed held faults full old new line written)
 
 module _ {Source Sink : Type 0} (left : Source → Option (List ℕ)) (held : Sink → Option (List ℕ))

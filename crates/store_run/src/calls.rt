@@ -1,5 +1,5 @@
 // The calls that the records of a source ask for.
-ghost use Rattle.std.specs.Prelude.{◌≡◌, ℕ, ◌∷◌, ◌++◌, ◌<◌, ◌≤◌, List, length, IfOk, IfErr, IsErrOf};
+ghost use Rattle.std.specs.Prelude.{◌≡◌, ℕ, ◌∷◌, ◌++◌, ◌<◌, ◌≤◌, List, length, IfOk, IfErr, OnOk, IsErrOf};
 ghost use Rattle.std.specs.Io.KnownBytes.{Consumes, IsAtEnd};
 ghost use Rattle.byteorder.specs.Endian.{big_bytes};
 ghost use Rattle.outside_core.specs.Faults.{Rose};
@@ -46,8 +46,10 @@ pub(crate) fn next_call<S: Source>(
     alloc: Global,
     source: &mut S,
 ) -> Result<Option<Asked>, RecordStop>
+    requires { S.readable source.old }
     ensures read { ReadsNext (S.left source.old) (S.left source.new) result }
     ensures read_fault { IsErrOf result ReadFault → Rose S.faults S.full source.old source.new }
+    ensures readable { OnOk result (S.readable source.new) }
     ensures unfailed { ¬ IsErrOf result ReadFault → S.faults source.new ≡ S.faults source.old }
     ensures lasting { S.faults source.old ≤ S.faults source.new }
 {
@@ -63,8 +65,10 @@ pub(crate) fn next_call<S: Source>(
 
 // The rest of a record, after its first byte.
 fn read_rest<S: Source>(alloc: Global, source: &mut S, mark: u8) -> Result<Asked, RecordStop>
+    requires { S.readable source.old }
     ensures read { ReadsRest mark (S.left source.old) (S.left source.new) result }
     ensures read_fault { IsErrOf result ReadFault → Rose S.faults S.full source.old source.new }
+    ensures readable { OnOk result (S.readable source.new) }
     ensures unfailed { ¬ IsErrOf result ReadFault → S.faults source.new ≡ S.faults source.old }
     ensures lasting { S.faults source.old ≤ S.faults source.new }
 {
@@ -86,6 +90,7 @@ fn read_rest<S: Source>(alloc: Global, source: &mut S, mark: u8) -> Result<Asked
 
 // A file's length and its bytes.
 fn read_file<S: Source>(alloc: Global, source: &mut S) -> Result<Vec<u8>, RecordStop>
+    requires { S.readable source.old }
     ensures file { IfOk result (λ file. (length file.items ≤ most_of_a_file)
         × Consumes (S.left source.old) (S.left source.new)
         (big_bytes 4 (length file.items) ++ file.items)) }
@@ -93,6 +98,7 @@ fn read_file<S: Source>(alloc: Global, source: &mut S) -> Result<Vec<u8>, Record
         × Consumes (S.left source.old) (S.left source.new) part
         × (stop ≡ Bad → IsBad (put_mark ∷ part) (S.left source.new))) }
     ensures read_fault { IsErrOf result ReadFault → Rose S.faults S.full source.old source.new }
+    ensures readable { OnOk result (S.readable source.new) }
     ensures unfailed { ¬ IsErrOf result ReadFault → S.faults source.new ≡ S.faults source.old }
     ensures lasting { S.faults source.old ≤ S.faults source.new }
 {
@@ -120,12 +126,14 @@ fn number_in(field: &[u8]) -> u32
 
 // A key.
 fn read_key<S: Source>(alloc: Global, source: &mut S) -> Result<Key, RecordStop>
+    requires { S.readable source.old }
     ensures key { IfOk result (λ key. (length key ≡ key_length)
         × Consumes (S.left source.old) (S.left source.new) key) }
     ensures stop { IfErr result (λ stop. (part : List ℕ)
         × Consumes (S.left source.old) (S.left source.new) part
         × (stop ≡ Bad → (length part < key_length) × IsAtEnd (S.left source.new))) }
     ensures read_fault { IsErrOf result ReadFault → Rose S.faults S.full source.old source.new }
+    ensures readable { OnOk result (S.readable source.new) }
     ensures unfailed { ¬ IsErrOf result ReadFault → S.faults source.new ≡ S.faults source.old }
     ensures lasting { S.faults source.old ≤ S.faults source.new }
 {

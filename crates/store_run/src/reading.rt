@@ -21,11 +21,13 @@ const PIECE: usize = 1 << 16;
 
 /// Reads a byte, if the source isn't at its end.
 pub(crate) fn next_byte<S: Source>(source: &mut S) -> Result<Option<u8>, Failed>
+    requires { S.readable source.old }
     ensures read { IfOk result (λ byte. IfSome byte (λ b.
         Consumes (S.left source.old) (S.left source.new) (b ∷ []))) }
     ensures end { IfOk result (λ byte. IfNone byte (IsAtEnd (S.left source.new)
         × Consumes (S.left source.old) (S.left source.new) [])) }
     ensures stays { OnErr result (Keeps (S.left source.old) (S.left source.new)) }
+    ensures readable { OnOk result (S.readable source.new) }
     ensures failed { OnErr result (Rose S.faults S.full source.old source.new) }
     ensures unfailed { OnOk result (S.faults source.new ≡ S.faults source.old) }
     ensures lasting { S.faults source.old ≤ S.faults source.new }
@@ -44,12 +46,14 @@ pub(crate) fn read_exactly<S: Source>(
     source: &mut S,
     count: usize,
 ) -> Result<Vec<u8>, ReadStop>
+    requires { S.readable source.old }
     ensures length { IfOk result (λ bytes. length bytes.items ≡ count) }
     ensures whole { IfOk result (λ bytes.
         Consumes (S.left source.old) (S.left source.new) bytes.items) }
     ensures part { OnErr result ((part : List ℕ) × (length part < count)
         × Consumes (S.left source.old) (S.left source.new) part) }
     ensures end { IsErrOf result AtEnd → IsAtEnd (S.left source.new) }
+    ensures readable { OnOk result (S.readable source.new) }
     ensures read_fault { IsErrOf result ReadFault → Rose S.faults S.full source.old source.new }
     ensures unfailed { ¬ IsErrOf result ReadFault → S.faults source.new ≡ S.faults source.old }
     ensures lasting { S.faults source.old ≤ S.faults source.new }
@@ -87,7 +91,8 @@ fn make_room(bytes: &mut Vec<u8>, filled: usize, count: usize) -> Result<(), Rea
 
 // One read into the part of the buffer that isn't filled.
 fn fill<S: Source>(source: &mut S, bytes: &mut Vec<u8>, filled: usize) -> Result<usize, ReadStop>
-    requires { filled < length bytes.old.items }
+    requires below { filled < length bytes.old.items }
+    requires readable { S.readable source.old }
     ensures len { length bytes.new.items ≡ length bytes.old.items }
     ensures kept { take filled bytes.new.items ≡ take filled bytes.old.items }
     ensures count { IfOk result (λ n. filled + n ≤ length bytes.old.items) }
@@ -95,6 +100,7 @@ fn fill<S: Source>(source: &mut S, bytes: &mut Vec<u8>, filled: usize) -> Result
         (take n (drop filled bytes.new.items))) }
     ensures end { IfOk result (λ n. n ≡ 0 → IsAtEnd (S.left source.new)) }
     ensures stays { OnErr result (Keeps (S.left source.old) (S.left source.new)) }
+    ensures readable { OnOk result (S.readable source.new) }
     ensures fault { IfErr result (λ stop. stop ≡ ReadFault) }
     ensures failed { OnErr result (Rose S.faults S.full source.old source.new) }
     ensures unfailed { OnOk result (S.faults source.new ≡ S.faults source.old) }

@@ -1,5 +1,6 @@
 // The records of a source, each answered before the next one is read.
 ghost use Rattle.std.specs.Prelude.{◌≡◌, ◌≤◌, ◌<◌, [], IfSome, IfNone};
+ghost use Rattle.outside_core.specs.Takes.{TakesAll};
 ghost use Rattle.blob_store.specs.Journals.{AreBy};
 ghost use Rattle.store_run.specs.Answering.{IsLater, IsSameCaller};
 ghost use Rattle.store_run.specs.Reading.{call_of};
@@ -46,6 +47,9 @@ pub fn run_store<R: Threads + Wait + Sync, S: Source, K: Sink, N: Sink, P: Keepe
     note: &mut N,
 ) -> (u8, Option<P>)
     requires empty { P.blobs keeper ≡ [] }
+    requires readable { S.readable source.old }
+    requires takes { TakesAll K.takes sink.old }
+    requires notes { TakesAll N.takes note.old }
 
     // How it ends, by its status: what was read, and which replies were written.
     ensures ends { (ending : Ending) × (result.0 ≡ status_of ending)
@@ -74,6 +78,7 @@ pub fn run_store<R: Threads + Wait + Sync, S: Source, K: Sink, N: Sink, P: Keepe
 
 // Writes the line of an ending.
 fn tell<N: Sink>(note: &mut N, ending: Ending)
+    requires { TakesAll N.takes note.old }
     ensures notes { Notes N.held N.faults N.full note.old note.new (line_of ending) }
     ensures lasting { N.faults note.old ≤ N.faults note.new }
 {
@@ -94,6 +99,8 @@ fn serve<R: Threads + Wait + Sync, S: Source, K: Sink, P: Keeper>(
     requires first { caller.old.number ≡ 0 }
     requires fresh { caller.old.view.mine ≡ [] }
     requires limit { caller.old.view.limit ≡ most_records }
+    requires readable { S.readable source.old }
+    requires takes { TakesAll K.takes sink.old }
     ensures ends { AreBy 0 caller.new.view.seen
         → Ends S.left K.held S.faults S.full K.faults K.full
         source.old source.new sink.old sink.new
@@ -124,9 +131,13 @@ fn answer_next<R: Threads + Wait + Sync, S: Source, K: Sink, P: Keeper>(
     sink: &mut K,
 ) -> Option<Ending>
     requires own { caller.old.table ≡ store.now }
+    requires readable { S.readable source.old }
+    requires takes { TakesAll K.takes sink.old }
     ensures turns { Turns S.left K.held S.faults S.full K.faults K.full
         source.old source.new sink.old sink.new caller.old caller.new result }
     ensures later { IsLater caller.old caller.new }
+    ensures readable { IfNone result (S.readable source.new) }
+    ensures takes { IfNone result (TakesAll K.takes sink.new) }
     ensures source_lasting { S.faults source.old ≤ S.faults source.new }
     ensures sink_lasting { K.faults sink.old ≤ K.faults sink.new }
 {
@@ -159,9 +170,11 @@ fn answer_asked<R: Threads + Wait + Sync, K: Sink, P: Keeper>(
 ) -> Option<Ending>
     requires own { caller.old.table ≡ store.now }
     requires whole { IsWhole (call_of asked.now) }
+    requires takes { TakesAll K.takes sink.old }
     ensures turns { CallTurns K.held K.faults K.full
         sink.old sink.new caller.old caller.new (call_of asked.now) result }
     ensures later { IsLater caller.old caller.new }
+    ensures takes { IfNone result (TakesAll K.takes sink.new) }
     ensures lasting { K.faults sink.old ≤ K.faults sink.new }
 {
     match answer_call(rt, alloc, store, caller, asked) {

@@ -104,7 +104,9 @@ pub(crate) fn run_from<R: Threads + Wait + Sync + Abort, S: Source, G: Gate + Sy
     room: Room,
     faults: Faults,
     gate: &G,
-) -> Trial {
+) -> Trial
+    requires { S.readable source.old }
+{
     let mut sink = sink_of(rt, alloc, room, faults.writes);
     let mut note = sink_of(rt, alloc, SEVEN_A_CALL, faults.notes);
     let status = status_of(rt, alloc, words, source, &mut sink, &mut note, gate);
@@ -130,7 +132,9 @@ fn status_of<R: Threads + Wait + Sync + Abort, S: Source, G: Gate + Sync>(
     sink: &mut MemSink,
     note: &mut MemSink,
     gate: &G,
-) -> u8 {
+) -> u8
+    requires { S.readable source.old }
+{
     let line = line(rt, alloc, words);
     run(rt, alloc, line.as_slice(), source, sink, note, gate)
 }

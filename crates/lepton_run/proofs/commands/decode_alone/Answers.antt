@@ -4,14 +4,14 @@ use Rattle.lepton_decode.specs.declared.ready.PrepareError.{PrepareError}
 use Rattle.command_words.specs.declared.command.Command.TheVariants.{Decode}
 use Rattle.lepton_run.specs.CommandEnds.{CarriedOut}
 use Rattle.lepton_run.specs.declared.ending.Ending.{Ending}
-use Rattle.lepton_run.proofs.CarriedOut.{no_box, ended}
+use Rattle.lepton_run.proofs.CarriedOut.{no_box, ended, meaning_taken}
 use Rattle.lepton_run.proofs.commands.decode_alone.Goals as goal
 
 pub returns-in-Err-Box-clause-ending : goal.returns-in-Err-Box-clause-ending
 returns-in-Err-Box-clause-ending g c =
     no_box g.K.Sink.held g.K.Sink.faults g.K.Sink.full c.args.sink.now c.args.sink.now
     c.args.bytes.now (all_bytes c.args.bytes.now (λ i. search rules)) 0
-    c.in-Err-Box.refusal c.requires
+    c.in-Err-Box.refusal c.requires.short
     (c.in-Err-Box.ensures.refused c.in-Err-Box.refusal
     (ap (λ (error : PrepareError). Err error) c.in-Err-Box.field-0-is))
 
@@ -21,5 +21,11 @@ returns-clause-ending g c =
     (Decode 0) c.args.bytes.now c.args.sink.now c.run_alone-ended.new.sink ending)
     (sym c.ending_by.ensures)
     (ended g.K.Sink.held g.K.Sink.faults g.K.Sink.full c.args.sink.now c.run_alone-ended.new.sink
-    c.args.bytes.now (all_bytes c.args.bytes.now (λ i. search rules)) 0 c.requires
+    c.args.bytes.now (all_bytes c.args.bytes.now (λ i. search rules)) g.K.Sink.takes 0 c.requires.short
     c.in-Ok.ready.plan c.in-Ok.ready.parts c.in-Ok.ensures.ready c.run_alone-ended.result c.run_alone-ended.ensures.ends)
+
+pub run_alone-ended-requires-clause-takes : goal.run_alone-ended-requires-clause-takes
+run_alone-ended-requires-clause-takes g c =
+    meaning_taken g.K.Sink.held g.K.Sink.faults g.K.Sink.full c.args.sink.now c.args.sink.now
+    c.args.bytes.now (all_bytes c.args.bytes.now (λ i. search rules)) g.K.Sink.takes 0 c.requires.short
+    c.in-Ok.ready.plan c.in-Ok.ready.parts c.in-Ok.ensures.ready c.requires.takes

@@ -11,7 +11,7 @@ pub returns-in-Err-Box-clause-ending : goal.returns-in-Err-Box-clause-ending
 returns-in-Err-Box-clause-ending g c =
     refused_early g.K.Sink.held g.K.Sink.faults g.K.Sink.full c.args.sink.now c.args.sink.now
     c.args.bytes.now (all_bytes c.args.bytes.now (λ i. search rules)) Migrate
-    (Box c.in-Err-Box.refusal) c.requires
+    (Box c.in-Err-Box.refusal) c.requires.short
     (c.in-Err-Box.ensures.refused c.in-Err-Box.refusal
     (ap (λ (error : MigrateError). Err error) c.in-Err-Box.field-0-is))
 
@@ -22,4 +22,12 @@ returns-clause-ending g c =
     (subst (λ (m : List ℕ). Answers Migrate c.args.bytes.now (Made m)) (sym c.as_slice.ensures.value)
     (answers_so g.K.Sink.held g.K.Sink.faults g.K.Sink.full c.args.sink.now c.write_made.new.sink
     c.args.bytes.now (all_bytes c.args.bytes.now (λ i. search rules)) Migrate (Made made)
-    c.requires c.in-Ok.ensures.made))
+    c.requires.short c.in-Ok.ensures.made))
+
+pub write_made-requires : goal.write_made-requires
+write_made-requires g c =
+    let made = c.in-Ok.made.items in
+    subst (g.K.Sink.takes c.args.sink.now) (sym c.as_slice.ensures.value)
+    (c.requires.takes (Made made) (answers_so g.K.Sink.held g.K.Sink.faults g.K.Sink.full c.args.sink.now
+    c.args.sink.now c.args.bytes.now (all_bytes c.args.bytes.now (λ i. search rules)) Migrate (Made made)
+    c.requires.short c.in-Ok.ensures.made))

@@ -12,5 +12,6 @@ loop-filled-preserved g c =
       in_range = omega (arith, told.count, told.len);
       bounded = omega (arith, told.len, bounded);
       so_far = Consumes-filled _ _ _ _ _ _ _ c.loop-filled.invariant.so_far (told.kept ∙ room.kept) told.moved;
+      readable = told.readable;
       unfailed = told.unfailed ∙ c.loop-filled.invariant.unfailed;
     }

@@ -9,6 +9,7 @@ invariant-loop-filled g l =
       in_range : l.filled ≤ length l.bytes.items;
       bounded : length l.bytes.items ≤ l.count;
       so_far : Consumes (g.S.Source.left l.initial.source) (g.S.Source.left l.source) (take l.filled l.bytes.items);
+      readable : g.S.Source.readable l.source;
       unfailed : g.S.Source.faults l.source ≡ g.S.Source.faults l.initial.source;
     }
 

@@ -37,6 +37,8 @@ loop-preserved g c =
       };
       source_lasting = omega (arith, source, source_later);
       sink_lasting = omega (arith, sink, sink_later);
+      readable = c.in_default.ensures.readable;
+      takes = c.in_default.ensures.takes;
       serving = λ sole.
           turn_serves g.S.Source.left g.K.Sink.held g.S.Source.faults g.S.Source.full g.K.Sink.faults g.K.Sink.full
           c.args.source.now c.loop.source c.answer_next.new.source c.args.sink.now c.loop.sink c.answer_next.new.sink
