@@ -14,7 +14,7 @@ use Rattle.blob_store.specs.Journals.{IsReplied, kept}
 use Rattle.blob_store.specs.States.{StoreState, Asked, Puts, Finds, Removes, IsSound, IsClash, NamesBlob, entry_of}
 use Rattle.blob_store.specs.CallSteps.{Calls, HasCause}
 use Rattle.blob_store.specs.StoreRule.{Fits, FitsCaller, asked_by, entries_by, blobs_by, after}
-use Rattle.blob_store.specs.Callers.{CallerValue, HasCalled, KnowsMore, Answered, CauseSeen, store_seen}
+use Rattle.blob_store.specs.Callers.{CallerValue, HasCalled, KnowsMore, Answered, CauseSeen, FaultTold, store_seen}
 use Rattle.blob_store.proofs.StoreKept.{SuitsAsked, moves, after_call, by_own, longer, sound_after, call_keeps, entered_reply}
 
 clash_moves : (s u : StoreState) → u.journal ≡ s.journal → u.blobs ≡ s.blobs → (asked : Asked)
@@ -109,7 +109,7 @@ keeps suits v s t id note caller faults e fit views h at =
 module _ (suits : List ℕ → List ℕ → Type 0) (old new : CallerValue) (s t : StoreState) (u : View)
     (note : Note) (k : FitsAmong (Fits suits) s old.number old.view) (same : u ≡ old.view)
     (seen : new.view ≡ after u 0 0 note s) (caller : note.caller ≡ old.number)
-    (faults : note.left.faults ≡ t.faults) (entries : note.left.entries ≡ length t.journal)
+    (faults : note.left.faults ≡ t.faults) (counted : note.found.faults ≡ s.faults) (entries : note.left.entries ≡ length t.journal)
     (call : Calls s t note.caller (asked_by note.ask) note.answer) (fit : SuitsAsked suits (asked_by note.ask)) where
   abbrev asked : Asked
   asked = asked_by note.ask
@@ -131,6 +131,13 @@ module _ (suits : List ℕ → List ℕ → Type 0) (old new : CallerValue) (s t
       entries ∙ ap (λ (l : List Record). length l) ((moves s t old.number asked note.answer by_caller).journal
       ∙ sym (ap (λ (v : View). v.seen) is_after))
 
+  fault_told : (answer : Result Reply Stop) → Calls s t old.number asked answer → FaultTold note answer
+  fault_told (Ok reply) e = tt
+  fault_told (Err Full) e = tt
+  fault_told (Err Clash) e = tt
+  fault_told (Err KeeperFault) e = let rose = e.cause.1 in omega (arith, faults, counted, rose)
+  fault_told (Err NoMemory) e = tt
+
   -- one hold that records a call is that call
   pub has_called : new.table ≡ old.table → new.number ≡ old.number → new.holds ≡ old.holds + 1
       → new.splits ≡ old.splits → new.last ≡ Some (0, 0, note) → HasCalled suits old new (asked_by note.ask) note.answer
@@ -142,6 +149,7 @@ module _ (suits : List ℕ → List ℕ → Type 0) (old new : CallerValue) (s t
     note = note;
     last = last;
     told = (refl, refl, front_is, faults ∙ sym (ap (λ (v : View). v.faults) is_after));
+    fault = fault_told note.answer by_caller;
     knows = subst (λ (x : View). KnowsMore suits old.number old.view x) (sym is_after)
         (knows_more suits s t old.number old.view k asked note.answer by_caller fit);
     answered = subst (λ (x : View). Answered old.number old.view x asked note.answer) (sym is_after)

@@ -55,6 +55,11 @@ pub record MadeNone (old new : View) (asked : Asked) (stop : Stop) : Type 0 wher
   pub mine : new.mine ≡ old.mine
   pub cause : CauseSeen old new asked stop
 
+-- a call that the keeper fails says so in its note: the keeper's count of faults rose while the call had the store
+abbrev pub FaultTold : Note → Result Reply Stop → Type 0
+FaultTold note (Err KeeperFault) = note.found.faults < note.left.faults
+FaultTold note other = Unit {0}
+
 -- what a call answered, by the views before and after it
 abbrev pub Answered : ℕ → View → View → Asked → Result Reply Stop → Type 0
 Answered number old new asked (Ok reply) = MadeEntry number old new asked reply
@@ -81,6 +86,7 @@ pub record HasCalled (suits : List ℕ → List ℕ → Type 0) (old new : Calle
   pub last : new.last ≡ Some (0, 0, note)
   pub told : (asked_by note.ask ≡ asked) × (note.answer ≡ answer)
       × (note.left.entries ≡ length new.view.seen) × (note.left.faults ≡ new.view.faults)
+  pub fault : FaultTold note answer
   pub knows : KnowsMore suits old.number old.view new.view
   pub answered : Answered old.number old.view new.view asked answer
 

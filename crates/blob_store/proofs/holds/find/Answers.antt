@@ -59,13 +59,14 @@ returns-clause-call g c =
     let t : StoreState = c.find-sought.new.self in
     let u = view_of c.hold-held.result.pass.now in
     let caller = sym c.requires.caller.number_is in
+    let counted = c.counts-found.ensures.faults ∙ ap (λ (x : StoreState). x.faults) found in
     let left = c.counts-left.ensures in (
       subst (λ (a : Result Reply Stop). HasCalled g.F.Form.suits old new (Finds c.args.key) a) c.reply_of-answer.ensures
           (has_called g.F.Form.suits old new s t u note c.hold-held.ensures.fits c.hold-held.ensures.knows.view
-          (search rules) caller left.faults left.entries call tt
+          (search rules) caller left.faults counted left.entries call tt
           (search rules) (search rules) (search rules) (search rules) (search rules)),
       front_is g.F.Form.suits old new s t u note c.hold-held.ensures.fits c.hold-held.ensures.knows.view
-          (search rules) caller left.faults left.entries call tt,
+          (search rules) caller left.faults counted left.entries call tt,
     )
 
 pub returns-clause-blob : goal.returns-clause-blob
@@ -91,10 +92,11 @@ returns-clause-blob g c =
     let t : StoreState = c.find-sought.new.self in
     let u = view_of c.hold-held.result.pass.now in
     let caller = sym c.requires.caller.number_is in
+    let counted = c.counts-found.ensures.faults ∙ ap (λ (x : StoreState). x.faults) found in
     let left = c.counts-left.ensures in
     let seen : new.view ≡ after_call old.view s t old.number (Finds c.args.key) c.reply_of-answer.result =
     is_after g.F.Form.suits old new s t u note c.hold-held.ensures.fits c.hold-held.ensures.knows.view
-    (search rules) caller left.faults left.entries call tt in
+    (search rules) caller left.faults counted left.entries call tt in
     let sees : new.view ≡ after_call old.view s t old.number (Finds c.args.key) (find_reply c.find-sought.result) =
     seen ∙ ap (λ (a : Result Reply Stop). after_call old.view s t old.number (Finds c.args.key) a) c.reply_of-answer.ensures in
     let gives' : FindGives s t old.number c.args.key c.find-sought.result =

@@ -1,4 +1,4 @@
-use Rattle.std.proofs.Common.{rules, ℕ, List, sym, ◌∙◌, subst}
+use Rattle.std.proofs.Common.{rules, ℕ, List, sym, ap, ◌∙◌, subst}
 use Rattle.seat_lock.specs.Passes.{view_of, number_of}
 use Rattle.blob_store.specs.declared.note.Note.{Note}
 use Rattle.blob_store.specs.declared.note.Ask.TheVariants.{Put}
@@ -47,10 +47,11 @@ returns-clause-call g c =
     let t : StoreState = c.put-answer.new.self in
     let u = view_of c.hold-held.result.pass.now in
     let caller = sym c.requires.caller.number_is in
+    let counted = c.counts-found.ensures.faults ∙ ap (λ (x : StoreState). x.faults) found in
     let left = c.counts-left.ensures in (
       has_called g.F.Form.suits old new s t u note c.hold-held.ensures.fits c.hold-held.ensures.knows.view
-          (search rules) caller left.faults left.entries call c.requires.suits
+          (search rules) caller left.faults counted left.entries call c.requires.suits
           (search rules) (search rules) (search rules) (search rules) (search rules),
       front_is g.F.Form.suits old new s t u note c.hold-held.ensures.fits c.hold-held.ensures.knows.view
-          (search rules) caller left.faults left.entries call c.requires.suits,
+          (search rules) caller left.faults counted left.entries call c.requires.suits,
     )
