@@ -1,13 +1,13 @@
 -- Each kind of step keeps the rule of the table, and tells what its play says.
-use Rattle.std.proofs.Common.{◌≡◌, ℕ, ◌+◌, ◌%◌, ◌^◌, ◌⊎◌, eqb, ◌≢◌, List, [], ◌∷◌, ◌++◌, length, get_or, set, sym, refl, ap, ◌∙◌, subst, ⊎_elim, inl, inr, arith, length-set, get_or-set_other, get_or-set_same, length-append, Option as Maybe, Some, None}
+use Rattle.std.proofs.Common.{◌≡◌, ℕ, zero, suc, ◌+◌, ◌%◌, ◌^◌, ◌⊎◌, eqb, ◌≢◌, List, [], ◌∷◌, ◌++◌, length, get_or, set, sym, refl, ap, ◌∙◌, subst, ⊎_elim, inl, inr, arith, length-set, get_or-set_other, get_or-set_same, length-append, Option as Maybe, Some, None}
 use mathlib.Core.Logic.{dite}
-use mathlib.Core.Option.{Option, none, some, some-injective}
+use mathlib.Core.Option.{Option, none, some, some-injective, some-ne-none}
 use mathlib.Core.List.{map-append}
 use native.Mathlib.Decide.{ℕ_discrete}
 use lib.ListN.{get_elem?}
 use lib.Seq.{set-get_or, map-set}
+use Rattle.std.proofs.Math.Nat.{mod-add-mod}
 use prog.Atomic.{either}
-use Rattle.atomic_table.specs.declared.shared.Seat.{Seat}
 use Rattle.atomic_table.specs.Table.{State, step, keeps, takes, gives, stepped, Allows, Splits, Final, Seen, rest}
 use Rattle.atomic_table.proofs.Lists.{at_set, set_again, at_map, at_longer, set_else, exchanged}
 use Rattle.seat_lock.specs.declared.known.Known.{Known}
@@ -15,8 +15,8 @@ use Rattle.seat_lock.specs.declared.known.Slot.{Slot}
 use Rattle.seat_lock.specs.declared.known.Slot.TheVariants.{Home, Note, Out}
 use Rattle.seat_lock.specs.declared.known.Stage.{Stage}
 use Rattle.seat_lock.specs.declared.known.Stage.TheVariants.{Idle, Holds, Told}
-use Rattle.seat_lock.specs.TurnRule.{Seated, FitsAgain, seen_by, views_of, view_before, found_in, AllIdle, OthersIdle, IsNumbered, IsCounted, AtHome, Away, IsKept}
-use Rattle.seat_lock.specs.TurnSteps.{holding, idle, changed, tried, after_note, told, given, giver, newcomer, rung}
+use Rattle.seat_lock.specs.TurnRule.{Seated, FitsAgain, seen_by, views_of, view_before, found_in, rings_in, AllIdle, OthersIdle, IsNumbered, IsCounted, AtHome, Away, IsKept}
+use Rattle.seat_lock.specs.TurnSteps.{holding, idle, changed, tried, after_note, told, given, giver, newcomer, ringer, rung}
 use Rattle.seat_lock.proofs.SeatLists.{set_at, set_twice, set_across, set_prefix, at_end, in_one, only_one}
 
 none_some : {X : Type 0} (x : X) → None ≡ Some x → ⊥
@@ -37,6 +37,27 @@ pair_of a b = (a, b)
 pub again_at : {S : Type 0} (slots : List (ℕ × S)) (x : S) → slots ≡ (0, x) ∷ []
     → (old : S) × (slots ≡ (0, old) ∷ rest slots)
 again_at slots x at = (x, at ∙ ap (λ l. (0, x) ∷ rest l) (sym at))
+
+-- a seat that rang has the view that it had
+view_rung : {V X E : Type 0} (k : Known V X E) (stage : Stage V X)
+    → view_before (ringer k) stage ≡ view_before k stage
+view_rung k Idle = refl
+view_rung k (Holds found) = refl
+view_rung k (Told found view) = refl
+
+-- the rings of all seats, after one of them rang n times
+rings_by : {V X E : Type 0} (n : ℕ) (ks : List (Known V X E)) (id : ℕ) (k w : Known V X E)
+    → get_elem? ks id ≡ some k → w.rings ≡ k.rings + n → rings_in (set ks id w) ≡ rings_in ks + n
+rings_by n [] id k w at more = absurd (some-ne-none k (sym at))
+rings_by {V} {X} {E} n (x ∷ xs) zero k w at more =
+    let same = ap (λ (y : Known V X E). y.rings) (some-injective x k at) in omega arith
+rings_by n (x ∷ xs) (suc id) k w at more = let others = rings_by n xs id k w at more in omega arith
+
+-- the rings of all seats and another one
+rings_more : {V X E : Type 0} (ks : List (Known V X E)) (k : Known V X E)
+    → rings_in (ks ++ k ∷ []) ≡ rings_in ks + k.rings
+rings_more [] k = omega arith
+rings_more (x ∷ xs) k = let others = rings_more xs k in omega arith
 
 -- what holds of all seats after one of them changes
 module _ {V X : Type 0} (E : Type 0) (ks : List (Known V X E)) (id : ℕ) (k w : Known V X E)
@@ -69,6 +90,12 @@ module _ {V X : Type 0} (E : Type 0) (ks : List (Known V X E)) (id : ℕ) (k w :
       (λ j x _ t z. long ∙ h x (ap (get_elem? ks) (sym z) ∙ t))
       0 y e refl
 
+  rings_set : w.rings ≡ k.rings → rings_in (set ks id w) ≡ rings_in ks
+  rings_set same =
+      let more : w.rings ≡ k.rings + 0 = omega (arith, same) in
+      let all = rings_by 0 ks id k w at more in
+      omega arith
+
 module _ {V X : Type 0} (E : Type 0) (fits : X → List V → Type 0) where
   -- the views after one changes, with that one as v
   as_before : (x : X) (ks : List (Known V X E)) (id : ℕ) (w : Known V X E) (v : V)
@@ -99,16 +126,18 @@ module _ {V X : Type 0} (E : Type 0) (fits : X → List V → Type 0) where
       (at : get_elem? s.views id ≡ some k) where
     -- a step on the turn by which a seat keeps its number and its splits
     turned_by : (w : Known V X E) (turn : ℕ) (homes : List (Option (Slot X E)))
-        → w.number ≡ k.number → w.splits ≡ k.splits
+        → w.number ≡ k.number → w.splits ≡ k.splits → w.rings ≡ k.rings
         → (get_or (set s.words 0 turn) 0 0 ≡ turn
         → AtHome fits (turned s id w turn homes) ⊎ Away fits (turned s id w turn homes))
         → IsKept fits (turned s id w turn homes)
-    turned_by w turn homes number splits then =
+    turned_by w turn homes number splits rings then =
         let long = kept.words in
+        let bell = get_or-set_other s.words 0 1 turn 0 (λ e. omega arith) in
         record {
           words = length-set s.words 0 turn ∙ long;
           numbered = numbered_set E s.views id k w at number kept.numbered;
           counted = counted_set E s.views id k w at splits kept.counted;
+          bell = bell ∙ kept.bell ∙ ap (λ n. n % 2 ^ 64) (sym (rings_set E s.views id k w at rings));
           turn = then (get_or-set_same s.words 0 turn 0 (omega arith));
         }
 
@@ -142,7 +171,7 @@ module _ {V X : Type 0} (E : Type 0) (fits : X → List V → Type 0) where
         takes 0 (Home x),
         ap (λ hs. get_elem? hs 0) h.home,
         exchanged (get_or s.words 0 0) 0 1 (λ n. IsKept fits (stepped s 0 n id me.1 w (takes 0 (Home x))))
-            (λ _. turned_by s kept id me.0 at w 1 _ refl refl (λ turn. inr record {
+            (λ _. turned_by s kept id me.0 at w 1 _ refl refl refl (λ turn. inr record {
               turn = turn;
               number = id;
               holder = w;
@@ -190,7 +219,7 @@ module _ {V X : Type 0} (E : Type 0) (fits : X → List V → Type 0) where
         w,
         keeps,
         tt,
-        turned_by s kept id me.0 at w 1 _ refl refl (λ turn. inr record {
+        turned_by s kept id me.0 at w 1 _ refl refl refl (λ turn. inr record {
           turn = turn;
           number = id;
           holder = w;
@@ -222,7 +251,7 @@ module _ {V X : Type 0} (E : Type 0) (fits : X → List V → Type 0) where
         gives,
         tt,
         subst (λ (cs : List (ℕ × Slot X E)). IsKept fits (stepped s 0 0 id cs w gives)) (sym has)
-            (turned_by s kept id me.0 at w 0 _ refl refl (λ turn. inl record {
+            (turned_by s kept id me.0 at w 0 _ refl refl refl (λ turn. inl record {
               turn = turn;
               value = left;
               home = ap (λ hs. set hs 0 (some (Home left))) h.0;
@@ -237,37 +266,66 @@ module _ {V X : Type 0} (E : Type 0) (fits : X → List V → Type 0) where
       → Allows (IsKept fits) slots id me 1 (λ n. (n + 1) % 2 ^ 64) (rung (step slots 1 1 0 none) me)
   rings slots id me s kept wide at small =
       let n : ℕ = (get_or s.words 1 0 + 1) % 2 ^ 64 in
+      let w = ringer me.0 in
+      let long = kept.words in
       let same : get_or (set s.words 1 n) 0 0 ≡ get_or s.words 0 0 =
-      get_or-set_other s.words 1 0 n 0 (λ e. omega arith) in (
-        me.0,
+      get_or-set_other s.words 1 0 n 0 (λ e. omega arith) in
+      let put : get_or (set s.words 1 n) 1 0 ≡ n = get_or-set_same s.words 1 n 0 (omega arith) in
+      let more : rings_in (set s.views id w) ≡ rings_in s.views + 1 = rings_by 1 s.views id me.0 w at refl in
+      let bell : n ≡ (rings_in s.views + 1) % 2 ^ 64 =
+      ap (λ (m : ℕ). (m + 1) % 2 ^ 64) kept.bell ∙ mod-add-mod (rings_in s.views) (2 ^ 64) 1 in
+      let seen : views_of (set s.views id w) ≡ views_of s.views =
+      map-set seen_by s.views id w
+      ∙ set_again (views_of s.views) id me.0.view (at_map seen_by s.views id me.0 at) in (
+        w,
         keeps,
         tt,
-        subst (λ (vs : List (Known V X E)). IsKept fits record { words = set s.words 1 n; homes = s.homes; views = vs })
-            (sym (set_again s.views id me.0 at)) record {
-              words = length-set s.words 1 n ∙ kept.words;
-              numbered = kept.numbered;
-              counted = kept.counted;
-              turn = ⊎_elim
-                  (λ (h : AtHome fits s). inl record {
-                    turn = same ∙ h.turn;
-                    value = h.value;
-                    home = h.home;
-                    fitted = h.fitted;
-                    idle = h.idle;
-                  })
-                  (λ (h : Away fits s). inr record {
-                    turn = same ∙ h.turn;
-                    number = h.number;
-                    holder = h.holder;
-                    found = h.found;
-                    at = h.at;
-                    finds = h.finds;
-                    out = h.out;
-                    fitted = h.fitted;
-                    others = h.others;
-                  })
-                  kept.turn;
-            },
+        record {
+          words = length-set s.words 1 n ∙ kept.words;
+          numbered = numbered_set E s.views id me.0 w at refl kept.numbered;
+          counted = counted_set E s.views id me.0 w at refl kept.counted;
+          bell = put ∙ bell ∙ ap (λ (m : ℕ). m % 2 ^ 64) (sym more);
+          turn = ⊎_elim
+              (λ (h : AtHome fits s). inl record {
+                turn = same ∙ h.turn;
+                value = h.value;
+                home = h.home;
+                fitted = subst (fits h.value) (sym seen) h.fitted;
+                idle = changed_or E s.views id me.0 w at (λ j y. y.stage ≡ Idle)
+                    (h.idle id me.0 at) (λ j y _ e. h.idle j y e);
+              })
+              (λ (h : Away fits s). dite (ℕ_discrete id h.number)
+              (λ it.
+              let here : me.0 ≡ h.holder = some-injective _ _ (sym at ∙ (ap (get_elem? s.views) it ∙ h.at)) in
+              let finds = ap (λ (y : Known V X E). found_in y.stage) here ∙ h.finds in
+              let its = the_holder s kept id me.0 at h.found finds in
+              inr record {
+                turn = same ∙ h.turn;
+                number = id;
+                holder = w;
+                found = h.found;
+                at = set_at s.views id me.0 w at;
+                finds = finds;
+                out = h.out;
+                fitted = as_before h.found s.views id w (view_before w me.0.stage)
+                    (subst (λ v. fits h.found (set (views_of s.views) id v)) (sym (view_rung me.0 me.0.stage)) its.1);
+                others = others_set E s.views id me.0 w at its.2;
+              })
+              (λ ne. inr record {
+                turn = same ∙ h.turn;
+                number = h.number;
+                holder = h.holder;
+                found = h.found;
+                at = set_else s.views id h.number w (λ e. ne (sym e)) ∙ h.at;
+                finds = h.finds;
+                out = h.out;
+                fitted = subst (λ vs. fits h.found (set vs h.number (view_before h.holder h.holder.stage)))
+                    (sym seen) h.fitted;
+                others = changed_or E s.views id me.0 w at (λ j y. j ≢ h.number → y.stage ≡ Idle)
+                    (λ _. h.others id me.0 at ne) (λ j y _ e there. h.others j y e there);
+              }))
+              kept.turn;
+        },
         refl,
       )
 
@@ -290,6 +348,8 @@ module _ {V X : Type 0} (E : Type 0) (fits : X → List V → Type 0) where
       let seen : views_of (vs ++ new ∷ []) ≡ set views id (left k.view) ++ right k.view ∷ [] =
       map-append seen_by vs (new ∷ []) ∙ ap (λ l. l ++ right k.view ∷ []) (map-set seen_by s.views id w) in
       let there = at_map seen_by s.views id k at in
+      let rung : rings_in (vs ++ new ∷ []) ≡ rings_in s.views =
+      let all = rings_more vs new in let others = rings_set E s.views id k w at refl in omega arith in
       let old_or_new = λ (P : ℕ → Known V X E → Type 0)
       (was : (j : ℕ) (y : Known V X E) → j ≢ id → get_elem? s.views j ≡ some y → P j y)
       (mine : P id w) (fresh : P (length vs) new)
@@ -308,6 +368,7 @@ module _ {V X : Type 0} (E : Type 0) (fits : X → List V → Type 0) where
             (λ _. long ∙ ap (λ (n : ℕ). n + 1) count)
             (λ is. absurd (omega arith))
             0 y e refl;
+        bell = kept.bell ∙ ap (λ (n : ℕ). n % 2 ^ 64) (sym rung);
         turn = ⊎_elim
             (λ (h : AtHome fits s). inl record {
               turn = h.turn;
@@ -419,8 +480,3 @@ home_or d _ = d
 -- the values at home are one where the slots are
 pub home_of : {X E : Type 0} (x y : X) → ◌≡◌ {A = Slot X E} (Home x) (Home y) → x ≡ y
 home_of x y e = ap (home_or x) e
-
--- seats that know the same of one table are one
-pub same_seat : {V X E : Type 0} (p q : Seat (Slot X E) (Known V X E))
-    → q.table_id ≡ p.table_id → q.id ≡ p.id → q.me ≡ p.me → q ≡ p
-same_seat p q table id me = λ i. record { marker = p.marker; table_id = table i; id = id i; me = me i }

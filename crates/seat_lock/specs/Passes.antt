@@ -34,6 +34,10 @@ module _ {L V X E : Type 0} where
   abbrev pub splits_of : Pass L V X E → ℕ
   splits_of pass = pass.seat.me.0.splits
 
+  -- how often a pass raised the bell
+  abbrev pub rings_of : Pass L V X E → ℕ
+  rings_of pass = pass.seat.me.0.rings
+
   -- a pass is for a lock
   abbrev pub IsFor : Lock L V X E → Pass L V X E → Type 0
   IsFor lock pass = lock_of pass ≡ lock_id lock
@@ -63,7 +67,7 @@ module _ {L V X E : Type 0} where
     pub last : last_of new ≡ last_of old
     pub splits : splits_of new ≡ splits_of old
 
-  -- a pass for a lock, with its number and view, by which the lock was never held
+  -- a pass for a lock, with its number and view, by which the lock was never held and the bell never rung
   pub record IsNewPass (lock : Lock L V X E) (pass : Pass L V X E) (number : ℕ) (view : V)
       : Type 0 where
     pub own : IsFor lock pass
@@ -73,3 +77,4 @@ module _ {L V X E : Type 0} where
     pub holds : holds_of pass ≡ 0
     pub last : last_of pass ≡ None
     pub splits : splits_of pass ≡ 0
+    pub rings : rings_of pass ≡ 0

@@ -1,6 +1,6 @@
 -- View: what always holds of the table under a lock between any two steps (docs/THREADS.md, Invariants). The table has
 -- two words, the turn and the bell, one slot, in which the value is at home, and a seat for each pass.
-use Rattle.std.specs.Prelude.{◌≡◌, ◌≢◌, ℕ, ◌+◌, List, [], ◌∷◌, ◌⊎◌, map, length, slice_index, slice_set, Option, Some, None}
+use Rattle.std.specs.Prelude.{◌≡◌, ◌≢◌, ℕ, ◌+◌, ◌%◌, ◌^◌, List, [], ◌∷◌, ◌⊎◌, map, length, slice_index, slice_set, Option, Some, None}
 use mathlib.Core.Option.{none, some}
 use lib.ListN.{get_elem?}
 use Rattle.atomic_table.specs.Table.{State, Me}
@@ -51,6 +51,15 @@ module _ {V X E : Type 0} where
   abbrev pub turn_of : State (Slot X E) (Known V X E) → ℕ
   turn_of s = slice_index s.words 0
 
+  -- the number of the bell
+  abbrev pub bell_of : State (Slot X E) (Known V X E) → ℕ
+  bell_of s = slice_index s.words 1
+
+  -- how often all seats together raised the bell
+  abbrev pub rings_in : List (Known V X E) → ℕ
+  rings_in [] = 0
+  rings_in (k ∷ ks) = k.rings + rings_in ks
+
   -- no seat has the turn
   abbrev pub AllIdle : List (Known V X E) → Type 0
   AllIdle ks = (j : ℕ) (k : Known V X E) → get_elem? ks j ≡ some k → k.stage ≡ Idle
@@ -96,4 +105,5 @@ pub record IsKept {V X E : Type 0} (fits : X → List V → Type 0) (s : State (
   pub words : length s.words ≡ 2
   pub numbered : IsNumbered s.views
   pub counted : IsCounted s.views
+  pub bell : bell_of s ≡ rings_in s.views % 2 ^ 64
   pub turn : AtHome fits s ⊎ Away fits s

@@ -12,7 +12,7 @@ module _ {V X E : Type 0} where
   -- the first seat of a lock
   abbrev pub opening : V → Known V X E
   opening view =
-      record { view = view; stage = Idle; holds = 0; last = None; number = 0; splits = 0 }
+      record { view = view; stage = Idle; holds = 0; last = None; number = 0; splits = 0; rings = 0 }
 
   -- a seat that took the turn
   abbrev pub holding : Known V X E → X → Known V X E
@@ -73,6 +73,10 @@ module _ {V X E : Type 0} where
   abbrev pub newcomer : (V → V) → Known V X E → Known V X E
   newcomer right k = record (opening (right k.view)) { number = k.splits + 1 }
 
+  -- a seat that raised the bell once more
+  abbrev pub ringer : Known V X E → Known V X E
+  ringer k = record k { rings = k.rings + 1 }
+
   -- kind 7: the bell is raised
   abbrev pub rung : Step (Slot X E) → Seated V X E → ℕ → Seated V X E → Type 0
-  rung step before bell now = now ≡ before
+  rung step before bell now = now ≡ (ringer before.0, before.1)

@@ -1,6 +1,6 @@
 // The bell of a lock.
-ghost use Rattle.std.specs.Prelude.{◌≡◌};
-ghost use Rattle.seat_lock.specs.Passes.{IsFor};
+ghost use Rattle.std.specs.Prelude.{◌≡◌, ◌+◌};
+ghost use Rattle.seat_lock.specs.Passes.{IsFor, IsReady, IsSamePass, KnowsSame, rings_of};
 
 use crate::lock::{BELL, Lock};
 use crate::pass::Pass;
@@ -28,10 +28,24 @@ impl<L: Rule> Lock<L> {
     /// Raises the bell by one, and wakes as many threads that wait for it as there are seats.
     pub fn ring_bell(&self, pass: &mut Pass<L>)
         requires own { IsFor self.now pass.old }
-        ensures same { pass.new ≡ pass.old }
+        ensures pass { IsSamePass pass.old pass.new }
+        ensures ready { IsReady pass.old → IsReady pass.new }
+        ensures knows { KnowsSame pass.old pass.new }
+        ensures rings { rings_of pass.new ≡ rings_of pass.old + 1 }
+    {
+        self.raise(pass);
+        self.wake_seats();
+    }
+
+    // Raises the bell by one.
+    fn raise(&self, pass: &mut Pass<L>)
+        requires own { IsFor self.now pass.old }
+        ensures pass { IsSamePass pass.old pass.new }
+        ensures ready { IsReady pass.old → IsReady pass.new }
+        ensures knows { KnowsSame pass.old pass.new }
+        ensures rings { rings_of pass.new ≡ rings_of pass.old + 1 }
     {
         self.table.shared.fetch_add::<Ring>(&mut pass.seat, BELL, 1);
-        self.wake_seats();
     }
 
     // Wakes a thread for each seat, if any waits for the bell.

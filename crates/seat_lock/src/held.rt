@@ -1,7 +1,7 @@
 // A hold of a lock, up to its release.
 ghost use Rattle.std.specs.Prelude.{◌≡◌, ◌+◌, ℕ, Some, []};
 ghost use Rattle.std.specs.Borrow.{sem, Lends};
-ghost use Rattle.seat_lock.specs.Passes.{IsFor, IsReady, IsSamePass, view_of, number_of, holds_of, last_of, splits_of};
+ghost use Rattle.seat_lock.specs.Passes.{IsFor, IsReady, IsSamePass, view_of, number_of, holds_of, last_of, splits_of, rings_of};
 ghost use Rattle.seat_lock.specs.Holding.{IsHolding, Refits, pass_of, found_of, value_of, view_after};
 
 use crate::known::Slot;
@@ -49,6 +49,7 @@ impl<'a, L: Rule> Held<'a, L> {
         ensures holds { holds_of self.exit.0.now ≡ holds_of (pass_of self.entry) + 1 }
         ensures last { last_of self.exit.0.now ≡ Some (kind, amount, entry) }
         ensures splits { splits_of self.exit.0.now ≡ splits_of (pass_of self.entry) }
+        ensures rings { rings_of self.exit.0.now ≡ rings_of (pass_of self.entry) }
     {
         let Held {
             pass,

@@ -31,4 +31,6 @@ pub(crate) struct Known<V, X, E> {
     pub number: u64,
     // How many seats were split off from it.
     pub splits: u64,
+    // How often it raised the bell.
+    pub rings: u64,
 }

@@ -1,6 +1,6 @@
 // Making a lock, splitting off its passes, and closing it.
 ghost use Rattle.std.specs.Prelude.{◌≡◌, ◌<◌, ◌+◌, ℕ, IfOk, [], ◌∷◌};
-ghost use Rattle.seat_lock.specs.Passes.{IsFor, IsReady, IsFirst, IsSamePass, HasSameHolds, IsNewPass, view_of, splits_of};
+ghost use Rattle.seat_lock.specs.Passes.{IsFor, IsReady, IsFirst, IsSamePass, HasSameHolds, IsNewPass, view_of, splits_of, rings_of};
 
 use crate::known::Slot;
 use crate::lock::{FREE, Lock, VALUE};
@@ -51,6 +51,7 @@ impl<L: Rule> Lock<L> {
         ensures view { view_of pass.new ≡ L.left (view_of pass.old) }
         ensures counted { splits_of pass.new ≡ splits_of pass.old + 1 }
         ensures holds { HasSameHolds pass.old pass.new }
+        ensures rings { rings_of pass.new ≡ rings_of pass.old }
         ensures given { IsNewPass self.now result (splits_of pass.new)
             (L.right (view_of pass.old)) }
     {

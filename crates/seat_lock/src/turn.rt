@@ -1,7 +1,7 @@
 // The turn of a lock.
 ghost use Rattle.std.specs.Prelude.{◌≡◌};
 ghost use Rattle.seat_lock.specs.TurnRule.{FitsAmong};
-ghost use Rattle.seat_lock.specs.Passes.{IsFor, IsReady, IsSamePass, KnowsSame, view_of, number_of};
+ghost use Rattle.seat_lock.specs.Passes.{IsFor, IsReady, IsSamePass, KnowsSame, view_of, number_of, rings_of};
 ghost use Rattle.seat_lock.specs.Holding.{Borrows, IsHolding, pass_of, found_of, value_of};
 
 use crate::held::Held;
@@ -26,6 +26,7 @@ impl<L: Rule> Lock<L> {
         ensures borrows { Borrows result pass.entry }
         ensures pass { IsSamePass pass.old (pass_of result) }
         ensures knows { KnowsSame pass.old (pass_of result) }
+        ensures rings { rings_of (pass_of result) ≡ rings_of pass.old }
         ensures holds { IsHolding result }
         ensures found { value_of result ≡ found_of result }
         ensures fits { FitsAmong L.fits (found_of result) (number_of pass.old) (view_of pass.old) }
