@@ -1,6 +1,6 @@
 -- Steps: what the calls ask of a seat's view, and what they make of it and return (own). Each answer says what
--- changed of the view, then facts of the result, then what the call's one hold found (`seen`) and recorded. `ss` and
--- `os` are the bytes and the outcomes of the segments.
+-- changed of the view, then facts of the result, then what the call's one hold found (`seen`) and recorded; beside it
+-- stands after which answers the bell rang. `ss` and `os` are the bytes and the outcomes of the segments.
 use Rattle.std.specs.Prelude.{◌≡◌, ◌≢◌, ℕ, ◌+◌, ◌<◌, ◌≤◌, ◌⊎◌, min, take, drop, ◌==◌, if◌then◌else◌, List, ◌++◌, length, true, false, Some, None, slice_get}
 use Rattle.handover.specs.declared.outcome.Outcome.{Outcome}
 use Rattle.handover.specs.declared.outcome.Outcome.TheVariants.{Good, Bad}
@@ -19,7 +19,7 @@ use Rattle.output_board.specs.declared.answers.Take.TheVariants.{Bytes, Ended, U
 use Rattle.output_board.specs.declared.answers.Own.{Own}
 use Rattle.output_board.specs.declared.answers.Own.TheVariants.{Mine, Other}
 use Rattle.output_board.specs.Releases.{worker_after, emitter_after, claims_after, Action, kind_of, Nothing, FindsOver, Claims, Puts, Passes, Finishes, Takes, Advances, Stops, Leaves}
-use Rattle.output_board.specs.Seats.{SeatValue}
+use Rattle.output_board.specs.Seats.{SeatValue, HasRung, HasNotRung}
 
 -- put: the worker owns a segment, and these are its next bytes
 pub record HasNext (ss : List (List ℕ)) (w : WorkerView) (bytes : List ℕ) : Type 0 where
@@ -70,6 +70,12 @@ module _ {C : Type 0} where
       (new.view ≡ record old.view { over = true })
       × (seen : Seen) × WorkerTold old new FindsOver 0 seen × (seen.stopped ≡ true)
 
+  -- claim rings the bell where it returns a segment
+  abbrev pub ClaimRings : SeatValue C WorkerView → SeatValue C WorkerView → Claim → Type 0
+  ClaimRings old new (Segment _) = HasRung old new
+  ClaimRings old new NoneLeft = HasNotRung old new
+  ClaimRings old new ClaimStopped = HasNotRung old new
+
   -- put, of the given number of bytes: Took n if the board isn't stopped and the ring had room for n of them
   abbrev pub PutGives : ℕ → SeatValue C WorkerView → SeatValue C WorkerView → Put → Type 0
   PutGives count old new (Took n) =
@@ -80,6 +86,11 @@ module _ {C : Type 0} where
       (new.view ≡ record old.view { over = true })
       × (seen : Seen) × WorkerTold old new FindsOver 0 seen × (seen.stopped ≡ true)
 
+  -- put rings the bell where it took a byte
+  abbrev pub PutRings : SeatValue C WorkerView → SeatValue C WorkerView → Put → Type 0
+  PutRings old new (Took n) = (n ≡ 0 → HasNotRung old new) × (1 ≤ n → HasRung old new)
+  PutRings old new PutStopped = HasNotRung old new
+
   -- finish: Kept if the board isn't stopped
   abbrev pub FinishGives : SeatValue C WorkerView → SeatValue C WorkerView → Finish → Type 0
   FinishGives old new Kept =
@@ -88,6 +99,11 @@ module _ {C : Type 0} where
   FinishGives old new FinishStopped =
       (new.view ≡ record old.view { over = true })
       × (seen : Seen) × WorkerTold old new FindsOver 0 seen × (seen.stopped ≡ true)
+
+  -- finish rings the bell where it kept the outcome
+  abbrev pub FinishRings : SeatValue C WorkerView → SeatValue C WorkerView → Finish → Type 0
+  FinishRings old new Kept = HasRung old new
+  FinishRings old new FinishStopped = HasNotRung old new
 
   -- leave
   abbrev pub LeaveGives : SeatValue C WorkerView → SeatValue C WorkerView → Type 0
@@ -135,6 +151,15 @@ module _ {C : Type 0} where
       × (seen : Seen) × EmitterTold old new Nothing 0 seen
       × (seen.cur ≡ length ss)
 
+  -- take rings the bell where it took bytes, or ended a good segment
+  abbrev pub TakeRings : SeatValue C EmitterView → SeatValue C EmitterView → Take → Type 0
+  TakeRings old new (Bytes _) = HasRung old new
+  TakeRings old new (Ended (Good _)) = HasRung old new
+  TakeRings old new (Ended (Bad _)) = HasNotRung old new
+  TakeRings old new Unclaimed = HasNotRung old new
+  TakeRings old new NotYet = HasNotRung old new
+  TakeRings old new Over = HasNotRung old new
+
   -- claim_own, for the given number of segments: Mine if the segment that is emitted is the next one; the emitter has
   -- taken no byte of it
   abbrev pub OwnGives : ℕ → SeatValue C EmitterView → SeatValue C EmitterView → Own → Type 0
@@ -147,6 +172,11 @@ module _ {C : Type 0} where
       (new.view ≡ old.view)
       × (seen : Seen) × EmitterTold old new Nothing 0 seen
       × ((seen.next ≢ seen.cur) ⊎ (seen.cur ≡ count))
+
+  -- claim_own rings the bell where the segment is the emitter's own
+  abbrev pub OwnRings : SeatValue C EmitterView → SeatValue C EmitterView → Own → Type 0
+  OwnRings old new (Mine _) = HasRung old new
+  OwnRings old new Other = HasNotRung old new
 
   -- pass, of the given number of bytes
   abbrev pub PassGives : ℕ → SeatValue C EmitterView → SeatValue C EmitterView → Type 0

@@ -1,7 +1,7 @@
 -- View: seats as passes of the board's lock (own).
 use Rattle.std.specs.Prelude.{◌≡◌, ℕ}
 use Rattle.seat_lock.specs.declared.pass.Pass.{Pass}
-use Rattle.seat_lock.specs.Passes.{lock_of, view_of, holds_of, last_of, IsReady}
+use Rattle.seat_lock.specs.Passes.{lock_of, view_of, holds_of, last_of, rings_of, IsReady}
 use Rattle.output_board.specs.declared.view.View.{View}
 use Rattle.output_board.specs.declared.view.EmitterView.{EmitterView}
 use Rattle.output_board.specs.declared.view.WorkerView.{WorkerView}
@@ -31,6 +31,7 @@ module _ {L C X : Type 0} where
     claims = (view_of pass).claims;
     holds = holds_of pass;
     last = last_of pass;
+    rings = rings_of pass;
   }
 
   -- what clauses see of the emitter's pass

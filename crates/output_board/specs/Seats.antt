@@ -7,7 +7,7 @@ use Rattle.output_board.specs.declared.seen.Seen.{Seen}
 use Rattle.output_board.specs.SeatRule.{new_worker}
 
 -- a seat: of which board it is, for which content, its view, how many segments it has claimed, how often it held the
--- board, and the last hold: its kind, its amount and what it saw
+-- board, the last hold: its kind, its amount and what it saw, and how often the seat rang the bell
 pub record SeatValue (C V : Type 0) : Type 0 where
   pub table : TableId
   pub content : C
@@ -15,6 +15,7 @@ pub record SeatValue (C V : Type 0) : Type 0 where
   pub claims : ℕ
   pub holds : ℕ
   pub last : Option (ℕ × ℕ × Seen)
+  pub rings : ℕ
 
 -- the emitter's view before the first event, with rings of this capacity
 abbrev pub new_emitter : ℕ → ℕ → ℕ → EmitterView
@@ -29,7 +30,7 @@ new_emitter made workers capacity = record {
 }
 
 module _ {C : Type 0} where
-  -- a seat that hasn't held the board yet
+  -- a seat that hasn't held the board yet, nor rung its bell
   abbrev pub new_seat : {V : Type 0} → TableId → C → V → SeatValue C V
   new_seat table content view = record {
     table = table;
@@ -38,6 +39,7 @@ module _ {C : Type 0} where
     claims = 0;
     holds = 0;
     last = None;
+    rings = 0;
   }
 
   -- the emitter's seat before the first event
@@ -56,3 +58,11 @@ module _ {C : Type 0} where
     pub table : new.table ≡ old.table
     pub content : new.content ≡ old.content
     pub holds : new.holds ≡ old.holds + 1
+
+  -- a call rang the bell once: what it changed may be what another seat waits for
+  abbrev pub HasRung : {V : Type 0} → SeatValue C V → SeatValue C V → Type 0
+  HasRung old new = new.rings ≡ old.rings + 1
+
+  -- a call didn't ring the bell
+  abbrev pub HasNotRung : {V : Type 0} → SeatValue C V → SeatValue C V → Type 0
+  HasNotRung old new = new.rings ≡ old.rings

@@ -1,8 +1,8 @@
 // The calls of the emitter.
 ghost use Rattle.std.specs.Prelude.{◌≡◌, ◌+◌, ◌≤◌, Some, false, true, length, slice_get};
 ghost use Rattle.board_core.specs.BoardInvariants.{bytes_at};
-ghost use Rattle.output_board.specs.Seats.{HasHeldOnce};
-ghost use Rattle.output_board.specs.Answers.{TakeGives, OwnGives, PassGives, OwnFinishGives, StopGives};
+ghost use Rattle.output_board.specs.Seats.{HasHeldOnce, HasRung, HasNotRung};
+ghost use Rattle.output_board.specs.Answers.{TakeGives, TakeRings, OwnGives, OwnRings, PassGives, OwnFinishGives, StopGives};
 
 use crate::answers::{Own, Take};
 use crate::board::Board;
@@ -25,6 +25,7 @@ impl<C: Content> Board<C> {
         ensures hold { HasHeldOnce seat.old seat.new }
         ensures answer { TakeGives (C.bytes seat.old.content) (C.outcomes seat.old.content)
             seat.old seat.new buf.old buf.new result }
+        ensures rung { TakeRings seat.old seat.new result }
     {
         let mut held = self.lock.hold(rt, &mut seat.pass);
         let core = held.value();
@@ -69,6 +70,7 @@ impl<C: Content> Board<C> {
         requires going { seat.old.view.stopped ≡ false }
         ensures hold { HasHeldOnce seat.old seat.new }
         ensures answer { OwnGives (length (C.bytes seat.old.content)) seat.old seat.new result }
+        ensures rung { OwnRings seat.old seat.new result }
     {
         let mut held = self.lock.hold(rt, &mut seat.pass);
         let core = held.value();
@@ -97,6 +99,7 @@ impl<C: Content> Board<C> {
             ≤ length (bytes_at (C.bytes seat.old.content) seat.old.view.cur) }
         ensures hold { HasHeldOnce seat.old seat.new }
         ensures told { PassGives n seat.old seat.new }
+        ensures rung { HasNotRung seat.old seat.new }
     {
         let mut held = self.lock.hold(rt, &mut seat.pass);
         let core = held.value();
@@ -116,6 +119,7 @@ impl<C: Content> Board<C> {
             ≡ Some outcome }
         ensures hold { HasHeldOnce seat.old seat.new }
         ensures told { OwnFinishGives seat.old seat.new }
+        ensures rung { HasRung seat.old seat.new }
     {
         let mut held = self.lock.hold(rt, &mut seat.pass);
         let core = held.value();
@@ -131,6 +135,7 @@ impl<C: Content> Board<C> {
         requires going { seat.old.view.stopped ≡ false }
         ensures hold { HasHeldOnce seat.old seat.new }
         ensures told { StopGives seat.old seat.new }
+        ensures rung { HasRung seat.old seat.new }
     {
         let mut held = self.lock.hold(rt, &mut seat.pass);
         let core = held.value();

@@ -1,7 +1,7 @@
 // The calls of a worker.
 ghost use Rattle.std.specs.Prelude.{◌≡◌, ◌≤◌, None, false, true, length};
-ghost use Rattle.output_board.specs.Seats.{HasHeldOnce};
-ghost use Rattle.output_board.specs.Answers.{HasNext, IsAtEnd, ClaimGives, PutGives, FinishGives, LeaveGives};
+ghost use Rattle.output_board.specs.Seats.{HasHeldOnce, HasNotRung};
+ghost use Rattle.output_board.specs.Answers.{HasNext, IsAtEnd, ClaimGives, ClaimRings, PutGives, PutRings, FinishGives, FinishRings, LeaveGives};
 
 use crate::answers::{Claim, Finish, Put};
 use crate::board::Board;
@@ -23,6 +23,7 @@ impl<C: Content> Board<C> {
         ensures hold { HasHeldOnce seat.old seat.new }
         ensures answer { ClaimGives (length (C.bytes seat.old.content))
             seat.old seat.new result }
+        ensures rung { ClaimRings seat.old seat.new result }
     {
         let mut held = self.lock.hold(rt, &mut seat.pass);
         let core = held.value();
@@ -50,6 +51,7 @@ impl<C: Content> Board<C> {
         requires going { seat.old.view.over ≡ false }
         ensures hold { HasHeldOnce seat.old seat.new }
         ensures answer { PutGives (length bytes.now) seat.old seat.new result }
+        ensures rung { PutRings seat.old seat.new result }
     {
         let mut held = self.lock.hold(rt, &mut seat.pass);
         let core = held.value();
@@ -77,6 +79,7 @@ impl<C: Content> Board<C> {
         requires going { seat.old.view.over ≡ false }
         ensures hold { HasHeldOnce seat.old seat.new }
         ensures answer { FinishGives seat.old seat.new result }
+        ensures rung { FinishRings seat.old seat.new result }
     {
         let mut held = self.lock.hold(rt, &mut seat.pass);
         let core = held.value();
@@ -98,6 +101,7 @@ impl<C: Content> Board<C> {
         requires here { seat.old.view.left ≡ false }
         ensures hold { HasHeldOnce seat.old seat.new }
         ensures told { LeaveGives seat.old seat.new }
+        ensures rung { HasNotRung seat.old seat.new }
     {
         let mut held = self.lock.hold(rt, &mut seat.pass);
         let core = held.value();
