@@ -85,7 +85,7 @@ impl Encoder {
             let left = bits - 32;
             let alloc = *self.written.allocator();
             let whole = replace(&mut self.written, Vec::new(alloc));
-            match append(whole, low >> left, 4) {
+            match append_apart(whole, low >> left, 4) {
                 Ok(written) => self.written = written,
                 // The bytes are gone: what is left is a new encoder's word.
                 Err(AllocError) => {
@@ -192,7 +192,26 @@ pub(crate) fn doublings(range: u32) -> u32
     range.leading_zeros() - 24
 }
 
+// `append`, so placed that the room for its answer is cleared only if it is called, and not for each bool.
+#[inline(always)]
+fn append_apart(written: Vec<u8>, number: u64, count: usize) -> Result<Vec<u8>, AllocError>
+    requires count { count ≤ 7 }
+    requires carry { number < 2 * 256 ^ count }
+    requires room { number_from_digits 256 written.items * 256 ^ count + number
+        < 256 ^ (length written.items + count) }
+    ensures number { IfOk result (λ longer. number_from_digits 256 longer.items
+        ≡ number_from_digits 256 written.items * 256 ^ count + number) }
+    ensures longer { IfOk result (λ longer. length longer.items ≡ length written.items + count) }
+    ensures bytes { IfOk result (λ longer. AllBelowBase 256 longer.items) }
+{
+    match append(written, number, count) {
+        Ok(longer) => Ok(longer),
+        Err(AllocError) => Err(AllocError),
+    }
+}
+
 // `append_to` for a vector by value, so that no address of a local encoder is passed on.
+#[cold]
 #[inline(never)]
 fn append(written: Vec<u8>, number: u64, count: usize) -> Result<Vec<u8>, AllocError>
     requires count { count ≤ 7 }

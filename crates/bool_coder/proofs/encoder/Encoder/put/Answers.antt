@@ -4,13 +4,13 @@ use Rattle.bool_coder.proofs.EncoderWord.{step-kept, flush_carry, flush_room, fl
 use Rattle.bool_coder.proofs.encoder.Encoder.put.Goals as goal
 use Rattle.bool_coder.proofs.encoder.Encoder.put.Goals.{then-bits-lt-FULL, else-bits-lt-FULL+in-Ok}
 
-pub append-requires-clause-carry : goal.append-requires-clause-carry
-append-requires-clause-carry c =
+pub append_apart-requires-clause-carry : goal.append_apart-requires-clause-carry
+append_apart-requires-clause-carry c =
     let k = step-kept c.self.inside.written.items c.self.inside.low c.self.inside.bits c.self.inside.range c.args.prob c.args.bit _ _ _ c.self.invariant (omega arith) (c.step-low.ensures.coded c.self.inside.written.items) in
     flush_carry c.step-low.result.0 c.step-low.result.1 c.step-low.result.2 c.if-bits-lt-FULL.false (omega (arith, k.wide)) c.step-low.ensures.one_carry
 
-pub append-requires-clause-room : goal.append-requires-clause-room
-append-requires-clause-room c =
+pub append_apart-requires-clause-room : goal.append_apart-requires-clause-room
+append_apart-requires-clause-room c =
     let k = step-kept c.self.inside.written.items c.self.inside.low c.self.inside.bits c.self.inside.range c.args.prob c.args.bit _ _ _ c.self.invariant (omega arith) (c.step-low.ensures.coded c.self.inside.written.items) in
     rw c.replace-whole.ensures.value (flush_room c.self.inside.written.items c.step-low.result.0 c.step-low.result.1 c.step-low.result.2 c.if-bits-lt-FULL.false (omega (arith, k.wide)) k.on_line)
 
