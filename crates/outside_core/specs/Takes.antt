@@ -10,6 +10,10 @@ abbrev pub Always : {Source : Type 0} → Source → Type 0
 Always _ = Unit {0}
 
 module _ {Sink : Type 0} (takes : Sink → List ℕ → Type 0) where
+  -- it takes any text
+  abbrev pub TakesAll : Sink → Type 0
+  TakesAll sink = (text : List ℕ) → takes sink text
+
   -- it takes these bytes next, with any others behind them
   abbrev pub TakesNext : Sink → List ℕ → Type 0
   TakesNext sink bytes = (rest : List ℕ) × takes sink (bytes ++ rest)

@@ -25,7 +25,7 @@ returns-clause-ending g c =
     c.in-Ok.ready.plan c.in-Ok.ready.parts c.in-Ok.ensures.ready c.run-ended.result c.run-ended.ensures.ends)
 
 pub run-ended-requires-clause-takes : goal.run-ended-requires-clause-takes
-run-ended-requires-clause-takes g c =
+run-ended-requires-clause-takes g c κs within =
     meaning_taken g.K.Sink.held g.K.Sink.faults g.K.Sink.full c.args.sink.now c.args.sink.now
     c.args.bytes.now (all_bytes c.args.bytes.now (λ i. search rules)) g.K.Sink.takes c.args.workers c.requires.short
     c.in-Ok.ready.plan c.in-Ok.ready.parts c.in-Ok.ensures.ready c.requires.takes

@@ -37,7 +37,9 @@ pub write_made-requires : goal.write_made-requires
 write_made-requires g c =
     let made = c.in-Ok.made.items in
     let command = Encode c.args.segments in
-    subst (g.K.Sink.takes c.args.sink.now) (sym c.as_slice.ensures.value)
-    (c.requires.takes (Made made) (answers_so g.K.Sink.held g.K.Sink.faults g.K.Sink.full c.args.sink.now
-    c.args.sink.now c.args.bytes.now (all_bytes c.args.bytes.now (λ i. search rules)) command (Made made)
-    c.requires.short c.in-Ok.ensures.made))
+    record {
+      takes = subst (g.K.Sink.takes c.args.sink.now) (sym c.as_slice.ensures.value)
+          (c.requires.takes (Made made) (answers_so g.K.Sink.held g.K.Sink.faults g.K.Sink.full c.args.sink.now
+          c.args.sink.now c.args.bytes.now (all_bytes c.args.bytes.now (λ i. search rules)) command (Made made)
+          c.requires.short c.in-Ok.ensures.made));
+    }

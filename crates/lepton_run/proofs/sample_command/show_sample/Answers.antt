@@ -11,3 +11,12 @@ returns-clause-ending g c =
     (subst (λ (text : List ℕ). Answers command [] (Made text)) (sym c.bytes.ensures)
     (answer_so g.K.Sink.held g.K.Sink.faults g.K.Sink.full c.args.sink.now c.write_made.new.sink
     c.args.seed c.args.columns c.args.rows c.in-Ok.summary c.in-Ok.ensures))
+
+pub write_made-requires : goal.write_made-requires
+write_made-requires g c =
+    let text = c.in-Ok.summary in
+    record {
+      takes = subst (g.K.Sink.takes c.args.sink.now) (sym c.bytes.ensures)
+          (c.requires.takes (Made text) (answer_so g.K.Sink.held g.K.Sink.faults g.K.Sink.full c.args.sink.now
+          c.args.sink.now c.args.seed c.args.columns c.args.rows text c.in-Ok.ensures));
+    }

@@ -10,3 +10,6 @@ returns-in-Err-Refused-clause-sampled g c = λ seed columns rows means. (
       (ap (λ (error : WordsError). Err error) c.in-Err-Refused.field-0-is)
       (Sample seed columns rows) means,
 )
+
+pub transfer-requires-clause-takes : goal.transfer-requires-clause-takes
+transfer-requires-clause-takes g c κs within = λ bytes may. c.requires.takes c.in-Ok.command bytes c.in-Ok.ensures.taken may
