@@ -80,8 +80,20 @@ impl<'a> BitIn<'a> {
         }
     }
 
+    /// A copy. In a local value the reader's state stays in registers; behind a reference it is loaded and stored for
+    /// each symbol.
+    #[inline(always)]
+    pub fn copied(&self) -> BitIn<'a>
+        ensures { result ≡ self.now }
+    {
+        BitIn {
+            bytes: self.bytes,
+            at: self.at,
+        }
+    }
+
     /// Reads `n` bits, the highest first. A fault changes nothing.
-    #[inline]
+    #[inline(always)]
     pub fn take(&mut self, n: u8) -> Result<u16, BitFault>
         requires { n ≤ 16 }
         ensures ok { IfOk result (λ v. (v < 2 ^ n)
@@ -95,21 +107,7 @@ impl<'a> BitIn<'a> {
             self.at.count -= n;
             return Ok(number);
         }
-        self.fetch_and_take(n)
-    }
-
-    // The same if a unit must be fetched first.
-    #[inline(never)]
-    fn fetch_and_take(&mut self, n: u8) -> Result<u16, BitFault>
-        requires { n ≤ 16 }
-        ensures ok { IfOk result (λ v. (v < 2 ^ n)
-            × (bits_at n self.old.bytes self.old.cursor ≡ Ok (low_bits n v, self.new.cursor))) }
-        ensures err { IfErr result (λ e. bits_at n self.old.bytes self.old.cursor ≡ Err e) }
-        ensures stays { OnErr result (self.new ≡ self.old) }
-        ensures bytes { self.new.bytes ≡ self.old.bytes }
-    {
-        refill(self.bytes, &mut self.at);
-        let (number, at) = by_units(self.bytes, self.at, n)?;
+        let (number, at) = take_apart(self.bytes, self.at, n)?;
         self.at = at;
         Ok(number)
     }
@@ -128,17 +126,17 @@ impl<'a> BitIn<'a> {
     }
 
     /// Fetches bits ahead, so that looking at them is quick. Nothing that clauses see changes.
-    #[inline]
+    #[inline(always)]
     pub fn ready(&mut self)
         ensures { self.new ≡ self.old }
     {
         if self.at.count < 16 {
-            refill(self.bytes, &mut self.at);
+            self.at = with_more(self.bytes, self.at);
         }
     }
 
     /// The next nine bits as a number, zeros for those that no unit gives.
-    #[inline]
+    #[inline(always)]
     pub fn peek9(&self) -> u16
         ensures number { result ≡ number_of (peeked 9 self.now.bytes self.now.cursor) }
         ensures below { result < 512 }
@@ -188,7 +186,7 @@ impl<'a> BitIn<'a> {
     }
 
     /// The place of the unit of the last bit that was read; before the first bit, the place at which reading began.
-    #[inline]
+    #[inline(always)]
     pub fn place(&self) -> usize
         ensures { result ≡ self.now.cursor.last }
     {
@@ -382,25 +380,40 @@ fn fetch_six(bytes: &[u8], at: &mut Fetched)
     fetch(bytes, at);
 }
 
-// Fetches units, as long as there is room and they are one byte each.
-#[inline(never)]
-fn refill(bytes: &[u8], at: &mut Fetched)
-    requires { IsFetched bytes.now at.old }
-    ensures cursor { cursor_of_fetched at.new ≡ cursor_of_fetched at.old }
-    ensures kept { IsFetched bytes.now at.new }
+// With units fetched, as long as there is room and they are one byte each.
+#[inline(always)]
+fn with_more(bytes: &[u8], begin: Fetched) -> Fetched
+    requires kept { IsFetched bytes.now begin }
+    requires room { begin.count ≤ 15 }
+    ensures cursor { cursor_of_fetched result ≡ cursor_of_fetched begin }
+    ensures kept { IsFetched bytes.now result }
 {
-    if at.skip != 0 {
-        return;
+    if begin.skip == 0 && are_plain(bytes, begin.end) {
+        let mut at = begin;
+        fetch_six(bytes, &mut at);
+        return at;
     }
-    if at.count <= 15 && are_plain(bytes, at.end) {
-        fetch_six(bytes, at);
-        return;
+    refilled(bytes, begin)
+}
+
+// The same one by one. By value, so that no address of a local reader is passed on.
+#[cold]
+#[inline(never)]
+fn refilled(bytes: &[u8], begin: Fetched) -> Fetched
+    requires { IsFetched bytes.now begin }
+    ensures cursor { cursor_of_fetched result ≡ cursor_of_fetched begin }
+    ensures kept { IsFetched bytes.now result }
+{
+    if begin.skip != 0 {
+        return begin;
     }
-    fetch_up_to(bytes, at);
+    let mut at = begin;
+    fetch_up_to(bytes, &mut at);
+    at
 }
 
 // Fetches them one by one.
-#[inline(never)]
+#[inline(always)]
 fn fetch_up_to(bytes: &[u8], at: &mut Fetched)
     requires kept { IsFetched bytes.now at.old }
     requires fresh { at.old.skip ≡ 0 }
@@ -410,6 +423,42 @@ fn fetch_up_to(bytes: &[u8], at: &mut Fetched)
     while at.count <= 55 && at.end < bytes.len() && bytes[at.end] != 0xff {
         fetch(bytes, at);
     }
+}
+
+// `fetch_and_take`, so placed that the room for its answer is cleared only if it is called, and not for each symbol.
+#[inline(always)]
+fn take_apart(bytes: &[u8], begin: Fetched, n: u8) -> Result<(u16, Fetched), BitFault>
+    requires kept { IsFetched bytes.now begin }
+    requires few { n ≤ 16 }
+    ensures below { IfOk result (λ r. r.0 < 2 ^ n) }
+    ensures bits { IfOk result
+        (λ r. bits_at n bytes.now (cursor_of_fetched begin)
+        ≡ Ok (low_bits n r.0, cursor_of_fetched r.1)) }
+    ensures kept { IfOk result (λ r. IsFetched bytes.now r.1) }
+    ensures err { IfErr result
+        (λ e. bits_at n bytes.now (cursor_of_fetched begin) ≡ Err e) }
+{
+    match fetch_and_take(bytes, begin, n) {
+        Ok(taken) => Ok(taken),
+        Err(fault) => Err(fault),
+    }
+}
+
+// The next bits as a number, and what follows them, if a unit must be fetched first.
+#[cold]
+#[inline(never)]
+fn fetch_and_take(bytes: &[u8], begin: Fetched, n: u8) -> Result<(u16, Fetched), BitFault>
+    requires kept { IsFetched bytes.now begin }
+    requires few { n ≤ 16 }
+    ensures below { IfOk result (λ r. r.0 < 2 ^ n) }
+    ensures bits { IfOk result
+        (λ r. bits_at n bytes.now (cursor_of_fetched begin)
+        ≡ Ok (low_bits n r.0, cursor_of_fetched r.1)) }
+    ensures kept { IfOk result (λ r. IsFetched bytes.now r.1) }
+    ensures err { IfErr result
+        (λ e. bits_at n bytes.now (cursor_of_fetched begin) ≡ Err e) }
+{
+    by_units(bytes, refilled(bytes, begin), n)
 }
 
 // The next bits as a number, and what follows them, unit by unit.
@@ -449,6 +498,7 @@ fn top_bits(bytes: &[u8], at: &Fetched, n: u8) -> u16
 }
 
 // The next nine bits as a number, unit by unit, zeros for those that no unit gives.
+#[cold]
 #[inline(never)]
 fn peek_by_units(bytes: &[u8], begin: Fetched) -> u16
     requires { IsFetched bytes.now begin }
