@@ -127,11 +127,50 @@ impl Codes {
                 return Ok(value);
             }
         }
-        self.by_bits(input)
+        self.by_bits_apart(input)
+    }
+
+    // `by_bits_of`, so placed that the room for its answer is cleared only if it is called, and not for each word.
+    #[inline(always)]
+    fn by_bits_apart(&self, input: &mut BitIn) -> Result<u8, CodeFault>
+        ensures ok { IfOk result
+            (λ value. value_at self.now input.old.bytes input.old.cursor
+            ≡ Ok (value, input.new.cursor)) }
+        ensures err { IfErr result
+            (λ fault. value_at self.now input.old.bytes input.old.cursor ≡ Err fault) }
+        ensures stopped { OnErr result ((bits : List Bool) × (length bits ≤ 16)
+            × (bits_at (length bits) input.old.bytes input.old.cursor
+            ≡ Ok (bits, input.new.cursor))) }
+        ensures bytes { input.new.bytes ≡ input.old.bytes }
+        ensures kept { IsTable self.now }
+    {
+        let (result, left) = self.by_bits_of(input.copied());
+        *input = left;
+        result
+    }
+
+    // `by_bits` for an input by value, so that no address of a local one is passed on.
+    #[cold]
+    #[inline(never)]
+    fn by_bits_of<'a>(&self, input: BitIn<'a>) -> (Result<u8, CodeFault>, BitIn<'a>)
+        ensures ok { IfOk result.0
+            (λ value. value_at self.now input.entry.bytes input.entry.cursor
+            ≡ Ok (value, result.1.cursor)) }
+        ensures err { IfErr result.0
+            (λ fault. value_at self.now input.entry.bytes input.entry.cursor ≡ Err fault) }
+        ensures stopped { OnErr result.0 ((bits : List Bool) × (length bits ≤ 16)
+            × (bits_at (length bits) input.entry.bytes input.entry.cursor
+            ≡ Ok (bits, result.1.cursor))) }
+        ensures bytes { result.1.bytes ≡ input.entry.bytes }
+        ensures kept { IsTable self.now }
+    {
+        let mut left = input;
+        let result = self.by_bits(&mut left);
+        (result, left)
     }
 
     // The same bit by bit.
-    #[inline(never)]
+    #[inline(always)]
     fn by_bits(&self, input: &mut BitIn) -> Result<u8, CodeFault>
         ensures ok { IfOk result
             (λ value. value_at self.now input.old.bytes input.old.cursor
