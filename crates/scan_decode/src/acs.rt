@@ -116,7 +116,7 @@ fn go_on<T: Target>(
 }
 
 /// The AC coefficients of a block that has none yet (ITU-T T.81, F.2.2.2).
-#[inline]
+#[inline(always)]
 pub(crate) fn acs<T: Target>(
     codes: &Codes,
     input: &mut BitIn,

@@ -12,7 +12,7 @@ use huff_table::ComponentCodes;
 use scan_spec::ScanRefusal;
 
 /// A block after one with the DC before. Answers its DC.
-#[inline]
+#[inline(always)]
 pub(crate) fn block<T: Target>(
     codes: &ComponentCodes,
     before: i16,

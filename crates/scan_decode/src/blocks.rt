@@ -33,6 +33,32 @@ pub(crate) fn blocks<T: Target>(
     ensures small { All IsDc before.new }
     ensures bytes { input.new.bytes ≡ input.old.bytes }
 {
+    let mut local = input.copied();
+    let result = blocks_of(codes, slots, before, &mut local, out);
+    *input = local;
+    result
+}
+
+// The same for an input in a local value, whose state stays in registers.
+#[inline(always)]
+fn blocks_of<T: Target>(
+    codes: &[ComponentCodes],
+    slots: &[u8],
+    before: &mut [i16; 4],
+    input: &mut BitIn,
+    out: &mut [T],
+) -> Result<(), ScanRefusal>
+    requires long { length out.old ≡ length slots.now }
+    requires few { length codes.now ≤ 4 }
+    requires slots { All (λ slot. slot < length codes.now) slots.now }
+    requires before { All IsDc before.old }
+    ensures is { (read : List (List ℤ)) × OnOk result (AllZip T.holds out.new read)
+        × (blocks_read result (map in_zigzag read) before.new input.new.cursor
+        ≡ blocks_at (map
+        (slot_in codes.now) slots.now) before.old input.old.bytes input.old.cursor) }
+    ensures small { All IsDc before.new }
+    ensures bytes { input.new.bytes ≡ input.old.bytes }
+{
     for (i, slot) in slots.iter().enumerate() {
         let component = usize::from(*slot);
         before[component] = block(&codes[component], before[component], input, &mut out[i])?;

@@ -11,7 +11,7 @@ use huff_table::Codes;
 use scan_spec::ScanRefusal;
 
 /// The DC after the one before (ITU-T T.81, F.2.2.1).
-#[inline]
+#[inline(always)]
 pub(crate) fn dc(codes: &Codes, before: i16, input: &mut BitIn) -> Result<i16, ScanRefusal>
     requires { IsDc before }
     ensures is { at_cursor result input.new.cursor

@@ -22,7 +22,7 @@ pub(crate) fn symbol(codes: &Codes, input: &mut BitIn) -> Result<u8, ScanRefusal
 }
 
 /// The value that the next bits spell in a category.
-#[inline]
+#[inline(always)]
 pub(crate) fn extended(size: u8, input: &mut BitIn) -> Result<i32, ScanRefusal>
     requires { size ≤ 11 }
     ensures is { at_cursor result input.new.cursor

@@ -4,7 +4,7 @@ use Rattle.scan_spec.specs.ScanReading.{blocks_at}
 use Rattle.scan_spec.specs.BlockBits.{in_zigzag}
 use Rattle.scan_spec.specs.ShapeInside.{slot_in}
 use Rattle.scan_decode.specs.McuBlocks.{after_prefix}
-use Rattle.scan_decode.proofs.blocks.blocks.Given as goal
+use Rattle.scan_decode.proofs.blocks.blocks_of.Given as goal
 
 abbrev pub invariant-loop-i : goal.invariant-loop-i
 invariant-loop-i g l = record {

@@ -11,7 +11,7 @@ use Rattle.scan_spec.proofs.SignedValues.{kept_half}
 use Rattle.scan_spec.specs.ShapeInside.{slot_in}
 use Rattle.scan_decode.specs.McuBlocks.{after_prefix}
 use Rattle.scan_decode.proofs.McuReading.{block_refused, block_more, no_more, each_more, at_slot, after_slot}
-use Rattle.scan_decode.proofs.blocks.blocks.Goals as goal
+use Rattle.scan_decode.proofs.blocks.blocks_of.Goals as goal
 
 pub returns-in_err-before-clause-is : goal.returns-in_err-before-clause-is
 returns-in_err-before-clause-is g c =
