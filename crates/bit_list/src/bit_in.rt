@@ -88,7 +88,7 @@ impl<'a> BitIn<'a> {
     {
         BitIn {
             bytes: self.bytes,
-            at: self.at,
+            at: by_fields(&self.at),
         }
     }
 
@@ -107,7 +107,7 @@ impl<'a> BitIn<'a> {
             self.at.count -= n;
             return Ok(number);
         }
-        let (number, at) = take_apart(self.bytes, self.at, n)?;
+        let (number, at) = take_apart(self.bytes, &self.at, n)?;
         self.at = at;
         Ok(number)
     }
@@ -131,7 +131,7 @@ impl<'a> BitIn<'a> {
         ensures { self.new ≡ self.old }
     {
         if self.at.count < 16 {
-            self.at = with_more(self.bytes, self.at);
+            refill(self.bytes, &mut self.at);
         }
     }
 
@@ -380,23 +380,48 @@ fn fetch_six(bytes: &[u8], at: &mut Fetched)
     fetch(bytes, at);
 }
 
-// With units fetched, as long as there is room and they are one byte each.
+// A copy without the padding, which in a copy of the whole takes room of its own.
 #[inline(always)]
-fn with_more(bytes: &[u8], begin: Fetched) -> Fetched
-    requires kept { IsFetched bytes.now begin }
-    requires room { begin.count ≤ 15 }
-    ensures cursor { cursor_of_fetched result ≡ cursor_of_fetched begin }
-    ensures kept { IsFetched bytes.now result }
+fn by_fields(at: &Fetched) -> Fetched
+    ensures { result ≡ at.now }
 {
-    if begin.skip == 0 && are_plain(bytes, begin.end) {
-        let mut at = begin;
-        fetch_six(bytes, &mut at);
-        return at;
+    Fetched {
+        word: at.word,
+        count: at.count,
+        skip: at.skip,
+        last: at.last,
+        first: at.first,
+        end: at.end,
     }
-    refilled(bytes, begin)
 }
 
-// The same one by one. By value, so that no address of a local reader is passed on.
+// Fetches units, as long as there is room and they are one byte each.
+#[inline(always)]
+fn refill(bytes: &[u8], at: &mut Fetched)
+    requires kept { IsFetched bytes.now at.old }
+    requires room { at.old.count ≤ 15 }
+    ensures cursor { cursor_of_fetched at.new ≡ cursor_of_fetched at.old }
+    ensures kept { IsFetched bytes.now at.new }
+{
+    if at.skip == 0 && are_plain(bytes, at.end) {
+        fetch_six(bytes, at);
+        return;
+    }
+    refill_apart(bytes, at);
+}
+
+// `refilled`, so placed that the room for its answer is cleared only if it is called.
+#[inline(always)]
+fn refill_apart(bytes: &[u8], at: &mut Fetched)
+    requires { IsFetched bytes.now at.old }
+    ensures cursor { cursor_of_fetched at.new ≡ cursor_of_fetched at.old }
+    ensures kept { IsFetched bytes.now at.new }
+{
+    let more = refilled(bytes, by_fields(at));
+    *at = by_fields(&more);
+}
+
+// With units fetched one by one. By value, so that no address of a local reader is passed on.
 #[cold]
 #[inline(never)]
 fn refilled(bytes: &[u8], begin: Fetched) -> Fetched
@@ -427,19 +452,19 @@ fn fetch_up_to(bytes: &[u8], at: &mut Fetched)
 
 // `fetch_and_take`, so placed that the room for its answer is cleared only if it is called, and not for each symbol.
 #[inline(always)]
-fn take_apart(bytes: &[u8], begin: Fetched, n: u8) -> Result<(u16, Fetched), BitFault>
-    requires kept { IsFetched bytes.now begin }
+fn take_apart(bytes: &[u8], begin: &Fetched, n: u8) -> Result<(u16, Fetched), BitFault>
+    requires kept { IsFetched bytes.now begin.now }
     requires few { n ≤ 16 }
     ensures below { IfOk result (λ r. r.0 < 2 ^ n) }
     ensures bits { IfOk result
-        (λ r. bits_at n bytes.now (cursor_of_fetched begin)
+        (λ r. bits_at n bytes.now (cursor_of_fetched begin.now)
         ≡ Ok (low_bits n r.0, cursor_of_fetched r.1)) }
     ensures kept { IfOk result (λ r. IsFetched bytes.now r.1) }
     ensures err { IfErr result
-        (λ e. bits_at n bytes.now (cursor_of_fetched begin) ≡ Err e) }
+        (λ e. bits_at n bytes.now (cursor_of_fetched begin.now) ≡ Err e) }
 {
-    match fetch_and_take(bytes, begin, n) {
-        Ok(taken) => Ok(taken),
+    match fetch_and_take(bytes, by_fields(begin), n) {
+        Ok((number, after)) => Ok((number, by_fields(&after))),
         Err(fault) => Err(fault),
     }
 }

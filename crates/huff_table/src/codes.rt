@@ -145,7 +145,7 @@ impl Codes {
         ensures kept { IsTable self.now }
     {
         let (result, left) = self.by_bits_of(input.copied());
-        *input = left;
+        *input = left.copied();
         result
     }
 
