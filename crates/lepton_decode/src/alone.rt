@@ -12,6 +12,7 @@ use crate::file_parts::{put_header, put_rest};
 use crate::ready::PrepareError;
 use bit_list::Piece;
 use box_format::{BoxRefusal, BoxView, read_box};
+use byte_window::Window;
 use outside_core::{Gate, Sink};
 use segment_code::SegmentDecoder;
 use segment_worker::emit_alone;
@@ -120,6 +121,7 @@ fn restore_alone<'a, K: Sink, G: Gate>(
         Ok(before) => before,
         Err(written) => return Err(DecodeError::WriteFault { written }),
     };
-    let emitted = emit_alone(decoder, piece, view, sink, gate);
+    let window = Window::everything();
+    let emitted = emit_alone(decoder, piece, view, window, sink, gate);
     put_rest(view, before, emitted, sink)
 }

@@ -5,6 +5,7 @@ ghost use Rattle.lepton_decode.specs.Teams.{IsIdleWorker, IsNewSeat, AreNewSeats
 use crate::threads::{Lead, Task};
 use bit_list::Piece;
 use box_format::BoxView;
+use byte_window::Window;
 use output_board::{Board, EmitterSeat, WorkerSeat};
 use outside_core::{Gate, Sink};
 use segment_code::SegmentDecoder;
@@ -76,6 +77,7 @@ impl<'s, 'a, G: Gate, K: Sink> Lead<Shared<'s, 'a, G>, K> for Emitter<'a> {
         shared: &Shared<'s, 'a, G>,
         sink: &mut K,
     ) -> Result<Emitted, EmitStop> {
+        let window = Window::everything();
         emit(
             rt,
             &mut self.decoder,
@@ -83,6 +85,7 @@ impl<'s, 'a, G: Gate, K: Sink> Lead<Shared<'s, 'a, G>, K> for Emitter<'a> {
             &mut self.seat,
             shared.board,
             shared.view,
+            window,
             sink,
             shared.gate,
         )

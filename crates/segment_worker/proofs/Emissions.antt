@@ -5,6 +5,9 @@ use Rattle.std.proofs.lemmas.Bool.{cases_lt}
 use lib.Seq.{length-take-le, take_all, take-add}
 use lib.ListN.{take-append-drop, length-drop}
 use Rattle.outside_core.specs.Takes.{TakesNext}
+use Rattle.byte_window.specs.declared.window.Window.{Window}
+use Rattle.byte_window.specs.Windows.{window, after, through}
+use Rattle.byte_window.proofs.WindowParts.{is_counted}
 use Rattle.atomic_table.specs.Seated.{TableId}
 use Rattle.handover.specs.PadSums.{no_pads, pads_with}
 use Rattle.handover.specs.declared.pads.PadSum.{PadSum}
@@ -27,12 +30,12 @@ use Rattle.segment_worker.specs.declared.emitted.EmitStop.TheVariants.{Fault}
 use Rattle.segment_worker.specs.Contents.{segments_bytes, segments_outcomes, segment_room, AreShort}
 use Rattle.segment_worker.specs.Written.{HasWritten, HasFailed}
 use Rattle.segment_worker.specs.Joining.{joined_from, joined_onto}
-use Rattle.segment_worker.specs.Emitting.{joined_in, IsNewEmitter, IsUsedEmitter, Emits, IsWrittenTo, IsEmitting}
+use Rattle.segment_worker.specs.Emitting.{joined_in, seen_through, IsNewEmitter, IsUsedEmitter, Emits, IsWrittenTo, IsEmitting}
 use Rattle.segment_worker.specs.OwnSegments.{own_rest, OwnEnds}
 use Rattle.segment_worker.proofs.Tails.{past_end, front}
 use Rattle.segment_worker.proofs.ContentsTold.{output_of, bytes_of, bytes_long, outcome_of, outcome_within}
 use Rattle.segment_worker.proofs.SegmentsJoined.{good_next, bad_next, bytes_next}
-use Rattle.segment_worker.proofs.Writing.{written_none, written_later, failed_first, failed_later, next_first, next_between}
+use Rattle.segment_worker.proofs.Writing.{written_nothing, written_on, failed_in, failed_on, next_on, next_in}
 
 some_same : {A : Type 0} (a b : A) → ◌≡◌ {A = Option A} (Some a) (Some b) → a ≡ b
 some_same a b e = cc
@@ -56,50 +59,62 @@ none_behind v cur bytes padded past all =
     (more, ap (λ (j : Joined). j.bytes) all ∙ ap (λ (l : List ℕ). bytes ++ (l ++ more)) (sym none))
 
 module _ {Sink : Type 0} (held : Sink → Option (List ℕ))
-    (takes : Sink → List ℕ → Type 0) (faults : Sink → ℕ) (full : Sink → Type 0) (v : BoxSeen) where
+    (takes : Sink → List ℕ → Type 0) (faults : Sink → ℕ) (full : Sink → Type 0) (v : BoxSeen) (w : Window) where
   -- by equal counts
-  pub moved : (cur now taken more : ℕ) (old new : Sink) (written : ℕ) (padded : PadSum)
-      → now ≡ cur → more ≡ taken → IsWrittenTo held takes faults v cur taken old new written padded
-      → IsWrittenTo held takes faults v now more old new written padded
-  moved cur now taken more old new written padded e f w =
-      subst (λ (z : ℕ × ℕ). IsWrittenTo held takes faults v z.0 z.1 old new written padded)
-      (λ i. (sym e i, sym f i)) w
+  pub moved : (cur now taken more : ℕ) (old new : Sink) (came : ℕ) (padded : PadSum)
+      → now ≡ cur → more ≡ taken → IsWrittenTo held takes faults v w cur taken old new came padded
+      → IsWrittenTo held takes faults v w now more old new came padded
+  moved cur now taken more old new came padded e f is =
+      subst (λ (z : ℕ × ℕ). IsWrittenTo held takes faults v w z.0 z.1 old new came padded)
+      (λ i. (sym e i, sym f i)) is
 
-  -- the rest of the segment follows what is written
-  rest_behind : (cur taken : ℕ) (old new : Sink) (written : ℕ) (padded : PadSum)
-      (w : IsWrittenTo held takes faults v cur taken old new written padded)
-      → (more : List ℕ) × ((joined_in v).bytes ≡ (w.bytes ++ take taken (bytes_at (segments_bytes v) cur))
+  -- the rest of the segment follows what came
+  rest_behind : (cur taken : ℕ) (old new : Sink) (came : ℕ) (padded : PadSum)
+      (is : IsWrittenTo held takes faults v w cur taken old new came padded)
+      → (more : List ℕ) × ((joined_in v).bytes ≡ (is.bytes ++ take taken (bytes_at (segments_bytes v) cur))
       ++ (drop taken (bytes_at (segments_bytes v) cur) ++ more))
-  rest_behind cur taken old new written padded w =
+  rest_behind cur taken old new came padded is =
       let s = bytes_at (segments_bytes v) cur in
-      let next = ⊎_elim (λ (under : cur < length v.parts.handovers). segment_behind v cur w.bytes padded under w.all)
-      (λ (past : length v.parts.handovers ≤ cur). none_behind v cur w.bytes padded past w.all)
+      let next = ⊎_elim (λ (under : cur < length v.parts.handovers). segment_behind v cur is.bytes padded under is.all)
+      (λ (past : length v.parts.handovers ≤ cur). none_behind v cur is.bytes padded past is.all)
       (cases_lt cur (length v.parts.handovers)) in
       let parts : s ≡ take taken s ++ drop taken s = sym (take-append-drop taken s) in (
         next.0,
-        next.1 ∙ ap (λ (l : List ℕ). w.bytes ++ (l ++ next.0)) parts
-            ∙ ap (λ (l : List ℕ). w.bytes ++ l) (append_assoc (take taken s) (drop taken s) next.0)
-            ∙ sym (append_assoc w.bytes (take taken s) (drop taken s ++ next.0)),
+        next.1 ∙ ap (λ (l : List ℕ). is.bytes ++ (l ++ next.0)) parts
+            ∙ ap (λ (l : List ℕ). is.bytes ++ l) (append_assoc (take taken s) (drop taken s) next.0)
+            ∙ sym (append_assoc is.bytes (take taken s) (drop taken s ++ next.0)),
       )
 
-  -- the sink takes it
-  pub rest_taken : (cur taken : ℕ) (old new : Sink) (written : ℕ) (padded : PadSum)
-      → TakesNext takes old (joined_in v).bytes
-      → IsWrittenTo held takes faults v cur taken old new written padded
-      → TakesNext takes new (drop taken (bytes_at (segments_bytes v) cur))
-  rest_taken cur taken old new written padded next w =
+  -- the bytes that came, and how many
+  came_long : (cur taken : ℕ) (old new : Sink) (came : ℕ) (padded : PadSum)
+      → (is : IsWrittenTo held takes faults v w cur taken old new came padded)
+      → came ≡ length (is.bytes ++ take taken (bytes_at (segments_bytes v) cur))
+  came_long cur taken old new came padded is =
       let s = bytes_at (segments_bytes v) cur in
-      let b = rest_behind cur taken old new written padded w in
-      next_between takes old new (w.bytes ++ take taken s) (drop taken s) b.0 (joined_in v).bytes next w.has.onward b.1
+      let count = is.count in
+      let long = length-append is.bytes (take taken s) in
+      let first = length-take-le taken s is.within in
+      omega (arith, count, long, first)
+
+  -- the sink takes what goes through of it
+  pub rest_taken : (cur taken : ℕ) (old new : Sink) (came : ℕ) (padded : PadSum)
+      → TakesNext takes old (window w (joined_in v).bytes)
+      → IsWrittenTo held takes faults v w cur taken old new came padded
+      → TakesNext takes new (window (after w came) (drop taken (bytes_at (segments_bytes v) cur)))
+  rest_taken cur taken old new came padded next is =
+      let s = bytes_at (segments_bytes v) cur in
+      let b = rest_behind cur taken old new came padded is in
+      next_on takes w old new (is.bytes ++ take taken s) (drop taken s) b.0 (joined_in v).bytes came
+      (came_long cur taken old new came padded is) next is.has.onward b.1
 
   -- nothing yet
-  pub none_emitted : (sink : Sink) → IsWrittenTo held takes faults v 0 0 sink sink 0 no_pads
+  pub none_emitted : (sink : Sink) → IsWrittenTo held takes faults v w 0 0 sink sink 0 no_pads
   none_emitted sink = record {
     bytes = [];
     all =
         let e : length v.parts.handovers ≡ length v.parts.handovers - 0 = omega arith in
         ap (λ (n : ℕ). joined (map (λ i. segment_output (segment_in v.plan v.parts i)) (numbers 0 n))) e;
-    has = written_none held takes faults full sink;
+    has = written_nothing held takes faults full w sink;
     count = refl;
     within = omega arith;
     few = omega arith;
@@ -107,116 +122,136 @@ module _ {Sink : Type 0} (held : Sink → Option (List ℕ))
   }
 
   -- the next bytes of the segment
-  pub more_emitted : (cur taken n : ℕ) (old mid new : Sink) (written : ℕ) (padded : PadSum)
-      → IsWrittenTo held takes faults v cur taken old mid written padded
+  pub more_emitted : (cur taken n : ℕ) (old mid new : Sink) (came : ℕ) (padded : PadSum)
+      → IsWrittenTo held takes faults v w cur taken old mid came padded
       → taken + n ≤ length (bytes_at (segments_bytes v) cur)
-      → HasWritten held takes faults mid new (take n (drop taken (bytes_at (segments_bytes v) cur)))
-      → IsWrittenTo held takes faults v cur (taken + n) old new (written + n) padded
-  more_emitted cur taken n old mid new written padded w within has =
+      → HasWritten held takes faults mid new
+      (window (after w came) (take n (drop taken (bytes_at (segments_bytes v) cur))))
+      → IsWrittenTo held takes faults v w cur (taken + n) old new (came + n) padded
+  more_emitted cur taken n old mid new came padded is within has =
       let s = bytes_at (segments_bytes v) cur in record {
-        bytes = w.bytes;
-        all = w.all;
-        has = subst (HasWritten held takes faults old new)
-            (append_assoc w.bytes (take taken s) (take n (drop taken s))
-            ∙ ap (λ (l : List ℕ). w.bytes ++ l) (sym (take-add taken n s)))
-            (written_later held takes faults full old mid new _ _ w.has has);
-        count = let count = w.count in omega arith;
+        bytes = is.bytes;
+        all = is.all;
+        has = subst (λ (l : List ℕ). HasWritten held takes faults old new (window w l))
+            (append_assoc is.bytes (take taken s) (take n (drop taken s))
+            ∙ ap (λ (l : List ℕ). is.bytes ++ l) (sym (take-add taken n s)))
+            (written_on held takes faults full w old mid new _ _ came (came_long cur taken old mid came padded is)
+            is.has has);
+        count = let count = is.count in omega arith;
         within = within;
-        few = w.few;
-        low = w.low;
+        few = is.few;
+        low = is.low;
       }
 
   -- the segment ended well
-  pub good_emitted : AreShort v → (cur taken : ℕ) (old new : Sink) (written : ℕ) (padded more : PadSum)
-      → IsWrittenTo held takes faults v cur taken old new written padded
+  pub good_emitted : AreShort v → (cur taken : ℕ) (old new : Sink) (came : ℕ) (padded more : PadSum)
+      → IsWrittenTo held takes faults v w cur taken old new came padded
       → taken ≡ length (bytes_at (segments_bytes v) cur)
       → slice_get (segments_outcomes v) cur ≡ Some (Good more)
-      → IsWrittenTo held takes faults v (cur + 1) 0 old new written (pads_with padded more)
-  good_emitted short cur taken old new written padded more w whole good =
+      → IsWrittenTo held takes faults v w (cur + 1) 0 old new came (pads_with padded more)
+  good_emitted short cur taken old new came padded more is whole good =
       let s = bytes_at (segments_bytes v) cur in
       let under = outcome_within v cur (Good more) good in
-      let is = bytes_of v cur under in
+      let same = bytes_of v cur under in
       let end : Good more ≡ (segment_output (segment_in v.plan v.parts cur)).1 =
       some_same _ _ (sym good ∙ outcome_of v cur under) in
       let all : take taken s ≡ s = take_all taken s (omega (arith, whole)) in record {
-        bytes = w.bytes ++ s;
-        all = good_next v.plan v.parts cur w.bytes padded more under w.all end
-            ∙ ap (λ (l : List ℕ). joined_onto (w.bytes ++ l) (pads_with padded more)
-            (joined_from v.plan v.parts (cur + 1))) (sym is);
-        has = subst (HasWritten held takes faults old new)
-            (ap (λ (l : List ℕ). w.bytes ++ l) all ∙ sym (append-nil (w.bytes ++ s))) w.has;
+        bytes = is.bytes ++ s;
+        all = good_next v.plan v.parts cur is.bytes padded more under is.all end
+            ∙ ap (λ (l : List ℕ). joined_onto (is.bytes ++ l) (pads_with padded more)
+            (joined_from v.plan v.parts (cur + 1))) (sym same);
+        has = subst (λ (l : List ℕ). HasWritten held takes faults old new (window w l))
+            (ap (λ (l : List ℕ). is.bytes ++ l) all ∙ sym (append-nil (is.bytes ++ s))) is.has;
         count =
-            let count = w.count in let long = length-append w.bytes s in omega (arith, count, long, whole);
+            let count = is.count in let long = length-append is.bytes s in omega (arith, count, long, whole);
         within = omega arith;
         few =
-            let few = w.few in let long = length-append w.bytes s in let room = short cur in
+            let few = is.few in let long = length-append is.bytes s in let room = short cur in
             omega (arith, few, long, room);
         low = omega (arith, under);
       }
 
   -- the segment ended badly
-  pub bad_emitted : (cur taken : ℕ) (old new : Sink) (written : ℕ) (padded : PadSum) (fault : StreamFault)
-      → IsWrittenTo held takes faults v cur taken old new written padded
+  pub bad_emitted : (cur taken : ℕ) (old new : Sink) (came : ℕ) (padded : PadSum) (fault : StreamFault)
+      → IsWrittenTo held takes faults v w cur taken old new came padded
       → taken ≡ length (bytes_at (segments_bytes v) cur)
       → slice_get (segments_outcomes v) cur ≡ Some (Bad fault)
-      → Emits held takes faults full old new (joined_in v) (Err (Fault fault))
-  bad_emitted cur taken old new written padded fault w whole bad =
+      → Emits held takes faults full old new (seen_through w (joined_in v)) (Err (Fault fault))
+  bad_emitted cur taken old new came padded fault is whole bad =
       let s = bytes_at (segments_bytes v) cur in
       let under = outcome_within v cur (Bad fault) bad in
       let end : Bad fault ≡ (segment_output (segment_in v.plan v.parts cur)).1 =
       some_same _ _ (sym bad ∙ outcome_of v cur under) in
-      let next = bad_next v.plan v.parts cur w.bytes padded fault under w.all end in
+      let next = bad_next v.plan v.parts cur is.bytes padded fault under is.all end in
       let all : take taken s ≡ s = take_all taken s (omega (arith, whole)) in (
         next.0,
-        subst (HasWritten held takes faults old new)
-            (ap (λ (l : List ℕ). w.bytes ++ l) (all ∙ bytes_of v cur under) ∙ sym next.1) w.has,
+        subst (λ (l : List ℕ). HasWritten held takes faults old new (window w l))
+            (ap (λ (l : List ℕ). is.bytes ++ l) (all ∙ bytes_of v cur under) ∙ sym next.1) is.has,
       )
 
-  -- a write failed in the segment's next bytes
-  pub cut_short : (cur taken : ℕ) (old mid new : Sink) (written more : ℕ) (padded : PadSum)
-      → IsWrittenTo held takes faults v cur taken old mid written padded
-      → HasFailed held faults full mid new (drop taken (bytes_at (segments_bytes v) cur)) more
-      → HasFailed held faults full old new (joined_in v).bytes (written + more)
-  cut_short cur taken old mid new written more padded w failed =
+  -- a write failed in what goes through of the segment's next bytes
+  pub cut_short : (cur taken : ℕ) (old mid new : Sink) (came more : ℕ) (padded : PadSum)
+      → IsWrittenTo held takes faults v w cur taken old mid came padded
+      → HasFailed held faults full mid new
+      (window (after w came) (drop taken (bytes_at (segments_bytes v) cur))) more
+      → HasFailed held faults full old new (window w (joined_in v).bytes) (through w came + more)
+  cut_short cur taken old mid new came more padded is failed =
       let s = bytes_at (segments_bytes v) cur in
-      let next = rest_behind cur taken old mid written padded w in
-      let count = w.count in
-      let long = length-append w.bytes (take taken s) in
-      let first = length-take-le taken s w.within in
-      failed_later held takes faults full old mid new (w.bytes ++ take taken s) (drop taken s) next.0
-      (joined_in v).bytes written more w.has failed next.1 (omega (arith, count, long, first))
+      let next = rest_behind cur taken old mid came padded is in
+      failed_on held takes faults full w old mid new (is.bytes ++ take taken s) (drop taken s) next.0
+      (joined_in v).bytes came more (came_long cur taken old mid came padded is) is.has failed next.1
+
+  -- nothing follows the last segment
+  last_behind : (cur taken : ℕ) (old new : Sink) (came : ℕ) (padded : PadSum)
+      (is : IsWrittenTo held takes faults v w cur taken old new came padded)
+      → cur ≡ length v.parts.handovers → joined_in v ≡ joined_onto is.bytes padded (joined [])
+  last_behind cur taken old new came padded is over =
+      let left : length v.parts.handovers - cur ≡ 0 = omega (arith, over) in
+      is.all ∙ ap (λ (n : ℕ). joined_onto is.bytes padded
+      (joined (map (λ i. segment_output (segment_in v.plan v.parts i)) (numbers cur n)))) left
+
+  -- all came
+  pub all_came : (cur taken : ℕ) (old new : Sink) (came : ℕ) (padded : PadSum)
+      → IsWrittenTo held takes faults v w cur taken old new came padded
+      → cur ≡ length v.parts.handovers → came ≡ length (joined_in v).bytes
+  all_came cur taken old new came padded is over =
+      let last = last_behind cur taken old new came padded is over in
+      let long = bytes_long v in
+      let none = past_end (segments_bytes v) cur (omega (arith, long, over)) in
+      let within = is.within in
+      let count = is.count in
+      let empty = ap length none in
+      let whole = ap length (ap (λ (j : Joined). j.bytes) last) ∙ length-append is.bytes [] in
+      omega (arith, count, within, empty, whole)
 
   -- all are emitted
-  pub all_emitted : (cur taken : ℕ) (old new : Sink) (written : ℕ) (padded : PadSum)
-      → IsWrittenTo held takes faults v cur taken old new written padded
+  pub all_emitted : (cur taken : ℕ) (old new : Sink) (came : ℕ) (padded : PadSum)
+      → IsWrittenTo held takes faults v w cur taken old new came padded
       → cur ≡ length v.parts.handovers
-      → Emits held takes faults full old new (joined_in v) (Ok (record { bytes = written; pads = padded }))
-  all_emitted cur taken old new written padded w over =
+      → Emits held takes faults full old new (seen_through w (joined_in v))
+      (Ok (record { bytes = through w came; came = came; pads = padded }))
+  all_emitted cur taken old new came padded is over =
       let s = bytes_at (segments_bytes v) cur in
       let long = bytes_long v in
       let none : s ≡ [] = past_end (segments_bytes v) cur (omega (arith, long, over)) in
-      let left : length v.parts.handovers - cur ≡ 0 = omega (arith, over) in
-      let last : joined_in v ≡ joined_onto w.bytes padded (joined []) =
-      w.all ∙ ap (λ (n : ℕ). joined_onto w.bytes padded
-      (joined (map (λ i. segment_output (segment_in v.plan v.parts i)) (numbers cur n)))) left in
-      let within = w.within in
-      let count = w.count in
-      let empty = ap length none in
-      let whole = ap length (ap (λ (j : Joined). j.bytes) last) ∙ length-append w.bytes [] in (
+      let last = last_behind cur taken old new came padded is over in
+      let within = is.within in
+      let empty = ap length none in (
         ap (λ (j : Joined). j.fault) last,
-        omega (arith, count, within, empty, whole),
+        ap (through w) (all_came cur taken old new came padded is over) ∙ sym (is_counted w (joined_in v).bytes).0,
         sym (ap (λ (j : Joined). j.padded) last ∙ sums_none padded),
-        subst (HasWritten held takes faults old new)
-            (ap (λ (l : List ℕ). w.bytes ++ l)
-            (ap (take taken) none ∙ take_all taken [] (omega arith))
-            ∙ sym (ap (λ (j : Joined). j.bytes) last)) w.has,
+        subst (λ (l : List ℕ). HasWritten held takes faults old new (window w l))
+            (ap (λ (l : List ℕ). is.bytes ++ l)
+            (ap (take taken) none ∙ take_all taken [] (omega (arith, within, empty)))
+            ∙ sym (ap (λ (j : Joined). j.bytes) last)) is.has,
       )
 
 module _ {Sink : Type 0} (held : Sink → Option (List ℕ))
-    (takes : Sink → List ℕ → Type 0) (faults : Sink → ℕ) (full : Sink → Type 0) (table : TableId) (v : BoxSeen) where
+    (takes : Sink → List ℕ → Type 0) (faults : Sink → ℕ) (full : Sink → Type 0)
+    (table : TableId) (v : BoxSeen) (w : Window) where
   -- before the first call
   pub starts_emitting : (s : SeatValue BoxSeen EmitterView) (d : DecoderSeen) (sink : Sink)
-      → IsNewEmitter table v s d → IsEmitting held takes faults table v s d sink sink 0 no_pads
+      → IsNewEmitter table v s d → IsEmitting held takes faults table v w s d sink sink 0 no_pads
   starts_emitting s d sink n = record {
     used = record {
       own = n.own;
@@ -226,8 +261,8 @@ module _ {Sink : Type 0} (held : Sink → Option (List ℕ))
     };
     free = n.free;
     going = n.going;
-    so_far = moved held takes faults full v 0 s.view.cur 0 s.view.taken sink sink 0 no_pads n.cur n.taken
-        (none_emitted held takes faults full v sink);
+    so_far = moved held takes faults full v w 0 s.view.cur 0 s.view.taken sink sink 0 no_pads n.cur n.taken
+        (none_emitted held takes faults full v w sink);
   }
 
   -- the seat after one hold that claims nothing
@@ -251,37 +286,39 @@ module _ {Sink : Type 0} (held : Sink → Option (List ℕ))
 
   -- the sink takes bytes that were taken
   pub taken_next : (s t : SeatValue BoxSeen EmitterView) (d : DecoderSeen) (old mid : Sink)
-      (written n : ℕ) (padded : PadSum) (before now : List ℕ) → TakesNext takes old (joined_in v).bytes
-      → IsEmitting held takes faults table v s d old mid written padded
+      (came n : ℕ) (padded : PadSum) (before now : List ℕ) → TakesNext takes old (window w (joined_in v).bytes)
+      → IsEmitting held takes faults table v w s d old mid came padded
       → TakeGives (segments_bytes s.content) (segments_outcomes s.content) s t before now (Bytes n)
-      → length now ≡ length before → TakesNext takes mid (take n now)
-  taken_next s t d old mid written n padded before now next e give same =
+      → length now ≡ length before → TakesNext takes mid (window (after w came) (take n now))
+  taken_next s t d old mid came n padded before now next e give same =
       let g = gives_in s t before now (Bytes n) e.used.content give in
       let xs = drop s.view.taken (bytes_at (segments_bytes v) s.view.cur) in
       let least = g.5 in
       let f = front xs before now n g.1 same (omega (arith, least)) in
-      subst (TakesNext takes mid) (sym f.0)
-      (next_first takes mid (take n xs) (drop n xs) xs
-      (rest_taken held takes faults full v s.view.cur s.view.taken old mid written padded next e.so_far)
+      subst (λ (l : List ℕ). TakesNext takes mid (window (after w came) l)) (sym f.0)
+      (next_in takes (after w came) mid (take n xs) (drop n xs) xs
+      (rest_taken held takes faults full v w s.view.cur s.view.taken old mid came padded next e.so_far)
       (sym (take-append-drop n xs)))
 
   -- and a segment of the emitter's own
-  pub own_next : (s : SeatValue BoxSeen EmitterView) (d : DecoderSeen) (old mid : Sink) (written : ℕ)
-      (padded : PadSum) → TakesNext takes old (joined_in v).bytes
-      → IsEmitting held takes faults table v s d old mid written padded → TakesNext takes mid (own_rest s)
-  own_next s d old mid written padded next e =
-      subst (λ (c : BoxSeen). TakesNext takes mid (drop s.view.taken (bytes_at (segments_bytes c) s.view.cur)))
+  pub own_next : (s : SeatValue BoxSeen EmitterView) (d : DecoderSeen) (old mid : Sink) (came : ℕ)
+      (padded : PadSum) → TakesNext takes old (window w (joined_in v).bytes)
+      → IsEmitting held takes faults table v w s d old mid came padded
+      → TakesNext takes mid (window (after w came) (own_rest s))
+  own_next s d old mid came padded next e =
+      subst (λ (c : BoxSeen). TakesNext takes mid
+      (window (after w came) (drop s.view.taken (bytes_at (segments_bytes c) s.view.cur))))
       (sym e.used.content)
-      (rest_taken held takes faults full v s.view.cur s.view.taken old mid written padded next e.so_far)
+      (rest_taken held takes faults full v w s.view.cur s.view.taken old mid came padded next e.so_far)
 
   -- bytes were taken and written
   pub bytes_taken : (s t : SeatValue BoxSeen EmitterView) (d : DecoderSeen) (old mid new : Sink)
-      (written n : ℕ) (padded : PadSum) (before now : List ℕ)
-      → IsEmitting held takes faults table v s d old mid written padded → HasHeldOnce s t
+      (came n : ℕ) (padded : PadSum) (before now : List ℕ)
+      → IsEmitting held takes faults table v w s d old mid came padded → HasHeldOnce s t
       → TakeGives (segments_bytes s.content) (segments_outcomes s.content) s t before now (Bytes n)
-      → length now ≡ length before → HasWritten held takes faults mid new (take n now)
-      → IsEmitting held takes faults table v t d old new (written + n) padded
-  bytes_taken s t d old mid new written n padded before now e h give same has =
+      → length now ≡ length before → HasWritten held takes faults mid new (window (after w came) (take n now))
+      → IsEmitting held takes faults table v w t d old new (came + n) padded
+  bytes_taken s t d old mid new came n padded before now e h give same has =
       let g = gives_in s t before now (Bytes n) e.used.content give in
       let view : t.view ≡ record s.view { taken = s.view.taken + n } = g.0 in
       let xs = drop s.view.taken (bytes_at (segments_bytes v) s.view.cur) in
@@ -292,89 +329,89 @@ module _ {Sink : Type 0} (held : Sink → Option (List ℕ))
       let within = e.so_far.within in
       record {
         used = used_after s t d e.used h g.3.0.claims;
-        free = ap (λ (w : EmitterView). w.owns) view ∙ e.free;
-        going = ap (λ (w : EmitterView). w.stopped) view ∙ e.going;
-        so_far = moved held takes faults full v s.view.cur t.view.cur (s.view.taken + n) t.view.taken
-            old new (written + n) padded (ap (λ (w : EmitterView). w.cur) view)
-            (ap (λ (w : EmitterView). w.taken) view)
-            (more_emitted held takes faults full v s.view.cur s.view.taken n old mid new written padded
+        free = ap (λ (x : EmitterView). x.owns) view ∙ e.free;
+        going = ap (λ (x : EmitterView). x.stopped) view ∙ e.going;
+        so_far = moved held takes faults full v w s.view.cur t.view.cur (s.view.taken + n) t.view.taken
+            old new (came + n) padded (ap (λ (x : EmitterView). x.cur) view)
+            (ap (λ (x : EmitterView). x.taken) view)
+            (more_emitted held takes faults full v w s.view.cur s.view.taken n old mid new came padded
             e.so_far (omega (arith, few, long, within))
-            (subst (HasWritten held takes faults mid new) f.0 has));
+            (subst (λ (l : List ℕ). HasWritten held takes faults mid new (window (after w came) l)) f.0 has));
       }
 
   -- a write of bytes that were taken failed
   pub taken_failed : (s t : SeatValue BoxSeen EmitterView) (d : DecoderSeen) (old mid new : Sink)
-      (written n more : ℕ) (padded : PadSum) (before now : List ℕ)
-      → IsEmitting held takes faults table v s d old mid written padded
+      (came n more : ℕ) (padded : PadSum) (before now : List ℕ)
+      → IsEmitting held takes faults table v w s d old mid came padded
       → TakeGives (segments_bytes s.content) (segments_outcomes s.content) s t before now (Bytes n)
-      → length now ≡ length before → HasFailed held faults full mid new (take n now) more
-      → HasFailed held faults full old new (joined_in v).bytes (written + more)
-  taken_failed s t d old mid new written n more padded before now e give same failed =
+      → length now ≡ length before → HasFailed held faults full mid new (window (after w came) (take n now)) more
+      → HasFailed held faults full old new (window w (joined_in v).bytes) (through w came + more)
+  taken_failed s t d old mid new came n more padded before now e give same failed =
       let g = gives_in s t before now (Bytes n) e.used.content give in
       let xs = drop s.view.taken (bytes_at (segments_bytes v) s.view.cur) in
       let least = g.5 in
       let f = front xs before now n g.1 same (omega (arith, least)) in
-      cut_short held takes faults full v s.view.cur s.view.taken old mid new written more padded e.so_far
-      (failed_first held takes faults full mid new (take n xs) (drop n xs) xs more
-      (subst (λ (l : List ℕ). HasFailed held faults full mid new l more) f.0 failed)
+      cut_short held takes faults full v w s.view.cur s.view.taken old mid new came more padded e.so_far
+      (failed_in held takes faults full (after w came) mid new (take n xs) (drop n xs) xs more
+      (subst (λ (l : List ℕ). HasFailed held faults full mid new (window (after w came) l) more) f.0 failed)
       (sym (take-append-drop n xs)))
 
   -- the segment that is emitted ended well
   pub good_taken : AreShort v → (s t : SeatValue BoxSeen EmitterView) (d : DecoderSeen)
-      (old new : Sink) (written : ℕ) (padded more both : PadSum) (outcome : Outcome)
-      (before now : List ℕ) → IsEmitting held takes faults table v s d old new written padded
+      (old new : Sink) (came : ℕ) (padded more both : PadSum) (outcome : Outcome)
+      (before now : List ℕ) → IsEmitting held takes faults table v w s d old new came padded
       → HasHeldOnce s t → outcome ≡ Good more → both ≡ pads_with padded more
       → TakeGives (segments_bytes s.content) (segments_outcomes s.content) s t before now (Ended outcome)
-      → IsEmitting held takes faults table v t d old new written both
-  good_taken short s t d old new written padded more both outcome before now e h is sum give =
+      → IsEmitting held takes faults table v w t d old new came both
+  good_taken short s t d old new came padded more both outcome before now e h is sum give =
       let g = subst (λ (o : Outcome). TakeGives (segments_bytes v) (segments_outcomes v) s t before now (Ended o))
       is (gives_in s t before now (Ended outcome) e.used.content give) in
       let view : t.view ≡ record s.view { cur = s.view.cur + 1; taken = 0 } = g.0 in
       record {
         used = used_after s t d e.used h g.5.0.claims;
-        free = ap (λ (w : EmitterView). w.owns) view ∙ e.free;
-        going = ap (λ (w : EmitterView). w.stopped) view ∙ e.going;
-        so_far = moved held takes faults full v (s.view.cur + 1) t.view.cur 0 t.view.taken
-            old new written both (ap (λ (w : EmitterView). w.cur) view)
-            (ap (λ (w : EmitterView). w.taken) view)
-            (subst (IsWrittenTo held takes faults v (s.view.cur + 1) 0 old new written) (sym sum)
-            (good_emitted held takes faults full v short s.view.cur s.view.taken old new written padded more
+        free = ap (λ (x : EmitterView). x.owns) view ∙ e.free;
+        going = ap (λ (x : EmitterView). x.stopped) view ∙ e.going;
+        so_far = moved held takes faults full v w (s.view.cur + 1) t.view.cur 0 t.view.taken
+            old new came both (ap (λ (x : EmitterView). x.cur) view)
+            (ap (λ (x : EmitterView). x.taken) view)
+            (subst (IsWrittenTo held takes faults v w (s.view.cur + 1) 0 old new came) (sym sum)
+            (good_emitted held takes faults full v w short s.view.cur s.view.taken old new came padded more
             e.so_far g.3 g.2));
       }
 
   -- and badly
   pub bad_taken : (s t : SeatValue BoxSeen EmitterView) (d : DecoderSeen) (old new : Sink)
-      (written : ℕ) (padded : PadSum) (fault : StreamFault) (outcome : Outcome)
-      (before now : List ℕ) → IsEmitting held takes faults table v s d old new written padded
+      (came : ℕ) (padded : PadSum) (fault : StreamFault) (outcome : Outcome)
+      (before now : List ℕ) → IsEmitting held takes faults table v w s d old new came padded
       → outcome ≡ Bad fault
       → TakeGives (segments_bytes s.content) (segments_outcomes s.content) s t before now (Ended outcome)
-      → Emits held takes faults full old new (joined_in v) (Err (Fault fault))
-  bad_taken s t d old new written padded fault outcome before now e is give =
+      → Emits held takes faults full old new (seen_through w (joined_in v)) (Err (Fault fault))
+  bad_taken s t d old new came padded fault outcome before now e is give =
       let g = subst (λ (o : Outcome). TakeGives (segments_bytes v) (segments_outcomes v) s t before now (Ended o))
       is (gives_in s t before now (Ended outcome) e.used.content give) in
-      bad_emitted held takes faults full v s.view.cur s.view.taken old new written padded fault e.so_far g.3 g.2
+      bad_emitted held takes faults full v w s.view.cur s.view.taken old new came padded fault e.so_far g.3 g.2
 
   -- a take that gave nothing
   pub same_emitted : (s t : SeatValue BoxSeen EmitterView) (d : DecoderSeen) (old new : Sink)
-      (written : ℕ) (padded : PadSum) → IsEmitting held takes faults table v s d old new written padded
+      (came : ℕ) (padded : PadSum) → IsEmitting held takes faults table v w s d old new came padded
       → HasHeldOnce s t → t.claims ≡ s.claims → t.view ≡ s.view
-      → IsEmitting held takes faults table v t d old new written padded
-  same_emitted s t d old new written padded e h claims view = record {
+      → IsEmitting held takes faults table v w t d old new came padded
+  same_emitted s t d old new came padded e h claims view = record {
     used = used_after s t d e.used h claims;
-    free = ap (λ (w : EmitterView). w.owns) view ∙ e.free;
-    going = ap (λ (w : EmitterView). w.stopped) view ∙ e.going;
-    so_far = moved held takes faults full v s.view.cur t.view.cur s.view.taken t.view.taken old new written
-        padded (ap (λ (w : EmitterView). w.cur) view) (ap (λ (w : EmitterView). w.taken) view) e.so_far;
+    free = ap (λ (x : EmitterView). x.owns) view ∙ e.free;
+    going = ap (λ (x : EmitterView). x.stopped) view ∙ e.going;
+    so_far = moved held takes faults full v w s.view.cur t.view.cur s.view.taken t.view.taken old new came
+        padded (ap (λ (x : EmitterView). x.cur) view) (ap (λ (x : EmitterView). x.taken) view) e.so_far;
   }
 
   -- a segment of the emitter's own
   pub own_emitted : (s t : SeatValue BoxSeen EmitterView) (d later : DecoderSeen) (old mid new : Sink)
-      (written count : ℕ) (padded : PadSum)
-      → IsEmitting held takes faults table v s d old mid written padded
-      → OwnEnds held takes faults full s t mid new (Ok count)
+      (came count : ℕ) (padded : PadSum)
+      → IsEmitting held takes faults table v w s d old mid came padded
+      → OwnEnds held takes faults full (after w came) s t mid new (Ok count)
       → t.table ≡ s.table → t.content ≡ s.content → later.begun ≡ t.claims → later.plan ≡ d.plan
-      → IsEmitting held takes faults table v t later old new (written + count) padded
-  own_emitted s t d later old mid new written count padded e own same content begun plan =
+      → IsEmitting held takes faults table v w t later old new (came + count) padded
+  own_emitted s t d later old mid new came count padded e own same content begun plan =
       let view = own.2 in
       let is : own_rest s ≡ drop s.view.taken (bytes_at (segments_bytes v) s.view.cur) =
       ap (λ (c : BoxSeen). drop s.view.taken (bytes_at (segments_bytes c) s.view.cur)) e.used.content in
@@ -385,28 +422,28 @@ module _ {Sink : Type 0} (held : Sink → Option (List ℕ))
           plan = plan ∙ e.used.plan;
           begun = begun;
         };
-        free = ap (λ (w : EmitterView). w.owns) view;
-        going = ap (λ (w : EmitterView). w.stopped) view ∙ e.going;
-        so_far = moved held takes faults full v s.view.cur t.view.cur (s.view.taken + count) t.view.taken
-            old new (written + count) padded (ap (λ (w : EmitterView). w.cur) view)
-            (ap (λ (w : EmitterView). w.taken) view)
-            (more_emitted held takes faults full v s.view.cur s.view.taken count old mid new written padded
+        free = ap (λ (x : EmitterView). x.owns) view;
+        going = ap (λ (x : EmitterView). x.stopped) view ∙ e.going;
+        so_far = moved held takes faults full v w s.view.cur t.view.cur (s.view.taken + count) t.view.taken
+            old new (came + count) padded (ap (λ (x : EmitterView). x.cur) view)
+            (ap (λ (x : EmitterView). x.taken) view)
+            (more_emitted held takes faults full v w s.view.cur s.view.taken count old mid new came padded
             e.so_far
             (subst (λ (c : BoxSeen). s.view.taken + count ≤ length (bytes_at (segments_bytes c) s.view.cur))
             e.used.content own.1)
-            (subst (λ (l : List ℕ). HasWritten held takes faults mid new (take count l)) is own.0));
+            (subst (λ (l : List ℕ). HasWritten held takes faults mid new (window (after w came) (take count l))) is own.0));
       }
 
   -- in which a write failed
   pub own_failed : (s t : SeatValue BoxSeen EmitterView) (d : DecoderSeen) (old mid new : Sink)
-      (written more : ℕ) (padded : PadSum)
-      → IsEmitting held takes faults table v s d old mid written padded
-      → OwnEnds held takes faults full s t mid new (Err more)
-      → HasFailed held faults full old new (joined_in v).bytes (written + more)
-  own_failed s t d old mid new written more padded e own =
-      cut_short held takes faults full v s.view.cur s.view.taken old mid new written more padded e.so_far
+      (came more : ℕ) (padded : PadSum)
+      → IsEmitting held takes faults table v w s d old mid came padded
+      → OwnEnds held takes faults full (after w came) s t mid new (Err more)
+      → HasFailed held faults full old new (window w (joined_in v).bytes) (through w came + more)
+  own_failed s t d old mid new came more padded e own =
+      cut_short held takes faults full v w s.view.cur s.view.taken old mid new came more padded e.so_far
       (subst (λ (c : BoxSeen). HasFailed held faults full mid new
-      (drop s.view.taken (bytes_at (segments_bytes c) s.view.cur)) more) e.used.content own.0)
+      (window (after w came) (drop s.view.taken (bytes_at (segments_bytes c) s.view.cur))) more) e.used.content own.0)
 
   -- the next segment is emitted after a good one
   pub good_cur : (s t : SeatValue BoxSeen EmitterView) (more : PadSum) (outcome : Outcome)
@@ -416,7 +453,7 @@ module _ {Sink : Type 0} (held : Sink → Option (List ℕ))
   good_cur s t more outcome before now is give =
       let g = subst (λ (o : Outcome). TakeGives (segments_bytes s.content) (segments_outcomes s.content) s t before now (Ended o))
       is give in
-      ap (λ (w : EmitterView). w.cur) g.0
+      ap (λ (x : EmitterView). x.cur) g.0
 
   -- which is a segment of the container
   pub good_within : (s t : SeatValue BoxSeen EmitterView) (more : PadSum) (outcome : Outcome)

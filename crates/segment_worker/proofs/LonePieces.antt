@@ -1,10 +1,8 @@
 -- Pieces of a segment that one thread decodes, written one after another.
-use Rattle.std.proofs.Common.{◌≡◌, ℕ, ◌+◌, ◌*◌, ◌^◌, ◌<◌, ◌≤◌, true, List, [], ◌++◌, length, take, refl, sym, ap, ap₂, subst, ◌∙◌, arith, append_assoc, append-nil, length-append, Option, ◌⊎◌}
-use Rattle.std.specs.Io.KnownBytes.{Appends}
-use Rattle.std.proofs.KnownBytes.{Appends-trans, Appends-nil}
-use Rattle.outside_core.specs.Faults.{Rose}
+use Rattle.std.proofs.Common.{◌≡◌, ℕ, ◌+◌, ◌*◌, ◌^◌, ◌<◌, ◌≤◌, true, List, [], ◌++◌, length, refl, sym, ap, ap₂, subst, ◌∙◌, arith, append_assoc, append-nil, length-append, Option}
 use Rattle.outside_core.specs.Takes.{TakesNext}
-use Rattle.outside_core.proofs.TextTaken.{moves_later}
+use Rattle.byte_window.specs.declared.window.Window.{Window}
+use Rattle.byte_window.specs.Windows.{window, after, through}
 use Rattle.bit_list.specs.Pieces.{piece_room}
 use Rattle.handover.specs.declared.pads.PadSum.{PadSum}
 use Rattle.handover.specs.declared.outcome.Outcome.{Outcome}
@@ -15,7 +13,7 @@ use Rattle.segment_code.specs.declared.step.Step.{Step}
 use Rattle.segment_code.specs.declared.step.Step.TheVariants.{More, Done, Fault}
 use Rattle.segment_worker.specs.Written.{HasWritten, HasFailed}
 use Rattle.segment_worker.specs.LoneSegments.{OwesSome, UnderWay}
-use Rattle.segment_worker.proofs.Writing.{take_into, next_between}
+use Rattle.segment_worker.proofs.Writing.{written_nothing, written_on, failed_on, next_on}
 
 -- a step gives the first of the bytes that were owed
 paid_first : (step : Step) (bytes out : List ℕ) (outcome : Outcome) (old new : DecoderSeen)
@@ -31,10 +29,10 @@ PaysAll step out old new =
     → Pays step bytes outcome out old new
 
 module _ {Sink : Type 0} (held : Sink → Option (List ℕ))
-    (takes : Sink → List ℕ → Type 0) (faults : Sink → ℕ) (full : Sink → Type 0) where
+    (takes : Sink → List ℕ → Type 0) (faults : Sink → ℕ) (full : Sink → Type 0) (w : Window) where
   -- before the first piece
   pub none_written : (d : DecoderSeen) (sink : Sink) → d.running ≡ true → OwesSome d
-      → UnderWay held takes faults d d sink sink 0
+      → UnderWay held takes faults w d d sink sink 0
   none_written d sink running some = record {
     running = running;
     some = some;
@@ -43,8 +41,8 @@ module _ {Sink : Type 0} (held : Sink → Option (List ℕ))
       more = bytes;
       parts = refl;
       owes = owes;
-      appended = Appends-nil (held sink);
-      onward = λ rest t. t;
+      appended = (written_nothing held takes faults full w sink).appended;
+      onward = (written_nothing held takes faults full w sink).onward;
       count = refl;
     };
     unfailed = refl;
@@ -54,23 +52,23 @@ module _ {Sink : Type 0} (held : Sink → Option (List ℕ))
   }
 
   -- the sink takes the next piece
-  pub piece_taken : (step : Step) (from now new : DecoderSeen) (old mid : Sink) (written : ℕ) (out : List ℕ)
-      (owed : OwesSome from) → TakesNext takes old owed.bytes
-      → UnderWay held takes faults from now old mid written → PaysAll step out now new
-      → TakesNext takes mid out
-  piece_taken step from now new old mid written out owed next u pays =
+  pub piece_taken : (step : Step) (from now new : DecoderSeen) (old mid : Sink) (came : ℕ) (out : List ℕ)
+      (owed : OwesSome from) → TakesNext takes old (window w owed.bytes)
+      → UnderWay held takes faults w from now old mid came → PaysAll step out now new
+      → TakesNext takes mid (window (after w came) out)
+  piece_taken step from now new old mid came out owed next u pays =
       let f = u.each owed.bytes owed.outcome owed.owes in
       let p = paid_first step f.more out owed.outcome now new (pays f.more owed.outcome f.owes) in
-      next_between takes old mid f.first out p.0 owed.bytes next f.onward
+      next_on takes w old mid f.first out p.0 owed.bytes came f.count next f.onward
       (f.parts ∙ ap (λ (m : List ℕ). f.first ++ m) p.1)
 
   -- a piece more
-  pub more_written : (from now new : DecoderSeen) (old mid sink : Sink) (written : ℕ) (out : List ℕ)
-      (count : ℕ) → UnderWay held takes faults from now old mid written → PaysAll More out now new
-      → HasWritten held takes faults mid sink out → count ≡ length out
+  pub more_written : (from now new : DecoderSeen) (old mid sink : Sink) (came : ℕ) (out : List ℕ)
+      (count : ℕ) → UnderWay held takes faults w from now old mid came → PaysAll More out now new
+      → HasWritten held takes faults mid sink (window (after w came) out) → count ≡ length out
       → length out ≤ piece_room → new.begun ≡ now.begun → new.plan ≡ now.plan
-      → (new.left < now.left) × UnderWay held takes faults from new old sink (written + count)
-  more_written from now new old mid sink written out count u pays has e room begun plan =
+      → (new.left < now.left) × UnderWay held takes faults w from new old sink (came + count)
+  more_written from now new old mid sink came out count u pays has e room begun plan =
       let paid = pays u.some.bytes u.some.outcome u.some.owes in (
         paid.2,
         record {
@@ -79,14 +77,16 @@ module _ {Sink : Type 0} (held : Sink → Option (List ℕ))
           each = λ bytes outcome owes.
               let f = u.each bytes outcome owes in
               let p = pays f.more outcome f.owes in
+              let on = written_on held takes faults full w old mid sink f.first out came f.count
+              (record { appended = f.appended; unfailed = u.unfailed; onward = f.onward }) has in
               record {
                 first = f.first ++ out;
                 more = p.0;
                 parts = f.parts ∙ ap (λ (l : List ℕ). f.first ++ l) p.1
                     ∙ sym (append_assoc f.first out p.0);
                 owes = p.5;
-                appended = Appends-trans (held old) (held mid) (held sink) f.first out f.appended has.appended;
-                onward = moves_later takes old mid sink f.first out f.onward has.onward;
+                appended = on.appended;
+                onward = on.onward;
                 count = ap₂ (λ (a b : ℕ). a + b) f.count e ∙ sym (length-append f.first out);
               };
           unfailed = has.unfailed ∙ u.unfailed;
@@ -97,25 +97,23 @@ module _ {Sink : Type 0} (held : Sink → Option (List ℕ))
       )
 
   -- the last piece
-  pub all_written : (step : Step) (from now new : DecoderSeen) (old mid sink : Sink) (written : ℕ)
-      (out : List ℕ) (count : ℕ) (end : Outcome) → UnderWay held takes faults from now old mid written
+  pub all_written : (step : Step) (from now new : DecoderSeen) (old mid sink : Sink) (came : ℕ)
+      (out : List ℕ) (count : ℕ) (end : Outcome) → UnderWay held takes faults w from now old mid came
       → PaysAll step out now new
       → ((bytes : List ℕ) (outcome : Outcome) → Pays step bytes outcome out now new
       → (bytes ≡ out) × (outcome ≡ end))
-      → HasWritten held takes faults mid sink out → count ≡ length out
+      → HasWritten held takes faults mid sink (window (after w came) out) → count ≡ length out
       → (bytes : List ℕ) (outcome : Outcome) → Owes from bytes outcome
-      → (written + count ≡ length bytes) × (end ≡ outcome) × HasWritten held takes faults old sink bytes
-  all_written step from now new old mid sink written out count end u pays last has e bytes outcome owes =
+      → (came + count ≡ length bytes) × (end ≡ outcome) × HasWritten held takes faults old sink (window w bytes)
+  all_written step from now new old mid sink came out count end u pays last has e bytes outcome owes =
       let f = u.each bytes outcome owes in
       let l = last f.more outcome (pays f.more outcome f.owes) in
       let whole : bytes ≡ f.first ++ out = f.parts ∙ ap (λ (m : List ℕ). f.first ++ m) l.0 in (
         ap₂ (λ (a b : ℕ). a + b) f.count e ∙ sym (length-append f.first out) ∙ ap length (sym whole),
         sym l.1,
-        subst (HasWritten held takes faults old sink) (sym whole) (record {
-          appended = Appends-trans (held old) (held mid) (held sink) f.first out f.appended has.appended;
-          unfailed = has.unfailed ∙ u.unfailed;
-          onward = moves_later takes old mid sink f.first out f.onward has.onward;
-        }),
+        subst (λ (l : List ℕ). HasWritten held takes faults old sink (window w l)) (sym whole)
+            (written_on held takes faults full w old mid sink f.first out came f.count
+            (record { appended = f.appended; unfailed = u.unfailed; onward = f.onward }) has),
       )
 
   pub done_last : (pads : PadSum) (out : List ℕ) (now new : DecoderSeen) (bytes : List ℕ)
@@ -129,35 +127,23 @@ module _ {Sink : Type 0} (held : Sink → Option (List ℕ))
   fault_last fault out now new bytes outcome p = (p.0, p.1)
 
   -- a write of a piece that failed
-  pub write_failed : (step : Step) (from now new : DecoderSeen) (old mid sink : Sink) (written more : ℕ)
-      (out : List ℕ) → UnderWay held takes faults from now old mid written → PaysAll step out now new
-      → Appends (held mid) (held sink) (take more out) → more < length out
-      → Rose faults full mid sink
+  pub write_failed : (step : Step) (from now new : DecoderSeen) (old mid sink : Sink) (came more : ℕ)
+      (out : List ℕ) → UnderWay held takes faults w from now old mid came → PaysAll step out now new
+      → HasFailed held faults full mid sink (window (after w came) out) more
       → (bytes : List ℕ) (outcome : Outcome) → Owes from bytes outcome
-      → HasFailed held faults full old sink bytes (written + more)
-  write_failed step from now new old mid sink written more out u pays appended short rose bytes outcome owes =
+      → HasFailed held faults full old sink (window w bytes) (through w came + more)
+  write_failed step from now new old mid sink came more out u pays failed bytes outcome owes =
       let f = u.each bytes outcome owes in
       let p = paid_first step f.more out outcome now new (pays f.more outcome f.owes) in
-      let whole : bytes ≡ f.first ++ (out ++ p.0) = f.parts ∙ ap (λ (m : List ℕ). f.first ++ m) p.1 in
-      let long : length (f.first ++ (out ++ p.0)) ≡ length f.first + (length out + length p.0) =
-      length-append f.first (out ++ p.0) ∙ ap (λ (n : ℕ). length f.first + n) (length-append out p.0) in
-      let some : take (written + more) bytes ≡ f.first ++ take more out =
-      ap₂ (λ (n : ℕ) (l : List ℕ). take (n + more) l) f.count whole
-      ∙ take_into f.first out p.0 more (omega arith) in
-      let all = ap length whole in
-      let count = f.count in
-      record {
-        rose = subst (λ (n : ℕ). (n < faults sink) ⊎ full sink) u.unfailed rose;
-        short = omega (arith, all, long, count, short);
-        appended = subst (Appends (held old) (held sink)) (sym some)
-            (Appends-trans (held old) (held mid) (held sink) f.first (take more out) f.appended appended);
-      }
+      failed_on held takes faults full w old mid sink f.first out p.0 bytes came more f.count
+      (record { appended = f.appended; unfailed = u.unfailed; onward = f.onward }) failed
+      (f.parts ∙ ap (λ (m : List ℕ). f.first ++ m) p.1)
 
   -- a piece is no more than what was left room for
-  pub piece_fits : (from now : DecoderSeen) (old mid : Sink) (written count : ℕ)
-      → UnderWay held takes faults from now old mid written → count ≤ piece_room
-      → from.left < 2 ^ 32 → written + count ≤ piece_room * 2 ^ 32
-  piece_fits from now old mid written count u room few =
+  pub piece_fits : (from now : DecoderSeen) (old mid : Sink) (came count : ℕ)
+      → UnderWay held takes faults w from now old mid came → count ≤ piece_room
+      → from.left < 2 ^ 32 → came + count ≤ piece_room * 2 ^ 32
+  piece_fits from now old mid came count u room few =
       let stands = u.some.owes.stands in
       let some : 0 < now.left = subst (λ (n : ℕ). 0 < n) (sym stands.holds.still) stands.some in
       omega (arith, u.few, some, room, few)

@@ -4,6 +4,8 @@ use Rattle.std.specs.Prelude.{slice_get}
 use lib.Seq.{take-add, drop-drop, length-take-le}
 use lib.ListN.{length-drop, take-append-drop}
 use Rattle.outside_core.specs.Takes.{TakesNext}
+use Rattle.byte_window.specs.declared.window.Window.{Window}
+use Rattle.byte_window.specs.Windows.{window, after, through}
 use Rattle.handover.specs.declared.pads.PadSum.{PadSum}
 use Rattle.handover.specs.declared.outcome.Outcome.{Outcome}
 use Rattle.handover.specs.declared.outcome.Outcome.TheVariants.{Good, Bad}
@@ -22,7 +24,7 @@ use Rattle.segment_worker.specs.Written.{HasWritten, HasFailed}
 use Rattle.segment_worker.specs.OwnSegments.{OwesRest, IsSameSeat, IsPassing, own_rest, OwnEnds}
 use Rattle.segment_worker.proofs.Tails.{rest_after, first_of_rest, rest_within, rest_ends}
 use Rattle.segment_worker.proofs.ContentsTold.{bytes_of, outcome_of}
-use Rattle.segment_worker.proofs.Writing.{written_none, written_later, failed_later, next_between}
+use Rattle.segment_worker.proofs.Writing.{written_nothing, written_on, failed_on, next_on}
 
 -- whoever owes pays
 abbrev pub PaysAll : Step → List ℕ → DecoderSeen → DecoderSeen → Type 0
@@ -124,18 +126,18 @@ claimed_rest from mid content view =
     λ i. drop (view i).taken (bytes_at (segments_bytes (content i)) (view i).cur)
 
 module _ {Sink : Type 0} (held : Sink → Option (List ℕ))
-    (takes : Sink → List ℕ → Type 0) (faults : Sink → ℕ) (full : Sink → Type 0) where
+    (takes : Sink → List ℕ → Type 0) (faults : Sink → ℕ) (full : Sink → Type 0) (w : Window) where
   -- before the first piece
   pub starts_passing : (s : SeatValue BoxSeen EmitterView) (d : DecoderSeen) (sink : Sink)
       → d.running ≡ true → OwesRest s.content s.view.cur s.view.taken d
-      → IsPassing held takes faults s s d d sink sink 0
+      → IsPassing held takes faults w s s d d sink sink 0
   starts_passing s d sink running owes =
       let e : s.view.taken ≡ s.view.taken + 0 = omega arith in record {
         same = record { table = refl; content = refl; claims = refl };
         view = ap (λ (n : ℕ). record s.view { taken = n }) e;
         running = running;
         owes = subst (λ (n : ℕ). OwesRest s.content s.view.cur n d) e owes;
-        has = written_none held takes faults full sink;
+        has = written_nothing held takes faults full w sink;
         begun_is = refl;
         plan = refl;
       }
@@ -143,7 +145,7 @@ module _ {Sink : Type 0} (held : Sink → Option (List ℕ))
   -- what follows the bytes that were written begins with the next piece
   piece_behind : (from now : SeatValue BoxSeen EmitterView) (begun d new : DecoderSeen)
       (old mid : Sink) (written : ℕ) (step : Step) (out : List ℕ)
-      → IsPassing held takes faults from now begun d old mid written → PaysAll step out d new
+      → IsPassing held takes faults w from now begun d old mid written → PaysAll step out d new
       → (more : List ℕ) × (own_rest from ≡ take written (own_rest from) ++ (out ++ more))
   piece_behind from now begun d new old mid written step out p pays =
       let s = bytes_at (segments_bytes from.content) from.view.cur in
@@ -154,40 +156,51 @@ module _ {Sink : Type 0} (held : Sink → Option (List ℕ))
             (drop-drop written from.view.taken s ∙ next.1),
       )
 
-  -- the sink takes the next piece
+  -- the segment's bytes so far, and how many
+  came_long : (from now : SeatValue BoxSeen EmitterView) (begun d : DecoderSeen) (old mid : Sink)
+      (written : ℕ) → IsPassing held takes faults w from now begun d old mid written
+      → written ≡ length (take written (own_rest from))
+  came_long from now begun d old mid written p =
+      let long = length-drop from.view.taken (bytes_at (segments_bytes from.content) from.view.cur) in
+      let within = p.owes.within in
+      sym (length-take-le written (own_rest from) (omega (arith, long, within)))
+
+  -- the sink takes what goes through of the next piece
   pub piece_taken : (from now : SeatValue BoxSeen EmitterView) (begun d new : DecoderSeen)
-      (old mid : Sink) (written : ℕ) (step : Step) (out : List ℕ) → TakesNext takes old (own_rest from)
-      → IsPassing held takes faults from now begun d old mid written → PaysAll step out d new
-      → TakesNext takes mid out
+      (old mid : Sink) (written : ℕ) (step : Step) (out : List ℕ) → TakesNext takes old (window w (own_rest from))
+      → IsPassing held takes faults w from now begun d old mid written → PaysAll step out d new
+      → TakesNext takes mid (window (after w written) out)
   piece_taken from now begun d new old mid written step out next p pays =
       let b = piece_behind from now begun d new old mid written step out p pays in
-      next_between takes old mid (take written (own_rest from)) out b.0 (own_rest from) next p.has.onward b.1
+      next_on takes w old mid (take written (own_rest from)) out b.0 (own_rest from) written
+      (came_long from now begun d old mid written p) next p.has.onward b.1
 
-  -- bytes of a piece were written
+  -- what goes through of a piece was written
   piece_written : (from now : SeatValue BoxSeen EmitterView) (begun d new : DecoderSeen)
       (old mid sink : Sink) (written : ℕ) (step : Step) (out : List ℕ)
-      → IsPassing held takes faults from now begun d old mid written → PaysAll step out d new
-      → HasWritten held takes faults mid sink out
-      → HasWritten held takes faults old sink (take (written + length out) (own_rest from))
+      → IsPassing held takes faults w from now begun d old mid written → PaysAll step out d new
+      → HasWritten held takes faults mid sink (window (after w written) out)
+      → HasWritten held takes faults old sink (window w (take (written + length out) (own_rest from)))
   piece_written from now begun d new old mid sink written step out p pays has =
       let s = bytes_at (segments_bytes from.content) from.view.cur in
       let next = owed_next from.content from.view.cur (from.view.taken + written) step out d new p.owes pays in
       let rest : drop written (own_rest from) ≡ out ++ next.0 =
       drop-drop written from.view.taken s ∙ next.1 in
-      subst (HasWritten held takes faults old sink)
+      subst (λ (l : List ℕ). HasWritten held takes faults old sink (window w l))
       (sym (take-add written (length out) (own_rest from)
       ∙ ap (λ (l : List ℕ). take written (own_rest from) ++ l)
       (first_of_rest (own_rest from) out next.0 written rest)))
-      (written_later held takes faults full old mid sink _ _ p.has has)
+      (written_on held takes faults full w old mid sink _ _ written (came_long from now begun d old mid written p)
+      p.has has)
 
   -- a piece was written, and isn't the last
   pub piece_passed : (from now later : SeatValue BoxSeen EmitterView) (begun d new : DecoderSeen)
       (old mid sink : Sink) (written : ℕ) (out : List ℕ)
-      → IsPassing held takes faults from now begun d old mid written → PaysAll More out d new
-      → HasWritten held takes faults mid sink out → IsSameSeat now later
+      → IsPassing held takes faults w from now begun d old mid written → PaysAll More out d new
+      → HasWritten held takes faults mid sink (window (after w written) out) → IsSameSeat now later
       → later.view ≡ record now.view { taken = now.view.taken + length out }
       → new.begun ≡ d.begun → new.plan ≡ d.plan
-      → (new.left < d.left) × IsPassing held takes faults from later begun new old sink (written + length out)
+      → (new.left < d.left) × IsPassing held takes faults w from later begun new old sink (written + length out)
   piece_passed from now later begun d new old mid sink written out p pays has same view count plan =
       let next = owed_later from.content from.view.cur (from.view.taken + written) out d new p.owes pays in
       let sum : (from.view.taken + written) + length out ≡ from.view.taken + (written + length out) =
@@ -200,7 +213,7 @@ module _ {Sink : Type 0} (held : Sink → Option (List ℕ))
             claims = same.claims ∙ p.same.claims;
           };
           view = view
-              ∙ ap (λ (w : EmitterView). record w { taken = w.taken + length out }) p.view
+              ∙ ap (λ (x : EmitterView). record x { taken = x.taken + length out }) p.view
               ∙ ap (λ (n : ℕ). record from.view { taken = n }) sum;
           running = next.1;
           owes = subst (λ (n : ℕ). OwesRest from.content from.view.cur n new) sum next.2;
@@ -213,7 +226,7 @@ module _ {Sink : Type 0} (held : Sink → Option (List ℕ))
   -- a piece doesn't pass the segment's end
   pub piece_within : (from now : SeatValue BoxSeen EmitterView) (begun d new : DecoderSeen)
       (old mid : Sink) (written : ℕ) (step : Step) (out : List ℕ)
-      → IsPassing held takes faults from now begun d old mid written → PaysAll step out d new
+      → IsPassing held takes faults w from now begun d old mid written → PaysAll step out d new
       → now.view.taken + length out ≤ length (bytes_at (segments_bytes now.content) now.view.cur)
   piece_within from now begun d new old mid written step out p pays =
       let next = owed_next from.content from.view.cur (from.view.taken + written) step out d new p.owes pays in
@@ -225,11 +238,11 @@ module _ {Sink : Type 0} (held : Sink → Option (List ℕ))
   -- the last piece was written
   pub all_passed : (from now later last : SeatValue BoxSeen EmitterView) (begun d new : DecoderSeen)
       (old mid sink : Sink) (written : ℕ) (step : Step) (out : List ℕ)
-      → IsPassing held takes faults from now begun d old mid written → PaysAll step out d new
-      → HasWritten held takes faults mid sink out
+      → IsPassing held takes faults w from now begun d old mid written → PaysAll step out d new
+      → HasWritten held takes faults mid sink (window (after w written) out)
       → later.view ≡ record now.view { taken = now.view.taken + length out }
       → last.view ≡ record later.view { owns = false }
-      → OwnEnds held takes faults full from last old sink (Ok (written + length out))
+      → OwnEnds held takes faults full w from last old sink (Ok (written + length out))
   all_passed from now later last begun d new old mid sink written step out p pays has view end =
       let next = owed_next from.content from.view.cur (from.view.taken + written) step out d new p.owes pays in
       let within = rest_within (bytes_at (segments_bytes from.content) from.view.cur) out next.0
@@ -238,56 +251,51 @@ module _ {Sink : Type 0} (held : Sink → Option (List ℕ))
       omega arith in (
         piece_written from now begun d new old mid sink written step out p pays has,
         omega (arith, within),
-        end ∙ ap (λ (w : EmitterView). record w { owns = false }) view
-            ∙ ap (λ (w : EmitterView). record w { taken = w.taken + length out; owns = false }) p.view
+        end ∙ ap (λ (x : EmitterView). record x { owns = false }) view
+            ∙ ap (λ (x : EmitterView). record x { taken = x.taken + length out; owns = false }) p.view
             ∙ ap (λ (n : ℕ). record from.view { taken = n; owns = false }) sum,
       )
 
   -- a write of a piece failed
   pub piece_failed : (from now : SeatValue BoxSeen EmitterView) (begun d new : DecoderSeen)
       (old mid sink : Sink) (written more : ℕ) (step : Step) (out : List ℕ)
-      → IsPassing held takes faults from now begun d old mid written → PaysAll step out d new
-      → HasFailed held faults full mid sink out more
-      → OwnEnds held takes faults full from now old sink (Err (written + more))
+      → IsPassing held takes faults w from now begun d old mid written → PaysAll step out d new
+      → HasFailed held faults full mid sink (window (after w written) out) more
+      → OwnEnds held takes faults full w from now old sink (Err (through w written + more))
   piece_failed from now begun d new old mid sink written more step out p pays failed =
-      let s = bytes_at (segments_bytes from.content) from.view.cur in
-      let next = piece_behind from now begun d new old mid written step out p pays in
-      let long = length-drop from.view.taken s in
-      let within = p.owes.within in
-      let first : written ≡ length (take written (own_rest from)) =
-      sym (length-take-le written (own_rest from) (omega (arith, long, within))) in (
-        failed_later held takes faults full old mid sink (take written (own_rest from)) out next.0 (own_rest from)
-            written more p.has failed next.1 first,
-        ap (λ (w : EmitterView). w.stopped) p.view,
+      let next = piece_behind from now begun d new old mid written step out p pays in (
+        failed_on held takes faults full w old mid sink (take written (own_rest from)) out next.0 (own_rest from)
+            written more (came_long from now begun d old mid written p) p.has failed next.1,
+        ap (λ (x : EmitterView). x.stopped) p.view,
       )
 
   -- from a claim of the segment on
   pub own_claimed : (from mid now : SeatValue BoxSeen EmitterView) (old sink : Sink)
       (result : Result ℕ ℕ) → mid.content ≡ from.content
       → mid.view ≡ record from.view { owns = true }
-      → OwnEnds held takes faults full mid now old sink result → OwnEnds held takes faults full from now old sink result
+      → OwnEnds held takes faults full w mid now old sink result → OwnEnds held takes faults full w from now old sink result
   own_claimed from mid now old sink (Ok written) content view own =
       let rest = claimed_rest from mid content view in (
-        subst (λ (l : List ℕ). HasWritten held takes faults old sink (take written l)) rest own.0,
+        subst (λ (l : List ℕ). HasWritten held takes faults old sink (window w (take written l))) rest own.0,
         subst (λ (z : BoxSeen × EmitterView).
             z.1.taken + written ≤ length (bytes_at (segments_bytes z.0) z.1.cur))
             (λ i. (content i, view i)) own.1,
-        own.2 ∙ ap (λ (w : EmitterView). record w { taken = w.taken + written; owns = false }) view,
+        own.2 ∙ ap (λ (x : EmitterView). record x { taken = x.taken + written; owns = false }) view,
       )
   own_claimed from mid now old sink (Err written) content view own =
       let rest = claimed_rest from mid content view in (
-        subst (λ (l : List ℕ). HasFailed held faults full old sink l written) rest own.0,
-        own.1 ∙ ap (λ (w : EmitterView). w.stopped) view,
+        subst (λ (l : List ℕ). HasFailed held faults full old sink (window w l) written) rest own.0,
+        own.1 ∙ ap (λ (x : EmitterView). x.stopped) view,
       )
 
   -- where somebody else has it
   pub own_none : (from now : SeatValue BoxSeen EmitterView) (sink : Sink) → now.view ≡ from.view
       → from.view.owns ≡ false
       → from.view.taken ≤ length (bytes_at (segments_bytes from.content) from.view.cur)
-      → OwnEnds held takes faults full from now sink sink (Ok 0)
+      → OwnEnds held takes faults full w from now sink sink (Ok 0)
   own_none from now sink view free within =
       let e : from.view.taken ≡ from.view.taken + 0 = omega arith in (
-        written_none held takes faults full sink,
+        written_nothing held takes faults full w sink,
         omega (arith, within),
         view ∙ (λ i. record from.view { taken = e i; owns = free i }),
       )

@@ -1,5 +1,7 @@
 -- Steps: an emitter at work, and how it ends (own).
 use Rattle.std.specs.Prelude.{ℕ, ◌≡◌, ◌+◌, ◌*◌, ◌<◌, ◌≤◌, false, List, ◌++◌, length, take, Option, Some, None, Result, Ok, Err}
+use Rattle.byte_window.specs.declared.window.Window.{Window}
+use Rattle.byte_window.specs.Windows.{window}
 use Rattle.atomic_table.specs.Seated.{TableId}
 use Rattle.board_core.specs.BoardInvariants.{bytes_at}
 use Rattle.handover.specs.declared.pads.PadSum.{PadSum}
@@ -18,6 +20,10 @@ use Rattle.segment_worker.specs.Written.{HasWritten, HasFailed}
 -- a container's segments, joined
 abbrev pub joined_in : BoxSeen → Joined
 joined_in v = joined (outputs_of v.plan v.parts)
+
+-- what a window lets through of segments
+abbrev pub seen_through : Window → Joined → Joined
+seen_through w all = record all { bytes = window w all.bytes }
 
 -- the emitter's seat on a container's board, and its decoder, before the first call
 pub record IsNewEmitter (table : TableId) (v : BoxSeen) (seat : SeatValue BoxSeen EmitterView)
@@ -62,14 +68,16 @@ module _ {Sink : Type 0} (held : Sink → Option (List ℕ))
       (all.fault ≡ Some fault) × HasWritten held takes faults old new all.bytes
   Emits old new all (Err (WriteFault written)) = HasFailed held faults full old new all.bytes written
 
--- the segments before one ended well, and they and the first `taken` bytes of that one are written
+-- the segments before one ended well, and what a window lets through of them and of the first `taken` bytes of that one
+-- is written
 pub record IsWrittenTo {Sink : Type 0} (held : Sink → Option (List ℕ))
-    (takes : Sink → List ℕ → Type 0) (faults : Sink → ℕ)
-    (v : BoxSeen) (cur taken : ℕ) (old new : Sink) (written : ℕ) (padded : PadSum) : Type 0 where
+    (takes : Sink → List ℕ → Type 0) (faults : Sink → ℕ) (v : BoxSeen) (w : Window)
+    (cur taken : ℕ) (old new : Sink) (came : ℕ) (padded : PadSum) : Type 0 where
   pub bytes : List ℕ
   pub all : joined_in v ≡ joined_onto bytes padded (joined_from v.plan v.parts cur)
-  pub has : HasWritten held takes faults old new (bytes ++ take taken (bytes_at (segments_bytes v) cur))
-  pub count : written ≡ length bytes + taken
+  pub has : HasWritten held takes faults old new
+      (window w (bytes ++ take taken (bytes_at (segments_bytes v) cur)))
+  pub count : came ≡ length bytes + taken
   pub within : taken ≤ length (bytes_at (segments_bytes v) cur)
   pub few : length bytes ≤ segment_room * cur
   pub low : cur ≤ length v.parts.handovers
@@ -77,9 +85,9 @@ pub record IsWrittenTo {Sink : Type 0} (held : Sink → Option (List ℕ))
 -- between two calls
 pub record IsEmitting {Sink : Type 0} (held : Sink → Option (List ℕ))
     (takes : Sink → List ℕ → Type 0) (faults : Sink → ℕ)
-    (table : TableId) (v : BoxSeen) (seat : SeatValue BoxSeen EmitterView)
-    (decoder : DecoderSeen) (old new : Sink) (written : ℕ) (padded : PadSum) : Type 0 where
+    (table : TableId) (v : BoxSeen) (w : Window) (seat : SeatValue BoxSeen EmitterView)
+    (decoder : DecoderSeen) (old new : Sink) (came : ℕ) (padded : PadSum) : Type 0 where
   pub used : IsUsedEmitter table v seat decoder
   pub free : seat.view.owns ≡ false
   pub going : seat.view.stopped ≡ false
-  pub so_far : IsWrittenTo held takes faults v seat.view.cur seat.view.taken old new written padded
+  pub so_far : IsWrittenTo held takes faults v w seat.view.cur seat.view.taken old new came padded

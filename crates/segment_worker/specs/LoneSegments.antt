@@ -2,6 +2,8 @@
 use Rattle.std.specs.Prelude.{ℕ, ◌≡◌, ◌+◌, ◌*◌, ◌^◌, ◌≤◌, true, List, ◌++◌, length, Option, Result, Ok, Err}
 use Rattle.std.specs.Io.KnownBytes.{Appends}
 use Rattle.outside_core.specs.Takes.{MovesOn}
+use Rattle.byte_window.specs.declared.window.Window.{Window}
+use Rattle.byte_window.specs.Windows.{window}
 use Rattle.bit_list.specs.Pieces.{piece_room}
 use Rattle.jpeg_marker.specs.Plans.{PlanFields}
 use Rattle.handover.specs.declared.outcome.Outcome.{Outcome}
@@ -22,49 +24,50 @@ pub record OwesSome (d : DecoderSeen) : Type 0 where
   pub outcome : Outcome
   pub owes : Owes d bytes outcome
 
--- the first bytes that a decoder owed were written, and it owes the others
+-- what a window lets through of the first bytes that a decoder owed was written, and it owes the others
 pub record FirstWritten {Sink : Type 0} (held : Sink → Option (List ℕ))
-    (takes : Sink → List ℕ → Type 0) (now : DecoderSeen) (old new : Sink) (written : ℕ)
+    (takes : Sink → List ℕ → Type 0) (w : Window) (now : DecoderSeen) (old new : Sink) (came : ℕ)
     (bytes : List ℕ) (outcome : Outcome) : Type 0 where
   pub first : List ℕ
   pub more : List ℕ
   pub parts : bytes ≡ first ++ more
   pub owes : Owes now more outcome
-  pub appended : Appends (held old) (held new) first
-  pub onward : MovesOn takes old new first
-  pub count : written ≡ length first
+  pub appended : Appends (held old) (held new) (window w first)
+  pub onward : MovesOn takes old new (window w first)
+  pub count : came ≡ length first
 
 -- between two pieces of a segment
 pub record UnderWay {Sink : Type 0} (held : Sink → Option (List ℕ))
-    (takes : Sink → List ℕ → Type 0) (faults : Sink → ℕ)
-    (from now : DecoderSeen) (old new : Sink) (written : ℕ) : Type 0 where
+    (takes : Sink → List ℕ → Type 0) (faults : Sink → ℕ) (w : Window)
+    (from now : DecoderSeen) (old new : Sink) (came : ℕ) : Type 0 where
   pub running : now.running ≡ true
   pub some : OwesSome now
   pub each : (bytes : List ℕ) (outcome : Outcome) → Owes from bytes outcome
-      → FirstWritten held takes now old new written bytes outcome
+      → FirstWritten held takes w now old new came bytes outcome
   pub unfailed : faults new ≡ faults old
-  pub few : written + piece_room * now.left ≤ piece_room * from.left
+  pub few : came + piece_room * now.left ≤ piece_room * from.left
   pub begun : now.begun ≡ from.begun
   pub plan : now.plan ≡ from.plan
 
--- how a segment with these bytes and this outcome ends
+-- how a segment with these bytes and this outcome ends, through a window
 abbrev pub SegmentEnds : {Sink : Type 0} → (Sink → Option (List ℕ))
-    → (Sink → List ℕ → Type 0) → (Sink → ℕ) → (Sink → Type 0) → Sink → Sink → List ℕ → Outcome
-    → Result (ℕ × Outcome) ℕ → Type 0
-SegmentEnds held takes faults full old new bytes outcome (Ok ended) =
-    (ended.0 ≡ length bytes) × (ended.1 ≡ outcome) × HasWritten held takes faults old new bytes
-SegmentEnds held takes faults full old new bytes outcome (Err written) =
-    HasFailed held faults full old new bytes written
+    → (Sink → List ℕ → Type 0) → (Sink → ℕ) → (Sink → Type 0) → Window → Sink → Sink → List ℕ
+    → Outcome → Result (ℕ × Outcome) ℕ → Type 0
+SegmentEnds held takes faults full w old new bytes outcome (Ok ended) =
+    (ended.0 ≡ length bytes) × (ended.1 ≡ outcome)
+    × HasWritten held takes faults old new (window w bytes)
+SegmentEnds held takes faults full w old new bytes outcome (Err written) =
+    HasFailed held faults full old new (window w bytes) written
 
 -- before the segment with a number, if the segments before it ended well
 pub record SegmentsWritten {Sink : Type 0} (held : Sink → Option (List ℕ))
-    (takes : Sink → List ℕ → Type 0) (faults : Sink → ℕ)
+    (takes : Sink → List ℕ → Type 0) (faults : Sink → ℕ) (w : Window)
     (plan : PlanFields) (b : BoxParts) (i : ℕ) (now : DecoderSeen) (old new : Sink)
-    (written : ℕ) (padded : PadSum) : Type 0 where
+    (came : ℕ) (padded : PadSum) : Type 0 where
   pub bytes : List ℕ
   pub all : joined (outputs_of plan b) ≡ joined_onto bytes padded (joined_from plan b i)
-  pub has : HasWritten held takes faults old new bytes
-  pub count : written ≡ length bytes
-  pub few : written ≤ pieces_room * i
+  pub has : HasWritten held takes faults old new (window w bytes)
+  pub count : came ≡ length bytes
+  pub few : came ≤ pieces_room * i
   pub plan_is : now.plan ≡ plan
   pub begun : now.begun ≡ i

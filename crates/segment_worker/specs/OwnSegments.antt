@@ -1,5 +1,7 @@
 -- Steps: a segment that its owner decodes (own).
 use Rattle.std.specs.Prelude.{ℕ, ◌≡◌, ◌+◌, ◌≤◌, true, false, List, length, take, drop, Option, Some, Result, Ok, Err, slice_get}
+use Rattle.byte_window.specs.declared.window.Window.{Window}
+use Rattle.byte_window.specs.Windows.{window}
 use Rattle.handover.specs.declared.outcome.Outcome.{Outcome}
 use Rattle.board_core.specs.BoardInvariants.{bytes_at}
 use Rattle.box_format.specs.Seen.{BoxSeen}
@@ -31,24 +33,25 @@ own_rest seat = drop seat.view.taken (bytes_at (segments_bytes seat.content) sea
 -- between two pieces of the emitter's own segment
 pub record IsPassing {Sink : Type 0} (held : Sink → Option (List ℕ))
     (takes : Sink → List ℕ → Type 0) (faults : Sink → ℕ)
-    (from now : SeatValue BoxSeen EmitterView) (begun d : DecoderSeen) (old new : Sink)
-    (written : ℕ) : Type 0 where
+    (w : Window) (from now : SeatValue BoxSeen EmitterView) (begun d : DecoderSeen)
+    (old new : Sink) (came : ℕ) : Type 0 where
   pub same : IsSameSeat from now
-  pub view : now.view ≡ record from.view { taken = from.view.taken + written }
+  pub view : now.view ≡ record from.view { taken = from.view.taken + came }
   pub running : d.running ≡ true
-  pub owes : OwesRest from.content from.view.cur (from.view.taken + written) d
-  pub has : HasWritten held takes faults old new (take written (own_rest from))
+  pub owes : OwesRest from.content from.view.cur (from.view.taken + came) d
+  pub has : HasWritten held takes faults old new (window w (take came (own_rest from)))
   pub begun_is : d.begun ≡ begun.begun
   pub plan : d.plan ≡ begun.plan
 
--- bytes of the segment that is emitted were written, and the emitter owns none; or a write failed in them
+-- what a window lets through of bytes of the segment that is emitted was written, and the emitter owns none; or a write
+-- failed in it, after so many bytes
 abbrev pub OwnEnds : {Sink : Type 0} → (Sink → Option (List ℕ)) → (Sink → List ℕ → Type 0)
-    → (Sink → ℕ) → (Sink → Type 0) → SeatValue BoxSeen EmitterView → SeatValue BoxSeen EmitterView
-    → Sink → Sink → Result ℕ ℕ → Type 0
-OwnEnds held takes faults full from now old new (Ok written) =
-    HasWritten held takes faults old new (take written (own_rest from))
-    × (from.view.taken + written ≤ length (bytes_at (segments_bytes from.content) from.view.cur))
-    × (now.view ≡ record from.view { taken = from.view.taken + written; owns = false })
-OwnEnds held takes faults full from now old new (Err written) =
-    HasFailed held faults full old new (own_rest from) written
+    → (Sink → ℕ) → (Sink → Type 0) → Window → SeatValue BoxSeen EmitterView
+    → SeatValue BoxSeen EmitterView → Sink → Sink → Result ℕ ℕ → Type 0
+OwnEnds held takes faults full w from now old new (Ok came) =
+    HasWritten held takes faults old new (window w (take came (own_rest from)))
+    × (from.view.taken + came ≤ length (bytes_at (segments_bytes from.content) from.view.cur))
+    × (now.view ≡ record from.view { taken = from.view.taken + came; owns = false })
+OwnEnds held takes faults full w from now old new (Err written) =
+    HasFailed held faults full old new (window w (own_rest from)) written
     × (now.view.stopped ≡ from.view.stopped)

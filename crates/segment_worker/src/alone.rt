@@ -1,45 +1,52 @@
 // A container's segments decoded on one thread, with no board.
 ghost use Rattle.std.specs.Prelude.{◌≡◌, ◌*◌, ◌≤◌, ◌<◌, ◌^◌, ℕ, List, length, IfOk, IfErr, true};
 ghost use Rattle.outside_core.specs.Takes.{TakesNext};
+ghost use Rattle.byte_window.specs.Windows.{window as passed};
 ghost use Rattle.handover.specs.declared.outcome.Outcome.{Outcome};
 ghost use Rattle.box_format.specs.Versions.{most_segments};
 ghost use Rattle.segment_code.specs.Decoding.{Owes};
 ghost use Rattle.segment_worker.specs.Contents.{segment_room};
-ghost use Rattle.segment_worker.specs.Emitting.{Emits, joined_in};
+ghost use Rattle.segment_worker.specs.Emitting.{Emits, joined_in, seen_through};
 ghost use Rattle.segment_worker.specs.LoneSegments.{OwesSome, SegmentEnds, pieces_room};
 
 use crate::emitted::{EmitStop, Emitted};
+use crate::emitter_part::write_part;
 use crate::lengths::segments_are_short;
 use bit_list::Piece;
 use box_format::BoxView;
+use byte_window::Window;
 use handover::{Outcome, PadSum};
-use outside_core::{Gate, Sink, WriteFault, write_all};
+use outside_core::{Gate, Sink};
 use segment_code::{SegmentDecoder, Step};
 
-/// Writes the segments in order, each decoded on the calling thread when its turn comes: what `emit` writes, with no
-/// other thread to wait for. It returns after the last segment, or after the first with a fault, or if the sink fails.
+/// Writes what the window lets through of the segments in order, each decoded on the calling thread when its turn
+/// comes: what `emit` writes, with no other thread to wait for. It returns after the last segment, or after the first
+/// with a fault, or if the sink fails.
 ///
-/// At each moment, also while the call is under way, what was written is a prefix of the joined segments, since the
-/// sink need take nothing else.
+/// At each moment, also while the call is under way, what was written is a prefix of what goes through of the joined
+/// segments, since the sink need take nothing else.
 ///
 /// The gate is called before each segment.
 pub fn emit_alone<'a, K: Sink, G: Gate>(
     decoder: &mut SegmentDecoder<'a>,
     piece: &mut Piece,
     view: &BoxView<'a>,
+    window: Window,
     sink: &mut K,
     gate: &G,
 ) -> Result<Emitted, EmitStop>
     requires plan { decoder.old.plan ≡ view.now.plan }
     requires fresh { decoder.old.begun ≡ 0 }
-    requires takes { TakesNext K.takes sink.old (joined_in view.now).bytes }
-    ensures ends { Emits K.held K.takes K.faults K.full sink.old sink.new (joined_in view.now) result }
+    requires takes { TakesNext K.takes sink.old (seen_through window (joined_in view.now)).bytes }
+    ensures ends { Emits K.held K.takes K.faults K.full sink.old sink.new
+        (seen_through window (joined_in view.now)) result }
+    ensures came { IfOk result (λ emitted. emitted.came ≡ length (joined_in view.now).bytes) }
     ensures few { length (joined_in view.now).bytes ≤ segment_room * most_segments }
     ensures plan { decoder.new.plan ≡ decoder.old.plan }
     ensures lasting { K.faults sink.old ≤ K.faults sink.new }
 {
     segments_are_short(view);
-    emit_segments(decoder, piece, view, sink, gate)
+    emit_segments(decoder, piece, view, window, sink, gate)
 }
 
 // The same.
@@ -47,69 +54,76 @@ fn emit_segments<'a, K: Sink, G: Gate>(
     decoder: &mut SegmentDecoder<'a>,
     piece: &mut Piece,
     view: &BoxView<'a>,
+    window: Window,
     sink: &mut K,
     gate: &G,
 ) -> Result<Emitted, EmitStop>
     requires plan { decoder.old.plan ≡ view.now.plan }
     requires fresh { decoder.old.begun ≡ 0 }
-    requires takes { TakesNext K.takes sink.old (joined_in view.now).bytes }
-    ensures ends { Emits K.held K.takes K.faults K.full sink.old sink.new (joined_in view.now) result }
+    requires takes { TakesNext K.takes sink.old (seen_through window (joined_in view.now)).bytes }
+    ensures ends { Emits K.held K.takes K.faults K.full sink.old sink.new
+        (seen_through window (joined_in view.now)) result }
+    ensures came { IfOk result (λ emitted. emitted.came ≡ length (joined_in view.now).bytes) }
     ensures plan { decoder.new.plan ≡ decoder.old.plan }
     ensures lasting { K.faults sink.old ≤ K.faults sink.new }
 {
-    let mut written = 0;
+    let mut came = 0;
     let mut pads = PadSum::none();
     for segment in 0..view.segments() {
         gate.before_own(segment);
         decoder.begin(view, segment);
-        match emit_segment(decoder, piece, sink) {
+        let rest = window.after(came);
+        match emit_segment(decoder, piece, rest, sink) {
             Ok((count, Outcome::Good { pads: more })) => {
-                written += count;
+                came += count;
                 pads = pads.with(&more);
             }
             Ok((_, Outcome::Bad(fault))) => return Err(EmitStop::Fault(fault)),
-            Err(count) => {
+            Err(more) => {
                 return Err(EmitStop::WriteFault {
-                    written: written + count,
+                    written: window.through(came) + more,
                 });
             }
         }
     }
     Ok(Emitted {
-        bytes: written,
+        bytes: window.through(came),
+        came,
         pads,
     })
 }
 
-// Writes what the decoder owes of a segment, piece by piece. Returns how many bytes these are and how the segment ends,
-// or how many were written before the sink failed.
+// Writes what the window lets through of what the decoder owes of a segment, piece by piece. Returns how many bytes the
+// segment has and how it ends, or how many were written before the sink failed.
 fn emit_segment<K: Sink>(
     decoder: &mut SegmentDecoder,
     piece: &mut Piece,
+    window: Window,
     sink: &mut K,
 ) -> Result<(u64, Outcome), u64>
     requires running { decoder.old.running ≡ true }
-    requires owes { (owed : OwesSome decoder.old) × TakesNext K.takes sink.old owed.bytes }
+    requires owes { (owed : OwesSome decoder.old)
+        × TakesNext K.takes sink.old (passed window owed.bytes) }
     requires few { decoder.old.left < 2 ^ 32 }
     ensures ends { (bytes : List ℕ) (outcome : Outcome) → Owes decoder.old bytes outcome
-        → SegmentEnds K.held K.takes K.faults K.full sink.old sink.new bytes outcome result }
+        → SegmentEnds K.held K.takes K.faults K.full window sink.old sink.new bytes outcome result }
     ensures few { IfOk result (λ ended. ended.0 ≤ pieces_room) }
     ensures short { IfErr result (λ written. written ≤ pieces_room) }
     ensures begun { decoder.new.begun ≡ decoder.old.begun }
     ensures plan { decoder.new.plan ≡ decoder.old.plan }
     ensures lasting { K.faults sink.old ≤ K.faults sink.new }
 {
-    let mut written = 0;
+    let mut came = 0;
     loop {
         let step = decoder.step(piece);
-        if let Err(WriteFault { written: more }) = write_all(sink, piece.bytes()) {
-            return Err(written + more);
+        if let Err(more) = write_part(sink, window, came, piece.bytes()) {
+            return Err(window.through(came) + more);
         }
-        written += piece.len() as u64;
+        came += piece.len() as u64;
         match step {
             Step::More => {}
-            Step::Done { pads } => return Ok((written, Outcome::Good { pads })),
-            Step::Fault(fault) => return Ok((written, Outcome::Bad(fault))),
+            Step::Done { pads } => return Ok((came, Outcome::Good { pads })),
+            Step::Fault(fault) => return Ok((came, Outcome::Bad(fault))),
         }
     }
 }

@@ -1,11 +1,13 @@
 // What an emitter returns.
 use handover::{PadSum, StreamFault};
 
-/// All segments were written, none with a fault.
+/// All segments were written, as far as they go through the window, none with a fault.
 #[derive(Clone, Copy, Debug, PartialEq, Eq)]
 pub struct Emitted {
-    /// How many bytes they have.
+    /// How many of their bytes went through the window.
     pub bytes: u64,
+    /// How many bytes they have, whatever goes through.
+    pub came: u64,
     /// What their intervals were padded with.
     pub pads: PadSum,
 }
@@ -13,8 +15,8 @@ pub struct Emitted {
 /// Why not all segments were written. The board is stopped then.
 #[derive(Clone, Copy, Debug, PartialEq, Eq)]
 pub enum EmitStop {
-    /// The sink failed after `written` bytes of the segments.
+    /// The sink failed after `written` of the bytes that go through the window.
     WriteFault { written: u64 },
-    /// The first fault in the order of the segments; the bytes before it are written.
+    /// The first fault in the order of the segments; what goes through of the bytes before it is written.
     Fault(StreamFault),
 }

@@ -1,31 +1,33 @@
 // The emitter.
-ghost use Rattle.std.specs.Prelude.{◌≡◌, ◌*◌, ◌≤◌, length, OnOk, OnErr, true};
+ghost use Rattle.std.specs.Prelude.{◌≡◌, ◌*◌, ◌≤◌, length, IfOk, OnOk, OnErr, true};
 ghost use Rattle.outside_core.specs.Takes.{TakesNext};
 ghost use Rattle.box_format.specs.Versions.{most_segments};
 ghost use Rattle.segment_worker.specs.Contents.{AreShort, segment_room};
-ghost use Rattle.segment_worker.specs.Emitting.{Emits, IsNewEmitter, IsThrough, IsUsedEmitter, joined_in};
+ghost use Rattle.segment_worker.specs.Emitting.{Emits, IsNewEmitter, IsThrough, IsUsedEmitter, joined_in, seen_through};
 
 use crate::content::Told;
 use crate::emitted::{EmitStop, Emitted};
 use crate::emitter_own::emit_unclaimed;
+use crate::emitter_part::write_part;
 use crate::lengths::segments_are_short;
 use bit_list::Piece;
 use box_format::BoxView;
+use byte_window::Window;
 use handover::{Outcome, PadSum};
 use output_board::{Board, EmitterSeat, Take};
-use outside_core::{Gate, Sink, WriteFault, write_all};
+use outside_core::{Gate, Sink};
 use segment_code::SegmentDecoder;
 use std::sync::Wait;
 
 /// The most bytes of one take from a ring.
 const MOST_TAKEN: usize = 4_096;
 
-/// Writes the segments in order, the bytes of each from its ring, or decoded here if nobody has claimed it when its
-/// turn comes. It returns after the last one; or it stops the board, after the first with a fault, or if the sink
-/// fails.
+/// Writes what the window lets through of the segments in order, the bytes of each from its ring, or decoded here if
+/// nobody has claimed it when its turn comes. It returns after the last one, also if nothing goes through any more; or
+/// it stops the board, after the first with a fault, or if the sink fails.
 ///
-/// At each moment, also while the call is under way, what was written is a prefix of the joined segments, since the
-/// sink need take nothing else.
+/// At each moment, also while the call is under way, what was written is a prefix of what goes through of the joined
+/// segments, since the sink need take nothing else.
 ///
 /// The gate is called before each segment that the emitter asks for.
 pub fn emit<'a, R: Wait, K: Sink, G: Gate>(
@@ -35,12 +37,15 @@ pub fn emit<'a, R: Wait, K: Sink, G: Gate>(
     seat: &mut EmitterSeat<Told<'a>>,
     board: &Board<Told<'a>>,
     view: &BoxView<'a>,
+    window: Window,
     sink: &mut K,
     gate: &G,
 ) -> Result<Emitted, EmitStop>
     requires new { IsNewEmitter board.now view.now seat.old decoder.old }
-    requires takes { TakesNext K.takes sink.old (joined_in view.now).bytes }
-    ensures ends { Emits K.held K.takes K.faults K.full sink.old sink.new (joined_in view.now) result }
+    requires takes { TakesNext K.takes sink.old (seen_through window (joined_in view.now)).bytes }
+    ensures ends { Emits K.held K.takes K.faults K.full sink.old sink.new
+        (seen_through window (joined_in view.now)) result }
+    ensures came { IfOk result (λ emitted. emitted.came ≡ length (joined_in view.now).bytes) }
     ensures through { OnOk result (IsThrough (length view.now.parts.handovers) seat.new.view) }
     ensures stopped { OnErr result (seat.new.view.stopped ≡ true) }
     ensures used { IsUsedEmitter board.now view.now seat.new decoder.new }
@@ -56,6 +61,7 @@ pub fn emit<'a, R: Wait, K: Sink, G: Gate>(
         seat,
         board,
         view,
+        window,
         sink,
         gate,
         &mut buffer,
@@ -70,6 +76,7 @@ fn emit_through<'a, R: Wait, K: Sink, G: Gate>(
     seat: &mut EmitterSeat<Told<'a>>,
     board: &Board<Told<'a>>,
     view: &BoxView<'a>,
+    window: Window,
     sink: &mut K,
     gate: &G,
     buffer: &mut [u8],
@@ -78,26 +85,28 @@ fn emit_through<'a, R: Wait, K: Sink, G: Gate>(
     requires short { AreShort view.now }
     requires count { length view.now.parts.handovers ≤ most_segments }
     requires some { 1 ≤ length buffer.old }
-    requires takes { TakesNext K.takes sink.old (joined_in view.now).bytes }
-    ensures ends { Emits K.held K.takes K.faults K.full sink.old sink.new (joined_in view.now) result }
+    requires takes { TakesNext K.takes sink.old (seen_through window (joined_in view.now)).bytes }
+    ensures ends { Emits K.held K.takes K.faults K.full sink.old sink.new
+        (seen_through window (joined_in view.now)) result }
+    ensures came { IfOk result (λ emitted. emitted.came ≡ length (joined_in view.now).bytes) }
     ensures through { OnOk result (IsThrough (length view.now.parts.handovers) seat.new.view) }
     ensures stopped { OnErr result (seat.new.view.stopped ≡ true) }
     ensures used { IsUsedEmitter board.now view.now seat.new decoder.new }
     ensures lasting { K.faults sink.old ≤ K.faults sink.new }
 {
-    let mut written = 0;
+    let mut came = 0;
     let mut pads = PadSum::none();
     let mut current = 0;
     for _ in rt.forever() {
         match board.take(rt, seat, buffer) {
             Take::Bytes(count) => {
-                if let Err(WriteFault { written: more }) = write_all(sink, &buffer[..count]) {
+                if let Err(more) = write_part(sink, window, came, &buffer[..count]) {
                     board.stop(rt, seat);
                     return Err(EmitStop::WriteFault {
-                        written: written + more,
+                        written: window.through(came) + more,
                     });
                 }
-                written += count as u64;
+                came += count as u64;
             }
             Take::Ended(Outcome::Good { pads: more }) => {
                 pads = pads.with(&more);
@@ -108,12 +117,15 @@ fn emit_through<'a, R: Wait, K: Sink, G: Gate>(
                 return Err(EmitStop::Fault(fault));
             }
             Take::Unclaimed => {
-                match emit_unclaimed(rt, decoder, piece, seat, board, view, sink, gate, current) {
-                    Ok(count) => written += count,
+                let rest = window.after(came);
+                match emit_unclaimed(
+                    rt, decoder, piece, seat, board, view, rest, sink, gate, current,
+                ) {
+                    Ok(count) => came += count,
                     Err(more) => {
                         board.stop(rt, seat);
                         return Err(EmitStop::WriteFault {
-                            written: written + more,
+                            written: window.through(came) + more,
                         });
                     }
                 }
@@ -121,7 +133,8 @@ fn emit_through<'a, R: Wait, K: Sink, G: Gate>(
             Take::NotYet => board.pause_emitter(rt, seat),
             Take::Over => {
                 return Ok(Emitted {
-                    bytes: written,
+                    bytes: window.through(came),
+                    came,
                     pads,
                 });
             }

@@ -1,21 +1,24 @@
 // The emitter's own segment, decoded into the sink.
 ghost use Rattle.std.specs.Prelude.{◌≡◌, ◌+◌, ◌≤◌, true, false, length};
 ghost use Rattle.outside_core.specs.Takes.{TakesNext};
+ghost use Rattle.byte_window.specs.Windows.{window as passed};
 ghost use Rattle.board_core.specs.BoardInvariants.{bytes_at};
 ghost use Rattle.segment_worker.specs.Contents.{AreShort, segments_bytes};
 ghost use Rattle.segment_worker.specs.OwnSegments.{IsSameSeat, OwesRest, OwnEnds, own_rest};
 
 use crate::content::Told;
+use crate::emitter_part::write_part;
 use bit_list::Piece;
 use box_format::BoxView;
+use byte_window::Window;
 use handover::Outcome;
 use output_board::{Board, EmitterSeat, Own};
-use outside_core::{Gate, Sink, WriteFault, write_all};
+use outside_core::{Gate, Sink};
 use segment_code::{SegmentDecoder, Step};
 use std::sync::Wait;
 
-// Claims the segment that is emitted, if nobody has, and writes it whole, whatever its outcome. Returns how many bytes
-// were written, or how many before the sink failed.
+// Claims the segment that is emitted, if nobody has, and writes what the window lets through of it, whatever its
+// outcome. Returns how many bytes it has, or how many were written before the sink failed.
 pub(crate) fn emit_unclaimed<'a, R: Wait, K: Sink, G: Gate>(
     rt: &R,
     decoder: &mut SegmentDecoder<'a>,
@@ -23,6 +26,7 @@ pub(crate) fn emit_unclaimed<'a, R: Wait, K: Sink, G: Gate>(
     seat: &mut EmitterSeat<Told<'a>>,
     board: &Board<Told<'a>>,
     view: &BoxView<'a>,
+    window: Window,
     sink: &mut K,
     gate: &G,
     current: u8,
@@ -36,8 +40,9 @@ pub(crate) fn emit_unclaimed<'a, R: Wait, K: Sink, G: Gate>(
     requires plan { decoder.old.plan ≡ view.now.plan }
     requires begun { decoder.old.begun ≡ seat.old.claims }
     requires short { AreShort view.now }
-    requires takes { TakesNext K.takes sink.old (own_rest seat.old) }
-    ensures ends { OwnEnds K.held K.takes K.faults K.full seat.old seat.new sink.old sink.new result }
+    requires takes { TakesNext K.takes sink.old (passed window (own_rest seat.old)) }
+    ensures ends { OwnEnds K.held K.takes K.faults K.full window seat.old seat.new sink.old sink.new
+        result }
     ensures own { seat.new.table ≡ seat.old.table }
     ensures content { seat.new.content ≡ seat.old.content }
     ensures begun { decoder.new.begun ≡ seat.new.claims }
@@ -48,19 +53,20 @@ pub(crate) fn emit_unclaimed<'a, R: Wait, K: Sink, G: Gate>(
     match board.claim_own(rt, seat) {
         Own::Mine(segment) => {
             decoder.begin(view, segment);
-            emit_own(rt, decoder, piece, seat, board, sink)
+            emit_own(rt, decoder, piece, seat, board, window, sink)
         }
         Own::Other => Ok(0),
     }
 }
 
-// Writes the rest of the emitter's own segment, piece by piece, and ends it.
+// Writes what the window lets through of the rest of the emitter's own segment, piece by piece, and ends it.
 fn emit_own<'a, R: Wait, K: Sink>(
     rt: &R,
     decoder: &mut SegmentDecoder<'a>,
     piece: &mut Piece,
     seat: &mut EmitterSeat<Told<'a>>,
     board: &Board<Told<'a>>,
+    window: Window,
     sink: &mut K,
 ) -> Result<u64, u64>
     requires own { seat.old.table ≡ board.now }
@@ -69,30 +75,31 @@ fn emit_own<'a, R: Wait, K: Sink>(
     requires running { decoder.old.running ≡ true }
     requires owes { OwesRest seat.old.content seat.old.view.cur seat.old.view.taken decoder.old }
     requires short { AreShort seat.old.content }
-    requires takes { TakesNext K.takes sink.old (own_rest seat.old) }
-    ensures ends { OwnEnds K.held K.takes K.faults K.full seat.old seat.new sink.old sink.new result }
+    requires takes { TakesNext K.takes sink.old (passed window (own_rest seat.old)) }
+    ensures ends { OwnEnds K.held K.takes K.faults K.full window seat.old seat.new sink.old sink.new
+        result }
     ensures same { IsSameSeat seat.old seat.new }
     ensures begun { decoder.new.begun ≡ decoder.old.begun }
     ensures plan { decoder.new.plan ≡ decoder.old.plan }
     ensures lasting { K.faults sink.old ≤ K.faults sink.new }
 {
-    let mut written = 0;
+    let mut came = 0;
     loop {
         let step = decoder.step(piece);
-        if let Err(WriteFault { written: more }) = write_all(sink, piece.bytes()) {
-            return Err(written + more);
+        if let Err(more) = write_part(sink, window, came, piece.bytes()) {
+            return Err(window.through(came) + more);
         }
         pass(rt, seat, board, piece);
-        written += piece.len() as u64;
+        came += piece.len() as u64;
         match step {
             Step::More => {}
             Step::Done { pads } => {
                 board.finish_own(rt, seat, Outcome::Good { pads });
-                return Ok(written);
+                return Ok(came);
             }
             Step::Fault(fault) => {
                 board.finish_own(rt, seat, Outcome::Bad(fault));
-                return Ok(written);
+                return Ok(came);
             }
         }
     }

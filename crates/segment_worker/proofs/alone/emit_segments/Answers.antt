@@ -1,12 +1,17 @@
-use Rattle.std.proofs.Common.{◌≡◌, ◌<◌, ◌∙◌, sym, subst, ℕ}
+use Rattle.std.proofs.Common.{◌≡◌, ◌+◌, ◌<◌, ◌∙◌, sym, subst, arith, ℕ, length, Ok}
+use Rattle.outside_core.specs.Takes.{TakesNext}
+use Rattle.byte_window.specs.declared.window.Window.{Window}
+use Rattle.byte_window.specs.Windows.{window}
 use Rattle.container_spec.specs.Segments.{segment_output}
 use Rattle.container_spec.specs.Meanings.{segment_in}
 use Rattle.segment_code.specs.Decoding.{DecoderSeen, Owes}
 use Rattle.box_format.specs.Parts.{BoxParts}
 use Rattle.jpeg_marker.specs.Plans.{PlanFields}
+use Rattle.segment_worker.specs.Written.{HasWritten, HasFailed}
+use Rattle.segment_worker.specs.Emitting.{Emits, joined_in, seen_through}
 use Rattle.segment_worker.specs.LoneSegments.{OwesSome}
 use Rattle.segment_worker.proofs.SegmentsJoined.{output_at}
-use Rattle.segment_worker.proofs.LoneWritten.{segment_taken, segment_written, segment_bad, segment_failed}
+use Rattle.segment_worker.proofs.LoneWritten.{no_segments, segment_taken, segment_written, segment_bad, segment_failed, all_segments}
 use Rattle.segment_worker.proofs.alone.emit_segments.Goals as goal
 
 -- what is owed, by the plan of the view
@@ -15,6 +20,12 @@ owed : (d : DecoderSeen) (made plan : PlanFields) (b : BoxParts) (i : ℕ) → m
     → Owes d (segment_output (segment_in plan b i)).0 (segment_output (segment_in plan b i)).1
 owed d made plan b i e owes =
     subst (λ (p : PlanFields). Owes d (segment_output (segment_in p b i)).0 (segment_output (segment_in p b i)).1) e owes
+
+pub loop-segment-init : goal.loop-segment-init
+loop-segment-init g c =
+    rw (c.none-pads.ensures)
+    (no_segments g.K.Sink.held g.K.Sink.takes g.K.Sink.faults g.K.Sink.full c.args.window c.args.view.now.plan c.args.view.now.parts c.args.decoder.now
+    c.args.sink.now c.requires.plan c.requires.fresh)
 
 pub emit_segment-requires-clause-owes : goal.emit_segment-requires-clause-owes
 emit_segment-requires-clause-owes g c =
@@ -28,9 +39,11 @@ emit_segment-requires-clause-owes g c =
       owes = owed c.begin.new.self c.loop-segment.decoder.plan plan parts i loop.plan_is c.begin.ensures.owes;
     } in (
       owed,
-      segment_taken g.K.Sink.held g.K.Sink.takes g.K.Sink.faults g.K.Sink.full plan parts i c.loop-segment.decoder
-          c.args.sink.now c.loop-segment.sink c.loop-segment.written c.loop-segment.pads c.requires.takes loop
-          (subst (λ (n : ℕ). i < n) c.segments-segment-end.ensures.count c.loop-segment-test.true),
+      subst (λ (w : Window). TakesNext g.K.Sink.takes c.loop-segment.sink (window w (output_at c.args.view.now.plan c.args.view.now.parts c.loop-segment.segment).0))
+          (sym c.after-rest.ensures)
+          (segment_taken g.K.Sink.held g.K.Sink.takes g.K.Sink.faults g.K.Sink.full c.args.window plan parts i c.loop-segment.decoder
+          c.args.sink.now c.loop-segment.sink c.loop-segment.came c.loop-segment.pads c.requires.takes loop
+          (subst (λ (n : ℕ). i < n) c.segments-segment-end.ensures.count c.loop-segment-test.true)),
     )
 
 pub returns-in-Ok-default-Bad-clause-ends : goal.returns-in-Ok-default-Bad-clause-ends
@@ -39,11 +52,13 @@ returns-in-Ok-default-Bad-clause-ends g c =
     let owes = owed c.begin.new.self c.loop-segment.decoder.plan c.args.view.now.plan c.args.view.now.parts
     c.loop-segment.segment loop.plan_is c.begin.ensures.owes in
     let ended = c.in-Ok-default-Bad.ensures.ends _ _ owes in
-    segment_bad g.K.Sink.held g.K.Sink.takes g.K.Sink.faults g.K.Sink.full c.args.view.now.plan c.args.view.now.parts
+    let has = subst (λ (w : Window). HasWritten g.K.Sink.held g.K.Sink.takes g.K.Sink.faults c.loop-segment.sink c.emit_segment.new.sink
+    (window w (output_at c.args.view.now.plan c.args.view.now.parts c.loop-segment.segment).0)) c.after-rest.ensures ended.2 in
+    segment_bad g.K.Sink.held g.K.Sink.takes g.K.Sink.faults g.K.Sink.full c.args.window c.args.view.now.plan c.args.view.now.parts
     c.loop-segment.segment c.loop-segment.decoder c.args.sink.now c.loop-segment.sink c.emit_segment.new.sink
-    c.loop-segment.written c.loop-segment.pads c.in-Ok-default-Bad.fault loop
+    c.loop-segment.came c.loop-segment.pads c.in-Ok-default-Bad.fault loop
     (subst (λ (n : ℕ). c.loop-segment.segment < n) c.segments-segment-end.ensures.count c.loop-segment-test.true)
-    (sym c.in-Ok-default-Bad.field-0-1-is ∙ ended.1) ended.2
+    (sym c.in-Ok-default-Bad.field-0-1-is ∙ ended.1) has
 
 pub loop-segment-preserved : goal.loop-segment-preserved
 loop-segment-preserved g c =
@@ -51,11 +66,13 @@ loop-segment-preserved g c =
     let owes = owed c.begin.new.self c.loop-segment.decoder.plan c.args.view.now.plan c.args.view.now.parts
     c.loop-segment.segment loop.plan_is c.begin.ensures.owes in
     let ended = c.in-Ok-default-Good.ensures.ends _ _ owes in
-    segment_written g.K.Sink.held g.K.Sink.takes g.K.Sink.faults g.K.Sink.full c.args.view.now.plan c.args.view.now.parts
+    let has = subst (λ (w : Window). HasWritten g.K.Sink.held g.K.Sink.takes g.K.Sink.faults c.loop-segment.sink c.emit_segment.new.sink
+    (window w (output_at c.args.view.now.plan c.args.view.now.parts c.loop-segment.segment).0)) c.after-rest.ensures ended.2 in
+    segment_written g.K.Sink.held g.K.Sink.takes g.K.Sink.faults g.K.Sink.full c.args.window c.args.view.now.plan c.args.view.now.parts
     c.loop-segment.segment c.loop-segment.decoder c.emit_segment.new.decoder c.args.sink.now c.loop-segment.sink c.emit_segment.new.sink
-    c.loop-segment.written c.in-Ok-default-Good.count c.loop-segment.pads c.in-Ok-default-Good.more _ loop
+    c.loop-segment.came c.in-Ok-default-Good.count c.loop-segment.pads c.in-Ok-default-Good.more _ loop
     (subst (λ (n : ℕ). c.loop-segment.segment < n) c.segments-segment-end.ensures.count c.loop-segment-test.true)
-    ended.0 (sym c.in-Ok-default-Good.field-0-1-is ∙ ended.1) ended.2 c.in-Ok-default-Good.ensures.few
+    ended.0 (sym c.in-Ok-default-Good.field-0-1-is ∙ ended.1) has c.in-Ok-default-Good.ensures.few
     (c.in-Ok-default-Good.ensures.plan ∙ c.begin.ensures.plan)
     (c.in-Ok-default-Good.ensures.begun ∙ c.begin.ensures.begun) c.with-pads.ensures
 
@@ -64,8 +81,25 @@ returns-in-Err-clause-ends g c =
     let loop = c.loop-segment.invariant in
     let owes = owed c.begin.new.self c.loop-segment.decoder.plan c.args.view.now.plan c.args.view.now.parts
     c.loop-segment.segment loop.plan_is c.begin.ensures.owes in
-    segment_failed g.K.Sink.held g.K.Sink.takes g.K.Sink.faults g.K.Sink.full c.args.view.now.plan c.args.view.now.parts
+    subst (λ (n : ℕ). HasFailed g.K.Sink.held g.K.Sink.faults g.K.Sink.full c.args.sink.now c.emit_segment.new.sink
+    (window c.args.window (joined_in c.args.view.now).bytes) (n + c.in-Err.more)) (sym c.through.ensures.value)
+    (segment_failed g.K.Sink.held g.K.Sink.takes g.K.Sink.faults g.K.Sink.full c.args.window c.args.view.now.plan c.args.view.now.parts
     c.loop-segment.segment c.loop-segment.decoder c.args.sink.now c.loop-segment.sink c.emit_segment.new.sink
-    c.loop-segment.written c.in-Err.count c.loop-segment.pads loop
+    c.loop-segment.came c.in-Err.more c.loop-segment.pads loop
     (subst (λ (n : ℕ). c.loop-segment.segment < n) c.segments-segment-end.ensures.count c.loop-segment-test.true)
-    (c.in-Err.ensures.ends _ _ owes)
+    (subst (λ (w : Window). HasFailed g.K.Sink.held g.K.Sink.faults g.K.Sink.full c.loop-segment.sink c.emit_segment.new.sink
+    (window w (output_at c.args.view.now.plan c.args.view.now.parts c.loop-segment.segment).0) c.in-Err.more)
+    c.after-rest.ensures (c.in-Err.ensures.ends _ _ owes)))
+
+pub returns-clause-ends : goal.returns-clause-ends
+returns-clause-ends g c =
+    let count = c.segments-segment-end.ensures.count in
+    let least = c.loop-segment-test.false in
+    let most = c.loop-segment.auto.segment-end in
+    let over : c.loop-segment.segment ≡ length c.args.view.now.parts.handovers = omega (arith, count, least, most) in
+    subst (λ (n : ℕ). Emits g.K.Sink.held g.K.Sink.takes g.K.Sink.faults g.K.Sink.full c.args.sink.now c.loop-segment.sink
+    (seen_through c.args.window (joined_in c.args.view.now)) (Ok (record { bytes = n; came = c.loop-segment.came; pads = c.loop-segment.pads })))
+    (sym c.through-2.ensures.value)
+    (all_segments g.K.Sink.held g.K.Sink.takes g.K.Sink.faults g.K.Sink.full c.args.window c.args.view.now.plan c.args.view.now.parts
+    c.loop-segment.segment c.loop-segment.decoder c.args.sink.now c.loop-segment.sink c.loop-segment.came c.loop-segment.pads
+    c.loop-segment.invariant over)

@@ -4,8 +4,8 @@ use Rattle.segment_worker.proofs.emitter.emit_through.Given as goal
 
 abbrev pub invariant-loop : goal.invariant-loop
 invariant-loop g l = record {
-  emitting : IsEmitting g.K.Sink.held g.K.Sink.takes g.K.Sink.faults l.board l.view l.seat l.decoder l.initial.sink
-      l.sink l.written l.pads;
+  emitting : IsEmitting g.K.Sink.held g.K.Sink.takes g.K.Sink.faults l.board l.view l.window l.seat l.decoder
+      l.initial.sink l.sink l.came l.pads;
   current : l.current ≡ l.seat.view.cur;
   some : 1 ≤ length l.buffer;
 }

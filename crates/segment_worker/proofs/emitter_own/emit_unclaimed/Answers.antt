@@ -1,5 +1,6 @@
-use Rattle.std.proofs.Common.{◌≡◌, ◌<◌, ◌∙◌, sym, ap, subst, arith, ℕ, length}
+use Rattle.std.proofs.Common.{◌≡◌, ◌<◌, ◌∙◌, sym, ap, subst, arith, List, ℕ, length}
 use Rattle.outside_core.specs.Takes.{TakesNext}
+use Rattle.byte_window.specs.Windows.{window}
 use Rattle.jpeg_marker.specs.Plans.{PlanFields}
 use Rattle.box_format.specs.Seen.{BoxSeen}
 use Rattle.container_spec.specs.Segments.{segment_output}
@@ -8,7 +9,7 @@ use Rattle.segment_code.specs.Decoding.{Owes}
 use Rattle.output_board.specs.declared.view.EmitterView.{EmitterView}
 use Rattle.segment_worker.specs.OwnSegments.{OwesRest}
 use Rattle.segment_worker.proofs.ContentsTold.{bytes_long}
-use Rattle.segment_worker.proofs.OwnPieces.{owes_all, claimed_rest}
+use Rattle.segment_worker.proofs.OwnPieces.{owes_all, claimed_rest, own_none}
 use Rattle.segment_worker.proofs.emitter_own.emit_unclaimed.Goals as goal
 
 pub begin-requires-clause-segment : goal.begin-requires-clause-segment
@@ -42,6 +43,11 @@ emit_own-requires-clause-owes g c =
 
 pub emit_own-requires-clause-takes : goal.emit_own-requires-clause-takes
 emit_own-requires-clause-takes g c =
-    subst (TakesNext g.K.Sink.takes c.args.sink.now)
+    subst (λ (l : List ℕ). TakesNext g.K.Sink.takes c.args.sink.now (window c.args.window l))
     (sym (claimed_rest c.args.seat.now c.claim_own.new.seat c.claim_own.ensures.hold.content c.in-Mine.ensures.answer.0))
     c.requires.takes
+
+pub returns-in-Other-clause-ends : goal.returns-in-Other-clause-ends
+returns-in-Other-clause-ends g c =
+    own_none g.K.Sink.held g.K.Sink.takes g.K.Sink.faults g.K.Sink.full c.args.window c.args.seat.now c.claim_own.new.seat c.args.sink.now
+    c.in-Other.ensures.answer.0 c.requires.free c.requires.within
