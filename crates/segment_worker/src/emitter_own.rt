@@ -18,7 +18,7 @@ use segment_code::{SegmentDecoder, Step};
 use std::sync::Wait;
 
 // Claims the segment that is emitted, if nobody has, and writes what the window lets through of it, whatever its
-// outcome. Returns how many bytes it has, or how many were written before the sink failed.
+// outcome. Returns how many bytes came, or how many were written before the sink failed.
 pub(crate) fn emit_unclaimed<'a, R: Wait, K: Sink, G: Gate>(
     rt: &R,
     decoder: &mut SegmentDecoder<'a>,
