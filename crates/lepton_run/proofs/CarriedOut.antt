@@ -188,9 +188,11 @@ module _ {Sink : Type 0} (held : Sink → Option (List ℕ)) (faults : Sink → 
       -- the sink takes what they stand for
       pub meaning_taken : TakesAnswers takes (Decode workers) bytes old → TakesNext takes old (meaning_of plan b).bytes
       meaning_taken all =
-          let m = meaning_of plan b in
-          ([], subst (takes old) ((parts_written plan b).1 ∙ sym (append-nil m.bytes))
-          (all (answer_by m.bytes m.verdict) (answers_by (answer_by m.bytes m.verdict) refl)))
+          let m = meaning_of plan b in (
+            [],
+            subst (takes old) ((parts_written plan b).1 ∙ sym (append-nil m.bytes))
+                (all (answer_by m.bytes m.verdict) (answers_by (answer_by m.bytes m.verdict) refl)),
+          )
 
       -- however it ended
       pub ended : (end : Result ℕ DecodeError) → Ends held takes faults full old new (meaning_of plan b) end
