@@ -32,8 +32,8 @@ pub record IsParted (f : FileParts) : Type 0 where
 abbrev pub file_bytes : FileParts → List ℕ
 file_bytes f = f.header ++ (f.scan ++ f.trailer)
 
--- the place of the first byte of a row of MCUs, of those that the rows before don't complete; after the last row that of
--- the trailer
+-- the place of the first byte of a row of MCUs, of those that the rows before don't complete; after the last row
+-- that of the trailer
 abbrev pub row_place : FileParts → ℕ → ℕ
 row_place f row = length f.header + bytes_done f.shape f.pads f.mcus (f.across * row)
 

@@ -52,8 +52,8 @@ pub fn run<R: Threads + Wait + Sync, S: Source, K: Sink + Send, N: Sink + Send, 
     note: &mut N,
     gate: &G,
 ) -> u8
-    // The sink need take nothing but the answer to the bytes that the source may give. So at each moment, also of a call
-    // that never returns, what was written is a prefix of it.
+    // The sink need take nothing but the answer to the bytes that the source may give. So at each moment, also of a
+    // call that never returns, what was written is a prefix of it.
     requires takes { (command : Command) (bytes : List ℕ) → Means (map string_bytes words.now) command
         → MayTake command (S.left source.old) bytes
         → TakesAnswers K.takes command bytes sink.old }
