@@ -70,7 +70,7 @@ module _ {C : Type 0} where
       (new.view ≡ record old.view { over = true })
       × (seen : Seen) × WorkerTold old new FindsOver 0 seen × (seen.stopped ≡ true)
 
-  -- claim rings the bell where it returns a segment
+  -- claim rings the bell if it returns a segment
   abbrev pub ClaimRings : SeatValue C WorkerView → SeatValue C WorkerView → Claim → Type 0
   ClaimRings old new (Segment _) = HasRung old new
   ClaimRings old new NoneLeft = HasNotRung old new
@@ -86,7 +86,7 @@ module _ {C : Type 0} where
       (new.view ≡ record old.view { over = true })
       × (seen : Seen) × WorkerTold old new FindsOver 0 seen × (seen.stopped ≡ true)
 
-  -- put rings the bell where it took a byte
+  -- put rings the bell if it took a byte
   abbrev pub PutRings : SeatValue C WorkerView → SeatValue C WorkerView → Put → Type 0
   PutRings old new (Took n) = (n ≡ 0 → HasNotRung old new) × (1 ≤ n → HasRung old new)
   PutRings old new PutStopped = HasNotRung old new
@@ -100,7 +100,7 @@ module _ {C : Type 0} where
       (new.view ≡ record old.view { over = true })
       × (seen : Seen) × WorkerTold old new FindsOver 0 seen × (seen.stopped ≡ true)
 
-  -- finish rings the bell where it kept the outcome
+  -- finish rings the bell if it kept the outcome
   abbrev pub FinishRings : SeatValue C WorkerView → SeatValue C WorkerView → Finish → Type 0
   FinishRings old new Kept = HasRung old new
   FinishRings old new FinishStopped = HasNotRung old new
@@ -151,7 +151,7 @@ module _ {C : Type 0} where
       × (seen : Seen) × EmitterTold old new Nothing 0 seen
       × (seen.cur ≡ length ss)
 
-  -- take rings the bell where it took bytes, or ended a good segment
+  -- take rings the bell if it took bytes, or ended a good segment
   abbrev pub TakeRings : SeatValue C EmitterView → SeatValue C EmitterView → Take → Type 0
   TakeRings old new (Bytes _) = HasRung old new
   TakeRings old new (Ended (Good _)) = HasRung old new
@@ -173,7 +173,7 @@ module _ {C : Type 0} where
       × (seen : Seen) × EmitterTold old new Nothing 0 seen
       × ((seen.next ≢ seen.cur) ⊎ (seen.cur ≡ count))
 
-  -- claim_own rings the bell where the segment is the emitter's own
+  -- claim_own rings the bell if the segment is the emitter's own
   abbrev pub OwnRings : SeatValue C EmitterView → SeatValue C EmitterView → Own → Type 0
   OwnRings old new (Mine _) = HasRung old new
   OwnRings old new Other = HasNotRung old new

@@ -269,25 +269,6 @@ module _ {Sink : Type 0} (held : Sink → Option (List ℕ))
         ap (λ (x : EmitterView). x.stopped) p.view,
       )
 
-  -- from a claim of the segment on
-  pub own_claimed : (from mid now : SeatValue BoxSeen EmitterView) (old sink : Sink)
-      (result : Result ℕ ℕ) → mid.content ≡ from.content
-      → mid.view ≡ record from.view { owns = true }
-      → OwnEnds held takes faults full w mid now old sink result → OwnEnds held takes faults full w from now old sink result
-  own_claimed from mid now old sink (Ok written) content view own =
-      let rest = claimed_rest from mid content view in (
-        subst (λ (l : List ℕ). HasWritten held takes faults old sink (window w (take written l))) rest own.0,
-        subst (λ (z : BoxSeen × EmitterView).
-            z.1.taken + written ≤ length (bytes_at (segments_bytes z.0) z.1.cur))
-            (λ i. (content i, view i)) own.1,
-        own.2 ∙ ap (λ (x : EmitterView). record x { taken = x.taken + written; owns = false }) view,
-      )
-  own_claimed from mid now old sink (Err written) content view own =
-      let rest = claimed_rest from mid content view in (
-        subst (λ (l : List ℕ). HasFailed held faults full old sink (window w l) written) rest own.0,
-        own.1 ∙ ap (λ (x : EmitterView). x.stopped) view,
-      )
-
   -- where somebody else has it
   pub own_none : (from now : SeatValue BoxSeen EmitterView) (sink : Sink) → now.view ≡ from.view
       → from.view.owns ≡ false

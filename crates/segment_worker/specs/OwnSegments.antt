@@ -44,7 +44,7 @@ pub record IsPassing {Sink : Type 0} (held : Sink → Option (List ℕ))
   pub plan : d.plan ≡ begun.plan
 
 -- what a window lets through of bytes of the segment that is emitted was written, and the emitter owns none; or a write
--- failed in it, after so many bytes
+-- failed in it, after this number of bytes
 abbrev pub OwnEnds : {Sink : Type 0} → (Sink → Option (List ℕ)) → (Sink → List ℕ → Type 0)
     → (Sink → ℕ) → (Sink → Type 0) → Window → SeatValue BoxSeen EmitterView
     → SeatValue BoxSeen EmitterView → Sink → Sink → Result ℕ ℕ → Type 0

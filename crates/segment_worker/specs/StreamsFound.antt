@@ -1,5 +1,5 @@
 -- Steps: the streams of the segments between two passes over a scan (own).
-use Rattle.std.proofs.Common.{◌≡◌, ℕ, suc, ◌+◌, Bool, List, [], ◌∷◌, map, ap, ap₂, ◌∙◌, sym, subst, arith}
+use Rattle.std.proofs.Common.{◌≡◌, ℕ, suc, Bool, List, [], ◌∷◌, map, ap, ap₂, ◌∙◌, sym, subst, arith}
 use Rattle.scan_spec.specs.Items.{Refuses}
 use Rattle.scan_spec.specs.Scans.{Mcu}
 use Rattle.scan_spec.specs.Slots.{shape_of}
