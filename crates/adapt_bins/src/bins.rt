@@ -3,7 +3,8 @@ ghost use Rattle.std.specs.Prelude.{◌≡◌, [], ◌+◌, ◌/◌, ◌<◌, �
 ghost use Rattle.adapt_bins.specs.Counts.{unseen, counts, seen, most_count, halved, with_room, raised, counted, prob_of};
 
 use crate::reciprocals::share;
-use std::alloc::{AllocError, Global};
+use growth::{NoMemory, from_elem};
+use std::alloc::Global;
 use std::marker::Model;
 use std::mem::replace;
 
@@ -152,10 +153,10 @@ impl Model for Bins {
 
 impl Bins {
     /// `n` bins, before the first bit of each. The one error is out of memory.
-    pub fn new(alloc: Global, n: usize) -> Result<Bins, AllocError>
+    pub fn new(alloc: Global, n: usize) -> Result<Bins, NoMemory>
         ensures { IfOk result (λ b. b ≡ replicate n unseen) }
     {
-        let table = Vec::from_elem(alloc, Bin::new(), n)?;
+        let table = from_elem(alloc, Bin::new(), n)?;
         Ok(Bins { table })
     }
 

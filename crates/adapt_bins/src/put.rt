@@ -6,7 +6,7 @@ ghost use Rattle.adapt_bins.specs.PutEvents.{HasPut};
 
 use crate::{Bins, Coder, PutLocal};
 use bool_coder::Encoder;
-use std::alloc::AllocError;
+use growth::NoMemory;
 
 /// Puts bits into a stream: it borrows the bins, which count each bit, and the encoder, which codes it with the
 /// probability that its bin had before.
@@ -76,7 +76,7 @@ impl Coder for Put<'_> {
     ghost use Rattle.adapt_bins.specs.PutEvents.{PutsEvents, puts_none, puts_joined};
 
     // The one stop is out of memory. The encoder is then spent.
-    type Stop = AllocError;
+    type Stop = NoMemory;
 
     ghost room = { λ s. length s.bins.now };
 
@@ -94,7 +94,7 @@ impl Coder for Put<'_> {
 
     /// Codes the bit, or a zero if none is given.
     #[inline(always)]
-    fn code(&mut self, bin: usize, bit: Option<bool>) -> Result<bool, AllocError> {
+    fn code(&mut self, bin: usize, bit: Option<bool>) -> Result<bool, NoMemory> {
         let bit = bit.unwrap_or(false);
         self.encoder.put(self.bins.prob(bin), bit)?;
         self.bins.count(bin, bit);

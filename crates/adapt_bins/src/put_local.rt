@@ -1,7 +1,7 @@
 // Bins and encoder in a local value, while a block is put.
 use crate::{Bins, Coder};
 use bool_coder::Encoder;
-use std::alloc::AllocError;
+use growth::NoMemory;
 
 /// The bins and the encoder of a `Put`, owned: `Put::moved`. In a local value the encoder's state stays in registers;
 /// through references all of it is loaded again after each store to a bin.
@@ -16,7 +16,7 @@ impl Coder for PutLocal {
     ghost use Rattle.adapt_bins.specs.PutEvents.{LocalPuts, local_none, local_joined};
 
     // The one stop is out of memory. The encoder is then spent.
-    type Stop = AllocError;
+    type Stop = NoMemory;
 
     ghost room = { λ s. length s.bins };
 
@@ -34,7 +34,7 @@ impl Coder for PutLocal {
 
     /// Codes the bit, or a zero if none is given.
     #[inline(always)]
-    fn code(&mut self, bin: usize, bit: Option<bool>) -> Result<bool, AllocError> {
+    fn code(&mut self, bin: usize, bit: Option<bool>) -> Result<bool, NoMemory> {
         let bit = bit.unwrap_or(false);
         self.encoder.put(self.bins.prob(bin), bit)?;
         self.bins.count(bin, bit);

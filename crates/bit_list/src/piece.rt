@@ -2,7 +2,8 @@
 ghost use Rattle.std.specs.Prelude.{◌≡◌, ◌+◌, ◌-◌, ◌<◌, ◌≤◌, [], ◌∷◌, ◌++◌, length, take, IfOk};
 ghost use Rattle.bit_list.specs.Pieces.{piece_room};
 
-use std::alloc::{AllocError, Global};
+use growth::{NoMemory, from_elem};
+use std::alloc::Global;
 use std::marker::Model;
 
 /// How many bytes a piece has room for: `piece_room` in clauses.
@@ -31,11 +32,11 @@ impl Model for Piece {
 
 impl Piece {
     /// No bytes yet. The one error is out of memory.
-    pub fn new(alloc: Global) -> Result<Piece, AllocError>
+    pub fn new(alloc: Global) -> Result<Piece, NoMemory>
         ensures { IfOk result (λ p. p ≡ []) }
     {
         Ok(Piece {
-            room: vec![in alloc; 0; ROOM]?,
+            room: from_elem(alloc, 0, ROOM)?,
             used: 0,
         })
     }

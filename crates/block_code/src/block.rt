@@ -20,7 +20,7 @@ use crate::parts_code::code_parts;
 use adapt_bins::{Get, Put};
 use block_spec::BlockFault;
 use coef_block::{Block, Rows};
-use std::alloc::AllocError;
+use growth::NoMemory;
 
 // The blocks around one, as the rows hold them.
 #[inline(always)]
@@ -50,7 +50,7 @@ pub fn put_block(
     row: u32,
     column: u32,
     block: &Block,
-) -> Result<(), AllocError>
+) -> Result<(), NoMemory>
     requires class { class < 2 }
     requires component { component < 4 }
     requires row { row < height rows.now.extents component }

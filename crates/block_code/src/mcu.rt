@@ -14,7 +14,8 @@ use crate::mcu_grid::McuGrid;
 use adapt_bins::{Get, Put};
 use block_spec::BlockFault;
 use coef_block::{Block, Rows};
-use std::alloc::{AllocError, Global};
+use growth::NoMemory;
+use std::alloc::Global;
 use std::marker::Model;
 
 /// A segment under way, between two MCUs: its grid, the blocks of this MCU row and of the one before, and how many MCUs
@@ -40,7 +41,7 @@ impl Model for SegmentRows {
 impl SegmentRows {
     /// Before the first MCU of a segment. Memory is allocated here alone, for two MCU rows of blocks; the one error is
     /// out of memory.
-    pub fn new(alloc: Global, grid: McuGrid) -> Result<SegmentRows, AllocError>
+    pub fn new(alloc: Global, grid: McuGrid) -> Result<SegmentRows, NoMemory>
         requires { IsGrid grid }
         ensures grid { IfOk result (λ segment. segment.grid ≡ grid) }
         ensures held { IfOk result (λ segment. HoldsUpTo segment []) }
@@ -84,11 +85,7 @@ impl SegmentRows {
 /// Puts the events of the next MCU's blocks into a stream, in their order (ITU-T T.81, A.2.3): component after
 /// component, each row after row. The rows keep the blocks. The one error is out of memory, and the encoder is then
 /// spent.
-pub fn put_mcu(
-    coder: &mut Put,
-    segment: &mut SegmentRows,
-    blocks: &[Block],
-) -> Result<(), AllocError>
+pub fn put_mcu(coder: &mut Put, segment: &mut SegmentRows, blocks: &[Block]) -> Result<(), NoMemory>
     requires room { bin_count ≤ length coder.old.bins.now }
     requires blocks { length blocks.now ≡ block_count segment.old.grid.mcu }
     ensures stopped { OnErr result (coder.new.encoder.now ≡ None) }
@@ -142,7 +139,7 @@ fn put_blocks(
     rows: &mut Rows,
     before: u32,
     blocks: &[Block],
-) -> Result<(), AllocError>
+) -> Result<(), NoMemory>
     requires room { bin_count ≤ length coder.old.bins.now }
     requires grid { IsGrid grid.now }
     requires fits { FitsGrid rows.old.extents grid.now }

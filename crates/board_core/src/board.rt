@@ -8,8 +8,9 @@ use crate::actor::Actor;
 use crate::event::{Event, Took};
 use crate::ring::Ring;
 use crate::segment::{Segment, index_of};
+use growth::{NoMemory, from_elem, push};
 use handover::Outcome;
-use std::alloc::{AllocError, Global};
+use std::alloc::Global;
 use std::marker::Model;
 
 /// The segments of a file, who owns each of them, and which of its bytes wait. Clauses see a `BoardState`.
@@ -46,21 +47,22 @@ impl Model for Core {
 impl Core {
     /// The board of `k` segments and `workers` workers before the first event. Each ring holds at most `capacity`
     /// bytes.
-    pub fn new(alloc: Global, k: u8, capacity: usize, workers: u8) -> Result<Core, AllocError>
+    pub fn new(alloc: Global, k: u8, capacity: usize, workers: u8) -> Result<Core, NoMemory>
         requires { 1 ≤ capacity }
         ensures { IfOk result (λ b. b ≡ opening_board k capacity workers) }
     {
         let mut segments = Vec::new(alloc);
         for _ in 0..k {
-            segments.push(Segment {
+            let segment = Segment {
                 owner: None,
                 put: 0,
                 taken: 0,
                 ring: Ring::new(alloc, capacity)?,
                 done: None,
-            })?;
+            };
+            push(&mut segments, segment)?;
         }
-        let left = vec![in alloc; false; workers as usize]?;
+        let left = from_elem(alloc, false, workers as usize)?;
         Ok(Core {
             capacity,
             next: 0,

@@ -3,7 +3,8 @@ ghost use Rattle.std.specs.Prelude.{◌≡◌, ◌+◌, ◌-◌, ◌≤◌, [], 
 ghost use Rattle.board_core.specs.RingBytes.{ring_bytes};
 
 use circular_buffer::HeapCircularBuffer;
-use std::alloc::{AllocError, Global};
+use growth::{NoMemory, ring_with_capacity};
+use std::alloc::Global;
 use std::marker::Model;
 
 // Bytes in the order in which they were put, in memory allocated by `new`. Clauses see the bytes and the capacity.
@@ -25,10 +26,10 @@ impl Model for Ring {
 
 impl Ring {
     // An empty ring.
-    pub(crate) fn new(alloc: Global, capacity: usize) -> Result<Ring, AllocError>
+    pub(crate) fn new(alloc: Global, capacity: usize) -> Result<Ring, NoMemory>
         ensures { IfOk result (λ r. r ≡ ring_bytes [] capacity) }
     {
-        let bytes = HeapCircularBuffer::with_capacity(alloc, capacity)?;
+        let bytes = ring_with_capacity(alloc, capacity)?;
         Ok(Ring { bytes })
     }
 

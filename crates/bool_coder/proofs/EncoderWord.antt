@@ -1,5 +1,5 @@
 -- The word and the whole bytes, as one interval.
-use Rattle.std.proofs.Common.{◌≡◌, ℕ, ◌+◌, ◌-◌, ◌*◌, ◌/◌, ◌%◌, ◌^◌, ◌<◌, ◌≤◌, Bool, true, false, List, length, refl, sym, ap, ◌∙◌, arith, lit≤, subst, None, Some, if◌then◌else◌}
+use Rattle.std.proofs.Common.{◌≡◌, ℕ, ◌+◌, ◌-◌, ◌*◌, ◌/◌, ◌%◌, ◌^◌, ◌<◌, ◌≤◌, Bool, true, false, List, length, refl, sym, ap, ◌∙◌, arith, lit≤, subst, None, Some, Option, is_some, if◌then◌else◌}
 use Rattle.std.specs.Prelude.{bit_and}
 use Rattle.std.specs.Int.{div_ceil}
 use Rattle.std.specs.Int.Digits.{number_from_digits, AllBelowBase}
@@ -8,6 +8,7 @@ use Rattle.std.proofs.lemmas.Nat.{pow_pos, pow-add, shr_split, shr_below, shl_wh
 use Rattle.bool_coder.specs.BoolStream.{Interval, chosen, after, stream, stream_length, IsOnLine}
 use Rattle.bool_coder.specs.PlainLine.{IsKept}
 use Rattle.bool_coder.specs.EncoderInside.{kept, IsWord}
+use Rattle.growth.specs.declared.no_memory.NoMemory.{NoMemory}
 use Rattle.bool_coder.proofs.Bytes.{byte_power, bytes_number}
 use Rattle.bool_coder.proofs.Append.{below_by_product}
 use Rattle.bool_coder.proofs.Line.{shifted, same_interval, Doublings, after_is, chosen-part, after-kept}
@@ -168,5 +169,5 @@ step-kept written low bits range prob bit low' bits' range' word p e =
     rw e (after-kept (kept written low bits range) prob bit p (record { wide = word.wide; byte = word.byte; on_line = word.on_line }))
 
 -- what contracts see of an encoder that isn't spent
-pub shown : (spent : Bool) (i : Interval) → spent ≡ false → (if spent then None else Some i) ≡ Some i
+pub shown : (spent : Option NoMemory) (i : Interval) → spent ≡ None → (if is_some spent then None else Some i) ≡ Some i
 shown spent i e = rw e refl

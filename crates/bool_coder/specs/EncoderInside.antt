@@ -1,5 +1,5 @@
 -- View: how the encoder keeps an interval: the bottom's whole bytes, and the bits after them in a word (own).
-use Rattle.std.specs.Prelude.{ℕ, ◌+◌, ◌-◌, ◌*◌, ◌^◌, ◌<◌, ◌≤◌, Option, Some, None, List, length, if◌then◌else◌}
+use Rattle.std.specs.Prelude.{ℕ, ◌+◌, ◌-◌, ◌*◌, ◌^◌, ◌<◌, ◌≤◌, Option, Some, None, List, length, is_some, if◌then◌else◌}
 use Rattle.std.specs.Int.Digits.{number_from_digits}
 use Rattle.bool_coder.specs.BoolStream.{Interval, IsOnLine}
 use Rattle.bool_coder.specs.declared.encoder.Encoder.TheInside.{Inside}
@@ -14,7 +14,7 @@ kept written low bits range = record {
 
 -- nothing, once the encoder is spent
 abbrev pub interval_of : Inside → Option Interval
-interval_of e = if e.spent then None else Some (kept e.written.items e.low e.bits e.range)
+interval_of e = if is_some e.spent then None else Some (kept e.written.items e.low e.bits e.range)
 
 -- the word has from 8 to 39 bits, and above them at most one carry
 pub record IsWord (written : List ℕ) (low bits range : ℕ) : Type 0 where

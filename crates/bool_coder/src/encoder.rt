@@ -4,7 +4,8 @@ ghost use Rattle.std.specs.Int.Digits.{number_from_digits, AllBelowBase};
 ghost use Rattle.bool_coder.specs.BoolStream.{opening, after, split, chosen, stream};
 ghost use Rattle.bool_coder.specs.EncoderInside.{kept};
 
-use std::alloc::{AllocError, Global};
+use growth::{NoMemory, extend_from_slice};
+use std::alloc::Global;
 use std::marker::Model;
 use std::mem::replace;
 
@@ -24,7 +25,8 @@ pub struct Encoder {
     // How many bits that is, without the carry.
     bits: u32,
     range: u32,
-    spent: bool,
+    // Why it is spent, if it is.
+    spent: Option<NoMemory>,
 }
 
 impl Model for Encoder {
@@ -50,7 +52,7 @@ impl Encoder {
             low: 0,
             bits: 8,
             range: 255,
-            spent: false,
+            spent: None,
         }
     }
 
@@ -68,14 +70,14 @@ impl Encoder {
     /// Codes a bool whose probability of a zero is `prob` in 256, from 1 to 255 (RFC 6386, 7.3). The one error is
     /// out of memory. The encoder is then spent, and returns that error from then on.
     #[inline(always)]
-    pub fn put(&mut self, prob: u8, bit: bool) -> Result<(), AllocError>
+    pub fn put(&mut self, prob: u8, bit: bool) -> Result<(), NoMemory>
         requires { 0 < prob }
         ensures coded { OnOk result (self.new ≡ option_map (λ i. after i (prob, bit)) self.old) }
         ensures lasting { OnOk result (IsSome self.old) }
         ensures spent { OnErr result (self.new ≡ None) }
     {
-        if self.spent {
-            return Err(AllocError);
+        if let Some(short) = self.spent {
+            return Err(short);
         }
         let (low, bits, range) = step(self.low, self.bits, self.range, prob, bit);
         if bits < FULL {
@@ -88,12 +90,12 @@ impl Encoder {
             match append_apart(whole, low >> left, 4) {
                 Ok(written) => self.written = written,
                 // The bytes are gone: what is left is a new encoder's word.
-                Err(AllocError) => {
+                Err(short) => {
                     self.low = 0;
                     self.bits = 8;
                     self.range = 255;
-                    self.spent = true;
-                    return Err(AllocError);
+                    self.spent = Some(short);
+                    return Err(short);
                 }
             }
             self.low = low & ((1 << left) - 1);
@@ -106,7 +108,7 @@ impl Encoder {
     /// The stream of the bools that were coded: the bottom in eight bits and one more for each shift, the highest
     /// first, and zero bits up to a whole byte. The flush of RFC 6386 isn't used. The one error is out of memory,
     /// here or at a `put`.
-    pub fn finish(self) -> Result<Vec<u8>, AllocError>
+    pub fn finish(self) -> Result<Vec<u8>, NoMemory>
         ensures stream { IfOk result (λ bytes. IfSome self (λ i. bytes.items ≡ stream i)) }
         ensures spent { OnOk result (IsSome self) }
     {
@@ -117,8 +119,8 @@ impl Encoder {
             range: _,
             spent,
         } = self;
-        if spent {
-            return Err(AllocError);
+        if let Some(short) = spent {
+            return Err(short);
         }
         let count = bits.div_ceil(8);
         let written = append(written, low << (8 * count - bits), count as usize)?;
@@ -194,7 +196,7 @@ pub(crate) fn doublings(range: u32) -> u32
 
 // `append`, so placed that the room for its answer is cleared only if it is called, and not for each bool.
 #[inline(always)]
-fn append_apart(written: Vec<u8>, number: u64, count: usize) -> Result<Vec<u8>, AllocError>
+fn append_apart(written: Vec<u8>, number: u64, count: usize) -> Result<Vec<u8>, NoMemory>
     requires count { count ≤ 7 }
     requires carry { number < 2 * 256 ^ count }
     requires room { number_from_digits 256 written.items * 256 ^ count + number
@@ -206,14 +208,14 @@ fn append_apart(written: Vec<u8>, number: u64, count: usize) -> Result<Vec<u8>, 
 {
     match append(written, number, count) {
         Ok(longer) => Ok(longer),
-        Err(AllocError) => Err(AllocError),
+        Err(short) => Err(short),
     }
 }
 
 // `append_to` for a vector by value, so that no address of a local encoder is passed on.
 #[cold]
 #[inline(never)]
-fn append(written: Vec<u8>, number: u64, count: usize) -> Result<Vec<u8>, AllocError>
+fn append(written: Vec<u8>, number: u64, count: usize) -> Result<Vec<u8>, NoMemory>
     requires count { count ≤ 7 }
     requires carry { number < 2 * 256 ^ count }
     requires room { number_from_digits 256 written.items * 256 ^ count + number
@@ -230,7 +232,7 @@ fn append(written: Vec<u8>, number: u64, count: usize) -> Result<Vec<u8>, AllocE
 
 // Appends the last `count` bytes of a number, and adds the carry above them to what was written.
 #[inline(always)]
-fn append_to(written: &mut Vec<u8>, number: u64, count: usize) -> Result<(), AllocError>
+fn append_to(written: &mut Vec<u8>, number: u64, count: usize) -> Result<(), NoMemory>
     requires count { count ≤ 7 }
     requires carry { number < 2 * 256 ^ count }
     requires room { number_from_digits 256 written.old.items * 256 ^ count + number
@@ -241,7 +243,7 @@ fn append_to(written: &mut Vec<u8>, number: u64, count: usize) -> Result<(), All
     ensures bytes { OnOk result (AllBelowBase 256 written.new.items) }
 {
     let whole = written.len();
-    written.extend_from_slice(&number.to_be_bytes()[8 - count..])?;
+    extend_from_slice(written, &number.to_be_bytes()[8 - count..])?;
     if number >> (8 * count) != 0 {
         carry(written, whole);
     }

@@ -9,7 +9,8 @@ use crate::reading::read_box;
 use crate::refusal::Migrate;
 use crate::version::Version;
 use crate::view::BoxView;
-use std::alloc::{AllocError, Global};
+use growth::{NoMemory, extend_from_slice, from_slice, push, with_capacity};
+use std::alloc::Global;
 
 /// The same container in version 2: of version 1, with the byte of the version changed and a pad list of no bytes; of
 /// version 2, itself. It stands for the same; what its streams stand for isn't looked at.
@@ -24,25 +25,25 @@ pub fn migrate(alloc: Global, bytes: &[u8]) -> Result<Vec<u8>, Migrate>
 }
 
 // The bytes of a container, in version 2.
-fn migrated(alloc: Global, view: &BoxView) -> Result<Vec<u8>, AllocError>
+fn migrated(alloc: Global, view: &BoxView) -> Result<Vec<u8>, NoMemory>
     ensures { IfOk result (λ made. made.items ≡ box_bytes (migrated view.now.parts)) }
 {
     match view.version() {
         Version::First => relaid(alloc, view.bytes),
-        Version::Second => Vec::from_slice(alloc, view.bytes),
+        Version::Second => from_slice(alloc, view.bytes),
     }
 }
 
 // Bytes of version 1 with the byte of version 2, and the length of a pad list of no bytes after the trailer's.
-fn relaid(alloc: Global, bytes: &[u8]) -> Result<Vec<u8>, AllocError>
+fn relaid(alloc: Global, bytes: &[u8]) -> Result<Vec<u8>, NoMemory>
     requires { 15 ≤ length bytes.now }
     ensures { IfOk result (λ made. made.items ≡ relaid bytes.now) }
 {
-    let mut made = Vec::with_capacity(alloc, bytes.len().saturating_add(4))?;
-    made.extend_from_slice(&bytes[..4])?;
-    made.push(Version::Second.byte())?;
-    made.extend_from_slice(&bytes[5..15])?;
-    made.extend_from_slice(&[0; 4])?;
-    made.extend_from_slice(&bytes[15..])?;
+    let mut made = with_capacity(alloc, bytes.len().saturating_add(4))?;
+    extend_from_slice(&mut made, &bytes[..4])?;
+    push(&mut made, Version::Second.byte())?;
+    extend_from_slice(&mut made, &bytes[5..15])?;
+    extend_from_slice(&mut made, &[0; 4])?;
+    extend_from_slice(&mut made, &bytes[15..])?;
     Ok(made)
 }

@@ -1,6 +1,6 @@
 // Why bytes are no container.
+use growth::NoMemory;
 use jpeg_marker::HeaderRefusal;
-use std::alloc::AllocError;
 
 /// Why bytes are no container, by the numbers of the refusals. The checks are made in this order.
 #[derive(Clone, Copy, Debug, PartialEq, Eq)]
@@ -31,7 +31,7 @@ pub enum BoxRefusal {
 pub enum Migrate {
     /// 30 to 38: the bytes are no container.
     Box(BoxRefusal),
-    NoMemory,
+    NoMemory(NoMemory),
 }
 
 impl From<BoxRefusal> for Migrate {
@@ -45,13 +45,13 @@ impl From<BoxRefusal> for Migrate {
     }
 }
 
-impl From<AllocError> for Migrate {
+impl From<NoMemory> for Migrate {
     ghost use Rattle.std.specs.Prelude.{◌≡◌};
     ghost use Rattle.box_format.specs.declared.refusal.Migrate.TheVariants.{NoMemory};
 
-    ghost from_gives = { λ _ error. error ≡ NoMemory };
+    ghost from_gives = { λ short error. error ≡ NoMemory short };
 
-    fn from(_: AllocError) -> Self {
-        Migrate::NoMemory
+    fn from(short: NoMemory) -> Self {
+        Migrate::NoMemory(short)
     }
 }

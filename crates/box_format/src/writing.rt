@@ -13,17 +13,18 @@ use crate::checks::MAGIC;
 use crate::fields::RECORD;
 use crate::parts::Parts;
 use crate::version::Version;
+use growth::{NoMemory, extend_from_slice, push, with_capacity};
 use handover::Handover;
 use scan_spec::Pads;
-use std::alloc::{AllocError, Global};
+use std::alloc::Global;
 
 /// Writes the container of these parts, in version 2. They must be those of a container: their checks pass. The one
 /// error is out of memory.
-pub fn write_box(alloc: Global, parts: &Parts) -> Result<Vec<u8>, AllocError>
+pub fn write_box(alloc: Global, parts: &Parts) -> Result<Vec<u8>, NoMemory>
     requires { (plan : PlanFields) × IsBox plan (parts_given parts.now) }
     ensures { IfOk result (λ bytes. bytes.items ≡ box_bytes (parts_given parts.now)) }
 {
-    let mut bytes = Vec::with_capacity(alloc, room(parts))?;
+    let mut bytes = with_capacity(alloc, room(parts))?;
     let list = list_of(&parts.pad);
     put_front(
         &mut bytes,
@@ -37,9 +38,9 @@ pub fn write_box(alloc: Global, parts: &Parts) -> Result<Vec<u8>, AllocError>
         list.len() as u32,
     )?;
     put_records(&mut bytes, parts.handovers, parts.streams)?;
-    bytes.extend_from_slice(list)?;
-    bytes.extend_from_slice(parts.header)?;
-    bytes.extend_from_slice(parts.trailer)?;
+    extend_from_slice(&mut bytes, list)?;
+    extend_from_slice(&mut bytes, parts.header)?;
+    extend_from_slice(&mut bytes, parts.trailer)?;
     put_streams(&mut bytes, parts.streams)?;
     Ok(bytes)
 }
@@ -60,14 +61,14 @@ fn room(parts: &Parts) -> usize
 }
 
 // The fields up to the lengths.
-fn put_front(bytes: &mut Vec<u8>, pad: u8, segments: u8) -> Result<(), AllocError>
+fn put_front(bytes: &mut Vec<u8>, pad: u8, segments: u8) -> Result<(), NoMemory>
     ensures { OnOk result (bytes.new.items
         ≡ bytes.old.items ++ (magic ++ version_byte Second ∷ pad ∷ segments ∷ [])) }
 {
-    bytes.extend_from_slice(&MAGIC)?;
-    bytes.push(Version::Second.byte())?;
-    bytes.push(pad)?;
-    bytes.push(segments)?;
+    extend_from_slice(bytes, &MAGIC)?;
+    push(bytes, Version::Second.byte())?;
+    push(bytes, pad)?;
+    push(bytes, segments)?;
     Ok(())
 }
 
@@ -93,13 +94,13 @@ fn list_of<'a>(pads: &Pads<'a>) -> &'a [u8]
 }
 
 // The lengths of header, trailer and pad list.
-fn put_lengths(bytes: &mut Vec<u8>, header: u32, trailer: u32, list: u32) -> Result<(), AllocError>
+fn put_lengths(bytes: &mut Vec<u8>, header: u32, trailer: u32, list: u32) -> Result<(), NoMemory>
     ensures { OnOk result (bytes.new.items
         ≡ bytes.old.items ++ (big_bytes 4 header ++ (big_bytes 4 trailer ++ big_bytes 4 list))) }
 {
-    bytes.extend_from_slice(&header.to_be_bytes())?;
-    bytes.extend_from_slice(&trailer.to_be_bytes())?;
-    bytes.extend_from_slice(&list.to_be_bytes())?;
+    extend_from_slice(bytes, &header.to_be_bytes())?;
+    extend_from_slice(bytes, &trailer.to_be_bytes())?;
+    extend_from_slice(bytes, &list.to_be_bytes())?;
     Ok(())
 }
 
@@ -108,7 +109,7 @@ fn put_records(
     bytes: &mut Vec<u8>,
     handovers: &[Handover],
     streams: &[Vec<u8>],
-) -> Result<(), AllocError>
+) -> Result<(), NoMemory>
     requires { length handovers.now ≡ length streams.now }
     ensures { OnOk result (bytes.new.items
         ≡ bytes.old.items ++ records handovers.now (map (λ v. v.items) streams.now)) }
@@ -120,22 +121,22 @@ fn put_records(
 }
 
 // A segment's handover, and the length of its stream.
-fn put_record(bytes: &mut Vec<u8>, handover: &Handover, stream: u64) -> Result<(), AllocError>
+fn put_record(bytes: &mut Vec<u8>, handover: &Handover, stream: u64) -> Result<(), NoMemory>
     ensures { OnOk result (bytes.new.items
         ≡ bytes.old.items ++ (handover_bytes handover.now ++ big_bytes 8 stream)) }
 {
-    bytes.extend_from_slice(&handover.to_bytes())?;
-    bytes.extend_from_slice(&stream.to_be_bytes())?;
+    extend_from_slice(bytes, &handover.to_bytes())?;
+    extend_from_slice(bytes, &stream.to_be_bytes())?;
     Ok(())
 }
 
 // The streams, one after another.
-fn put_streams(bytes: &mut Vec<u8>, streams: &[Vec<u8>]) -> Result<(), AllocError>
+fn put_streams(bytes: &mut Vec<u8>, streams: &[Vec<u8>]) -> Result<(), NoMemory>
     ensures { OnOk result (bytes.new.items
         ≡ bytes.old.items ++ flat_map (λ stream. stream) (map (λ v. v.items) streams.now)) }
 {
     for stream in streams {
-        bytes.extend_from_slice(stream)?;
+        extend_from_slice(bytes, stream)?;
     }
     Ok(())
 }

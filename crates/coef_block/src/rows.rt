@@ -3,7 +3,8 @@ ghost use Rattle.std.specs.Prelude.{◌≡◌, ◌<◌, ◌*◌, ◌+◌, ◌≤
 ghost use Rattle.coef_block.specs.TwoRows.{AreCleared, width, height, offset, block_count, index_in, above_in, left_in, diagonal_in, stored, four_of, extents_of};
 
 use crate::block::Block;
-use std::alloc::{AllocError, Global};
+use growth::{NoMemory, from_elem};
+use std::alloc::Global;
 use std::marker::Model;
 
 /// The blocks of this MCU row and of the one before, as a block's neighbours are looked up: component after component,
@@ -35,7 +36,7 @@ impl Model for Rows {
 
 impl Rows {
     /// Before the first MCU row, by how many blocks an MCU row is wide and high in each component.
-    pub fn new(alloc: Global, widths: &[u32], heights: &[u32]) -> Result<Rows, AllocError>
+    pub fn new(alloc: Global, widths: &[u32], heights: &[u32]) -> Result<Rows, NoMemory>
         requires components { length widths.now ≤ 4 }
         requires same { length heights.now ≡ length widths.now }
         requires few { block_count (extents_of widths.now heights.now) < 2 ^ 32 }
@@ -45,8 +46,8 @@ impl Rows {
         let widths = four_of(widths);
         let heights = four_of(heights);
         let (offsets, count) = offsets_of(&widths, &heights);
-        let before = Vec::from_elem(alloc, Block::zero(), count)?;
-        let here = Vec::from_elem(alloc, Block::zero(), count)?;
+        let before = from_elem(alloc, Block::zero(), count)?;
+        let here = from_elem(alloc, Block::zero(), count)?;
         Ok(Rows {
             widths,
             heights,

@@ -6,7 +6,7 @@ ghost use Rattle.command_words.specs.Meaning.{Asks, IsInRange, Means, Reads};
 
 use crate::words::known_words;
 use clap::ArgMatches;
-use clap::error::ErrorKind;
+use growth::{NoMemory, try_get_matches_from};
 use std::alloc::Global;
 
 /// What the arguments mean.
@@ -28,7 +28,18 @@ pub enum WordsError {
     /// They mean none, or ask for help.
     Refused,
     /// Out of memory.
-    NoMemory,
+    NoMemory(NoMemory),
+}
+
+impl From<NoMemory> for WordsError {
+    ghost use Rattle.std.specs.Prelude.{◌≡◌};
+    ghost use Rattle.command_words.specs.declared.command.WordsError.TheVariants.{NoMemory};
+
+    ghost from_gives = { λ short error. error ≡ NoMemory short };
+
+    fn from(short: NoMemory) -> Self {
+        WordsError::NoMemory(short)
+    }
 }
 
 /// The command that the arguments mean. The first one is the program's name.
@@ -50,15 +61,11 @@ fn parsed<'a>(alloc: Global, words: &'a [String]) -> Result<ArgMatches<'a>, Word
     ensures refused { IsErrOf result WordsError.Refused
         → faults (map string_bytes words.entry.now) ≢ [] }
 {
-    let Ok(known) = known_words(alloc) else {
-        return Err(WordsError::NoMemory);
-    };
-    match known.try_get_matches_from(words) {
+    let known = known_words(alloc)?;
+    let answer = try_get_matches_from(known, words)?;
+    match answer {
         Ok(matches) => Ok(matches),
-        Err(error) => match error.kind() {
-            ErrorKind::OutOfMemory => Err(WordsError::NoMemory),
-            _ => Err(WordsError::Refused),
-        },
+        Err(_) => Err(WordsError::Refused),
     }
 }
 

@@ -5,10 +5,11 @@ ghost use Rattle.command_words.specs.LeptonApp.{decode_app, encode_app, lepton_a
 
 use clap::builder::ValueParser;
 use clap::{Arg, value_parser};
-use std::alloc::{AllocError, Global};
+use growth::{NoMemory, arg, subcommand};
+use std::alloc::Global;
 
 /// The program with its four subcommands, of which one must be named.
-pub(crate) fn known_words<'a>(alloc: Global) -> Result<clap::Command<'a>, AllocError>
+pub(crate) fn known_words<'a>(alloc: Global) -> Result<clap::Command<'a>, NoMemory>
     ensures { IfOk result (λ known. app_of known ≡ lepton_app) }
 {
     let known = clap::Command::new(alloc, "lepton").subcommand_required(true);
@@ -19,45 +20,42 @@ pub(crate) fn known_words<'a>(alloc: Global) -> Result<clap::Command<'a>, AllocE
 }
 
 // The program with one subcommand more.
-fn with_encode<'a>(alloc: Global, known: clap::Command<'a>) -> Result<clap::Command<'a>, AllocError>
+fn with_encode<'a>(alloc: Global, known: clap::Command<'a>) -> Result<clap::Command<'a>, NoMemory>
     ensures { IfOk result (λ more. app_of more
         ≡ with_subcommand (app_of known.entry) encode_app.top) }
 {
     let segments = number_option(alloc, "segments", value_parser!(u8).range(1..=64), "8");
-    let encode = clap::Command::new(alloc, "encode").arg(segments)?;
-    known.subcommand(encode)
+    let encode = arg(clap::Command::new(alloc, "encode"), segments)?;
+    subcommand(known, encode)
 }
 
-fn with_decode<'a>(alloc: Global, known: clap::Command<'a>) -> Result<clap::Command<'a>, AllocError>
+fn with_decode<'a>(alloc: Global, known: clap::Command<'a>) -> Result<clap::Command<'a>, NoMemory>
     ensures { IfOk result (λ more. app_of more
         ≡ with_subcommand (app_of known.entry) decode_app.top) }
 {
     let workers = number_option(alloc, "workers", value_parser!(u8).range(0..=16), "4");
-    let decode = clap::Command::new(alloc, "decode").arg(workers)?;
-    known.subcommand(decode)
+    let decode = arg(clap::Command::new(alloc, "decode"), workers)?;
+    subcommand(known, decode)
 }
 
-fn with_migrate<'a>(
-    alloc: Global,
-    known: clap::Command<'a>,
-) -> Result<clap::Command<'a>, AllocError>
+fn with_migrate<'a>(alloc: Global, known: clap::Command<'a>) -> Result<clap::Command<'a>, NoMemory>
     ensures { IfOk result (λ more. app_of more
         ≡ with_subcommand (app_of known.entry) migrate_app.top) }
 {
-    known.subcommand(clap::Command::new(alloc, "migrate"))
+    subcommand(known, clap::Command::new(alloc, "migrate"))
 }
 
-fn with_sample<'a>(alloc: Global, known: clap::Command<'a>) -> Result<clap::Command<'a>, AllocError>
+fn with_sample<'a>(alloc: Global, known: clap::Command<'a>) -> Result<clap::Command<'a>, NoMemory>
     ensures { IfOk result (λ more. app_of more
         ≡ with_subcommand (app_of known.entry) sample_app.top) }
 {
     let seed = required_option(alloc, "seed", value_parser!(u32).range(0..=4294967295));
     let columns = required_option(alloc, "columns", value_parser!(u16).range(1..=256));
     let rows = required_option(alloc, "rows", value_parser!(u16).range(1..=256));
-    let sample = clap::Command::new(alloc, "sample").arg(seed)?;
-    let sample = sample.arg(columns)?;
-    let sample = sample.arg(rows)?;
-    known.subcommand(sample)
+    let sample = arg(clap::Command::new(alloc, "sample"), seed)?;
+    let sample = arg(sample, columns)?;
+    let sample = arg(sample, rows)?;
+    subcommand(known, sample)
 }
 
 // An option with a number, `usual` where it is left out.

@@ -232,7 +232,7 @@ fn again(alloc: Global, view: &BoxView) -> Result<Vec<u8>, AllocError>
         handovers: handovers.as_slice(),
         streams: streams.as_slice(),
     };
-    write_box(alloc, &parts)
+    Ok(write_box(alloc, &parts)?)
 }
 
 fn handovers_of(alloc: Global, view: &BoxView) -> Result<Vec<Handover>, AllocError>

@@ -323,7 +323,7 @@ fn refused_beside<R: Threads + Sync>(rt: &R, alloc: Global, bytes: &[u8], segmen
     };
     match encode_scan(rt, alloc, &plan, bytes, segments) {
         Err(ScanError::Scan(refusal)) => refusal == ScanRefusal::ScanCut { place: 70 },
-        Err(ScanError::NoMemory) | Ok(_) => false,
+        Err(ScanError::NoMemory(_)) | Ok(_) => false,
     }
 }
 
@@ -345,6 +345,6 @@ fn refusal(alloc: Global, bytes: &[u8], segments: u8) -> Option<ScanRefusal> {
     }
     match find_starts(alloc, &plan, bytes, segments) {
         Err(ScanError::Scan(refusal)) => Some(refusal),
-        Err(ScanError::NoMemory) | Ok(_) => None,
+        Err(ScanError::NoMemory(_)) | Ok(_) => None,
     }
 }

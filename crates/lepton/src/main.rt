@@ -10,12 +10,13 @@ use std::process::ExitCode;
 fn main(rt: HostRuntime) -> ExitCode {
     let alloc = rt.alloc();
     let mut note = WriterSink::new(rt.stderr());
-    let Ok(words) = given_arguments(&rt, alloc) else {
-        return ExitCode::from(no_memory_for_words(&mut note));
+    let words = match given_arguments(&rt, alloc) {
+        Ok(words) => words,
+        Err(short) => return ExitCode::from(no_memory_for_words(&mut note, short).status()),
     };
     let mut source = ReaderSource::new(rt.stdin());
     let mut sink = WriterSink::new(rt.stdout());
-    ExitCode::from(run(
+    let ending = run(
         &rt,
         alloc,
         words.as_slice(),
@@ -23,5 +24,6 @@ fn main(rt: HostRuntime) -> ExitCode {
         &mut sink,
         &mut note,
         &OpenGate,
-    ))
+    );
+    ExitCode::from(ending.status())
 }

@@ -7,10 +7,11 @@ ghost use Rattle.box_format.specs.declared.refusal.BoxRefusal.{BoxRefusal};
 use crate::team::{Emitter, Worker, team_of};
 use bit_list::Piece;
 use box_format::{BoxRefusal, BoxView, read_box};
+use growth::NoMemory;
 use output_board::Board;
 use segment_code::SegmentDecoder;
 use segment_worker::{Told, prepare_board};
-use std::alloc::{AllocError, Global};
+use std::alloc::Global;
 use std::marker::Model;
 use thiserror::Error;
 
@@ -55,17 +56,17 @@ pub enum PrepareError {
     #[error("Box")]
     Box(BoxRefusal),
     #[error("NoMemory")]
-    NoMemory,
+    NoMemory(NoMemory),
 }
 
-impl From<AllocError> for PrepareError {
+impl From<NoMemory> for PrepareError {
     ghost use Rattle.std.specs.Prelude.{◌≡◌};
     ghost use Rattle.lepton_decode.specs.declared.ready.PrepareError.TheVariants.{NoMemory};
 
-    ghost from_gives = { λ _ error. error ≡ NoMemory };
+    ghost from_gives = { λ short error. error ≡ NoMemory short };
 
-    fn from(_: AllocError) -> Self {
-        PrepareError::NoMemory
+    fn from(short: NoMemory) -> Self {
+        PrepareError::NoMemory(short)
     }
 }
 

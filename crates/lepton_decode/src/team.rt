@@ -6,11 +6,12 @@ use crate::threads::{Lead, Task};
 use bit_list::Piece;
 use box_format::BoxView;
 use byte_window::Window;
+use growth::{NoMemory, push, with_capacity};
 use output_board::{Board, EmitterSeat, WorkerSeat};
 use outside_core::{Gate, Sink};
 use segment_code::SegmentDecoder;
 use segment_worker::{EmitStop, Emitted, Told, emit, work};
-use std::alloc::{AllocError, Global};
+use std::alloc::Global;
 use std::sync::Wait;
 
 // A worker's seat, and the decoder and the piece that it needs.
@@ -98,15 +99,15 @@ pub(crate) fn team_of<'a>(
     view: &BoxView<'a>,
     board: &Board<Told<'a>>,
     seats: Vec<WorkerSeat<Told<'a>>>,
-) -> Result<Vec<Worker<'a>>, AllocError>
+) -> Result<Vec<Worker<'a>>, NoMemory>
     requires { AreNewSeats board.now view.now seats.items }
     ensures idle { IfOk result (λ team. All (IsIdleWorker board.now view.now) team.items) }
     ensures count { IfOk result (λ team. length team.items ≡ length seats.entry.items) }
 {
-    let mut team = Vec::with_capacity(alloc, seats.len())?;
+    let mut team = with_capacity(alloc, seats.len())?;
     for seat in seats {
         let worker = worker_of(alloc, view, board, seat)?;
-        team.push(worker)?;
+        push(&mut team, worker)?;
     }
     Ok(team)
 }
@@ -117,7 +118,7 @@ fn worker_of<'a>(
     view: &BoxView<'a>,
     _board: &Board<Told<'a>>,
     seat: WorkerSeat<Told<'a>>,
-) -> Result<Worker<'a>, AllocError>
+) -> Result<Worker<'a>, NoMemory>
     requires { IsNewSeat _board.now view.now seat }
     ensures { IfOk result (λ worker. IsIdleWorker _board.now view.now worker) }
 {

@@ -9,4 +9,4 @@ use Rattle.lepton_encode.specs.Errors.{error_of}
 pub scan_found : (error : ScanError) (refusal : ScanRefusal) → error_of error ≡ Scan refusal
     → error ≡ found.Scan refusal
 scan_found (found.Scan other) refusal is = cc
-scan_found found.NoMemory refusal is = absurd cc
+scan_found (found.NoMemory short) refusal is = absurd cc

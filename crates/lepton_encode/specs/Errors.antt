@@ -7,4 +7,4 @@ use Rattle.lepton_encode.specs.declared.error.EncodeError.TheVariants.{Scan, NoM
 -- an error of the pass, as an error of encoding
 abbrev pub error_of : ScanError → EncodeError
 error_of (found.Scan refusal) = Scan refusal
-error_of found.NoMemory = NoMemory
+error_of (found.NoMemory short) = NoMemory short

@@ -1,8 +1,8 @@
 // Why a file isn't encoded.
+use growth::NoMemory;
 use jpeg_marker::HeaderRefusal;
 use scan_spec::ScanRefusal;
 use segment_code::ScanError;
-use std::alloc::AllocError;
 use thiserror::Error;
 
 /// Why a file isn't encoded.
@@ -15,17 +15,17 @@ pub enum EncodeError {
     #[error("Scan")]
     Scan(ScanRefusal),
     #[error("NoMemory")]
-    NoMemory,
+    NoMemory(NoMemory),
 }
 
-impl From<AllocError> for EncodeError {
+impl From<NoMemory> for EncodeError {
     ghost use Rattle.std.specs.Prelude.{◌≡◌};
     ghost use Rattle.lepton_encode.specs.declared.error.EncodeError.TheVariants.{NoMemory};
 
-    ghost from_gives = { λ _ error. error ≡ NoMemory };
+    ghost from_gives = { λ short error. error ≡ NoMemory short };
 
-    fn from(_: AllocError) -> Self {
-        EncodeError::NoMemory
+    fn from(short: NoMemory) -> Self {
+        EncodeError::NoMemory(short)
     }
 }
 
@@ -49,7 +49,7 @@ impl From<ScanError> for EncodeError {
     fn from(found: ScanError) -> Self {
         match found {
             ScanError::Scan(refusal) => EncodeError::Scan(refusal),
-            ScanError::NoMemory => EncodeError::NoMemory,
+            ScanError::NoMemory(short) => EncodeError::NoMemory(short),
         }
     }
 }

@@ -14,7 +14,7 @@ use Rattle.container_spec.proofs.MigratedMeanings.{migrated_means_the_same}
 use Rattle.command_words.specs.Meaning.{Means}
 use Rattle.command_words.specs.declared.command.Command.{Command}
 use Rattle.command_words.specs.declared.command.Command.TheVariants.{Encode, Decode, Migrate}
-use Rattle.lepton_run.specs.Answers.{Answer, Answers, AppendsPart, Early, IsInput, Late, Made, Took, Writes, bytes_of, limit_of, line_of, status_of}
+use Rattle.lepton_run.specs.Answers.{Answer, Answers, AppendsPart, Early, IsInput, Late, Made, Took, Writes, bytes_of, limit_of, line_of}
 use Rattle.lepton_run.specs.Endings.{ending_line, ending_of, status_at}
 use Rattle.lepton_run.specs.CommandEnds.{Answered, Given, SampleEnds}
 use Rattle.lepton_run.specs.declared.ending.Ending.{Ending}
@@ -24,11 +24,6 @@ use Rattle.lepton_run.proofs.BoxesOfBytes.{box_are}
 use Rattle.lepton_run.proofs.BytesTaken.{answer_had}
 use Rattle.lepton_run.proofs.OneAnswers.{one_answer}
 use Rattle.lepton_run.proofs.SameCommand.{same_command}
-
-same_status : (answer : Answer) → status_at (ending_of answer) ≡ status_of answer
-same_status (Made bytes) = refl
-same_status (Early refusal) = refl
-same_status (Late bytes refusal) = refl
 
 same_line : (answer : Answer) → ending_line (ending_of answer) ≡ line_of answer
 same_line (Made bytes) = refl
@@ -57,42 +52,42 @@ module _ {Sink Source : Type 0} (held : Sink → Option (List ℕ)) (faults : Si
   Ends ending = Answered held faults full left failures lost words source rest old new ending
 
   -- bytes were taken, and this is the answer to them
-  abbrev Answering : ℕ → Type 0
-  Answering status =
+  abbrev Answering : Ending → Type 0
+  Answering ending =
       (command : Command) × (bytes : List ℕ) × (answer : Answer) × Means words command
       × Took command (left source) (left rest) bytes
-      × Answers command bytes answer × (status ≡ status_of answer)
+      × Answers command bytes answer × (ending ≡ ending_of answer)
       × Appends (held old) (held new) (bytes_of answer) × (¬ Writes answer → new ≡ old)
       × Said (line_of answer)
 
-  answering : (ending : Ending) (status : ℕ) (command : Command) (bytes : List ℕ)
-      → status ≡ status_at ending → Said (ending_line ending) → Means words command
+  answering : (ending : Ending) (command : Command) (bytes : List ℕ)
+      → Said (ending_line ending) → Means words command
       → Took command (left source) (left rest) bytes
       → ((answer : Answer) × Given held faults full command bytes answer old new
-      × (ending ≡ ending_of answer)) → Answering status
-  answering ending status command bytes is said means took g = (
+      × (ending ≡ ending_of answer)) → Answering ending
+  answering ending command bytes said means took g = (
     command,
     bytes,
     g.0,
     means,
     took,
     g.1.answers,
-    is ∙ ap status_at g.2 ∙ same_status g.0,
+    g.2,
     g.1.appended,
     g.1.kept,
     subst Said (ap ending_line g.2 ∙ same_line g.0) said,
   )
 
   pub answered_of : (ending : Ending) (status : ℕ) → status ≡ status_at ending → Ends ending
-      → Said (ending_line ending) → status ≤ 1 → Answering status
+      → Said (ending_line ending) → status ≤ 1 → Answering ending
   answered_of Done status is ends said few =
-      answering Done status ends.0 ends.2.0 is said ends.1 ends.2.1 ends.2.3
+      answering Done ends.0 ends.2.0 said ends.1 ends.2.1 ends.2.3
   answered_of (Refused refusal) status is ends said few =
-      answering (Refused refusal) status ends.0 ends.2.0 is said ends.1 ends.2.1 ends.2.3
+      answering (Refused refusal) ends.0 ends.2.0 said ends.1 ends.2.1 ends.2.3
   answered_of WordsRefused status is ends said few = absurd (omega arith)
   answered_of ReadFailed status is ends said few = absurd (omega arith)
   answered_of WriteFailed status is ends said few = absurd (omega arith)
-  answered_of NoMemory status is ends said few = absurd (omega arith)
+  answered_of (NoMemory short) status is ends said few = absurd (omega arith)
 
   -- a write of the answer's bytes failed
   abbrev Cutting : Type 0
@@ -119,30 +114,30 @@ module _ {Sink Source : Type 0} (held : Sink → Option (List ℕ)) (faults : Si
         cut.1.writes,
         cut.1.part,
       )
-  cut_of NoMemory status is ends four = absurd (omega arith)
+  cut_of (NoMemory short) status is ends four = absurd (omega arith)
 
   module _ (command : Command) (had : List ℕ) (answer : Answer) (means : Means words command)
       (is_left : IsInput command (left source) had) (wanted : Answers command had answer) where
     -- the answer was given
-    abbrev Gave : ℕ → Answer → Type 0
-    Gave status answer =
-        (status ≡ status_of answer) × Appends (held old) (held new) (bytes_of answer)
+    abbrev Gave : Ending → Answer → Type 0
+    Gave ending answer =
+        (ending ≡ ending_of answer) × Appends (held old) (held new) (bytes_of answer)
         × Said (line_of answer)
 
-    gave : (status : ℕ) → Answering status → Gave status answer
-    gave status a =
-        subst (Gave status)
+    gave : (ending : Ending) → Answering ending → Gave ending answer
+    gave ending a =
+        subst (Gave ending)
         (same_answer words command a.0 had a.1 (left source) (left rest) answer a.2 means a.3
         is_left a.4 a.5 wanted)
         (a.6, a.7, a.9)
 
     pub complete_of : (ending : Ending) (status : ℕ) → status ≡ status_at ending → Ends ending
         → Said (ending_line ending) → ¬ Rose failures lost source rest
-        → (Writes answer → ¬ Rose faults full old new) → Gave status answer ⊎ (status ≡ 5)
+        → (Writes answer → ¬ Rose faults full old new) → Gave ending answer ⊎ (status ≡ 5)
     complete_of Done status is ends said calm still =
-        inl (gave status (answered_of Done status is ends said (omega (arith, is))))
+        inl (gave Done (answered_of Done status is ends said (omega (arith, is))))
     complete_of (Refused refusal) status is ends said calm still =
-        inl (gave status (answered_of (Refused refusal) status is ends said (omega (arith, is))))
+        inl (gave (Refused refusal) (answered_of (Refused refusal) status is ends said (omega (arith, is))))
     complete_of WordsRefused status is ends said calm still = absurd (ends.0 command means)
     complete_of ReadFailed status is ends said calm still = absurd (calm ends.2.0)
     complete_of WriteFailed status is ends said calm still =
@@ -150,7 +145,7 @@ module _ {Sink Source : Type 0} (held : Sink → Option (List ℕ)) (faults : Si
         let same = same_answer words command ends.0 had ends.2.0 (left source) (left rest) answer
         cut.0 means ends.1 is_left ends.2.1 cut.1.answers wanted in
         absurd (still (subst Writes same cut.1.writes) cut.1.rose)
-    complete_of NoMemory status is ends said calm still = inr is
+    complete_of (NoMemory short) status is ends said calm still = inr is
 
   pub back_of : (ending : Ending) (status : ℕ) → status ≡ status_at ending → Ends ending
       → Said (ending_line ending) → (version : Version) (workers most : ℕ) (bytes file : List ℕ)
@@ -164,7 +159,7 @@ module _ {Sink Source : Type 0} (held : Sink → Option (List ℕ)) (faults : Si
       elim (complete_of (Decode workers) bytes (Made file) means had
       (file_back version most workers bytes file some few short of) ending status is ends said calm
       (λ _. still)) [
-        | inl given ↦ inl (given.0, given.1)
+        | inl given ↦ inl (is ∙ ap status_at given.0, given.1)
         | inr five ↦ inr five
       ]
 
@@ -184,7 +179,7 @@ module _ {Sink Source : Type 0} (held : Sink → Option (List ℕ)) (faults : Si
       (inr (record { short = short; are = are; makes = (plan, b, of, refl) })) ending status is
       ends said calm (λ _. still)) [
         | inl given ↦ inl (
-          given.0,
+          is ∙ ap status_at given.0,
           migrated_means_the_same plan b bytes meaning are of stands,
           given.1,
         )
@@ -199,4 +194,4 @@ sampled_of (Refused refusal) status is ends = absurd ends
 sampled_of WordsRefused status is ends = absurd ends
 sampled_of ReadFailed status is ends = absurd ends
 sampled_of WriteFailed status is ends = inr (inl is)
-sampled_of NoMemory status is ends = inr (inr is)
+sampled_of (NoMemory short) status is ends = inr (inr is)

@@ -153,4 +153,4 @@ module _ {Sink : Type 0} (held : Sink → Option (List ℕ)) (faults : Sink → 
   sample_ends ReadFailed (Early why, given, is) = absurd cc
   sample_ends ReadFailed (Late written why, given, is) = absurd cc
   sample_ends WriteFailed ends = tt
-  sample_ends NoMemory ends = tt
+  sample_ends (NoMemory short) ends = tt

@@ -1,4 +1,4 @@
--- Statement: the one answer to a command and the bytes that it reads: the bytes that it writes, its status and its line
+-- Statement: the one answer to a command and the bytes that it reads: the bytes that it writes and its line
 -- (README.md, Use).
 use Rattle.std.specs.Prelude.{ℕ, ◌≡◌, ◌⊎◌, ◌+◌, ◌<◌, ◌≤◌, Bool, true, false, List, [], length, take, Option, Some}
 use Rattle.std.specs.List.{AllByRecursion}
@@ -28,12 +28,6 @@ pub data Answer : Type 0 where
   Made : List ℕ → Answer
   Early : Refusal → Answer
   Late : List ℕ → Refusal → Answer
-
--- the status
-abbrev pub status_of : Answer → ℕ
-status_of (Made bytes) = 0
-status_of (Early refusal) = 1
-status_of (Late bytes refusal) = 1
 
 -- the bytes that are written
 abbrev pub bytes_of : Answer → List ℕ

@@ -14,7 +14,7 @@ use Rattle.lepton_run.specs.declared.ending.Ending.TheVariants.{Done, WordsRefus
 abbrev pub SampleEnds : Ending → Type 0
 SampleEnds Done = Unit {0}
 SampleEnds WriteFailed = Unit {0}
-SampleEnds NoMemory = Unit {0}
+SampleEnds (NoMemory short) = Unit {0}
 SampleEnds other = ⊥
 
 module _ {Sink : Type 0} (held : Sink → Option (List ℕ)) (faults : Sink → ℕ)
@@ -40,7 +40,7 @@ module _ {Sink : Type 0} (held : Sink → Option (List ℕ)) (faults : Sink → 
   abbrev pub CarriedOut : Command → List ℕ → Sink → Sink → Ending → Type 0
   CarriedOut command bytes old new WriteFailed =
       (answer : Answer) × Cut command bytes answer old new
-  CarriedOut command bytes old new NoMemory = new ≡ old
+  CarriedOut command bytes old new (NoMemory short) = new ≡ old
   CarriedOut command bytes old new ending =
       (answer : Answer) × Given command bytes answer old new × (ending ≡ ending_of answer)
 
@@ -50,7 +50,7 @@ module _ {Sink : Type 0} (held : Sink → Option (List ℕ)) (faults : Sink → 
     abbrev pub Transferred : Command → Source → Source → Sink → Sink → Ending → Type 0
     Transferred command source rest old new ReadFailed =
         Rose failures lost source rest × (new ≡ old)
-    Transferred command source rest old new NoMemory =
+    Transferred command source rest old new (NoMemory short) =
         (failures rest ≡ failures source) × (new ≡ old)
     Transferred command source rest old new ending =
         (bytes : List ℕ) × Took command (left source) (left rest) bytes
@@ -60,7 +60,7 @@ module _ {Sink : Type 0} (held : Sink → Option (List ℕ)) (faults : Sink → 
     abbrev pub Answered : List (List ℕ) → Source → Source → Sink → Sink → Ending → Type 0
     Answered words source rest old new WordsRefused =
         ((command : Command) → ¬ Means words command) × (rest ≡ source) × (new ≡ old)
-    Answered words source rest old new NoMemory =
+    Answered words source rest old new (NoMemory short) =
         (failures rest ≡ failures source) × (new ≡ old)
     Answered words source rest old new ending =
         (command : Command) × Means words command

@@ -1,9 +1,9 @@
--- Steps: the ending of the top call by what a decode answers (own).
+-- Steps: the ending of the top call by what a decode answers, and which ending says out of memory (own).
 use Rattle.std.specs.Prelude.{ℕ, Result, Ok, Err}
 use Rattle.lepton_decode.specs.declared.error.DecodeError.{DecodeError}
 use Rattle.lepton_decode.specs.declared.error.DecodeError.TheVariants.{WriteFault, Fault, PadSpelling}
 use Rattle.lepton_run.specs.declared.ending.Ending.{Ending}
-use Rattle.lepton_run.specs.declared.ending.Ending.TheVariants.{Done, Refused, WriteFailed}
+use Rattle.lepton_run.specs.declared.ending.Ending.TheVariants.{Done, Refused, WriteFailed, NoMemory}
 use Rattle.lepton_run.specs.declared.refusal.Refusal.TheVariants as Refusal
 
 -- the ending of a decode's answer
@@ -12,3 +12,8 @@ decode_ending (Ok written) = Done
 decode_ending (Err PadSpelling) = Refused Refusal.PadSpelling
 decode_ending (Err (Fault fault)) = Refused (Refusal.Fault fault)
 decode_ending (Err (WriteFault written)) = WriteFailed
+
+-- out of memory
+abbrev pub IsNoMemory : Ending → Type 0
+IsNoMemory (NoMemory short) = Unit {0}
+IsNoMemory other = ⊥

@@ -15,7 +15,7 @@ status_at (Refused refusal) = 1
 status_at WordsRefused = 2
 status_at ReadFailed = 3
 status_at WriteFailed = 4
-status_at NoMemory = 5
+status_at (NoMemory short) = 5
 
 -- the line of a status that isn't a refusal's: nothing for 0
 abbrev pub line_at : ℕ → List ℕ
@@ -32,7 +32,7 @@ ending_line (Refused refusal) = refusal_line refusal
 ending_line WordsRefused = line_at 2
 ending_line ReadFailed = line_at 3
 ending_line WriteFailed = line_at 4
-ending_line NoMemory = line_at 5
+ending_line (NoMemory short) = line_at 5
 
 -- the ending that an answer is
 abbrev pub ending_of : Answer → Ending

@@ -1,9 +1,12 @@
 // The commands, on the bytes that they took.
-ghost use Rattle.std.specs.Prelude.{◌≡◌, ◌≤◌, length};
+ghost use Rattle.std.specs.Prelude.{◌≡◌, ◌≤◌, ℕ, Result, false, length};
+ghost use Rattle.outside_core.specs.Takes.{TakesNext};
 ghost use Rattle.command_words.specs.Meaning.{IsInRange};
 ghost use Rattle.command_words.specs.declared.command.Command.TheVariants.{Encode, Decode, Migrate};
+ghost use Rattle.lepton_decode.specs.Ends.{Ends, lone_meaning_in, meaning_in};
+ghost use Rattle.lepton_decode.specs.declared.error.DecodeError.{DecodeError};
 ghost use Rattle.lepton_run.specs.Answers.{TakesAnswers, limit_of, reads};
-ghost use Rattle.lepton_run.specs.DecodeEndings.{decode_ending};
+ghost use Rattle.lepton_run.specs.DecodeEndings.{IsNoMemory, decode_ending};
 ghost use Rattle.lepton_run.specs.CommandEnds.{CarriedOut};
 
 use crate::ending::Ending;
@@ -11,7 +14,9 @@ use crate::refusal::Refusal;
 use crate::sample_command::show_sample;
 use crate::writing::write_made;
 use command_words::Command;
-use lepton_decode::{DecodeError, PrepareError, ample_ring, prepare, prepare_alone, run_alone};
+use lepton_decode::{
+    DecodeError, PrepareError, Ready, ReadyAlone, ample_ring, prepare, prepare_alone, run_alone,
+};
 use lepton_encode::EncodeError;
 use outside_core::{Gate, Sink};
 use std::alloc::Global;
@@ -92,7 +97,7 @@ fn encode<R: Threads + Sync, K: Sink>(
         Ok(made) => made,
         Err(EncodeError::Header(refusal)) => return Ending::Refused(Refusal::Header(refusal)),
         Err(EncodeError::Scan(refusal)) => return Ending::Refused(Refusal::Scan(refusal)),
-        Err(EncodeError::NoMemory) => return Ending::NoMemory,
+        Err(EncodeError::NoMemory(short)) => return Ending::NoMemory(short),
     };
     write_made(made.as_slice(), sink)
 }
@@ -115,9 +120,26 @@ fn decode<R: Threads + Wait + Sync, K: Sink + Send, G: Gate + Sync>(
     let mut ready = match prepare(alloc, bytes, workers, ample_ring(bytes)) {
         Ok(ready) => ready,
         Err(PrepareError::Box(refusal)) => return Ending::Refused(Refusal::Box(refusal)),
-        Err(PrepareError::NoMemory) => return Ending::NoMemory,
+        Err(PrepareError::NoMemory(short)) => return Ending::NoMemory(short),
     };
-    let ended = lepton_decode::run(&mut ready, rt, sink, gate);
+    restore(rt, &mut ready, sink, gate)
+}
+
+// The file of a container that is ready. Whatever memory this needs was taken before, so it never wants any.
+fn restore<R: Threads + Wait + Sync, K: Sink + Send, G: Gate + Sync>(
+    rt: &R,
+    ready: &mut Ready,
+    sink: &mut K,
+    gate: &G,
+) -> Ending
+    requires fresh { ready.old.used ≡ false }
+    requires takes { TakesNext K.takes sink.old (meaning_in ready.old).bytes }
+    ensures ends { (answer : Result ℕ DecodeError) × (result ≡ decode_ending answer)
+        × Ends K.held K.takes K.faults K.full sink.old sink.new (meaning_in ready.old) answer }
+    ensures memory { ¬ IsNoMemory result }
+    ensures lasting { K.faults sink.old ≤ K.faults sink.new }
+{
+    let ended = lepton_decode::run(ready, rt, sink, gate);
     ending_by(ended)
 }
 
@@ -132,9 +154,21 @@ fn decode_alone<K: Sink, G: Gate>(alloc: Global, bytes: &[u8], sink: &mut K, gat
     let mut ready = match prepare_alone(alloc, bytes) {
         Ok(ready) => ready,
         Err(PrepareError::Box(refusal)) => return Ending::Refused(Refusal::Box(refusal)),
-        Err(PrepareError::NoMemory) => return Ending::NoMemory,
+        Err(PrepareError::NoMemory(short)) => return Ending::NoMemory(short),
     };
-    let ended = run_alone(&mut ready, sink, gate);
+    restore_alone(&mut ready, sink, gate)
+}
+
+// The file of a container that is ready. Whatever memory this needs was taken before, so it never wants any.
+fn restore_alone<K: Sink, G: Gate>(ready: &mut ReadyAlone, sink: &mut K, gate: &G) -> Ending
+    requires fresh { ready.old.used ≡ false }
+    requires takes { TakesNext K.takes sink.old (lone_meaning_in ready.old).bytes }
+    ensures ends { (answer : Result ℕ DecodeError) × (result ≡ decode_ending answer)
+        × Ends K.held K.takes K.faults K.full sink.old sink.new (lone_meaning_in ready.old) answer }
+    ensures memory { ¬ IsNoMemory result }
+    ensures lasting { K.faults sink.old ≤ K.faults sink.new }
+{
+    let ended = run_alone(ready, sink, gate);
     ending_by(ended)
 }
 
@@ -148,14 +182,15 @@ fn migrate<K: Sink>(alloc: Global, bytes: &[u8], sink: &mut K) -> Ending
     let made = match box_format::migrate(alloc, bytes) {
         Ok(made) => made,
         Err(box_format::Migrate::Box(refusal)) => return Ending::Refused(Refusal::Box(refusal)),
-        Err(box_format::Migrate::NoMemory) => return Ending::NoMemory,
+        Err(box_format::Migrate::NoMemory(short)) => return Ending::NoMemory(short),
     };
     write_made(made.as_slice(), sink)
 }
 
 // How the command ends by what a decode answers.
 fn ending_by(ended: Result<u64, DecodeError>) -> Ending
-    ensures { result ≡ decode_ending ended }
+    ensures ending { result ≡ decode_ending ended }
+    ensures memory { ¬ IsNoMemory result }
 {
     match ended {
         Ok(_) => Ending::Done,

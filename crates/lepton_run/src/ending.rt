@@ -4,21 +4,28 @@ ghost use Rattle.lepton_run.specs.Endings.{ending_line, status_at};
 
 use crate::line::Line;
 use crate::refusal::Refusal;
+use growth::NoMemory;
 
 /// How a command ended.
-#[derive(Clone, Copy)]
-pub(crate) enum Ending {
+#[derive(Clone, Copy, Debug, PartialEq, Eq)]
+pub enum Ending {
+    /// What was asked for is written.
     Done,
+    /// The bytes are refused.
     Refused(Refusal),
+    /// The arguments mean no command.
     WordsRefused,
+    /// The source failed.
     ReadFailed,
+    /// The sink failed.
     WriteFailed,
-    NoMemory,
+    /// Out of memory.
+    NoMemory(NoMemory),
 }
 
 impl Ending {
     /// The status of the program.
-    pub(crate) fn status(&self) -> u8
+    pub fn status(&self) -> u8
         ensures { result ≡ status_at self.now }
     {
         match *self {
@@ -27,7 +34,7 @@ impl Ending {
             Ending::WordsRefused => 2,
             Ending::ReadFailed => 3,
             Ending::WriteFailed => 4,
-            Ending::NoMemory => 5,
+            Ending::NoMemory(_) => 5,
         }
     }
 
@@ -45,7 +52,7 @@ impl Ending {
             Ending::WordsRefused => line.push(b"lepton: words refused"),
             Ending::ReadFailed => line.push(b"lepton: read failed"),
             Ending::WriteFailed => line.push(b"lepton: write failed"),
-            Ending::NoMemory => line.push(b"lepton: no memory"),
+            Ending::NoMemory(_) => line.push(b"lepton: no memory"),
         }
         line.push(b"\n");
         line

@@ -1,4 +1,4 @@
-//! The top call: arguments, a source, a sink and stderr, and a status.
+//! The top call: arguments, a source, a sink and stderr, and an ending with its status.
 //!
 //!     arguments --> command --> encode:  source --> bytes --> container --> sink
 //!                               decode:  source --> bytes --> file, segment by segment --> sink
@@ -21,6 +21,7 @@ mod top;
 mod writing;
 
 pub use command_words::Command;
+pub use ending::Ending;
 pub use laws::{
     decode_undoes_encode, migrated_stands_for_the_same, one_answer, one_spelling_a_file,
 };

@@ -13,11 +13,12 @@ ghost use Rattle.lepton_run.specs.Summaries.{IsSummary, entry, sample_segments, 
 use crate::ending::Ending;
 use crate::line::Line;
 use crate::writing::write_made;
+use growth::NoMemory;
 use lepton_decode::{PrepareError, ample_ring, prepare};
 use lepton_encode::EncodeError;
 use outside_core::{Compare, Gate, Sink};
 use sample_jpeg::sample;
-use std::alloc::{AllocError, Global};
+use std::alloc::Global;
 use std::sync::Wait;
 use std::thread::Threads;
 
@@ -45,7 +46,7 @@ pub(crate) fn show_sample<R: Threads + Wait + Sync, K: Sink + Send, G: Gate + Sy
 {
     let summary = match recoded(rt, alloc, seed, columns, rows, gate) {
         Ok(summary) => summary,
-        Err(_) => return Ending::NoMemory,
+        Err(short) => return Ending::NoMemory(short),
     };
     write_made(summary.bytes(), sink)
 }
@@ -58,7 +59,7 @@ fn recoded<R: Threads + Wait + Sync, G: Gate + Sync>(
     columns: u16,
     rows: u16,
     gate: &G,
-) -> Result<Line, AllocError>
+) -> Result<Line, NoMemory>
     requires { IsInRange (Sample seed columns rows) }
     ensures { IfOk result (IsSummary seed columns rows) }
 {
@@ -70,13 +71,13 @@ fn recoded<R: Threads + Wait + Sync, G: Gate + Sync>(
 }
 
 // The container of a sample, which every header and scan check lets pass.
-fn encoded<R: Threads + Sync>(rt: &R, alloc: Global, file: &[u8]) -> Result<Vec<u8>, AllocError>
+fn encoded<R: Threads + Sync>(rt: &R, alloc: Global, file: &[u8]) -> Result<Vec<u8>, NoMemory>
     requires { IsSampleFile file.now }
     ensures { IfOk result (λ made. IsContainerOf Second sample_segments made.items file.now) }
 {
     match lepton_encode::encode(rt, alloc, file, SEGMENTS) {
         Ok(made) => Ok(made),
-        Err(EncodeError::NoMemory) => Err(AllocError),
+        Err(EncodeError::NoMemory(short)) => Err(short),
         Err(EncodeError::Header(_)) => unreachable!(),
         Err(EncodeError::Scan(_)) => unreachable!(),
     }
@@ -90,13 +91,13 @@ fn restored<R: Threads + Wait + Sync, G: Gate + Sync>(
     made: &[u8],
     file: &[u8],
     gate: &G,
-) -> Result<u64, AllocError>
+) -> Result<u64, NoMemory>
     requires container { IsContainerOf Second sample_segments made.now file.now }
     ensures { IfOk result (λ restored. restored ≡ length file.now) }
 {
     let mut ready = match prepare(alloc, made, WORKERS, ample_ring(made)) {
         Ok(ready) => ready,
-        Err(PrepareError::NoMemory) => return Err(AllocError),
+        Err(PrepareError::NoMemory(short)) => return Err(short),
         Err(PrepareError::Box(_)) => unreachable!(),
     };
     let mut sink = Compare::new(file);

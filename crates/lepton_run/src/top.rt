@@ -12,21 +12,22 @@ ghost use Rattle.box_format.specs.declared.version.Version.{Version};
 ghost use Rattle.command_words.specs.Meaning.{IsInRange, Means};
 ghost use Rattle.command_words.specs.declared.command.Command.{Command};
 ghost use Rattle.command_words.specs.declared.command.Command.TheVariants.{Encode, Decode, Migrate, Sample};
-ghost use Rattle.lepton_run.specs.Answers.{Answer, Answers, AppendsPart, IsInput, Made, MayTake, TakenWithin, TakesAnswers, Took, Writes, bytes_of, limit_of, line_of, status_of};
-ghost use Rattle.lepton_run.specs.Endings.{Notes, ending_line, line_at};
+ghost use Rattle.lepton_run.specs.Answers.{Answer, Answers, AppendsPart, IsInput, Made, MayTake, TakenWithin, TakesAnswers, Took, Writes, bytes_of, limit_of, line_of};
+ghost use Rattle.lepton_run.specs.Endings.{Notes, ending_line, ending_of, line_at, status_at};
 ghost use Rattle.lepton_run.specs.CommandEnds.{Answered, SampleEnds, Transferred};
 
 use crate::commands::{carry_out, limit, reads};
 use crate::ending::Ending;
 use crate::refusal::Refusal;
 use command_words::{Command, WordsError, command_of};
+use growth::NoMemory;
 use outside_core::{Gate, ReadAll, Sink, Source, read_all, write_all};
 use std::alloc::Global;
 use std::sync::Wait;
 use std::thread::Threads;
 
-/// Carries out the command that the arguments mean (`words`, the first of which is the program's name), and returns the
-/// program's status. `note` is stderr: it gets nothing, or one line.
+/// Carries out the command that the arguments mean (`words`, the first of which is the program's name), and returns how
+/// it ended, which the program's status says (`Ending::status`). `note` is stderr: it gets nothing, or one line.
 ///
 /// | status | if | line |
 /// |---|---|---|
@@ -51,7 +52,7 @@ pub fn run<R: Threads + Wait + Sync, S: Source, K: Sink + Send, N: Sink + Send, 
     sink: &mut K,
     note: &mut N,
     gate: &G,
-) -> u8
+) -> Ending
     // The sink need take nothing but the answer to the bytes that the source may give. So at each moment, also of a
     // call that never returns, what was written is a prefix of it.
     requires takes { (command : Command) (bytes : List ℕ) → Means (map string_bytes words.now) command
@@ -60,48 +61,50 @@ pub fn run<R: Threads + Wait + Sync, S: Source, K: Sink + Send, N: Sink + Send, 
     requires readable { S.readable source.old }
     requires notes { TakesAll N.takes note.old }
 
-    ensures statuses { result ≤ 5 }
+    ensures statuses { status_at result ≤ 5 }
 
     // 0 and 1: the answer to the command and the bytes: exactly its bytes are appended, and its line is noted.
-    ensures answered { result ≤ 1
+    ensures answered { status_at result ≤ 1
         → ((command : Command) × (bytes : List ℕ) × (answer : Answer)
         × Means (map string_bytes words.now) command
         × Took command (S.left source.old) (S.left source.new) bytes
-        × Answers command bytes answer × (result ≡ status_of answer)
+        × Answers command bytes answer × (result ≡ ending_of answer)
         × Appends (K.held sink.old) (K.held sink.new) (bytes_of answer)
         × (¬ Writes answer → sink.new ≡ sink.old)
         × Notes N.held N.faults N.full note.old note.new (line_of answer)) }
 
     // 4: a proper prefix of the answer's bytes is appended.
-    ensures cut { result ≡ 4 → ((command : Command) × (bytes : List ℕ) × (answer : Answer)
+    ensures cut { status_at result ≡ 4 → ((command : Command) × (bytes : List ℕ) × (answer : Answer)
         × Means (map string_bytes words.now) command
         × Took command (S.left source.old) (S.left source.new) bytes
         × Answers command bytes answer × Writes answer
         × AppendsPart (K.held sink.old) (K.held sink.new) (bytes_of answer)) }
 
     // 2, 3 and 5: nothing is written.
-    ensures untouched { 1 < result → result ≢ 4 → sink.new ≡ sink.old }
+    ensures untouched { 1 < status_at result → status_at result ≢ 4 → sink.new ≡ sink.old }
 
     // 2: exactly if the arguments mean no command, unless memory ran out; nothing is read.
-    ensures words { result ≡ 2 → (command : Command) → ¬ Means (map string_bytes words.now) command }
+    ensures words { status_at result ≡ 2
+        → (command : Command) → ¬ Means (map string_bytes words.now) command }
     ensures meaningless { ((command : Command) → ¬ Means (map string_bytes words.now) command)
-        → (result ≡ 2) ⊎ (result ≡ 5) }
-    ensures unread { result ≡ 2 → source.new ≡ source.old }
+        → (status_at result ≡ 2) ⊎ (status_at result ≡ 5) }
+    ensures unread { status_at result ≡ 2 → source.new ≡ source.old }
 
     // In any case, the source gave at most one byte past the command's limit.
     ensures taken { (command : Command) → Means (map string_bytes words.now) command
         → TakenWithin (limit_of command + 1) (S.left source.old) (S.left source.new) }
 
     // 3 and 4: only if the count of faults of that source or sink rose in this call.
-    ensures read_failed { result ≡ 3 → Rose S.faults S.full source.old source.new }
-    ensures write_failed { result ≡ 4 → Rose K.faults K.full sink.old sink.new }
+    ensures read_failed { status_at result ≡ 3 → Rose S.faults S.full source.old source.new }
+    ensures write_failed { status_at result ≡ 4 → Rose K.faults K.full sink.old sink.new }
 
     // On every other status that source or sink didn't fail.
-    ensures source_unfailed { result ≢ 3 → S.faults source.new ≡ S.faults source.old }
-    ensures sink_unfailed { result ≢ 4 → K.faults sink.new ≡ K.faults sink.old }
+    ensures source_unfailed { status_at result ≢ 3 → S.faults source.new ≡ S.faults source.old }
+    ensures sink_unfailed { status_at result ≢ 4 → K.faults sink.new ≡ K.faults sink.old }
 
     // The note of the statuses 2 to 5.
-    ensures said { 1 < result → Notes N.held N.faults N.full note.old note.new (line_at result) }
+    ensures said { 1 < status_at result
+        → Notes N.held N.faults N.full note.old note.new (line_at (status_at result)) }
 
     // Completeness: what is the answer to the bytes is given, unless the source or the sink failed or memory ran out.
     ensures complete { (command : Command) (bytes : List ℕ) (answer : Answer)
@@ -109,8 +112,9 @@ pub fn run<R: Threads + Wait + Sync, S: Source, K: Sink + Send, N: Sink + Send, 
         → ¬ Rose S.faults S.full source.old source.new
         → (Writes answer → ¬ Rose K.faults K.full sink.old sink.new)
         → IsInput command (S.left source.old) bytes → Answers command bytes answer
-        → ((result ≡ status_of answer) × Appends (K.held sink.old) (K.held sink.new) (bytes_of answer)
-        × Notes N.held N.faults N.full note.old note.new (line_of answer)) ⊎ (result ≡ 5) }
+        → ((result ≡ ending_of answer) × Appends (K.held sink.old) (K.held sink.new) (bytes_of answer)
+        × Notes N.held N.faults N.full note.old note.new (line_of answer))
+        ⊎ (status_at result ≡ 5) }
 
     // Bytes of which nothing is made are refused, unless the source or the sink failed or memory ran out.
     ensures outside { (command : Command) (bytes : List ℕ)
@@ -118,7 +122,7 @@ pub fn run<R: Threads + Wait + Sync, S: Source, K: Sink + Send, N: Sink + Send, 
         → ¬ Rose S.faults S.full source.old source.new → ¬ Rose K.faults K.full sink.old sink.new
         → IsInput command (S.left source.old) bytes
         → ((made : List ℕ) → ¬ Answers command bytes (Made made))
-        → (result ≡ 1) ⊎ (result ≡ 5) }
+        → (status_at result ≡ 1) ⊎ (status_at result ≡ 5) }
 
     // What was encoded is decoded: of the container of a file within the limit, in a version that can say its pad bits,
     // exactly that file is appended.
@@ -127,7 +131,8 @@ pub fn run<R: Threads + Wait + Sync, S: Source, K: Sink + Send, N: Sink + Send, 
         → ¬ Rose S.faults S.full source.old source.new → ¬ Rose K.faults K.full sink.old sink.new
         → S.left source.old ≡ Some bytes → length file ≤ limit_of (Encode most)
         → 0 < most → most ≤ (layout_of version).most → IsContainerOf version most bytes file
-        → ((result ≡ 0) × Appends (K.held sink.old) (K.held sink.new) file) ⊎ (result ≡ 5) }
+        → ((status_at result ≡ 0) × Appends (K.held sink.old) (K.held sink.new) file)
+        ⊎ (status_at result ≡ 5) }
 
     // A container is migrated to the same one in version 2, whatever its streams are, and that stands for the same.
     ensures migrated { (bytes : List ℕ) (plan : PlanFields) (b : BoxParts) (meaning : Meaning)
@@ -135,13 +140,15 @@ pub fn run<R: Threads + Wait + Sync, S: Source, K: Sink + Send, N: Sink + Send, 
         → ¬ Rose S.faults S.full source.old source.new → ¬ Rose K.faults K.full sink.old sink.new
         → S.left source.old ≡ Some bytes → length bytes ≤ limit_of Migrate
         → IsBoxOf plan b bytes → IsMeaning bytes meaning
-        → ((result ≡ 0) × IsMeaning (box_bytes (migrated b)) meaning
-        × Appends (K.held sink.old) (K.held sink.new) (box_bytes (migrated b))) ⊎ (result ≡ 5) }
+        → ((status_at result ≡ 0) × IsMeaning (box_bytes (migrated b)) meaning
+        × Appends (K.held sink.old) (K.held sink.new) (box_bytes (migrated b)))
+        ⊎ (status_at result ≡ 5) }
 
     // `sample` reads nothing and refuses nothing: 0, or 4 if the sink failed, or 5.
     ensures sampled { (seed columns rows : ℕ)
         → Means (map string_bytes words.now) (Sample seed columns rows)
-        → (source.new ≡ source.old) × ((result ≡ 0) ⊎ ((result ≡ 4) ⊎ (result ≡ 5))) }
+        → (source.new ≡ source.old)
+        × ((status_at result ≡ 0) ⊎ ((status_at result ≡ 4) ⊎ (status_at result ≡ 5))) }
 
     ensures source_lasting { S.faults source.old ≤ S.faults source.new }
     ensures sink_lasting { K.faults sink.old ≤ K.faults sink.new }
@@ -149,19 +156,20 @@ pub fn run<R: Threads + Wait + Sync, S: Source, K: Sink + Send, N: Sink + Send, 
 {
     let ending = answer(rt, alloc, words, source, sink, gate);
     tell(note, &ending);
-    ending.status()
+    ending
 }
 
-/// The status of a program that has no memory for its arguments, and so can't call `run`: nothing is read or written,
+/// The ending of a program that has no memory for its arguments, and so can't call `run`: nothing is read or written,
 /// and `note` gets the line of status 5.
-pub fn no_memory_for_words<N: Sink>(note: &mut N) -> u8
+pub fn no_memory_for_words<N: Sink>(note: &mut N, short: NoMemory) -> Ending
     requires { TakesAll N.takes note.old }
-    ensures status { result ≡ 5 }
+    ensures status { result ≡ Ending.NoMemory short }
     ensures said { Notes N.held N.faults N.full note.old note.new (line_at 5) }
     ensures note_lasting { N.faults note.old ≤ N.faults note.new }
 {
-    tell(note, &Ending::NoMemory);
-    Ending::NoMemory.status()
+    let ending = Ending::NoMemory(short);
+    tell(note, &ending);
+    ending
 }
 
 // Carries out the command that the arguments mean.
@@ -190,7 +198,7 @@ fn answer<R: Threads + Wait + Sync, S: Source, K: Sink + Send, G: Gate + Sync>(
     match command_of(alloc, words) {
         Ok(command) => transfer(rt, alloc, command, source, sink, gate),
         Err(WordsError::Refused) => Ending::WordsRefused,
-        Err(WordsError::NoMemory) => Ending::NoMemory,
+        Err(WordsError::NoMemory(short)) => Ending::NoMemory(short),
     }
 }
 
@@ -222,7 +230,7 @@ fn transfer<R: Threads + Wait + Sync, S: Source, K: Sink + Send, G: Gate + Sync>
         Ok(bytes) => bytes,
         Err(ReadAll::ReadFault) => return Ending::ReadFailed,
         Err(ReadAll::TooLong) => return Ending::Refused(Refusal::TooLong),
-        Err(ReadAll::NoMemory) => return Ending::NoMemory,
+        Err(ReadAll::NoMemory(short)) => return Ending::NoMemory(short),
     };
     carry_out(rt, alloc, command, bytes.as_slice(), sink, gate)
 }

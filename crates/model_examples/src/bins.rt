@@ -142,7 +142,7 @@ fn stream_of(alloc: Global, events: &[(usize, bool)]) -> Result<Vec<u8>, AllocEr
     let mut put = Put::new(&mut bins, &mut encoder);
     put_all(&mut put, events)?;
     drop(put);
-    encoder.finish()
+    Ok(encoder.finish()?)
 }
 
 fn put_all(put: &mut Put, events: &[(usize, bool)]) -> Result<(), AllocError>

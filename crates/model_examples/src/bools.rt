@@ -158,7 +158,7 @@ fn two_thousand(alloc: Global) -> Result<Vec<u8>, AllocError> {
         encoder.put(prob, bit)?;
         state = next;
     }
-    encoder.finish()
+    Ok(encoder.finish()?)
 }
 
 // Whether the first bools of the two thousand are read, and whether the bytes are then their stream.

@@ -57,7 +57,7 @@ fn stream_of(alloc: Global, grid: McuGrid, blocks: &[Block]) -> Result<Vec<u8>, 
     let mut put = Put::new(&mut bins, &mut encoder);
     put_mcu(&mut put, &mut segment, blocks)?;
     drop(put);
-    encoder.finish()
+    Ok(encoder.finish()?)
 }
 
 // Whether a stream is exactly that of a segment of one MCU with these blocks.
@@ -96,7 +96,7 @@ fn first_block(alloc: Global, block: &Block) -> Result<Vec<u8>, AllocError> {
     let mut put = Put::new(&mut bins, &mut encoder);
     put_block(&mut put, 0, &rows, 0, 0, 0, block)?;
     drop(put);
-    encoder.finish()
+    Ok(encoder.finish()?)
 }
 
 // A stream, and the DC of a frame's first block that it gives, or why it gives none.

@@ -9,8 +9,9 @@ use crate::rule::BoardRule;
 use crate::seat::{EmitterSeat, WorkerSeat};
 use crate::view::{EmitterView, Role, View};
 use board_core::Core;
+use growth::{NoMemory, push};
 use seat_lock::Lock;
-use std::alloc::{AllocError, Global};
+use std::alloc::Global;
 use std::marker::Model;
 use std::snapshot::Snapshot;
 
@@ -40,7 +41,7 @@ impl<C: Content> Board<C> {
         k: u8,
         capacity: usize,
         workers: u8,
-    ) -> Result<(Board<C>, EmitterSeat<C>, Vec<WorkerSeat<C>>), AllocError>
+    ) -> Result<(Board<C>, EmitterSeat<C>, Vec<WorkerSeat<C>>), NoMemory>
         requires bytes { length (C.bytes content.now) ≡ k }
         requires outcomes { length (C.outcomes content.now) ≡ k }
         requires short { (i : ℕ) → length (bytes_at (C.bytes content.now) i) < count_limit }
@@ -68,7 +69,7 @@ impl<C: Content> Board<C> {
         let mut seats = Vec::new(alloc);
         for number in 0..workers {
             let pass = lock.split(&mut first);
-            seats.push(WorkerSeat { pass, number })?;
+            push(&mut seats, WorkerSeat { pass, number })?;
         }
         Ok((Board { lock }, EmitterSeat { pass: first }, seats))
     }

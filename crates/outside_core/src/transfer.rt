@@ -5,6 +5,7 @@ ghost use Rattle.outside_core.specs.Faults.{Rose};
 ghost use Rattle.outside_core.specs.Takes.{MovesOn, TakesNext};
 
 use crate::{Failed, Sink, Source};
+use growth::{NoMemory, resize};
 use std::alloc::Global;
 
 /// Why a source wasn't read to its end.
@@ -14,7 +15,18 @@ pub enum ReadAll {
     ReadFault,
     /// There was more than the limit.
     TooLong,
-    NoMemory,
+    NoMemory(NoMemory),
+}
+
+impl From<NoMemory> for ReadAll {
+    ghost use Rattle.std.specs.Prelude.{◌≡◌};
+    ghost use Rattle.outside_core.specs.declared.transfer.ReadAll.TheVariants.{NoMemory};
+
+    ghost from_gives = { λ short error. error ≡ NoMemory short };
+
+    fn from(short: NoMemory) -> Self {
+        ReadAll::NoMemory(short)
+    }
 }
 
 /// Not all was written: the sink failed after `written` bytes.
@@ -120,14 +132,13 @@ fn put<K: Sink>(sink: &mut K, bytes: &[u8], written: usize) -> Result<usize, Wri
 }
 
 // Makes the buffer longer if all of it is filled, at most to one byte past the limit.
-fn make_room(bytes: &mut Vec<u8>, filled: usize, limit: u64) -> Result<(), ReadAll>
+fn make_room(bytes: &mut Vec<u8>, filled: usize, limit: u64) -> Result<(), NoMemory>
     requires in_range { filled ≤ length bytes.old.items }
     requires below { filled ≤ limit }
     ensures kept { OnOk result (take filled bytes.new.items ≡ take filled bytes.old.items) }
     ensures room { OnOk result (filled < length bytes.new.items) }
     ensures within { OnOk result (length bytes.old.items ≤ limit + 1
         → length bytes.new.items ≤ limit + 1) }
-    ensures memory { IfErr result (λ error. error ≡ ReadAll.NoMemory) }
 {
     if filled < bytes.len() {
         return Ok(());
@@ -136,19 +147,17 @@ fn make_room(bytes: &mut Vec<u8>, filled: usize, limit: u64) -> Result<(), ReadA
 }
 
 // Makes the buffer longer, by at least one byte and at most one more than `left`.
-fn grow(bytes: &mut Vec<u8>, left: u64) -> Result<(), ReadAll>
+fn grow(bytes: &mut Vec<u8>, left: u64) -> Result<(), NoMemory>
     ensures kept { OnOk result (take (length bytes.old.items) bytes.new.items ≡ bytes.old.items) }
     ensures longer { OnOk result (length bytes.old.items < length bytes.new.items) }
     ensures within { OnOk result (length bytes.new.items ≤ length bytes.old.items + (left + 1)) }
-    ensures memory { IfErr result (λ error. error ≡ ReadAll.NoMemory) }
 {
     let piece = left
         .saturating_add(1)
         .min(bytes.len().clamp(FIRST_PIECE, PIECE) as u64);
-    let Some(longer) = bytes.len().checked_add(piece as usize) else {
-        return Err(ReadAll::NoMemory);
-    };
-    bytes.resize(longer, 0).map_err(|_| ReadAll::NoMemory)
+    // No list is as long as the number at which this stops.
+    let longer = bytes.len().saturating_add(piece as usize);
+    resize(bytes, longer, 0)
 }
 
 // One read into the part of the buffer that isn't filled.

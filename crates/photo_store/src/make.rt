@@ -25,7 +25,7 @@ pub(crate) fn make_blob<R: Threads + Sync>(
 {
     match encode(rt, alloc, file, SEGMENTS) {
         Ok(made) => marked(alloc, CONTAINER, &made),
-        Err(EncodeError::NoMemory) => Err(AllocError),
+        Err(EncodeError::NoMemory(_)) => Err(AllocError),
         Err(EncodeError::Header(_)) => marked(alloc, PLAIN, file),
         Err(EncodeError::Scan(_)) => marked(alloc, PLAIN, file),
     }

@@ -9,17 +9,18 @@ use crate::draws::Draws;
 use crate::extent::Extent;
 use crate::header::{plan_of, put_header};
 use bit_list::Piece;
+use growth::{NoMemory, extend_from_slice};
 use huff_table::PlanCodes;
 use scan_spec::Pads;
 use scan_write::Writer;
-use std::alloc::{AllocError, Global};
+use std::alloc::Global;
 
 /// The marker that ends an image, EOI (ITU-T T.81, B.2.1).
 const END_OF_IMAGE: [u8; 2] = [0xff, 0xd9];
 
 /// The file of a seed, with three components of `columns` by `rows` blocks each, both from 1 to 256: 8 times as many
 /// pixels across and down. Odd seeds give restart intervals of one row of MCUs. The one error is out of memory.
-pub fn sample(alloc: Global, seed: u32, columns: u16, rows: u16) -> Result<Vec<u8>, AllocError>
+pub fn sample(alloc: Global, seed: u32, columns: u16, rows: u16) -> Result<Vec<u8>, NoMemory>
     requires { IsExtent (extent_of seed columns rows) }
     ensures { IfOk result (λ file. file.items ≡ sample_file seed columns rows) }
 {
@@ -32,7 +33,7 @@ pub fn sample(alloc: Global, seed: u32, columns: u16, rows: u16) -> Result<Vec<u
     let mut piece = Piece::new(alloc)?;
     let mut draws = Draws::new(seed);
     put_mcus(&mut draws, &mut writer, plan.mcus(), &mut piece, &mut file)?;
-    file.extend_from_slice(&END_OF_IMAGE)?;
+    extend_from_slice(&mut file, &END_OF_IMAGE)?;
     Ok(file)
 }
 
@@ -43,7 +44,7 @@ fn put_mcus(
     mcus: u32,
     piece: &mut Piece,
     file: &mut Vec<u8>,
-) -> Result<(), AllocError>
+) -> Result<(), NoMemory>
     requires way { IsUnderWay writer.old }
     requires count { writer.old.spot.count + mcus ≤ writer.old.shape.mcus }
     requires empty { piece.old ≡ [] }
@@ -62,7 +63,7 @@ fn put_mcu(
     writer: &mut Writer,
     piece: &mut Piece,
     file: &mut Vec<u8>,
-) -> Result<(), AllocError>
+) -> Result<(), NoMemory>
     requires way { IsUnderWay writer.old }
     requires more { writer.old.spot.count < writer.old.shape.mcus }
     requires empty { piece.old ≡ [] }
@@ -76,7 +77,7 @@ fn put_mcu(
         Ok(()) => {}
         Err(_) => unreachable!(),
     }
-    file.extend_from_slice(piece.bytes())?;
+    extend_from_slice(file, piece.bytes())?;
     piece.clear();
     Ok(())
 }

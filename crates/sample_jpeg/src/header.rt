@@ -5,8 +5,8 @@ ghost use Rattle.sample_jpeg.specs.declared.extent.Extent.{Extent};
 ghost use Rattle.sample_jpeg.specs.SampleHeader.{IsExtent, frame_segment, interval_segments, sample_header, sample_plan, table_segment};
 
 use crate::extent::Extent;
+use growth::{NoMemory, extend_from_slice, push};
 use jpeg_marker::{Plan, read_header};
-use std::alloc::AllocError;
 
 /// How many code words there are of each length: twelve of 4 bits for the categories of DC differences, and 162 of 8
 /// bits for the symbols of AC coefficients.
@@ -33,16 +33,16 @@ const AC_VALUES: [u8; 162] = [
 ];
 
 /// Appends the header.
-pub(crate) fn put_header(file: &mut Vec<u8>, extent: &Extent) -> Result<(), AllocError>
+pub(crate) fn put_header(file: &mut Vec<u8>, extent: &Extent) -> Result<(), NoMemory>
     requires { IsExtent extent.now }
     ensures { OnOk result (file.new.items ≡ file.old.items ++ sample_header extent.now) }
 {
-    file.extend_from_slice(&[0xff, 0xd8])?;
+    extend_from_slice(file, &[0xff, 0xd8])?;
     put_frame(file, extent)?;
     put_table(file, 0x00, &DC_COUNTS, &DC_VALUES)?;
     put_table(file, 0x10, &AC_COUNTS, &AC_VALUES)?;
     put_interval(file, extent)?;
-    file.extend_from_slice(&[0xff, 0xda, 0, 12, 3, 1, 0, 2, 0, 3, 0, 0, 63, 0])?;
+    extend_from_slice(file, &[0xff, 0xda, 0, 12, 3, 1, 0, 2, 0, 3, 0, 0, 63, 0])?;
     Ok(())
 }
 
@@ -58,15 +58,15 @@ pub(crate) fn plan_of(header: &[u8]) -> Plan
 }
 
 // SOF0: 8 bits a sample, the lines, the samples in a line, and the three components.
-fn put_frame(file: &mut Vec<u8>, extent: &Extent) -> Result<(), AllocError>
+fn put_frame(file: &mut Vec<u8>, extent: &Extent) -> Result<(), NoMemory>
     requires { IsExtent extent.now }
     ensures { OnOk result (file.new.items
         ≡ file.old.items ++ segment_text (frame_segment extent.now)) }
 {
-    file.extend_from_slice(&[0xff, 0xc0, 0, 17, 8])?;
-    file.extend_from_slice(&(8 * extent.rows).to_be_bytes())?;
-    file.extend_from_slice(&(8 * extent.columns).to_be_bytes())?;
-    file.extend_from_slice(&[3, 1, 0x11, 0, 2, 0x11, 0, 3, 0x11, 0])?;
+    extend_from_slice(file, &[0xff, 0xc0, 0, 17, 8])?;
+    extend_from_slice(file, &(8 * extent.rows).to_be_bytes())?;
+    extend_from_slice(file, &(8 * extent.columns).to_be_bytes())?;
+    extend_from_slice(file, &[3, 1, 0x11, 0, 2, 0x11, 0, 3, 0x11, 0])?;
     Ok(())
 }
 
@@ -76,28 +76,28 @@ fn put_table(
     class_and_number: u8,
     counts: &[u8; 16],
     values: &[u8],
-) -> Result<(), AllocError>
+) -> Result<(), NoMemory>
     requires { length values.now < 2 ^ 8 }
     ensures { OnOk result (file.new.items ≡ file.old.items
         ++ segment_text (table_segment class_and_number
         (record { counts = counts.now; values = values.now }))) }
 {
-    file.extend_from_slice(&[0xff, 0xc4])?;
-    file.extend_from_slice(&(values.len() as u16 + 19).to_be_bytes())?;
-    file.push(class_and_number)?;
-    file.extend_from_slice(counts)?;
-    file.extend_from_slice(values)?;
+    extend_from_slice(file, &[0xff, 0xc4])?;
+    extend_from_slice(file, &(values.len() as u16 + 19).to_be_bytes())?;
+    push(file, class_and_number)?;
+    extend_from_slice(file, counts)?;
+    extend_from_slice(file, values)?;
     Ok(())
 }
 
 // DRI, if there are restarts: an interval is a row of MCUs.
-fn put_interval(file: &mut Vec<u8>, extent: &Extent) -> Result<(), AllocError>
+fn put_interval(file: &mut Vec<u8>, extent: &Extent) -> Result<(), NoMemory>
     ensures { OnOk result (file.new.items
         ≡ file.old.items ++ flat_map segment_text (interval_segments extent.now)) }
 {
     if extent.restarts {
-        file.extend_from_slice(&[0xff, 0xdd, 0, 4])?;
-        file.extend_from_slice(&extent.columns.to_be_bytes())?;
+        extend_from_slice(file, &[0xff, 0xdd, 0, 4])?;
+        extend_from_slice(file, &extent.columns.to_be_bytes())?;
     }
     Ok(())
 }

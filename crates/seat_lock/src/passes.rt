@@ -7,8 +7,8 @@ use crate::lock::{FREE, Lock, VALUE};
 use crate::pass::Pass;
 use crate::rule::Rule;
 use crate::steps::Part;
-use atomic_table::{Refused, Table};
-use std::alloc::{AllocError, Global};
+use growth::{NoMemory, new_table, with_capacity};
+use std::alloc::Global;
 use std::sync::atomic::AtomicU64;
 
 impl<L: Rule> Lock<L> {
@@ -19,25 +19,21 @@ impl<L: Rule> Lock<L> {
         value: L::Value,
         view: L::View,
         seats: u32,
-    ) -> Result<(Lock<L>, Pass<L>), AllocError>
+    ) -> Result<(Lock<L>, Pass<L>), NoMemory>
         requires seats { 0 < seats }
         requires fits { L.fits value (view ∷ []) }
         ensures first { IfOk result (λ made. IsNewPass made.0 made.1 0 view) }
     {
-        let mut slots = Vec::with_capacity(alloc, 1)?;
+        let mut slots = with_capacity(alloc, 1)?;
         slots.push_reserved(Slot::Home(value));
-        match Table::new(alloc, &[FREE, 0], slots, &view) {
-            Ok((table, seat)) => {
-                let lock = Lock {
-                    table,
-                    seats,
-                    turn_waiters: AtomicU64::new(0),
-                    bell_waiters: AtomicU64::new(0),
-                };
-                Ok((lock, Pass { seat, bell: 0 }))
-            }
-            Err(Refused { slots: _ }) => Err(AllocError),
-        }
+        let (table, seat) = new_table(alloc, &[FREE, 0], slots, &view)?;
+        let lock = Lock {
+            table,
+            seats,
+            turn_waiters: AtomicU64::new(0),
+            bell_waiters: AtomicU64::new(0),
+        };
+        Ok((lock, Pass { seat, bell: 0 }))
     }
 
     /// Splits a pass off from the first one.

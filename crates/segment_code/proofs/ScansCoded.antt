@@ -92,7 +92,7 @@ stream_told plan mcus = refl
 
 -- want of memory is no refusal
 abbrev pub is_memory : ScanError → Type 0
-is_memory NoMemory = Unit {0}
+is_memory (NoMemory short) = Unit {0}
 is_memory (Scan refusal) = ⊥
 
 -- a new encoder and fresh bins have put nothing

@@ -28,12 +28,13 @@ use bool_coder::Decoder;
 use box_format::BoxView;
 use coef_block::Block;
 use coef_context::BINS;
+use growth::NoMemory;
 use handover::{Handover, StreamCause, StreamFault};
 use huff_table::PlanCodes;
 use jpeg_marker::Plan;
 use scan_spec::{MOST_SLOTS, Pads};
 use scan_write::{Writer, mcu_room};
-use std::alloc::{AllocError, Global};
+use std::alloc::Global;
 use std::marker::Model;
 
 /// Decodes segments one after another, each in steps. It takes memory when it is made, and none after that: bins, two
@@ -74,7 +75,7 @@ impl<'a> SegmentDecoder<'a> {
     }
 
     /// Takes all the memory that segments of the plan need; the one error is out of memory.
-    pub fn prepare(alloc: Global, plan: &Plan) -> Result<SegmentDecoder<'a>, AllocError>
+    pub fn prepare(alloc: Global, plan: &Plan) -> Result<SegmentDecoder<'a>, NoMemory>
         ensures plan { IfOk result (λ d. d.plan ≡ plan.now) }
         ensures begun { IfOk result (λ d. d.begun ≡ 0) }
     {

@@ -1,23 +1,23 @@
 // Why a scan is not read as segments.
+use growth::NoMemory;
 use scan_spec::ScanRefusal;
-use std::alloc::AllocError;
 
 /// Why a scan gives no starts, or no stream of a segment.
 #[derive(Clone, Copy, Debug, PartialEq, Eq)]
 pub enum ScanError {
     /// 16 to 24: the bytes after the header begin with no scan that is accepted.
     Scan(ScanRefusal),
-    NoMemory,
+    NoMemory(NoMemory),
 }
 
-impl From<AllocError> for ScanError {
+impl From<NoMemory> for ScanError {
     ghost use Rattle.std.specs.Prelude.{◌≡◌};
     ghost use Rattle.segment_code.specs.declared.error.ScanError.TheVariants.{NoMemory};
 
-    ghost from_gives = { λ _ error. error ≡ NoMemory };
+    ghost from_gives = { λ short error. error ≡ NoMemory short };
 
-    fn from(_: AllocError) -> Self {
-        ScanError::NoMemory
+    fn from(short: NoMemory) -> Self {
+        ScanError::NoMemory(short)
     }
 }
 

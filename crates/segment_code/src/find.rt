@@ -14,10 +14,11 @@ use crate::error::ScanError;
 use crate::pads::PadsFound;
 use crate::pass::ScanPass;
 use crate::starts::Starts;
+use growth::NoMemory;
 use huff_table::PlanCodes;
 use jpeg_marker::Plan;
 use scan_decode::Reader;
-use std::alloc::{AllocError, Global};
+use std::alloc::Global;
 
 /// Where the segments of a file start, whose header's plan this is: at most `segments`, and at most as many as rows of
 /// MCUs. One pass over the scan; memory is for the starts alone.
@@ -63,7 +64,7 @@ pub(crate) fn read_mcus(
 }
 
 /// Keeps the pad bit of the interval that a reader's last MCU ended, if it ended one. The one error is out of memory.
-pub(crate) fn keep_pad(reader: &Reader, pads: &mut PadsFound) -> Result<(), AllocError>
+pub(crate) fn keep_pad(reader: &Reader, pads: &mut PadsFound) -> Result<(), NoMemory>
     ensures { OnOk result ((before : ScanReader) (mcu : List (List ℤ))
         → mcu_at before.shape before.bytes before.at ≡ Ok (mcu, reader.now.at)
         → reader.now ≡ record before { at = reader.now.at }

@@ -5,8 +5,9 @@ ghost use Rattle.segment_code.specs.FoundPads.{none_found};
 ghost use Rattle.scan_spec.specs.Pads.{pad_list};
 ghost use Rattle.scan_spec.specs.ScanPads.{pad_sum};
 
+use growth::{NoMemory, push};
 use handover::PadSum;
-use std::alloc::{AllocError, Global};
+use std::alloc::Global;
 use std::marker::Model;
 
 /// The pad bits of the restart intervals of a scan so far, one bit of memory each, and what they come to.
@@ -48,13 +49,13 @@ impl PadsFound {
     }
 
     /// Adds the pad bit of the next interval, which is 1 if that pads none. The one error is out of memory.
-    pub(crate) fn push(&mut self, pad: Option<bool>) -> Result<(), AllocError>
+    pub(crate) fn push(&mut self, pad: Option<bool>) -> Result<(), NoMemory>
         ensures bits { OnOk result (self.new.bits ≡ self.old.bits ++ unwrap_or pad true ∷ []) }
         ensures sum { OnOk result (self.new.sum ≡ pads_with self.old.sum (pad_sum pad)) }
     {
         let begun = self.begun * 2 + u8::from(pad.unwrap_or(true));
         if self.count == 7 {
-            self.bytes.push(begun)?;
+            push(&mut self.bytes, begun)?;
             self.begun = 0;
             self.count = 0;
         } else {
@@ -73,11 +74,11 @@ impl PadsFound {
     }
 
     /// The pad list. The one error is out of memory.
-    pub(crate) fn list(mut self) -> Result<Vec<u8>, AllocError>
+    pub(crate) fn list(mut self) -> Result<Vec<u8>, NoMemory>
         ensures { IfOk result (λ list. list.items ≡ pad_list self.bits) }
     {
         if self.count > 0 {
-            self.bytes.push(self.begun << (8 - self.count))?;
+            push(&mut self.bytes, self.begun << (8 - self.count))?;
         }
         Ok(self.bytes)
     }

@@ -17,10 +17,11 @@ use crate::pads::PadsFound;
 use crate::part::SegmentPart;
 use crate::segment_stream::code_segment;
 use crate::starts::Starts;
+use growth::NoMemory;
 use huff_table::PlanCodes;
 use jpeg_marker::Plan;
 use scan_decode::Reader;
-use std::alloc::{AllocError, Global};
+use std::alloc::Global;
 use std::marker::Model;
 
 /// A pass over a file's scan, which finds where its segments start and how its intervals are padded. There are at most
@@ -155,7 +156,7 @@ impl<'a> ScanPass<'a> {
     }
 
     /// Where the segments of the file start, after the last one. The one error is out of memory.
-    pub fn end(self) -> Result<Starts, AllocError>
+    pub fn end(self) -> Result<Starts, NoMemory>
         requires pass { IsPass self }
         requires none { segments_left self ≡ 0 }
         ensures { IfOk result (λ starts. AreStarts self.entry.plan self.entry.bytes self.entry.most starts) }

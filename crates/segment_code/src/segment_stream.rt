@@ -28,11 +28,12 @@ use block_code::{SegmentRows, put_mcu};
 use bool_coder::Encoder;
 use coef_block::Block;
 use coef_context::BINS;
+use growth::NoMemory;
 use huff_table::PlanCodes;
 use jpeg_marker::Plan;
 use scan_decode::Reader;
 use scan_spec::MOST_SLOTS;
-use std::alloc::{AllocError, Global};
+use std::alloc::Global;
 
 /// The stream of one segment of a file; the first one has number 0. Each MCU is read, coded and forgotten: beside the
 /// stream, memory is for two MCU rows of blocks and the bins. The one error is out of memory.
@@ -42,7 +43,7 @@ pub fn encode_segment(
     bytes: &[u8],
     starts: &Starts,
     segment: u8,
-) -> Result<Vec<u8>, AllocError>
+) -> Result<Vec<u8>, NoMemory>
     requires starts { (most : ℕ) × AreStarts plan.now bytes.now most starts.now }
     requires segment { segment < length starts.now.rows }
     ensures { (mcus : List Mcu) (pads : List Bool) (most : ℕ)
@@ -63,7 +64,7 @@ pub fn encode_segment(
     };
     match part.encode(alloc) {
         Ok(stream) => Ok(stream),
-        Err(ScanError::NoMemory) => Err(AllocError),
+        Err(ScanError::NoMemory(short)) => Err(short),
         // A scan that was read once is read again.
         Err(ScanError::Scan(_)) => unreachable!(),
     }

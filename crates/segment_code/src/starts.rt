@@ -5,9 +5,10 @@ ghost use Rattle.scan_spec.specs.Pads.{pads_given, spelling_of};
 ghost use Rattle.segment_code.specs.StartsInside.{no_starts, starts_more};
 
 use crate::pads::PadsFound;
+use growth::{NoMemory, push};
 use handover::{Handover, PadSum};
 use scan_spec::Pads;
-use std::alloc::{AllocError, Global};
+use std::alloc::Global;
 use std::marker::Model;
 
 /// Where a file's segments start: of each its row of MCUs, the place of its first byte that the MCUs before don't
@@ -58,18 +59,18 @@ impl Starts {
         row: u32,
         place: usize,
         handover: Handover,
-    ) -> Result<(), AllocError>
+    ) -> Result<(), NoMemory>
         requires { length self.old.rows < 255 }
         ensures { OnOk result (self.new ≡ starts_more self.old row place handover) }
     {
-        self.handovers.push(handover)?;
-        self.places.push(place)?;
-        self.rows.push(row)?;
+        push(&mut self.handovers, handover)?;
+        push(&mut self.places, place)?;
+        push(&mut self.rows, row)?;
         Ok(())
     }
 
     /// Sets the pad bits, and the place of the trailer. The one error is out of memory.
-    pub(crate) fn end(&mut self, pads: PadsFound, trailer: usize) -> Result<(), AllocError>
+    pub(crate) fn end(&mut self, pads: PadsFound, trailer: usize) -> Result<(), NoMemory>
         ensures { OnOk result (self.new
             ≡ record self.old { pads = spelling_of pads.bits pads.sum; trailer = trailer }) }
     {

@@ -5,8 +5,9 @@ ghost use Rattle.output_board.specs.Seats.{new_emitter_seat, new_worker_seats};
 use crate::content::Told;
 use crate::lengths::segments_are_short;
 use box_format::BoxView;
+use growth::NoMemory;
 use output_board::{Board, EmitterSeat, WorkerSeat};
-use std::alloc::{AllocError, Global};
+use std::alloc::Global;
 
 /// The board of a container's segments before the first call, the emitter's seat, and the seats of `workers` workers.
 /// Each segment's ring holds at most `ring` bytes. The one error is out of memory.
@@ -21,7 +22,7 @@ pub fn prepare_board<'a>(
         EmitterSeat<Told<'a>>,
         Vec<WorkerSeat<Told<'a>>>,
     ),
-    AllocError,
+    NoMemory,
 >
     requires { 1 ≤ ring }
     ensures emitter { IfOk result (λ made.

@@ -6,8 +6,9 @@ ghost use denote.Param.Send.{IsSync};
 ghost use Rattle.scan_spec.specs.declared.refusal.ScanRefusal.{ScanRefusal};
 ghost use Rattle.segment_code.specs.declared.error.ScanError.TheVariants.{Scan};
 
+use growth::insert;
 use segment_code::ScanError;
-use std::alloc::{AllocError, Global};
+use std::alloc::Global;
 use std::thread;
 use std::thread::Threads;
 
@@ -110,7 +111,7 @@ pub(crate) fn make_all<R: Threads + Sync, N: Part + Sync + Drop, P: Pass<N>>(
     let streams = streams?;
     match stream {
         Ok(stream) => before(stream, streams),
-        Err(ScanError::NoMemory) => Err(ScanError::NoMemory),
+        Err(ScanError::NoMemory(short)) => Err(ScanError::NoMemory(short)),
         // What was passed over without a refusal has none.
         Err(ScanError::Scan(_)) => unreachable!(),
     }
@@ -185,8 +186,6 @@ fn before(stream: Vec<u8>, mut streams: Vec<Vec<u8>>) -> Result<Vec<Vec<u8>>, Sc
         ≡ stream.items ∷ map (λ v. v.items) streams.items) }
     ensures memory { (refusal : ScanRefusal) → IsErrOf result (Scan refusal) → ⊥ }
 {
-    match streams.insert(0, stream) {
-        Ok(()) => Ok(streams),
-        Err(_) => Err(ScanError::NoMemory),
-    }
+    insert(&mut streams, 0, stream)?;
+    Ok(streams)
 }

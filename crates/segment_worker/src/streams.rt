@@ -12,11 +12,11 @@ ghost use Rattle.container_spec.specs.ScanStream.{stream_of};
 ghost use Rattle.segment_code.specs.Starting.{AreStarts, IsFileAt};
 
 use crate::relay::{Part, Pass, make_all};
+use growth::{NoMemory, map_indices, push, with_capacity};
 use huff_table::PlanCodes;
 use jpeg_marker::Plan;
 use segment_code::{ScanError, ScanPass, SegmentPart, Starts, encode_segment};
-use std::alloc::{AllocError, Global};
-use std::thread;
+use std::alloc::Global;
 use std::thread::Threads;
 
 /// Where the segments of a file start, whose header's plan this is, and the stream of each, in order: at most
@@ -106,7 +106,7 @@ pub fn encode_all<R: Threads + Sync>(
     plan: &Plan,
     bytes: &[u8],
     starts: &Starts,
-) -> Result<Vec<Vec<u8>>, AllocError>
+) -> Result<Vec<Vec<u8>>, NoMemory>
     requires { (most : ℕ) × AreStarts plan.now bytes.now most starts.now }
     ensures { (mcus : List Mcu) (pads : List Bool) (most : ℕ)
         → IsFileAt bytes.now plan.now mcus pads starts.now.trailer
@@ -116,7 +116,7 @@ pub fn encode_all<R: Threads + Sync>(
         (numbers 0 (plan_cut plan.now most).segments)) }
 {
     let segments = usize::from(starts.segments());
-    let made = thread::map_indices(
+    let made = map_indices(
         rt,
         alloc,
         segments,
@@ -132,7 +132,7 @@ fn encode_one(
     bytes: &[u8],
     starts: &Starts,
     segment: usize,
-) -> Result<Vec<u8>, AllocError>
+) -> Result<Vec<u8>, NoMemory>
     requires starts { (most : ℕ) × AreStarts plan.now bytes.now most starts.now }
     requires segment { segment < length starts.now.rows }
     requires small { segment < 256 }
@@ -146,15 +146,12 @@ fn encode_one(
 }
 
 // All that were made, or that one wasn't.
-fn all_made(
-    alloc: Global,
-    made: Vec<Result<Vec<u8>, AllocError>>,
-) -> Result<Vec<Vec<u8>>, AllocError>
+fn all_made(alloc: Global, made: Vec<Result<Vec<u8>, NoMemory>>) -> Result<Vec<Vec<u8>>, NoMemory>
     ensures { IfOk result (λ streams. made.items ≡ map Ok streams.items) }
 {
-    let mut streams = Vec::with_capacity(alloc, made.len())?;
+    let mut streams = with_capacity(alloc, made.len())?;
     for stream in made {
-        streams.push(stream?)?;
+        push(&mut streams, stream?)?;
     }
     Ok(streams)
 }

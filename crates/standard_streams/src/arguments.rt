@@ -1,5 +1,6 @@
 // The arguments that the program was started with.
-use std::alloc::{AllocError, Global};
+use growth::{NoMemory, push, string_from_str, string_from_utf8_lossy};
+use std::alloc::Global;
 use std::env::{Env, FillError};
 
 /// What stands for the program's name, which may be no text and which no command depends on.
@@ -10,12 +11,12 @@ const LONGEST: usize = 64;
 
 /// The arguments, after a name for the program. One that is no text gets U+FFFD in place of each byte that isn't; one of
 /// more than 64 bytes is empty: no command has such an argument.
-pub fn given_arguments<R: Env>(rt: &R, alloc: Global) -> Result<Vec<String>, AllocError> {
+pub fn given_arguments<R: Env>(rt: &R, alloc: Global) -> Result<Vec<String>, NoMemory> {
     let mut arguments = Vec::new(alloc);
-    arguments.push(String::from_str(alloc, PROGRAM)?)?;
+    push(&mut arguments, string_from_str(alloc, PROGRAM)?)?;
     for number in 1..usize::MAX {
         match argument(rt, alloc, number)? {
-            Some(argument) => arguments.push(argument)?,
+            Some(argument) => push(&mut arguments, argument)?,
             None => break,
         }
     }
@@ -23,10 +24,10 @@ pub fn given_arguments<R: Env>(rt: &R, alloc: Global) -> Result<Vec<String>, All
 }
 
 // The argument of this number, if there is one.
-fn argument<R: Env>(rt: &R, alloc: Global, number: usize) -> Result<Option<String>, AllocError> {
+fn argument<R: Env>(rt: &R, alloc: Global, number: usize) -> Result<Option<String>, NoMemory> {
     let mut bytes = [0; LONGEST];
     match rt.arg(number, &mut bytes) {
-        Ok(length) => Ok(Some(String::from_utf8_lossy(alloc, &bytes[..length])?)),
+        Ok(length) => Ok(Some(string_from_utf8_lossy(alloc, &bytes[..length])?)),
         Err(FillError::TooLong) => Ok(Some(String::new(alloc))),
         Err(FillError::NotPresent) => Ok(None),
     }

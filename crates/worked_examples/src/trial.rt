@@ -136,7 +136,8 @@ fn status_of<R: Threads + Wait + Sync + Abort, S: Source, G: Gate + Sync>(
     requires { S.readable source.old }
 {
     let line = line(rt, alloc, words);
-    run(rt, alloc, line.as_slice(), source, sink, note, gate)
+    let ending = run(rt, alloc, line.as_slice(), source, sink, note, gate);
+    ending.status()
 }
 
 fn line(rt: &impl Abort, alloc: Global, words: &[&str]) -> Vec<String> {

@@ -1,5 +1,4 @@
 use Rattle.std.proofs.Common.{◌≡◌, ◌∙◌, map, ap, subst, sym}
-use Rattle.std.specs.Prelude.{IfOk}
 use Rattle.scan_spec.specs.Pads.{pads_given}
 use Rattle.box_format.specs.Parts.{BoxParts, box_bytes}
 use Rattle.box_format.specs.declared.version.Version.TheVariants.{Second}
@@ -14,5 +13,5 @@ returns c =
     let same = parts_same Second (pads_given c.pad.result) c.header.result.now
     c.trailer.result.now c.as_slice.result.now (map (λ v. v.items) c.as_slice-2.result.now)
     c.args.view.now.parts (sym c.requires) c.pad.ensures.value c.header.ensures.bytes c.trailer.ensures.bytes handovers streams in
-    subst (λ (b : BoxParts). IfOk c.write_box.result (λ bytes. bytes.items ≡ box_bytes b)) same
-    c.write_box.ensures
+    subst (λ (b : BoxParts). c.in_ok-write_box.field-0.items ≡ box_bytes b) same
+    c.in_ok-write_box.ensures

@@ -1,4 +1,4 @@
-use Rattle.std.proofs.Common.{List, ℕ, map}
+use Rattle.std.proofs.Common.{List, ℕ, map, refl}
 use Rattle.std.specs.Prelude.{string_bytes}
 use Rattle.lepton_run.specs.Endings.{Notes}
 use Rattle.lepton_run.proofs.CallEnds.{answered_of, back_of, complete_of, cut_of, migrated_of, sampled_of}
@@ -10,7 +10,7 @@ returns-clause-answered g c =
     g.S.Source.full (map string_bytes c.args.words.now) c.args.source.now
     c.answer-ending.new.source c.args.sink.now c.answer-ending.new.sink
     (λ (line : List ℕ). Notes g.N.Sink.held g.N.Sink.faults g.N.Sink.full c.args.note.now
-    c.tell.new.note line) c.answer-ending.result c.status.result c.status.ensures
+    c.tell.new.note line) c.answer-ending.result _ refl
     c.answer-ending.ensures.ending c.tell.ensures.notes
 
 pub returns-clause-cut : goal.returns-clause-cut
@@ -19,7 +19,7 @@ returns-clause-cut g c =
     g.S.Source.full (map string_bytes c.args.words.now) c.args.source.now
     c.answer-ending.new.source c.args.sink.now c.answer-ending.new.sink
     (λ (line : List ℕ). Notes g.N.Sink.held g.N.Sink.faults g.N.Sink.full c.args.note.now
-    c.tell.new.note line) c.answer-ending.result c.status.result c.status.ensures
+    c.tell.new.note line) c.answer-ending.result _ refl
     c.answer-ending.ensures.ending
 
 pub returns-clause-complete : goal.returns-clause-complete
@@ -29,7 +29,7 @@ returns-clause-complete g c = λ command bytes answer means calm still left want
     c.answer-ending.new.source c.args.sink.now c.answer-ending.new.sink
     (λ (line : List ℕ). Notes g.N.Sink.held g.N.Sink.faults g.N.Sink.full c.args.note.now
     c.tell.new.note line) command bytes answer means left wanted c.answer-ending.result
-    c.status.result c.status.ensures c.answer-ending.ensures.ending c.tell.ensures.notes calm still
+    _ refl c.answer-ending.ensures.ending c.tell.ensures.notes calm still
 
 pub returns-clause-back : goal.returns-clause-back
 returns-clause-back g c =
@@ -37,7 +37,7 @@ returns-clause-back g c =
     g.S.Source.full (map string_bytes c.args.words.now) c.args.source.now
     c.answer-ending.new.source c.args.sink.now c.answer-ending.new.sink
     (λ (line : List ℕ). Notes g.N.Sink.held g.N.Sink.faults g.N.Sink.full c.args.note.now
-    c.tell.new.note line) c.answer-ending.result c.status.result c.status.ensures
+    c.tell.new.note line) c.answer-ending.result _ refl
     c.answer-ending.ensures.ending c.tell.ensures.notes
 
 pub returns-clause-migrated : goal.returns-clause-migrated
@@ -47,11 +47,11 @@ returns-clause-migrated g c =
     g.S.Source.full (map string_bytes c.args.words.now) c.args.source.now
     c.answer-ending.new.source c.args.sink.now c.answer-ending.new.sink
     (λ (line : List ℕ). Notes g.N.Sink.held g.N.Sink.faults g.N.Sink.full c.args.note.now
-    c.tell.new.note line) c.answer-ending.result c.status.result c.status.ensures
+    c.tell.new.note line) c.answer-ending.result _ refl
     c.answer-ending.ensures.ending c.tell.ensures.notes bytes plan b meaning means calm still had
     short of stands
 
 pub returns-clause-sampled : goal.returns-clause-sampled
 returns-clause-sampled g c = λ seed columns rows means.
     let so = c.answer-ending.ensures.sampled seed columns rows means in
-    (so.0, sampled_of c.answer-ending.result c.status.result c.status.ensures so.1)
+    (so.0, sampled_of c.answer-ending.result _ refl so.1)

@@ -40,5 +40,5 @@ pub returns-in_err-finish-clause-refused : goal.returns-in_err-finish-clause-ref
 returns-in_err-finish-clause-refused c =
     let p = err_from_is_err_and c.from_residual-in_err-finish.result
     c.from_residual-in_err-finish.ensures.1 in
-    rw (p.1, p.2) (λ refusal is. let cause : NoMemory ≡ Scan refusal = cc in
+    rw (p.1, p.2) (λ refusal is. let cause : NoMemory c.in_err-finish.field-0.0 ≡ Scan refusal = cc in
     absurd (subst is_memory cause tt))

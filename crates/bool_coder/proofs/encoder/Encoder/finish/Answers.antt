@@ -19,6 +19,6 @@ returns-clause-stream c =
     let k = 8 * c.div_ceil-count.result - c.self.inside.bits in
     let e = word_fits c.self.inside.low c.self.inside.bits c.self.inside.range k (omega arith) (omega arith) (omega arith) c.self.invariant.one_carry in
     let number = rw e at c.in_ok-written.ensures.number in
-    rw (sym c.self.view_is ∙ shown _ _ c.if-spent.false)
+    rw (sym c.self.view_is ∙ shown _ _ c.in_default.is)
     (stream_is c.self.inside.written.items _ c.self.inside.low c.self.inside.bits c.self.inside.range c.div_ceil-count.result
     c.self.invariant.begun c.div_ceil-count.ensures c.in_ok-written.ensures.bytes c.in_ok-written.ensures.longer number)

@@ -28,13 +28,13 @@ invariant_of-self-2 c =
 
 pub returns-clause-coded : goal.returns-clause-coded
 returns-clause-coded c =
-    let was = ap (option_map (λ i. after i (c.args.prob, c.args.bit))) (sym (shown _ _ c.if-self.false) ∙ c.self.view_is) in
+    let was = ap (option_map (λ i. after i (c.args.prob, c.args.bit))) (sym (shown _ _ c.in_default.is) ∙ c.self.view_is) in
     let coded = c.step-low.ensures.coded c.self.inside.written.items in
     elim c.if-bits-lt-FULL.branch [
-      | then-bits-lt-FULL w ↦ rw w.self-inside-is (shown _ _ c.if-self.false ∙ ap Some coded ∙ was)
+      | then-bits-lt-FULL w ↦ rw w.self-inside-is (shown _ _ c.in_default.is ∙ ap Some coded ∙ was)
       | else-bits-lt-FULL+in-Ok w ↦
           let longer = rw w.replace-whole.ensures.value at w.in-Ok.ensures.longer in
           let number = rw w.replace-whole.ensures.value at w.in-Ok.ensures.number in
           let flushed = kept-flushed c.self.inside.written.items _ c.step-low.result.0 c.step-low.result.1 c.step-low.result.2 w.if-bits-lt-FULL.false longer number in
-          rw (w.self-inside-is, mask_is c.step-low.result.0 (c.step-low.result.1 - 32) (omega arith)) (shown _ _ c.if-self.false ∙ ap Some (flushed ∙ coded) ∙ was)
+          rw (w.self-inside-is, mask_is c.step-low.result.0 (c.step-low.result.1 - 32) (omega arith)) (shown _ _ c.in_default.is ∙ ap Some (flushed ∙ coded) ∙ was)
     ]

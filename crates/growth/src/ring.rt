@@ -1,0 +1,20 @@
+// Rings of `circular_buffer`.
+ghost use Rattle.std.specs.Prelude.{◌≡◌, [], IfOk};
+ghost use Rattle.circular_buffer.specs.Buffer.{buffer};
+
+use crate::no_memory::NoMemory;
+use circular_buffer::HeapCircularBuffer;
+use std::alloc::Global;
+
+/// An empty ring that holds at most `capacity` items.
+pub fn ring_with_capacity<T>(
+    alloc: Global,
+    capacity: usize,
+) -> Result<HeapCircularBuffer<T>, NoMemory>
+    ensures { IfOk result (λ ring. ring ≡ buffer [] capacity) }
+{
+    match HeapCircularBuffer::with_capacity(alloc, capacity) {
+        Ok(ring) => Ok(ring),
+        Err(_) => Err(NoMemory::new()),
+    }
+}
