@@ -5,7 +5,7 @@ use crate::pads::are_told;
 use handover::Handover;
 use jpeg_marker::read_header;
 use scan_spec::ScanRefusal;
-use segment_code::{ScanError, Starts, encode_segment, find_starts};
+use segment_code::{ScanError, Starts, encode_segment, find_rows, find_starts};
 use segment_worker::{encode_all, encode_scan};
 use std::alloc::{AllocError, Global};
 use std::test::Fail;
@@ -24,7 +24,7 @@ const START: &[u8] = b"\xff\xd8";
 
 const GREY_SCAN: &[u8] = b"\xff\xda\0\x08\x01\x01\0\0\x3f\0";
 
-// Grey, 8 samples wide, and 16, 32, 40 or 512 high.
+// Grey, 8 samples wide, and 16, 32, 40, 512 or 2400 high.
 const TWO_HIGH: &[u8] = b"\xff\xc0\0\x0b\x08\0\x10\0\x08\x01\x01\x11\0";
 
 const FOUR_HIGH: &[u8] = b"\xff\xc0\0\x0b\x08\0\x20\0\x08\x01\x01\x11\0";
@@ -32,6 +32,8 @@ const FOUR_HIGH: &[u8] = b"\xff\xc0\0\x0b\x08\0\x20\0\x08\x01\x01\x11\0";
 const FIVE_HIGH: &[u8] = b"\xff\xc0\0\x0b\x08\0\x28\0\x08\x01\x01\x11\0";
 
 const SIXTY_FOUR_HIGH: &[u8] = b"\xff\xc0\0\x0b\x08\x02\0\0\x08\x01\x01\x11\0";
+
+const THREE_HUNDRED_HIGH: &[u8] = b"\xff\xc0\0\x0b\x08\x09\x60\0\x08\x01\x01\x11\0";
 
 // A restart after each MCU, or after four.
 const RESTARTS: &[u8] = b"\xff\xdd\0\x04\0\x01";
@@ -147,7 +149,14 @@ fn segments_start(rt: HostRuntime) -> Result<(), Fail> {
     for (header, scan, segments, starts, trailer, pads) in FILES {
         let bytes = joined(rt.alloc(), header, scan)?;
         assert!(rt;
-            are_found(rt.alloc(), &bytes, *segments, starts, *trailer, *pads)?,
+            are_found(
+                rt.alloc(),
+                &bytes,
+                u32::from(*segments),
+                starts,
+                *trailer,
+                *pads
+            )?,
             "{bytes:?}"
         );
     }
@@ -167,7 +176,7 @@ fn joined(alloc: Global, header: &[&[u8]], scan: &[u8]) -> Result<Vec<u8>, Alloc
 fn are_found(
     alloc: Global,
     bytes: &[u8],
-    segments: u8,
+    segments: u32,
     wanted: &[Start],
     trailer: usize,
     pads: (u8, u8),
@@ -198,18 +207,18 @@ fn are_found(
 
 fn are_starts(starts: &Starts, wanted: &[Start]) -> bool {
     let segments = starts.segments();
-    if usize::from(segments) != wanted.len() || starts.handovers().len() != wanted.len() {
+    if segments as usize != wanted.len() || starts.handovers().len() != wanted.len() {
         return false;
     }
     for segment in 0..segments {
-        if !is_start(starts, segment, wanted[usize::from(segment)]) {
+        if !is_start(starts, segment, wanted[segment as usize]) {
             return false;
         }
     }
     true
 }
 
-fn is_start(starts: &Starts, segment: u8, wanted: Start) -> bool
+fn is_start(starts: &Starts, segment: u32, wanted: Start) -> bool
     requires { segment < length starts.now.rows }
 {
     let (row, place, partial, bits, restarts) = wanted;
@@ -231,10 +240,10 @@ fn sixty_four_segments_start(rt: HostRuntime) {
     let header = [START, SIXTY_FOUR_HIGH, LEVEL, END, GREY_SCAN];
     let bytes = joined(rt.alloc(), &header, &[0; 16]).expect(&rt, "memory");
     assert!(rt; are_sixty_four(rt.alloc(), &bytes, 64));
-    assert!(rt; are_sixty_four(rt.alloc(), &bytes, 255));
+    assert!(rt; are_sixty_four(rt.alloc(), &bytes, u32::MAX));
 }
 
-fn are_sixty_four(alloc: Global, bytes: &[u8], segments: u8) -> bool
+fn are_sixty_four(alloc: Global, bytes: &[u8], segments: u32) -> bool
     requires { 0 < segments }
 {
     let Ok(plan) = read_header(bytes) else {
@@ -243,20 +252,39 @@ fn are_sixty_four(alloc: Global, bytes: &[u8], segments: u8) -> bool
     let Ok(starts) = find_starts(alloc, &plan, bytes, segments) else {
         return false;
     };
-    if starts.segments() != 64 {
+    are_rows(&starts, 64)
+}
+
+// Whether each row is a segment, four of which share a byte.
+fn are_rows(starts: &Starts, rows: u32) -> bool {
+    if starts.segments() != rows {
         return false;
     }
-    for segment in 0..starts.segments() {
-        let (places, bits) = (usize::from(segment) / 4, segment % 4 * 2);
-        if !is_start(
-            &starts,
-            segment,
-            (u32::from(segment), 69 + places, 0, bits, 0),
-        ) {
+    for row in 0..starts.segments() {
+        let (places, bits) = (row as usize / 4, (row % 4 * 2) as u8);
+        if !is_start(starts, row, (row, 69 + places, 0, bits, 0)) {
             return false;
         }
     }
     true
+}
+
+// Three hundred rows, each a segment: more than a container has.
+#[test]
+fn three_hundred_rows_start(rt: HostRuntime) {
+    let header = [START, THREE_HUNDRED_HIGH, LEVEL, END, GREY_SCAN];
+    let bytes = joined(rt.alloc(), &header, &[0; 75]).expect(&rt, "memory");
+    assert!(rt; rows_start(rt.alloc(), &bytes, 300));
+}
+
+fn rows_start(alloc: Global, bytes: &[u8], rows: u32) -> bool {
+    let Ok(plan) = read_header(bytes) else {
+        return false;
+    };
+    match find_rows(alloc, &plan, bytes) {
+        Ok(starts) => are_rows(&starts, rows),
+        Err(_) => false,
+    }
 }
 
 // Segments that are coded beside the pass over a scan are those that are coded after it.
@@ -283,7 +311,7 @@ fn are_alike<R: Threads + Sync>(
     let Ok((starts, streams)) = encode_scan(rt, alloc, &plan, bytes, segments) else {
         return Ok(false);
     };
-    let Ok(found) = find_starts(alloc, &plan, bytes, segments) else {
+    let Ok(found) = find_starts(alloc, &plan, bytes, u32::from(segments)) else {
         return Ok(false);
     };
     let after = encode_all(rt, alloc, &plan, bytes, &found)?;
@@ -336,7 +364,7 @@ fn a_scan_is_cut(rt: HostRuntime) -> Result<(), Fail> {
     Ok(())
 }
 
-fn refusal(alloc: Global, bytes: &[u8], segments: u8) -> Option<ScanRefusal> {
+fn refusal(alloc: Global, bytes: &[u8], segments: u32) -> Option<ScanRefusal> {
     let Ok(plan) = read_header(bytes) else {
         return None;
     };

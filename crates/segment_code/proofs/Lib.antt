@@ -17,6 +17,7 @@ mod SegmentNumbers
 mod SegmentsBegun
 mod SegmentsCoded
 mod SlotsOfGrid
+mod RowStarts
 mod StartsFound
 mod StepPaying
 mod StepsTaken

@@ -1,5 +1,5 @@
 -- A pass from segment to segment: it goes on, and ends with the file's starts.
-use Rattle.std.proofs.Common.{◌≡◌, ℕ, ◌+◌, ◌-◌, ◌*◌, ◌<◌, ◌≤◌, Bool, List, [], ◌∷◌, ◌++◌, length, take, refl, ap, ap₂, ◌∙◌, sym, subst, arith}
+use Rattle.std.proofs.Common.{◌≡◌, ℕ, ◌+◌, ◌-◌, ◌*◌, ◌<◌, ◌≤◌, Bool, List, [], ◌∷◌, ◌++◌, length, take, refl, ap, ap₂, ◌^◌, ◌∙◌, sym, subst, arith}
 use Rattle.std.specs.Prelude.{ℤ, Result, IfOk, OnOk, Ok, Err, min, map}
 use Rattle.std.specs.List.{AllByRecursion}
 use Rattle.std.proofs.lemmas.List.{append_cancel_left, length-append, map-append}
@@ -76,7 +76,7 @@ is_next p is some =
 pub first_pass : (plan : PlanFields) (codes : List ComponentCodes) (bytes : List ℕ) (most : ℕ)
     (reader : ScanReader) (starts : StartsFields) (pads : FoundPads)
     → AllByRecursion IsByte bytes → Accepts bytes plan
-    → codes ≡ map tables_of plan.components → 0 < most → most < 256
+    → codes ≡ map tables_of plan.components → 0 < most → most < 2 ^ 32
     → reader ≡ reader_at (shape_of plan) bytes plan.header_length
     → starts ≡ no_starts → pads ≡ none_found
     → IsPass (record {
@@ -224,7 +224,7 @@ fits q p next e f is some =
     rw (e, f) here
 
 pub few_passed : (q p : PassFields) → q ≡ p → IsPass p → 0 < segments_left p
-    → length q.starts.rows < 255
+    → length q.starts.rows + 1 < 2 ^ 32
 few_passed q p e is some =
     let count = ap passed e in
     let under = (is_next p is some).under in

@@ -1,5 +1,5 @@
 -- Steps: a pass over a file's scan from segment to segment, and a segment that is coded apart from it (own).
-use Rattle.std.specs.Prelude.{ℕ, ◌≡◌, ◌+◌, ◌-◌, ◌*◌, ◌<◌, ◌≤◌, Bool, List, length, ℤ, map}
+use Rattle.std.specs.Prelude.{ℕ, ◌≡◌, ◌^◌, ◌+◌, ◌-◌, ◌*◌, ◌<◌, ◌≤◌, Bool, List, length, ℤ, map}
 use Rattle.std.specs.List.{AllByRecursion}
 use Rattle.bit_list.specs.Bits.{IsByte}
 use Rattle.coef_block.specs.Block.{IsBlock}
@@ -60,7 +60,7 @@ pub record IsPass (p : PassFields) : Type 0 where
   pub accepted : Accepts p.bytes p.plan
   pub codes : p.codes ≡ map tables_of p.plan.components
   pub some : 0 < p.most
-  pub few : p.most < 256
+  pub few : p.most < 2 ^ 32
   pub within : passed p ≤ (pass_cut p).segments
   pub starts : p.starts ≡ found (first_reader p) (pass_cut p) (passed p)
   pub read : (mcus : List (List (List ℤ))) × AreReadOn (mcus_passed p) (first_reader p) p.reader mcus

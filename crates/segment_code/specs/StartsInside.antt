@@ -1,5 +1,5 @@
 -- View: the value of starts, and their invariant (own).
-use Rattle.std.specs.Prelude.{ℕ, ◌≤◌, ◌<◌, true, [], ◌∷◌, ◌++◌, length}
+use Rattle.std.specs.Prelude.{ℕ, ◌^◌, ◌≤◌, ◌<◌, true, [], ◌∷◌, ◌++◌, length}
 use Rattle.scan_spec.specs.Pads.{Same, told_by}
 use Rattle.handover.specs.Handovers.{HandoverFields}
 use Rattle.segment_code.specs.FileStarts.{StartsFields}
@@ -19,7 +19,7 @@ starts_in s = record {
 pub record IsStarts (s : Inside) : Type 0 where
   pub places : length s.rows.items ≤ length s.places.items
   pub handovers : length s.rows.items ≤ length s.handovers.items
-  pub few : length s.rows.items < 256
+  pub few : length s.rows.items < 2 ^ 32
 
 -- the starts of no segment
 abbrev pub no_starts : StartsFields

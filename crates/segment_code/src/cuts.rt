@@ -6,14 +6,14 @@ ghost use Rattle.box_format.specs.Parts.{cut_in};
 use jpeg_marker::Plan;
 
 /// How many segments there are of those that are asked for: no more than rows of MCUs.
-pub(crate) fn segment_count(plan: &Plan, segments: u8) -> u8
+pub(crate) fn segment_count(plan: &Plan, segments: u32) -> u32
     ensures { result ≡ min segments plan.now.down }
 {
-    plan.down().min(u32::from(segments)) as u8
+    plan.down().min(segments)
 }
 
 /// The row of MCUs that one of `count` segments starts with; the rows end where the segment after the last would start.
-pub(crate) fn row_of(plan: &Plan, count: u8, segment: u8) -> u32
+pub(crate) fn row_of(plan: &Plan, count: u32, segment: u32) -> u32
     requires some { 0 < count }
     requires within { segment ≤ count }
     ensures value { result ≡ row_of (cut_in plan.now count) segment }
@@ -24,7 +24,7 @@ pub(crate) fn row_of(plan: &Plan, count: u8, segment: u8) -> u32
 }
 
 /// How many MCUs one of `count` segments has.
-pub(crate) fn mcus_in(plan: &Plan, count: u8, segment: u8) -> u32
+pub(crate) fn mcus_in(plan: &Plan, count: u32, segment: u32) -> u32
     requires within { segment < count }
     ensures value { first_mcu (cut_in plan.now count) segment + result
         ≡ first_mcu (cut_in plan.now count) (segment + 1) }

@@ -1,6 +1,7 @@
 // Where the segments of a file start, in one pass over its scan.
 ghost use Rattle.std.specs.Prelude.{◌≡◌, ◌+◌, ◌<◌, ◌≤◌, ℤ, List, length, None, Ok, Err, IfOk, OnOk, IsErrOf};
 ghost use Rattle.jpeg_marker.specs.HeaderPlan.{Accepts};
+ghost use Rattle.box_format.specs.Raws.{numbers};
 ghost use Rattle.scan_spec.specs.Items.{Refuses};
 ghost use Rattle.scan_spec.specs.ScanCalls.{ScanReader};
 ghost use Rattle.scan_spec.specs.ScanReading.{mcu_at};
@@ -26,7 +27,7 @@ pub fn find_starts(
     alloc: Global,
     plan: &Plan,
     bytes: &[u8],
-    segments: u8,
+    segments: u32,
 ) -> Result<Starts, ScanError>
     requires plan { Accepts bytes.now plan.now }
     requires some { 0 < segments }
@@ -40,6 +41,17 @@ pub fn find_starts(
         pass.skip()?;
     }
     Ok(pass.end()?)
+}
+
+/// Where each row of MCUs of a file starts, if it is a segment of its own. A cut at any rows needs no other starts.
+pub fn find_rows(alloc: Global, plan: &Plan, bytes: &[u8]) -> Result<Starts, ScanError>
+    requires plan { Accepts bytes.now plan.now }
+    ensures starts { IfOk result (λ starts. AreStarts plan.now bytes.now plan.now.down starts) }
+    ensures rows { IfOk result (λ starts. starts.rows ≡ numbers 0 plan.now.down) }
+    ensures refused { (refusal : ScanRefusal) → IsErrOf result (ScanError.Scan refusal)
+        → Refuses (shape_of plan.now) bytes.now plan.now.header_length refusal }
+{
+    find_starts(alloc, plan, bytes, plan.down())
 }
 
 /// Reads the next `mcus` MCUs, and keeps the pad bit of each interval that ends.

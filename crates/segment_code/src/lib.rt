@@ -28,7 +28,7 @@ mod step;
 
 pub use decoder::SegmentDecoder;
 pub use error::ScanError;
-pub use find::find_starts;
+pub use find::{find_rows, find_starts};
 pub use laws::{rows_of_pieces, segments_come_in_pieces};
 pub use part::SegmentPart;
 pub use pass::ScanPass;

@@ -33,7 +33,7 @@ pub struct ScanPass<'a> {
     plan: &'a Plan,
     codes: &'a PlanCodes,
     bytes: &'a [u8],
-    most: u8,
+    most: u32,
     reader: Reader<'a>,
     starts: Starts,
     pads: PadsFound,
@@ -57,7 +57,7 @@ impl<'a> ScanPass<'a> {
         plan: &'a Plan,
         codes: &'a PlanCodes,
         bytes: &'a [u8],
-        most: u8,
+        most: u32,
     ) -> ScanPass<'a>
         requires plan { Accepts bytes.now plan.now }
         requires codes { codes.now ≡ map tables_of plan.now.components }
@@ -81,7 +81,7 @@ impl<'a> ScanPass<'a> {
     }
 
     /// How many segments are left.
-    pub fn left(&self) -> u8
+    pub fn left(&self) -> u32
         requires { IsPass self.now }
         ensures { result ≡ segments_left self.now }
     {

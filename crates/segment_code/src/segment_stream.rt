@@ -42,7 +42,7 @@ pub fn encode_segment(
     plan: &Plan,
     bytes: &[u8],
     starts: &Starts,
-    segment: u8,
+    segment: u32,
 ) -> Result<Vec<u8>, NoMemory>
     requires starts { (most : ℕ) × AreStarts plan.now bytes.now most starts.now }
     requires segment { segment < length starts.now.rows }

@@ -1,5 +1,5 @@
 // Where a file's segments start.
-ghost use Rattle.std.specs.Prelude.{◌≡◌, ◌+◌, ◌<◌, ◌++◌, List, [], ◌∷◌, true, length, get_or, OnOk};
+ghost use Rattle.std.specs.Prelude.{◌≡◌, ◌^◌, ◌+◌, ◌<◌, ◌++◌, List, [], ◌∷◌, true, length, get_or, OnOk};
 ghost use Rattle.handover.specs.Handovers.{start};
 ghost use Rattle.scan_spec.specs.Pads.{pads_given, spelling_of};
 ghost use Rattle.segment_code.specs.StartsInside.{no_starts, starts_more};
@@ -60,7 +60,7 @@ impl Starts {
         place: usize,
         handover: Handover,
     ) -> Result<(), NoMemory>
-        requires { length self.old.rows < 255 }
+        requires { length self.old.rows + 1 < 2 ^ 32 }
         ensures { OnOk result (self.new ≡ starts_more self.old row place handover) }
     {
         push(&mut self.handovers, handover)?;
@@ -81,34 +81,34 @@ impl Starts {
     }
 
     /// How many segments there are.
-    pub fn segments(&self) -> u8
+    pub fn segments(&self) -> u32
         ensures { result ≡ length self.now.rows }
     {
-        self.rows.len() as u8
+        self.rows.len() as u32
     }
 
     /// The row of MCUs that a segment starts with.
-    pub fn row(&self, segment: u8) -> u32
+    pub fn row(&self, segment: u32) -> u32
         requires { segment < length self.now.rows }
         ensures { result ≡ get_or self.now.rows segment 0 }
     {
-        self.rows[usize::from(segment)]
+        self.rows[segment as usize]
     }
 
     /// The place of the first byte of a segment that the MCUs before it don't complete.
-    pub fn place(&self, segment: u8) -> usize
+    pub fn place(&self, segment: u32) -> usize
         requires { segment < length self.now.rows }
         ensures { result ≡ get_or self.now.places segment 0 }
     {
-        self.places[usize::from(segment)]
+        self.places[segment as usize]
     }
 
     /// What a segment starts from.
-    pub fn handover(&self, segment: u8) -> Handover
+    pub fn handover(&self, segment: u32) -> Handover
         requires { segment < length self.now.rows }
         ensures { result ≡ get_or self.now.handovers segment start }
     {
-        self.handovers[usize::from(segment)]
+        self.handovers[segment as usize]
     }
 
     /// What each segment starts from, in their order.

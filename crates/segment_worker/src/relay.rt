@@ -50,7 +50,7 @@ pub(crate) trait Pass<N: Part> {
     // A refusal of what it goes over.
     ghost refuses: { Self → ScanRefusal → Type 0 };
 
-    fn left(&self) -> u8
+    fn left(&self) -> u32
         requires { holds self.now }
         ensures { result ≡ left self.now };
 

@@ -1,6 +1,6 @@
 // The streams of a file's segments, side by side.
 ghost use Rattle.jpeg_marker.specs.HeaderPlan.{Accepts};
-ghost use Rattle.std.specs.Prelude.{◌≡◌, ◌<◌, ℕ, Bool, List, length, map, Ok, IfOk, IsErrOf};
+ghost use Rattle.std.specs.Prelude.{◌≡◌, ◌^◌, ◌<◌, ℕ, Bool, List, length, map, Ok, IfOk, IsErrOf};
 ghost use Rattle.scan_spec.specs.Items.{Refuses};
 ghost use Rattle.scan_spec.specs.Scans.{Mcu};
 ghost use Rattle.scan_spec.specs.Slots.{shape_of};
@@ -41,7 +41,7 @@ pub fn encode_scan<R: Threads + Sync>(
         → Refuses (shape_of plan.now) bytes.now plan.now.header_length refusal }
 {
     let codes = PlanCodes::build(plan);
-    let mut pass = ScanPass::start(alloc, plan, &codes, bytes, segments);
+    let mut pass = ScanPass::start(alloc, plan, &codes, bytes, segments as u32);
     let streams = make_all(rt, alloc, &mut pass)?;
     let starts = pass.end()?;
     Ok((starts, streams))
@@ -77,7 +77,7 @@ impl<'a> Pass<SegmentPart<'a>> for ScanPass<'a> {
 
     ghost refuses = { λ pass refusal. PassRefuses pass refusal };
 
-    fn left(&self) -> u8 {
+    fn left(&self) -> u32 {
         ScanPass::left(self)
     }
 
@@ -115,7 +115,7 @@ pub fn encode_all<R: Threads + Sync>(
         ≡ map (λ i. stream_of plan.now (segment_mcus plan.now mcus most i))
         (numbers 0 (plan_cut plan.now most).segments)) }
 {
-    let segments = usize::from(starts.segments());
+    let segments = starts.segments() as usize;
     let made = map_indices(
         rt,
         alloc,
@@ -135,14 +135,14 @@ fn encode_one(
 ) -> Result<Vec<u8>, NoMemory>
     requires starts { (most : ℕ) × AreStarts plan.now bytes.now most starts.now }
     requires segment { segment < length starts.now.rows }
-    requires small { segment < 256 }
+    requires small { segment < 2 ^ 32 }
     ensures { (mcus : List Mcu) (pads : List Bool) (most : ℕ)
         → IsFileAt bytes.now plan.now mcus pads starts.now.trailer
         → starts.now ≡ starts_of plan.now mcus pads starts.now.trailer most
         → IfOk result (λ stream. stream.items
         ≡ stream_of plan.now (segment_mcus plan.now mcus most segment)) }
 {
-    encode_segment(alloc, plan, bytes, starts, segment as u8)
+    encode_segment(alloc, plan, bytes, starts, segment as u32)
 }
 
 // All that were made, or that one wasn't.

@@ -14,12 +14,11 @@ returns g c = λ mcus pads most file starts.
     let stream : ℕ → List ℕ = λ i. stream_of plan (segment_mcus plan mcus most i) in
     let rows = ap (λ (s : StartsFields). length s.rows) starts
     ∙ mapped_long (row_of cut) 0 cut.segments in
-    let count = c.segments.ensures in
-    let from = c.from-segments.ensures in
+    let count = c.segments-segments.ensures in
     let long = c.in_ok-made.ensures.len in
-    let all : length c.in_ok-made.made.items ≡ cut.segments = omega (arith, rows, count, from, long) in
+    let all : length c.in_ok-made.made.items ≡ cut.segments = omega (arith, rows, count, long) in
     all_streams (λ v. v.items) (λ v. v.items) stream cut.segments c.in_ok-made.made.items c.all_made.result all
     (λ i d within.
-    let made = (c.in_ok-made.ensures.each i d (omega (arith, within, rows, count, from))).1 in
+    let made = (c.in_ok-made.ensures.each i d (omega (arith, within, rows, count))).1 in
     let given = file in let from_there = starts in search rules)
     c.all_made.ensures
