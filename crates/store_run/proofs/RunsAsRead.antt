@@ -63,7 +63,7 @@ module _ {Source Sink Keeper : Type 0} (left : Source → Option (List ℕ))
       as_read old new from to input records rest after expected k p e.0 (e.1 ∷ []) Full e.2
       (λ more is. ((e.1, refl), e.3))
   runs_as_read old new from to given back input records rest after ReadFailed expected e k p a b c =
-      absurd (a e.3)
+      absurd (a e.4)
   runs_as_read old new from to given back input records rest after WriteFailed expected e k p a b c =
       absurd (b e.1)
   runs_as_read old new from to given back input records rest after KeeperFailed expected e k p a b c =

@@ -162,9 +162,9 @@ module _ {Source Sink : Type 0} (left : Source → Option (List ℕ)) (held : Si
           sink_still still,
         )
     by_stop rose ReadFailed room still h =
-        (s.records, h.0, all_so_far h.0 h.1 still, rose_later h.2, sink_still still)
+        (s.records, h.0, all_so_far h.0 h.1 still, h.2, rose_later h.3, sink_still still)
     by_stop rose NoMemory room still h =
-        (s.records, h.0, all_so_far h.0 h.1 still, h.2 ∙ s.source_worked, sink_still still)
+        (s.records, h.0, all_so_far h.0 h.1 still, inl h.2, h.3 ∙ s.source_worked, sink_still still)
     by_stop rose WriteFailed room still h = absurd h
     by_stop rose KeeperFailed room still h = absurd h
     by_stop rose Full room still h = absurd h
@@ -217,7 +217,7 @@ module _ {Source Sink : Type 0} (left : Source → Option (List ℕ)) (held : Si
           worked ∙ s.source_worked,
         )
     by_call rose NoMemory room sole rises call whole read worked h =
-        (s.records, record_bytes call, all_so_far (record_bytes call) read h, worked ∙ s.source_worked, sink_still h)
+        (s.records, record_bytes call, all_so_far (record_bytes call) read h, inr (call, whole, refl), worked ∙ s.source_worked, sink_still h)
     by_call rose KeeperFailed room sole rises call whole read worked h = (
       s.records,
       call,
@@ -292,6 +292,7 @@ module _ {Source Sink : Type 0} (left : Source → Option (List ℕ)) (held : Si
       [],
       all_so_far old now new from to to caller caller most_records s []
           (Consumes-kept (left now) (left now) (left new) [] (Consumes-nil (left now)) kept) refl,
+      inl refl,
       rose_later old now new from to to caller caller most_records s failed,
       s.sink_worked,
     )

@@ -58,6 +58,14 @@ IsCut bytes =
     ⊎ ((mark : ℕ) × (part : List ℕ) × (bytes ≡ mark ∷ part)
     × ((mark ≡ find_mark) ⊎ (mark ≡ remove_mark)) × (length part < key_length)))
 
+-- no byte of a record was read, or not all of them
+abbrev pub IsBegun : List ℕ → Type 0
+IsBegun bytes = (bytes ≡ []) ⊎ IsCut bytes
+
+-- one record was read
+abbrev pub IsRecord : List ℕ → Type 0
+IsRecord bytes = (call : FileCall) × IsWhole call × (bytes ≡ record_bytes call)
+
 -- a bad record was read, and this is left: no record begins with its bytes, or the input ended in it
 abbrev pub IsBad : List ℕ → Option (List ℕ) → Type 0
 IsBad bytes left = IsForeign bytes ⊎ (IsCut bytes × IsAtEnd left)

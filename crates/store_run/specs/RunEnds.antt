@@ -5,7 +5,7 @@ use Rattle.std.specs.Io.KnownBytes.{Appends, Consumes, IsAtEnd}
 use Rattle.outside_core.specs.Faults.{Rose}
 use Rattle.photo_store.specs.FileStores.{FileCall, no_files}
 use Rattle.segment_worker.specs.Written.{HasFailed}
-use Rattle.store_run.specs.Records.{IsBad, IsWhole, most_records, record_bytes, replies}
+use Rattle.store_run.specs.Records.{IsBad, IsBegun, IsRecord, IsWhole, most_records, record_bytes, replies}
 use Rattle.store_run.specs.declared.ending.Ending.{Ending}
 use Rattle.store_run.specs.declared.ending.Ending.TheVariants.{Answered, BadRecord, ReadFailed, WriteFailed, NoMemory, KeeperFailed, Full}
 
@@ -90,8 +90,8 @@ module _ {Source Sink : Type 0} (left : Source → Option (List ℕ)) (held : Si
           × SourceWorked old new × SinkWorked from to
       Ends old new from to KeeperRose ReadFailed =
           (records : List FileCall) × (bytes : List ℕ)
-          × HasAnsweredAll old new from to records bytes × Rose source_faults source_full old new
-          × SinkWorked from to
+          × HasAnsweredAll old new from to records bytes × IsBegun bytes
+          × Rose source_faults source_full old new × SinkWorked from to
       Ends old new from to KeeperRose WriteFailed =
           HasAnsweredSome old new from to × Rose sink_faults sink_full from to
           × SourceWorked old new
@@ -101,5 +101,5 @@ module _ {Source Sink : Type 0} (left : Source → Option (List ℕ)) (held : Si
           × SourceWorked old new × SinkWorked from to
       Ends old new from to KeeperRose NoMemory =
           (records : List FileCall) × (bytes : List ℕ)
-          × HasAnsweredAll old new from to records bytes
+          × HasAnsweredAll old new from to records bytes × (IsBegun bytes ⊎ IsRecord bytes)
           × SourceWorked old new × SinkWorked from to

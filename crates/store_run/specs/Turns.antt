@@ -7,7 +7,7 @@ use Rattle.blob_store.specs.Callers.{CallerValue}
 use Rattle.blob_store.specs.Journals.{AreBy}
 use Rattle.photo_store.specs.FileStores.{Files, FileCall, key_asked, file_reply, files_after, no_files}
 use Rattle.store_run.specs.Answering.{IsTied}
-use Rattle.store_run.specs.Records.{IsBad, IsWhole, most_records, record_bytes, reply_bytes, replies}
+use Rattle.store_run.specs.Records.{IsBad, IsBegun, IsWhole, most_records, record_bytes, replies, reply_bytes}
 use Rattle.store_run.specs.declared.ending.Ending.{Ending}
 use Rattle.store_run.specs.declared.ending.Ending.TheVariants.{Answered, BadRecord, ReadFailed, WriteFailed, NoMemory, KeeperFailed, Full}
 use Rattle.store_run.specs.declared.calls.RecordStop.{RecordStop}
@@ -61,10 +61,10 @@ module _ {Source Sink : Type 0} (left : Source → Option (List ℕ)) (held : Si
       (bytes : List ℕ) × Consumes (left old) (left new) bytes × IsBad bytes (left new)
       × (source_faults new ≡ source_faults old)
   Stops old new ReadFailed =
-      (bytes : List ℕ) × Consumes (left old) (left new) bytes
+      (bytes : List ℕ) × Consumes (left old) (left new) bytes × IsBegun bytes
       × Rose source_faults source_full old new
   Stops old new NoMemory =
-      (bytes : List ℕ) × Consumes (left old) (left new) bytes
+      (bytes : List ℕ) × Consumes (left old) (left new) bytes × IsBegun bytes
       × (source_faults new ≡ source_faults old)
   Stops old new other = ⊥
 

@@ -1,11 +1,11 @@
 // The calls that the records of a source ask for.
-ghost use Rattle.std.specs.Prelude.{◌≡◌, ℕ, ◌∷◌, ◌++◌, ◌<◌, ◌≤◌, List, length, IfOk, IfErr, OnOk, IsErrOf};
+ghost use Rattle.std.specs.Prelude.{◌≡◌, ℕ, ◌∷◌, ◌++◌, ◌<◌, ◌≤◌, List, length, Err, IfOk, IfErr, OnOk, IsErrOf};
 ghost use Rattle.std.specs.Io.KnownBytes.{Consumes, IsAtEnd};
 ghost use Rattle.byteorder.specs.Endian.{big_bytes};
 ghost use Rattle.outside_core.specs.Faults.{Rose};
 ghost use Rattle.container_spec.specs.Limits.{most_of_a_file};
-ghost use Rattle.store_run.specs.Reading.{ReadsNext, ReadsRest, stop_of};
-ghost use Rattle.store_run.specs.Records.{IsBad, key_length, put_mark};
+ghost use Rattle.store_run.specs.Reading.{IsRead, ReadsNext, ReadsRest, stop_of};
+ghost use Rattle.store_run.specs.Records.{key_length, put_mark};
 ghost use Rattle.store_run.specs.declared.calls.RecordStop.TheVariants.{Bad, ReadFault, NoMemory};
 
 use crate::reading::{ReadStop, next_byte, read_exactly};
@@ -96,7 +96,7 @@ fn read_file<S: Source>(alloc: Global, source: &mut S) -> Result<Vec<u8>, Record
         (big_bytes 4 (length file.items) ++ file.items)) }
     ensures stop { IfErr result (λ stop. (part : List ℕ)
         × Consumes (S.left source.old) (S.left source.new) part
-        × (stop ≡ Bad → IsBad (put_mark ∷ part) (S.left source.new))) }
+        × IsRead (put_mark ∷ part) (S.left source.new) (Err stop)) }
     ensures read_fault { IsErrOf result ReadFault → Rose S.faults S.full source.old source.new }
     ensures readable { OnOk result (S.readable source.new) }
     ensures unfailed { ¬ IsErrOf result ReadFault → S.faults source.new ≡ S.faults source.old }
@@ -130,8 +130,8 @@ fn read_key<S: Source>(alloc: Global, source: &mut S) -> Result<Key, RecordStop>
     ensures key { IfOk result (λ key. (length key ≡ key_length)
         × Consumes (S.left source.old) (S.left source.new) key) }
     ensures stop { IfErr result (λ stop. (part : List ℕ)
-        × Consumes (S.left source.old) (S.left source.new) part
-        × (stop ≡ Bad → (length part < key_length) × IsAtEnd (S.left source.new))) }
+        × Consumes (S.left source.old) (S.left source.new) part × (length part < key_length)
+        × (stop ≡ Bad → IsAtEnd (S.left source.new))) }
     ensures read_fault { IsErrOf result ReadFault → Rose S.faults S.full source.old source.new }
     ensures readable { OnOk result (S.readable source.new) }
     ensures unfailed { ¬ IsErrOf result ReadFault → S.faults source.new ≡ S.faults source.old }

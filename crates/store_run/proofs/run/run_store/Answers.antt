@@ -1,4 +1,4 @@
-use Rattle.std.proofs.Common.{[], refl}
+use Rattle.std.proofs.Common.{[], inl, refl}
 use Rattle.std.proofs.KnownBytes.{Appends-nil, Consumes-nil}
 use Rattle.store_run.specs.declared.ending.Ending.TheVariants.{NoMemory}
 use Rattle.store_run.proofs.run.run_store.Goals as goal
@@ -15,6 +15,7 @@ returns-in_default-clause-ends g c = (
       read = Consumes-nil (g.S.Source.left c.args.source.now);
       wrote = Appends-nil (g.K.Sink.held c.args.sink.now);
     },
+    inl (inl refl),
     refl,
     refl,
   ),
