@@ -9,6 +9,7 @@
 #![tactic(auto)]
 
 mod lists;
+mod maps;
 mod no_memory;
 mod ring;
 mod table;
@@ -19,6 +20,7 @@ pub use lists::{
     extend_from_slice, from_elem, from_slice, insert, push, resize, string_from_str,
     string_from_utf8_lossy, with_capacity,
 };
+pub use maps::map_insert;
 pub use no_memory::NoMemory;
 pub use ring::ring_with_capacity;
 pub use table::new_table;
