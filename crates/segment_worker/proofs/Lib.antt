@@ -7,5 +7,6 @@ pub mod OwnPieces
 pub mod Putting
 pub mod StreamsMade
 mod StreamsPassed
+mod PartsMade
 pub mod LonePieces
 pub mod LoneWritten
