@@ -11,10 +11,11 @@ use Rattle.blob_store.specs.declared.record.Stop.TheVariants.{Full, Clash, Keepe
 use Rattle.blob_store.specs.declared.view.View.{View}
 use Rattle.blob_store.specs.declared.note.Note.{Note}
 use Rattle.blob_store.specs.Journals.{IsReplied, kept}
-use Rattle.blob_store.specs.States.{StoreState, Asked, Puts, Finds, Removes, IsSound, IsClash, NamesBlob, entry_of}
+use Rattle.blob_store.specs.States.{StoreState, Asked, Puts, Finds, Removes, HasRisen, IsSound, IsClash, NamesBlob, entry_of}
 use Rattle.blob_store.specs.CallSteps.{Calls, HasCause}
 use Rattle.blob_store.specs.StoreRule.{Fits, FitsCaller, asked_by, entries_by, blobs_by, after}
 use Rattle.blob_store.specs.Callers.{CallerValue, HasCalled, KnowsMore, Answered, CauseSeen, FaultTold, store_seen}
+use Rattle.blob_store.proofs.Risen.{risen_wider}
 use Rattle.blob_store.proofs.StoreKept.{SuitsAsked, moves, after_call, by_own, longer, sound_after, call_keeps, entered_reply}
 
 clash_moves : (s u : StoreState) → u.journal ≡ s.journal → u.blobs ≡ s.blobs → (asked : Asked)
@@ -68,8 +69,8 @@ module _ (suits : List ℕ → List ℕ → Type 0) (s t : StoreState) (id : ℕ
     clash_moves s (store_seen (after_call v s t id asked (Err Clash))) (append-nil s.journal) (append-nil s.blobs) asked c.1,
   )
   cause_seen KeeperFault c =
-      (few_seen KeeperFault c.0, (let a = f.faults in let b = c.1 in omega (arith, a, b)))
-  cause_seen NoMemory c = few_seen NoMemory c
+      (few_seen KeeperFault c.0, risen_wider v.faults s.faults t.faults t.faults f.faults c.1 (omega arith))
+  cause_seen (NoMemory short) c = few_seen (NoMemory short) c
 
   pub answered : (answer : Result Reply Stop) → Calls s t id asked answer
       → Answered id v (after_call v s t id asked answer) asked answer
@@ -135,8 +136,10 @@ module _ (suits : List ℕ → List ℕ → Type 0) (old new : CallerValue) (s t
   fault_told (Ok reply) e = tt
   fault_told (Err Full) e = tt
   fault_told (Err Clash) e = tt
-  fault_told (Err KeeperFault) e = let rose = e.cause.1 in omega (arith, faults, counted, rose)
-  fault_told (Err NoMemory) e = tt
+  fault_told (Err KeeperFault) e =
+      subst (λ (n : ℕ). HasRisen note.found.faults n) (sym faults)
+      (subst (λ (n : ℕ). HasRisen n t.faults) (sym counted) e.cause.1)
+  fault_told (Err (NoMemory short)) e = tt
 
   -- one hold that records a call is that call
   pub has_called : new.table ≡ old.table → new.number ≡ old.number → new.holds ≡ old.holds + 1

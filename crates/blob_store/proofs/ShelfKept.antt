@@ -1,9 +1,6 @@
 -- What a shelf's map says after a call.
-use Rattle.std.proofs.Common.{◌≡◌, ℕ, zero, suc, ◌+◌, ◌<◌, Bool, true, false, true≢false, List, [], ◌∷◌, ◌++◌, length, Option, Some, None, sym, ap, ◌∙◌, refl, arith}
-use Rattle.std.specs.Prelude.{if◌then◌else◌, bytes_eq, slice_get, OnOk, OnErr}
-use Rattle.std.specs.Result.{is_err}
-use Rattle.std.specs.declared.result.Result.{Result}
-use Rattle.std.specs.declared.result.Result.TheVariants.{Ok, Err}
+use Rattle.std.proofs.Common.{◌≡◌, ℕ, zero, suc, ◌+◌, ◌<◌, Bool, true, false, List, [], ◌∷◌, ◌++◌, length, Option, Some, None, sym, ap, ◌∙◌, refl, arith}
+use Rattle.std.specs.Prelude.{if◌then◌else◌, bytes_eq, slice_get}
 use Rattle.blob_store.specs.declared.record.Call.TheVariants.{Put}
 use Rattle.std.specs.Ordering.{nat_cmp}
 use Rattle.std.specs.Cmp.Lexicographic.{slice_cmp}
@@ -81,16 +78,6 @@ below_removed journal r count is below q number e =
     none_or (bytes_eq r.key q) count number (kept journal q) (below q)
     (ap (λ reply. if bytes_eq r.key q then left_by (kept journal q) reply else kept journal q) (sym is)
     ∙ (sym (kept_more journal r q) ∙ e))
-
--- what holds at an Ok
-pub when_ok : {T E : Type 0} (r : Result T E) (P : Type 0) → is_err r ≡ false → OnOk r P → P
-when_ok (Ok x) P e p = p
-when_ok (Err x) P e p = absurd (true≢false e)
-
--- what holds at an Err
-pub when_err : {T E : Type 0} (r : Result T E) (P : Type 0) → is_err r ≡ true → OnErr r P → P
-when_err (Ok x) P e p = absurd (true≢false (sym e))
-when_err (Err x) P e p = p
 
 -- the last of a list
 pub get_last : {A : Type 0} (xs : List A) (x : A) (n : ℕ) → n ≡ length xs → slice_get (xs ++ x ∷ []) n ≡ Some x

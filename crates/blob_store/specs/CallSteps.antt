@@ -11,7 +11,7 @@ use Rattle.blob_store.specs.declared.record.Stop.TheVariants.{Full, Clash, Keepe
 use Rattle.blob_store.specs.declared.keeper.Keep.{Keep}
 use Rattle.blob_store.specs.declared.keeper.Keep.TheVariants.{Failed, NoMemory as NoRoom}
 use Rattle.blob_store.specs.Journals.{reply_to, kept}
-use Rattle.blob_store.specs.States.{StoreState, Asked, Puts, Finds, NamesBlob, IsClash, call_of, key_of, entry_of}
+use Rattle.blob_store.specs.States.{StoreState, Asked, Puts, Finds, HasRisen, NamesBlob, IsClash, call_of, key_of, entry_of}
 
 -- the blobs that a call with this reply adds after the others
 abbrev pub added_by : Asked → Reply → List (List ℕ)
@@ -30,13 +30,14 @@ pub record Enters (found left : StoreState) (caller : ℕ) (asked : Asked) (repl
   pub faults : found.faults ≤ left.faults
   pub limit : left.limit ≡ found.limit
 
--- the cause of a stop; that memory was out is not proved, only that the journal had room
+-- the cause of a stop; if memory is out, the stop holds the error of a failed allocation, and nothing more is said than
+-- that the journal had room
 abbrev pub HasCause : StoreState → StoreState → Asked → Stop → Type 0
 HasCause found left asked Full = length found.journal ≡ found.limit
 HasCause found left asked Clash = (length found.journal < found.limit) × IsClash found asked
 HasCause found left asked KeeperFault =
-    (length found.journal < found.limit) × (found.faults < left.faults)
-HasCause found left asked NoMemory = length found.journal < found.limit
+    (length found.journal < found.limit) × HasRisen found.faults left.faults
+HasCause found left asked (NoMemory short) = length found.journal < found.limit
 
 -- a call got no reply: journal and blobs are as they were
 pub record Stays (found left : StoreState) (asked : Asked) (stop : Stop) : Type 0 where
@@ -63,4 +64,4 @@ FindGives found left caller key (Err stop) = Stays found left (Finds key) stop
 -- why a call stops if the keeper didn't do what it was asked
 abbrev pub stop_from : Keep → Stop
 stop_from Failed = KeeperFault
-stop_from NoRoom = NoMemory
+stop_from (NoRoom short) = NoMemory short

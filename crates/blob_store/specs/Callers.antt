@@ -12,7 +12,7 @@ use Rattle.blob_store.specs.declared.record.Stop.TheVariants.{Full, Clash, Keepe
 use Rattle.blob_store.specs.declared.view.View.{View}
 use Rattle.blob_store.specs.declared.note.Note.{Note}
 use Rattle.blob_store.specs.Journals.{StartsWith, IsReplied, calls_by}
-use Rattle.blob_store.specs.States.{StoreState, Asked, IsSound, IsClash, NamesBlob, entry_of}
+use Rattle.blob_store.specs.States.{StoreState, Asked, HasRisen, IsSound, IsClash, NamesBlob, entry_of}
 use Rattle.blob_store.specs.StoreRule.{asked_by}
 
 -- the store as a caller knows it
@@ -47,17 +47,19 @@ pub record MadeEntry (number : ℕ) (old new : View) (asked : Asked) (reply : Re
 abbrev pub CauseSeen : View → View → Asked → Stop → Type 0
 CauseSeen old new asked Full = length new.seen ≡ new.limit
 CauseSeen old new asked Clash = (length new.seen < new.limit) × IsClash (store_seen new) asked
-CauseSeen old new asked KeeperFault = (length new.seen < new.limit) × (old.faults < new.faults)
-CauseSeen old new asked NoMemory = length new.seen < new.limit
+CauseSeen old new asked KeeperFault =
+    (length new.seen < new.limit) × HasRisen old.faults new.faults
+CauseSeen old new asked (NoMemory short) = length new.seen < new.limit
 
 -- a call got no reply, and made no entry
 pub record MadeNone (old new : View) (asked : Asked) (stop : Stop) : Type 0 where
   pub mine : new.mine ≡ old.mine
   pub cause : CauseSeen old new asked stop
 
--- a call that the keeper fails says so in its note: the keeper's count of faults rose while the call had the store
+-- a call that the keeper fails says so in its note: the keeper's count of faults rose while the call had the store, or
+-- can't rise any more
 abbrev pub FaultTold : Note → Result Reply Stop → Type 0
-FaultTold note (Err KeeperFault) = note.found.faults < note.left.faults
+FaultTold note (Err KeeperFault) = HasRisen note.found.faults note.left.faults
 FaultTold note other = Unit {0}
 
 -- what a call answered, by the views before and after it

@@ -1,5 +1,5 @@
 -- Statement: the state of a store, what calls ask of it, and what always holds of it (own).
-use Rattle.std.specs.Prelude.{◌≡◌, ◌≢◌, ℕ, ◌≤◌, List, [], length, slice_get, Option, Some, None}
+use Rattle.std.specs.Prelude.{◌≡◌, ◌≢◌, ◌⊎◌, ℕ, ◌-◌, ◌<◌, ◌≤◌, ◌^◌, List, [], length, slice_get, Option, Some, None}
 use Rattle.std.specs.List.{AllByRecursion}
 use Rattle.std.specs.Global.{Vec}
 use Rattle.std.specs.declared.result.Result.{Result}
@@ -22,6 +22,10 @@ pub record StoreState : Type 0 where
 -- a store before the first call
 abbrev pub empty_store : ℕ → ℕ → StoreState
 empty_store faults limit = record { journal = []; blobs = []; faults = faults; limit = limit }
+
+-- a count of faults has risen, or can't rise any more
+abbrev pub HasRisen : ℕ → ℕ → Type 0
+HasRisen before after = (before < after) ⊎ (2 ^ 64 - 1 ≤ after)
 
 -- what a call asks: its key, and a put's blob
 pub data Asked : Type 0 where

@@ -10,8 +10,9 @@ use crate::record::{Key, Reply, Sought, Stop};
 use crate::rule::{Form, StoreRule};
 use crate::shelf::Shelf;
 use crate::view::View;
+use growth::{NoMemory, insert, push};
 use seat_lock::{Lock, Pass};
-use std::alloc::{AllocError, Global};
+use std::alloc::Global;
 use std::collections::LinkedList;
 use std::marker::Model;
 use std::sync::Wait;
@@ -59,7 +60,7 @@ impl<P: Keeper, F: Form> BlobStore<P, F> {
         keeper: P,
         callers: u32,
         limit: u32,
-    ) -> Result<(BlobStore<P, F>, Vec<BlobCaller<P, F>>), AllocError>
+    ) -> Result<(BlobStore<P, F>, Vec<BlobCaller<P, F>>), NoMemory>
         requires empty { P.blobs keeper ≡ [] }
         requires some { 0 < callers }
         ensures callers { IfOk result (λ made. made.1.items
@@ -77,18 +78,17 @@ impl<P: Keeper, F: Form> BlobStore<P, F> {
         let mut all = Vec::new(alloc);
         for before in 0..callers - 1 {
             let pass = lock.split(&mut first);
-            all.push(BlobCaller {
+            let caller = BlobCaller {
                 pass,
                 number: before + 1,
-            })?;
+            };
+            push(&mut all, caller)?;
         }
-        all.insert(
-            0,
-            BlobCaller {
-                pass: first,
-                number: 0,
-            },
-        )?;
+        let caller = BlobCaller {
+            pass: first,
+            number: 0,
+        };
+        insert(&mut all, 0, caller)?;
         Ok((BlobStore { lock }, all))
     }
 

@@ -3,7 +3,8 @@ ghost use Rattle.std.specs.Prelude.{◌≡◌, ◌<◌, ◌+◌, [], true, false
 ghost use Rattle.blob_store.specs.Keepers.{new_fake};
 
 use crate::keeper::{Keep, Keeper};
-use std::alloc::{AllocError, Global};
+use growth::{from_slice, push};
+use std::alloc::Global;
 use std::marker::Model;
 
 /// Keeps blobs in memory, and never fails. Clauses see the blobs.
@@ -41,34 +42,26 @@ impl Keeper for VecKeeper {
     ghost fault_count = { λ k. 0 };
 
     fn append(&mut self, blob: &[u8]) -> Result<(), Keep> {
-        let Ok(copy) = copy_of(self.alloc, blob) else {
-            return Err(Keep::NoMemory);
+        let copy = match from_slice(self.alloc, blob) {
+            Ok(copy) => copy,
+            Err(short) => return Err(Keep::NoMemory(short)),
         };
-        match self.blobs.push(copy) {
+        match push(&mut self.blobs, copy) {
             Ok(()) => Ok(()),
-            Err(_) => Err(Keep::NoMemory),
+            Err(short) => Err(Keep::NoMemory(short)),
         }
     }
 
     fn read(&mut self, number: u32) -> Result<Vec<u8>, Keep> {
-        match copy_of(self.alloc, self.blobs[number as usize].as_slice()) {
+        match from_slice(self.alloc, self.blobs[number as usize].as_slice()) {
             Ok(copy) => Ok(copy),
-            Err(_) => Err(Keep::NoMemory),
+            Err(short) => Err(Keep::NoMemory(short)),
         }
     }
 
     fn faults(&self) -> u64 {
         0
     }
-}
-
-// Copies bytes.
-fn copy_of(alloc: Global, bytes: &[u8]) -> Result<Vec<u8>, AllocError>
-    ensures { IfOk result (λ copy. copy.items ≡ bytes.now) }
-{
-    let mut copy = Vec::new(alloc);
-    copy.extend_from_slice(bytes)?;
-    Ok(copy)
 }
 
 /// Keeps blobs in memory, and fails at the calls of `append` and `read` with given numbers, counted from 1: for tests.

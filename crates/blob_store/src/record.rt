@@ -1,4 +1,5 @@
 // Calls, their replies, and a journal's entries.
+use growth::NoMemory;
 
 /// What a blob is stored under.
 pub type Key = [u8; 32];
@@ -43,10 +44,10 @@ pub enum Stop {
     Full,
     /// Of a put: the key has another blob.
     Clash,
-    /// The keeper failed, and counted it.
+    /// The keeper failed, and counted it if its count wasn't at 2^64 - 1.
     KeeperFault,
     /// Out of memory.
-    NoMemory,
+    NoMemory(NoMemory),
 }
 
 /// The answer to a find: the key's blob with its number, or nothing if the key has no blob.

@@ -7,7 +7,8 @@ ghost use Rattle.blob_store.specs.CallSteps.{Calls, Enters, FindGives, stop_from
 use crate::keeper::{Keep, Keeper};
 use crate::note::Counts;
 use crate::record::{Call, Key, Record, Reply, Sought, Stop};
-use std::alloc::{AllocError, Global};
+use growth::{NoMemory, map_insert, with_capacity};
+use std::alloc::Global;
 use std::collections::BTreeMap;
 use std::marker::Model;
 
@@ -53,11 +54,11 @@ impl<P: Keeper> Model for Shelf<P> {
 
 impl<P: Keeper> Shelf<P> {
     /// Makes a store over a keeper that holds no blob. It allocates the journal.
-    pub fn new(alloc: Global, keeper: P, limit: u32) -> Result<Shelf<P>, AllocError>
+    pub fn new(alloc: Global, keeper: P, limit: u32) -> Result<Shelf<P>, NoMemory>
         requires empty { P.blobs keeper ≡ [] }
         ensures { IfOk result (λ shelf. shelf ≡ empty_store (P.fault_count keeper) limit) }
     {
-        let journal = Vec::with_capacity(alloc, limit as usize)?;
+        let journal = with_capacity(alloc, limit as usize)?;
         Ok(Shelf {
             keeper,
             map: BTreeMap::new(alloc),
@@ -122,8 +123,8 @@ impl<P: Keeper> Shelf<P> {
         ensures { Calls self.old self.new caller (Puts key blob.now) result }
     {
         let number = self.count;
-        if self.map.insert(key, number).is_err() {
-            return Err(Stop::NoMemory);
+        if let Err(short) = map_insert(&mut self.map, key, number) {
+            return Err(Stop::NoMemory(short));
         }
         if let Err(keep) = self.keeper.append(blob) {
             self.map.remove(&key);
@@ -255,6 +256,6 @@ fn stop_by(keep: Keep) -> Stop
 {
     match keep {
         Keep::Failed => Stop::KeeperFault,
-        Keep::NoMemory => Stop::NoMemory,
+        Keep::NoMemory(short) => Stop::NoMemory(short),
     }
 }

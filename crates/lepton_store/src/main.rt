@@ -13,7 +13,7 @@ fn main(rt: HostRuntime) -> ExitCode {
     let mut source = ReaderSource::new(rt.stdin());
     let mut sink = WriterSink::new(rt.stdout());
     let mut note = WriterSink::new(rt.stderr());
-    let (status, _) = run_store(
+    let (ending, _) = run_store(
         &rt,
         alloc,
         VecKeeper::new(alloc),
@@ -21,5 +21,5 @@ fn main(rt: HostRuntime) -> ExitCode {
         &mut sink,
         &mut note,
     );
-    ExitCode::from(status)
+    ExitCode::from(ending.status())
 }

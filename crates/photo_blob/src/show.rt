@@ -7,8 +7,9 @@ ghost use Rattle.photo_blob.specs.Showing.{StandsFor};
 
 use bit_list::Piece;
 use box_format::read_box;
+use growth::{NoMemory, extend_from_slice, from_slice};
 use segment_code::{SegmentDecoder, Step};
-use std::alloc::{AllocError, Global};
+use std::alloc::Global;
 
 /// The first byte of a blob if the file follows it.
 pub const PLAIN: u8 = 0;
@@ -17,7 +18,7 @@ pub const PLAIN: u8 = 0;
 pub const CONTAINER: u8 = 1;
 
 /// Returns the file of a blob. It waits for nothing; its one error is out of memory.
-pub fn show_blob(alloc: Global, blob: &[u8]) -> Result<Vec<u8>, AllocError>
+pub fn show_blob(alloc: Global, blob: &[u8]) -> Result<Vec<u8>, NoMemory>
     requires blob { (file : List ℕ) × IsBlobOf blob.now file }
     ensures shown { (file : List ℕ) → IsBlobOf blob.now file
         → IfOk result (λ shown. shown.items ≡ file) }
@@ -27,15 +28,13 @@ pub fn show_blob(alloc: Global, blob: &[u8]) -> Result<Vec<u8>, AllocError>
         [] => unreachable!(),
     };
     if mark == PLAIN {
-        let mut file = Vec::new(alloc);
-        file.extend_from_slice(rest)?;
-        return Ok(file);
+        return from_slice(alloc, rest);
     }
     show_container(alloc, rest)
 }
 
 // The file that a container stands for.
-fn show_container(alloc: Global, bytes: &[u8]) -> Result<Vec<u8>, AllocError>
+fn show_container(alloc: Global, bytes: &[u8]) -> Result<Vec<u8>, NoMemory>
     requires stands { (file : List ℕ) × StandsFor bytes.now file }
     ensures shown { (file : List ℕ) → StandsFor bytes.now file
         → IfOk result (λ shown. shown.items ≡ file) }
@@ -46,13 +45,12 @@ fn show_container(alloc: Global, bytes: &[u8]) -> Result<Vec<u8>, AllocError>
     };
     let mut decoder = SegmentDecoder::prepare(alloc, view.plan())?;
     let mut piece = Piece::new(alloc)?;
-    let mut file = Vec::new(alloc);
-    file.extend_from_slice(view.header())?;
+    let mut file = from_slice(alloc, view.header())?;
     for segment in 0..view.segments() {
         decoder.begin(&view, segment);
         append_segment(&mut decoder, &mut piece, &mut file)?;
     }
-    file.extend_from_slice(view.trailer())?;
+    extend_from_slice(&mut file, view.trailer())?;
     Ok(file)
 }
 
@@ -61,7 +59,7 @@ fn append_segment<'a>(
     decoder: &mut SegmentDecoder<'a>,
     piece: &mut Piece,
     file: &mut Vec<u8>,
-) -> Result<(), AllocError>
+) -> Result<(), NoMemory>
     requires running { decoder.old.running ≡ true }
     requires owes { (bytes : List ℕ) × (outcome : Outcome) × Owes decoder.old bytes outcome }
     ensures appended { (bytes : List ℕ) (outcome : Outcome) → Owes decoder.old bytes outcome
@@ -71,7 +69,7 @@ fn append_segment<'a>(
 {
     loop {
         let step = decoder.step(piece);
-        file.extend_from_slice(piece.bytes())?;
+        extend_from_slice(file, piece.bytes())?;
         match step {
             Step::More => {}
             _ => return Ok(()),

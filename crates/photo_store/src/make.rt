@@ -5,10 +5,11 @@ ghost use Rattle.container_spec.specs.Limits.{most_of_a_file};
 ghost use Rattle.photo_blob.specs.Blobs.{IsBlobOf};
 
 use blob_store::Key;
+use growth::{NoMemory, extend_from_slice, push};
 use lepton_encode::{EncodeError, encode};
 use photo_blob::{CONTAINER, PLAIN};
 use sha2::{Digest, Sha256};
-use std::alloc::{AllocError, Global};
+use std::alloc::Global;
 use std::thread::Threads;
 
 // How many segments a blob's container has.
@@ -19,25 +20,25 @@ pub(crate) fn make_blob<R: Threads + Sync>(
     rt: &R,
     alloc: Global,
     file: &[u8],
-) -> Result<Vec<u8>, AllocError>
+) -> Result<Vec<u8>, NoMemory>
     requires { length file.now ≤ most_of_a_file }
     ensures { IfOk result (λ blob. IsBlobOf blob.items file.now) }
 {
     match encode(rt, alloc, file, SEGMENTS) {
         Ok(made) => marked(alloc, CONTAINER, &made),
-        Err(EncodeError::NoMemory(_)) => Err(AllocError),
+        Err(EncodeError::NoMemory(short)) => Err(short),
         Err(EncodeError::Header(_)) => marked(alloc, PLAIN, file),
         Err(EncodeError::Scan(_)) => marked(alloc, PLAIN, file),
     }
 }
 
 // A mark, and these bytes after it.
-fn marked(alloc: Global, mark: u8, bytes: &[u8]) -> Result<Vec<u8>, AllocError>
+fn marked(alloc: Global, mark: u8, bytes: &[u8]) -> Result<Vec<u8>, NoMemory>
     ensures { IfOk result (λ blob. blob.items ≡ mark ∷ bytes.now) }
 {
     let mut blob = Vec::new(alloc);
-    blob.push(mark)?;
-    blob.extend_from_slice(bytes)?;
+    push(&mut blob, mark)?;
+    extend_from_slice(&mut blob, bytes)?;
     Ok(blob)
 }
 

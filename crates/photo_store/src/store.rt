@@ -10,7 +10,8 @@ use crate::answers::{Find, Put, Remove};
 use crate::make::{key_of, make_blob};
 use crate::ticket::Ticket;
 use blob_store::{BlobCaller, BlobStore, Form, Keeper, Key, Reply, Stop};
-use std::alloc::{AllocError, Global};
+use growth::NoMemory;
+use std::alloc::Global;
 use std::marker::Model;
 use std::sync::Wait;
 use std::thread::Threads;
@@ -51,7 +52,7 @@ impl<P: Keeper> Store<P> {
         keeper: P,
         callers: u32,
         limit: u32,
-    ) -> Result<(Store<P>, Vec<Caller<P>>), AllocError>
+    ) -> Result<(Store<P>, Vec<Caller<P>>), NoMemory>
         requires empty { P.blobs keeper ≡ [] }
         requires some { 0 < callers }
         ensures callers { IfOk result (λ made. made.1.items
@@ -88,8 +89,9 @@ impl<P: Keeper> Store<P> {
         ensures put { PutGives caller.old caller.new file.now result }
         ensures clash { IsErrOf result Clash → HasTwin file.now }
     {
-        let Ok(blob) = make_blob(rt, alloc, file) else {
-            return Err(Stop::NoMemory);
+        let blob = match make_blob(rt, alloc, file) {
+            Ok(blob) => blob,
+            Err(short) => return Err(Stop::NoMemory(short)),
         };
         let key = key_of(file);
         let (answer, front) = self.blobs.put(rt, caller, key, blob);

@@ -2,6 +2,7 @@
 ghost use Rattle.std.specs.Prelude.{◌≡◌, ℕ, List, IfOk, IfErr};
 ghost use Rattle.photo_blob.specs.Blobs.{IsBlobOf};
 
+use growth::NoMemory;
 use photo_blob::show_blob;
 use std::alloc::Global;
 use std::marker::Model;
@@ -33,13 +34,13 @@ impl Ticket {
 }
 
 /// Returns the ticket's file, or the ticket if memory is out. It holds no lock, and waits for nothing.
-pub fn show(alloc: Global, ticket: Ticket) -> Result<Vec<u8>, Ticket>
+pub fn show(alloc: Global, ticket: Ticket) -> Result<Vec<u8>, (Ticket, NoMemory)>
     ensures shown { (file : List ℕ) → IsBlobOf ticket file
         → IfOk result (λ shown. shown.items ≡ file) }
-    ensures back { IfErr result (λ same. same ≡ ticket) }
+    ensures back { IfErr result (λ back. back.0 ≡ ticket) }
 {
     match show_blob(alloc, &ticket.blob) {
         Ok(file) => Ok(file),
-        Err(_) => Err(ticket),
+        Err(short) => Err((ticket, short)),
     }
 }

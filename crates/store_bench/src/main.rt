@@ -8,10 +8,11 @@ ghost use Rattle.std.specs.Prelude.{◌≡◌, ◌+◌, ◌<◌, ◌≤◌, All,
 ghost use Rattle.container_spec.specs.Limits.{most_of_a_file};
 
 use blob_store::{Key, VecKeeper};
+use growth::{NoMemory, extend_from_slice, push};
 use outside_core::read_all;
 use photo_store::{Caller, Find, Put, Store, key_of};
 use standard_streams::ReaderSource;
-use std::alloc::{AllocError, Global};
+use std::alloc::Global;
 use std::process::ExitCode;
 use std::sync::Wait;
 use std::thread::Threads;
@@ -39,14 +40,14 @@ struct Task {
 }
 
 // A file that no other call puts.
-fn own_file(alloc: Global, file: &[u8], thread: usize, number: u32) -> Result<Vec<u8>, AllocError>
+fn own_file(alloc: Global, file: &[u8], thread: usize, number: u32) -> Result<Vec<u8>, NoMemory>
     requires { length file.now + 12 ≤ most_of_a_file }
     ensures { IfOk result (λ own. length own.items ≤ most_of_a_file) }
 {
     let mut own = Vec::new(alloc);
-    own.extend_from_slice(file)?;
-    own.extend_from_slice(&(thread as u64).to_be_bytes())?;
-    own.extend_from_slice(&number.to_be_bytes())?;
+    extend_from_slice(&mut own, file)?;
+    extend_from_slice(&mut own, &(thread as u64).to_be_bytes())?;
+    extend_from_slice(&mut own, &number.to_be_bytes())?;
     Ok(own)
 }
 
@@ -137,13 +138,13 @@ fn tasks_of(
     alloc: Global,
     store: &Store<VecKeeper>,
     callers: Vec<Caller<VecKeeper>>,
-) -> Result<Vec<Task>, AllocError>
+) -> Result<Vec<Task>, NoMemory>
     requires { All (λ caller. caller.table ≡ store.now) callers.items }
     ensures { IfOk result (λ tasks. All (λ task. task.caller.table ≡ store.now) tasks.items) }
 {
     let mut tasks = Vec::new(alloc);
     for caller in callers {
-        tasks.push(Task { caller, done: 0 })?;
+        push(&mut tasks, Task { caller, done: 0 })?;
     }
     Ok(tasks)
 }
@@ -154,7 +155,7 @@ fn calls_done<R: Threads + Wait + Sync>(
     alloc: Global,
     work: Work,
     threads: u32,
-) -> Result<u64, AllocError>
+) -> Result<u64, NoMemory>
     requires some { 0 < threads }
     requires short { length work.file.now + 12 ≤ most_of_a_file }
 {
@@ -216,6 +217,6 @@ fn main(rt: HostRuntime) -> ExitCode {
             Ok(()) => ExitCode::from(0),
             Err(_) => ExitCode::from(1),
         },
-        Err(AllocError) => ExitCode::from(1),
+        Err(_) => ExitCode::from(1),
     }
 }

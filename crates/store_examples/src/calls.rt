@@ -2,8 +2,9 @@
 ghost use Rattle.std.specs.Prelude.{◌≡◌, [], IfOk};
 
 use blob_store::{FakeKeeper, Keeper, Key, Stop, VecKeeper};
+use growth::NoMemory;
 use photo_store::{Caller, Find, Put, Store, show};
-use std::alloc::{AllocError, Global};
+use std::alloc::Global;
 use std::process::Abort;
 use std::sync::Wait;
 use std::thread;
@@ -23,7 +24,7 @@ pub(crate) fn one_caller<P: Keeper>(
     alloc: Global,
     keeper: P,
     limit: u32,
-) -> Result<(Store<P>, Caller<P>), AllocError>
+) -> Result<(Store<P>, Caller<P>), NoMemory>
     requires { P.blobs keeper ≡ [] }
     ensures own { IfOk result (λ made. made.1.table ≡ made.0) }
     ensures first { IfOk result (λ made. made.1.number ≡ 0) }
@@ -37,7 +38,7 @@ pub(crate) fn one_caller<P: Keeper>(
 // A store and its two callers.
 fn two_callers(
     alloc: Global,
-) -> Result<(Store<VecKeeper>, Caller<VecKeeper>, Caller<VecKeeper>), AllocError>
+) -> Result<(Store<VecKeeper>, Caller<VecKeeper>, Caller<VecKeeper>), NoMemory>
     ensures { IfOk result (λ made. (made.1.table ≡ made.0) × (made.2.table ≡ made.0)) }
 {
     let (store, mut callers) = Store::<VecKeeper>::start(alloc, VecKeeper::new(alloc), 2, 8)?;
@@ -136,7 +137,7 @@ fn put_small<R: Threads + Wait + Sync>(
 fn put_by_two<R: Threads + Wait + Sync>(
     rt: &R,
     alloc: Global,
-) -> Result<((bool, u64), (bool, u64)), AllocError> {
+) -> Result<((bool, u64), (bool, u64)), NoMemory> {
     let (store, first, second) = two_callers(alloc)?;
     Ok(thread::join(
         rt,

@@ -44,9 +44,9 @@ fn answers<R: Threads + Wait + Sync + Abort, P: Keeper>(
     let mut source = MemSource::new(input, 7, fails);
     let mut sink = MemSink::new(alloc, 1 << 16, 5, &[]).expect(rt, "memory");
     let mut note = MemSink::new(alloc, 1 << 16, 5, &[]).expect(rt, "memory");
-    let (status, _) = run_store(rt, alloc, keeper, &mut source, &mut sink, &mut note);
+    let (ending, _) = run_store(rt, alloc, keeper, &mut source, &mut sink, &mut note);
     let (replies, wanted, line) = expected;
-    sink.bytes() == replies && status == wanted && note.bytes() == line
+    sink.bytes() == replies && ending.status() == wanted && note.bytes() == line
 }
 
 #[test]

@@ -4,8 +4,9 @@ ghost use Rattle.std.specs.List.{All};
 ghost use Rattle.container_spec.specs.Limits.{most_of_a_file};
 
 use blob_store::VecKeeper;
+use growth::{NoMemory, push};
 use photo_store::{Caller, Find, Put, Remove, Store, Ticket, key_of, show};
-use std::alloc::{AllocError, Global};
+use std::alloc::Global;
 use std::process::Abort;
 use std::sync::Wait;
 use std::thread;
@@ -184,20 +185,20 @@ fn workers_of(
     alloc: Global,
     store: &Store<VecKeeper>,
     callers: Vec<Caller<VecKeeper>>,
-) -> Result<Vec<Worker>, AllocError>
+) -> Result<Vec<Worker>, NoMemory>
     requires { All (λ caller. caller.table ≡ store.now) callers.items }
     ensures { IfOk result (λ workers. All (λ worker. worker.caller.table ≡ store.now) workers.items) }
 {
     let mut workers = Vec::new(alloc);
     for caller in callers {
         let worker = worker_of(alloc, caller);
-        workers.push(worker)?;
+        push(&mut workers, worker)?;
     }
     Ok(workers)
 }
 
 // A store and its eight callers.
-fn eight_callers(alloc: Global) -> Result<(Store<VecKeeper>, Vec<Caller<VecKeeper>>), AllocError>
+fn eight_callers(alloc: Global) -> Result<(Store<VecKeeper>, Vec<Caller<VecKeeper>>), NoMemory>
     ensures { IfOk result (λ made. All (λ caller. caller.table ≡ made.0) made.1.items) }
 {
     Store::<VecKeeper>::start(alloc, VecKeeper::new(alloc), 8, 1000)

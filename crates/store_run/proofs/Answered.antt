@@ -6,6 +6,7 @@ use Rattle.std.specs.declared.result.Result.{Result}
 use Rattle.std.specs.declared.result.Result.TheVariants.{Ok, Err}
 use Rattle.std.proofs.lemmas.Slice.Eq.{bytes_eq-Decides}
 use Rattle.sha2.specs.Sha256.{sha256}
+use Rattle.growth.specs.declared.no_memory.NoMemory.{NoMemory as OutOfMemory}
 use Rattle.byteorder.specs.Endian.{big_bytes}
 use Rattle.blob_store.specs.declared.record.Call.TheVariants.{Put, Find, Remove}
 use Rattle.blob_store.specs.declared.record.Record.{Record}
@@ -13,7 +14,7 @@ use Rattle.blob_store.specs.declared.record.Reply.TheVariants.{Stored, Held, Fou
 use Rattle.blob_store.specs.declared.record.Stop.{Stop}
 use Rattle.blob_store.specs.declared.record.Stop.TheVariants.{Full, Clash, KeeperFault, NoMemory}
 use Rattle.blob_store.specs.Journals.{AreBy, kept, reply_to}
-use Rattle.blob_store.specs.States.{Asked, Puts, Finds, Removes}
+use Rattle.blob_store.specs.States.{Asked, Puts, Finds, HasRisen, Removes}
 use Rattle.blob_store.specs.Callers.{CallerValue, HasCalled}
 use Rattle.photo_blob.specs.Blobs.{IsBlobOf}
 use Rattle.photo_blob.proofs.BlobFiles.{one_blob, one_file}
@@ -97,7 +98,7 @@ full_gives old new asked h sole first =
     ap length (sym mine) ∙ (h.answered.cause ∙ h.knows.limit)
 
 fault_gives : (old new : CallerValue) (asked : Asked) → HasCalled SuitsKey old new asked (Err KeeperFault)
-    → old.view.faults < new.view.faults
+    → HasRisen old.view.faults new.view.faults
 fault_gives old new asked h = h.answered.cause.1
 
 -- ---- puts
@@ -206,18 +207,18 @@ put_answered old new file (Ok (PutHeld key front)) g = record {
   later = is_later old new _ _ g.4.0;
   gives = held_gives old new file g.0 g.2 g.1 key g.3 g.4.0;
 }
-put_answered old new file (Err Clash) (inl g) = let e = g.0 in absurd (cc)
+put_answered old new file (Err Clash) (inl g) = let e = g.1 in absurd (cc)
 put_answered old new file (Err Clash) (inr g) =
     record { later = is_later old new _ _ g.2; gives = clash_gives old new file g.0 g.1 g.2 }
-put_answered old new file (Err Full) (inl g) = let e = g.0 in absurd (cc)
+put_answered old new file (Err Full) (inl g) = let e = g.1 in absurd (cc)
 put_answered old new file (Err Full) (inr g) =
     record { later = is_later old new _ _ g.2; gives = full_gives old new _ g.2 }
-put_answered old new file (Err KeeperFault) (inl g) = let e = g.0 in absurd (cc)
+put_answered old new file (Err KeeperFault) (inl g) = let e = g.1 in absurd (cc)
 put_answered old new file (Err KeeperFault) (inr g) =
     record { later = is_later old new _ _ g.2; gives = fault_gives old new _ g.2 }
-put_answered old new file (Err NoMemory) (inl g) =
-    record { later = stays_later old new g.1; gives = tt }
-put_answered old new file (Err NoMemory) (inr g) =
+put_answered old new file (Err (NoMemory short)) (inl g) =
+    record { later = stays_later old new g.2; gives = tt }
+put_answered old new file (Err (NoMemory short)) (inr g) =
     record { later = is_later old new _ _ g.2; gives = tt }
 
 -- ---- finds
@@ -268,9 +269,10 @@ module _ (old new : CallerValue) (key : List ℕ) where
       }
 
   -- a find that stops, or finds a file that there is no memory for
-  pub no_memory_answered : (ticket : List ℕ) (front : ℕ) → FindGives old new key (Ok (FindFound ticket front))
-      → HasAnswered old new (FindFile key) (Err NoMemory)
-  no_memory_answered ticket front g =
+  pub no_memory_answered : (ticket : List ℕ) (front : ℕ) (short : OutOfMemory)
+      → FindGives old new key (Ok (FindFound ticket front))
+      → HasAnswered old new (FindFile key) (Err (NoMemory short))
+  no_memory_answered ticket front short g =
       record { later = is_later old new (Finds key) (Ok (Found g.0)) g.1.0; gives = tt }
 
   pub find_stopped : (stop : Stop) → FindGives old new key (Err stop)
@@ -278,7 +280,7 @@ module _ (old new : CallerValue) (key : List ℕ) where
   find_stopped Full h = record { later = is_later old new _ _ h; gives = full_gives old new _ h }
   find_stopped Clash h = absurd h.answered.cause.1
   find_stopped KeeperFault h = record { later = is_later old new _ _ h; gives = fault_gives old new _ h }
-  find_stopped NoMemory h = record { later = is_later old new _ _ h; gives = tt }
+  find_stopped (NoMemory short) h = record { later = is_later old new _ _ h; gives = tt }
 
 -- ---- removals
 
@@ -319,4 +321,4 @@ remove_answered old new key (Ok (RemoveMissing front)) g =
 remove_answered old new key (Err Full) h = record { later = is_later old new _ _ h; gives = full_gives old new _ h }
 remove_answered old new key (Err Clash) h = absurd h.answered.cause.1
 remove_answered old new key (Err KeeperFault) h = record { later = is_later old new _ _ h; gives = fault_gives old new _ h }
-remove_answered old new key (Err NoMemory) h = record { later = is_later old new _ _ h; gives = tt }
+remove_answered old new key (Err (NoMemory short)) h = record { later = is_later old new _ _ h; gives = tt }

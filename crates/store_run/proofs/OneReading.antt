@@ -217,7 +217,7 @@ few_read count rest after BadRecord e = omega (arith, e.1)
 few_read count rest after Full e = omega (arith, e.1)
 few_read count rest after ReadFailed e = absurd e
 few_read count rest after WriteFailed e = absurd e
-few_read count rest after NoMemory e = absurd e
+few_read count rest after (NoMemory short) e = absurd e
 few_read count rest after KeeperFailed e = absurd e
 
 stuck_there : (count : ℕ) (rest after : List ℕ) (ending : Ending)
@@ -228,7 +228,7 @@ stuck_there count rest after BadRecord e = inl (ap begins (bad_front rest after 
 stuck_there count rest after Full e = inr e.1
 stuck_there count rest after ReadFailed e = absurd e
 stuck_there count rest after WriteFailed e = absurd e
-stuck_there count rest after NoMemory e = absurd e
+stuck_there count rest after (NoMemory short) e = absurd e
 stuck_there count rest after KeeperFailed e = absurd e
 
 -- a bad record has a byte
@@ -276,19 +276,19 @@ module _ (count : ℕ) (rest end after left : List ℕ)
       (a.0.1 ∙ ap (take 1) split ∙ sym b.0.1) refl
   same_ending Full ReadFailed a b = absurd b
   same_ending Full WriteFailed a b = absurd b
-  same_ending Full NoMemory a b = absurd b
+  same_ending Full (NoMemory short) a b = absurd b
   same_ending Full KeeperFailed a b = absurd b
   same_ending Answered ReadFailed a b = absurd b
   same_ending Answered WriteFailed a b = absurd b
-  same_ending Answered NoMemory a b = absurd b
+  same_ending Answered (NoMemory short) a b = absurd b
   same_ending Answered KeeperFailed a b = absurd b
   same_ending BadRecord ReadFailed a b = absurd b
   same_ending BadRecord WriteFailed a b = absurd b
-  same_ending BadRecord NoMemory a b = absurd b
+  same_ending BadRecord (NoMemory short) a b = absurd b
   same_ending BadRecord KeeperFailed a b = absurd b
   same_ending ReadFailed other a b = absurd a
   same_ending WriteFailed other a b = absurd a
-  same_ending NoMemory other a b = absurd a
+  same_ending (NoMemory short) other a b = absurd a
   same_ending KeeperFailed other a b = absurd a
 
 pub one_reading : OneReading

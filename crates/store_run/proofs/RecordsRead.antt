@@ -17,7 +17,7 @@ pub cut_read : (bytes : List ℕ) (left : Option (List ℕ)) (stop : ReadStop) �
     → (stop ≡ AtEnd → IsAtEnd left) → IsRead bytes left (Err (stop_of stop))
 cut_read bytes left AtEnd cut end = inr (cut, end refl)
 cut_read bytes left BytesFault cut end = inr cut
-cut_read bytes left BytesMemory cut end = inr cut
+cut_read bytes left (BytesMemory short) cut end = inr cut
 
 -- and one of a mark and a key
 pub key_cut : (mark : ℕ) (part : List ℕ) (left : Option (List ℕ)) (stop : RecordStop)
@@ -25,7 +25,7 @@ pub key_cut : (mark : ℕ) (part : List ℕ) (left : Option (List ℕ)) (stop : 
     → IsRead (mark ∷ part) left (Err stop)
 key_cut mark part left Bad is short end = inr (inr (inr (mark, part, refl, is, short)), end refl)
 key_cut mark part left ReadFault is short end = inr (inr (inr (mark, part, refl, is, short)))
-key_cut mark part left NoMemory is short end = inr (inr (inr (mark, part, refl, is, short)))
+key_cut mark part left (NoMemory short) is short end = inr (inr (inr (mark, part, refl, is, short)))
 
 -- a length above the most
 pub long_is_bad : (field : List ℕ) (long : ℕ) (left : Option (List ℕ)) → big_bytes 4 long ≡ field

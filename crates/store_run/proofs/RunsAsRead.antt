@@ -1,6 +1,7 @@
 -- A run without a fault ends as its input says.
 use Rattle.std.proofs.Common.{◌≡◌, ◌⊎◌, inl, inr, ℕ, List, [], ◌∷◌, ◌++◌, length, flat_map, Option, Some, None, ◌∙◌, subst, refl, append_assoc}
 use Rattle.std.specs.Io.KnownBytes.{Consumes, IsAtEnd}
+use Rattle.growth.specs.declared.no_memory.NoMemory.{NoMemory as OutOfMemory}
 use Rattle.photo_store.specs.FileStores.{FileCall}
 use Rattle.store_run.specs.Records.{IsBad, record_bytes}
 use Rattle.store_run.specs.RunEnds.{HasAnsweredAll}
@@ -37,7 +38,7 @@ module _ {Source Sink Keeper : Type 0} (left : Source → Option (List ℕ))
         → HasAnsweredAll left held old new from to others end
         → ((more : List ℕ) → left new ≡ Some more → EndsBy (length others) end more ending)
         → ((ending ≡ expected) × HasAnsweredAll left held old new from to records rest)
-        ⊎ (ending ≡ NoMemory)
+        ⊎ ((short : OutOfMemory) × (ending ≡ NoMemory short))
     as_read others end ending all ends =
         let now = what_is_left others end all in
         let q : IsReading input others end now.after ending = record {
@@ -68,5 +69,5 @@ module _ {Source Sink Keeper : Type 0} (left : Source → Option (List ℕ))
       absurd (b e.1)
   runs_as_read old new from to given back input records rest after KeeperFailed expected e k p a b c =
       absurd (c e.4)
-  runs_as_read old new from to given back input records rest after NoMemory expected e k p a b c =
-      inr refl
+  runs_as_read old new from to given back input records rest after (NoMemory short) expected e k p a b c =
+      inr (short, refl)

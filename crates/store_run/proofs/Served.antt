@@ -9,6 +9,7 @@ use Rattle.outside_core.specs.Faults.{Rose}
 use Rattle.blob_store.specs.declared.record.Record.{Record}
 use Rattle.blob_store.specs.Callers.{CallerValue}
 use Rattle.blob_store.specs.Journals.{AreBy, StartsWith}
+use Rattle.blob_store.specs.States.{HasRisen}
 use Rattle.blob_store.proofs.SoleCaller.{first_are_by}
 use Rattle.photo_store.specs.FileEntries.{AreSame}
 use Rattle.photo_store.specs.FileStores.{Files, FileCall, files_after, no_files}
@@ -53,6 +54,18 @@ sole_before before after s sole = first_are_by before.view.seen s.0 (subst (AreB
 module _ {Source Sink : Type 0} (left : Source → Option (List ℕ)) (held : Sink → Option (List ℕ))
     (source_faults : Source → ℕ) (source_full : Source → Type 0) (sink_faults : Sink → ℕ)
     (sink_full : Sink → Type 0) where
+  -- it ends so by a weaker fact of the keeper too
+  pub ends_wider : (old new : Source) (from to : Sink) (rose more : Type 0) → (rose → more) → (ending : Ending)
+      → Ends left held source_faults source_full sink_faults sink_full old new from to rose ending
+      → Ends left held source_faults source_full sink_faults sink_full old new from to more ending
+  ends_wider old new from to rose more wider Answered e = e
+  ends_wider old new from to rose more wider BadRecord e = e
+  ends_wider old new from to rose more wider Full e = e
+  ends_wider old new from to rose more wider ReadFailed e = e
+  ends_wider old new from to rose more wider WriteFailed e = e
+  ends_wider old new from to rose more wider KeeperFailed e = (e.0, e.1, e.2, e.3, wider e.4, e.5)
+  ends_wider old new from to rose more wider (NoMemory short) e = e
+
   abbrev Serving : Source → Source → Sink → Sink → CallerValue → ℕ → Type 0
   Serving = IsServing left held source_faults source_full sink_faults sink_full
 
@@ -163,7 +176,7 @@ module _ {Source Sink : Type 0} (left : Source → Option (List ℕ)) (held : Si
         )
     by_stop rose ReadFailed room still h =
         (s.records, h.0, all_so_far h.0 h.1 still, h.2, rose_later h.3, sink_still still)
-    by_stop rose NoMemory room still h =
+    by_stop rose (NoMemory short) room still h =
         (s.records, h.0, all_so_far h.0 h.1 still, inl h.2, h.3 ∙ s.source_worked, sink_still still)
     by_stop rose WriteFailed room still h = absurd h
     by_stop rose KeeperFailed room still h = absurd h
@@ -202,7 +215,7 @@ module _ {Source Sink : Type 0} (left : Source → Option (List ℕ)) (held : Si
         }
 
     by_call : (rose : Type 0) (ending : Ending) → count < most_records → AreBy 0 after.view.seen
-        → (before.view.faults < after.view.faults → rose)
+        → (HasRisen before.view.faults after.view.faults → rose)
         → (call : FileCall) → IsWhole call → Consumes (left now) (left new) (record_bytes call)
         → source_faults new ≡ source_faults now
         → CallTurns held sink_faults sink_full mid to before after call (Some ending)
@@ -216,7 +229,7 @@ module _ {Source Sink : Type 0} (left : Source → Option (List ℕ)) (held : Si
           subst (λ (k : ℕ). (k < sink_faults to) ⊎ sink_full to) s.sink_worked h.0,
           worked ∙ s.source_worked,
         )
-    by_call rose NoMemory room sole rises call whole read worked h =
+    by_call rose (NoMemory short) room sole rises call whole read worked h =
         (s.records, record_bytes call, all_so_far (record_bytes call) read h, inr (call, whole, refl), worked ∙ s.source_worked, sink_still h)
     by_call rose KeeperFailed room sole rises call whole read worked h = (
       s.records,
@@ -235,7 +248,7 @@ module _ {Source Sink : Type 0} (left : Source → Option (List ℕ)) (held : Si
 
     -- a call after which the run ends
     pub called_ends : (rose : Type 0) (ending : Ending) → count < most_records → AreBy 0 after.view.seen
-        → (before.view.faults < after.view.faults → rose)
+        → (HasRisen before.view.faults after.view.faults → rose)
         → Calls left held source_faults source_full sink_faults sink_full now new mid to before after (Some ending)
         → End rose ending
     called_ends rose ending room sole rises c =
@@ -243,7 +256,7 @@ module _ {Source Sink : Type 0} (left : Source → Option (List ℕ)) (held : Si
 
     -- a record after which the run ends
     pub turn_ends : (rose : Type 0) (ending : Ending) → count < most_records → AreBy 0 after.view.seen
-        → (before.view.faults < after.view.faults → rose)
+        → (HasRisen before.view.faults after.view.faults → rose)
         → Turns left held source_faults source_full sink_faults sink_full now new mid to before after (Some ending)
         → End rose ending
     turn_ends rose ending room sole rises (inl c) = called_ends rose ending room sole rises c

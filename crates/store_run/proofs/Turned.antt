@@ -47,4 +47,4 @@ module _ {Source Sink : Type 0} (left : Source → Option (List ℕ)) (held : Si
       → Stops left held source_faults source_full sink_faults sink_full old new (ending_by stop)
   read_stops Bad r rose worked = (r.0, r.1, r.2, worked (λ e. absurd (cc)))
   read_stops ReadFault r rose worked = (r.0, r.1, r.2, rose refl)
-  read_stops NoRoom r rose worked = (r.0, r.1, r.2, worked (λ e. absurd (cc)))
+  read_stops (NoRoom short) r rose worked = (r.0, r.1, r.2, worked (λ e. absurd (cc)))

@@ -7,6 +7,7 @@ use Rattle.byteorder.specs.Endian.{big_bytes}
 use Rattle.container_spec.specs.Limits.{most_of_a_file}
 use Rattle.blob_store.specs.Callers.{CallerValue}
 use Rattle.blob_store.specs.Journals.{AreBy, StartsWith}
+use Rattle.blob_store.specs.States.{HasRisen}
 use Rattle.blob_store.specs.declared.record.Stop.{Stop}
 use Rattle.blob_store.specs.declared.record.Stop.TheVariants.{Full, Clash, KeeperFault, NoMemory}
 use Rattle.photo_store.specs.FileEntries.{AreSame}
@@ -38,7 +39,7 @@ put_answer file (Ok (Held key front)) = Ok (Keyed held_mark key)
 put_answer file (Err Clash) = Ok (Keyed clash_mark (sha256 file))
 put_answer file (Err Full) = Err Full
 put_answer file (Err KeeperFault) = Err KeeperFault
-put_answer file (Err NoMemory) = Err NoMemory
+put_answer file (Err (NoMemory short)) = Err (NoMemory short)
 
 -- and of a removal
 abbrev pub remove_answer : Result Remove Stop → Result Answer Stop
@@ -61,8 +62,8 @@ Gives old new call (Ok answer) =
 Gives old new call (Err Full) =
     AreBy 0 new.view.seen → old.number ≡ 0 → length old.view.mine ≡ old.view.limit
 Gives old new call (Err Clash) = ⊥
-Gives old new call (Err KeeperFault) = old.view.faults < new.view.faults
-Gives old new call (Err NoMemory) = Unit {0}
+Gives old new call (Err KeeperFault) = HasRisen old.view.faults new.view.faults
+Gives old new call (Err (NoMemory short)) = Unit {0}
 
 -- a caller later
 pub record IsLater (old new : CallerValue) : Type 0 where

@@ -22,14 +22,14 @@ call_of (Remove key) = RemoveFile key
 abbrev pub stop_of : ReadStop → RecordStop
 stop_of AtEnd = Bad
 stop_of BytesFault = ReadFault
-stop_of BytesMemory = NoMemory
+stop_of (BytesMemory short) = NoMemory short
 
 -- these bytes of a record were read
 abbrev pub IsRead : List ℕ → Option (List ℕ) → Result Asked RecordStop → Type 0
 IsRead bytes left (Ok asked) = (bytes ≡ record_bytes (call_of asked)) × IsWhole (call_of asked)
 IsRead bytes left (Err Bad) = IsBad bytes left
 IsRead bytes left (Err ReadFault) = IsBegun bytes
-IsRead bytes left (Err NoMemory) = IsBegun bytes
+IsRead bytes left (Err (NoMemory short)) = IsBegun bytes
 
 -- the rest of a record was read, after this mark
 abbrev pub ReadsRest : ℕ → Option (List ℕ) → Option (List ℕ) → Result Asked RecordStop → Type 0

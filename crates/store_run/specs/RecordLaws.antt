@@ -1,6 +1,7 @@
 -- Law: an input has one reading as records, and a run without a fault answers it (docs/STORE.md, Records).
 use Rattle.std.specs.Prelude.{ℕ, ◌≡◌, ◌<◌, ◌≤◌, ◌⊎◌, List, [], ◌∷◌, ◌++◌, length, flat_map, Option, Some}
 use Rattle.std.specs.List.{AllByRecursion}
+use Rattle.growth.specs.declared.no_memory.NoMemory.{NoMemory as OutOfMemory}
 use Rattle.outside_core.specs.Faults.{Rose}
 use Rattle.photo_store.specs.FileStores.{FileCall}
 use Rattle.store_run.specs.Records.{IsBad, IsWhole, most_records, record_bytes}
@@ -47,4 +48,4 @@ module _ {Source Sink Keeper : Type 0} (left : Source → Option (List ℕ))
       → (Rose source_faults source_full old new → ⊥) → (Rose sink_faults sink_full from to → ⊥)
       → (KeeperRose keeper_faults given back → ⊥)
       → ((ending ≡ expected) × HasAnsweredAll left held old new from to records rest)
-      ⊎ (ending ≡ NoMemory)
+      ⊎ ((short : OutOfMemory) × (ending ≡ NoMemory short))

@@ -3,6 +3,7 @@ use Rattle.std.specs.Prelude.{ℕ, ◌≡◌, ◌<◌, ◌≤◌, List, [], ◌�
 use Rattle.std.specs.List.{AllByRecursion}
 use Rattle.std.specs.Io.KnownBytes.{Appends, Consumes, IsAtEnd}
 use Rattle.outside_core.specs.Faults.{Rose}
+use Rattle.blob_store.specs.States.{HasRisen}
 use Rattle.photo_store.specs.FileStores.{FileCall, no_files}
 use Rattle.segment_worker.specs.Written.{HasFailed}
 use Rattle.store_run.specs.Records.{IsBad, IsBegun, IsRecord, IsWhole, most_records, record_bytes, replies}
@@ -15,7 +16,7 @@ status_of Answered = 0
 status_of BadRecord = 1
 status_of ReadFailed = 3
 status_of WriteFailed = 4
-status_of NoMemory = 5
+status_of (NoMemory short) = 5
 status_of KeeperFailed = 6
 status_of Full = 7
 
@@ -25,14 +26,14 @@ line_of Answered = []
 line_of BadRecord = codes "store: bad record\n"
 line_of ReadFailed = codes "lepton: read failed\n"
 line_of WriteFailed = codes "lepton: write failed\n"
-line_of NoMemory = codes "lepton: no memory\n"
+line_of (NoMemory short) = codes "lepton: no memory\n"
 line_of KeeperFailed = codes "store: keeper failed\n"
 line_of Full = codes "store: full\n"
 
--- the keeper that is given back counts more faults than the one that was given
+-- the keeper that is given back counts more faults than the one that was given, or can count no more
 abbrev pub KeeperRose : {P : Type 0} → (P → ℕ) → P → Option P → Type 0
 KeeperRose faults given None = ⊥
-KeeperRose faults given (Some back) = faults given < faults back
+KeeperRose faults given (Some back) = HasRisen (faults given) (faults back)
 
 -- stderr got a line whole, or the first bytes of it and a write failed
 abbrev pub Notes : {Note : Type 0} → (Note → Option (List ℕ)) → (Note → ℕ) → (Note → Type 0)
@@ -74,7 +75,7 @@ module _ {Source Sink : Type 0} (left : Source → Option (List ℕ)) (held : Si
       abbrev pub SinkWorked : Sink → Sink → Type 0
       SinkWorked from to = sink_faults to ≡ sink_faults from
 
-      -- how it ends; `KeeperRose` is that the keeper's count of faults rose
+      -- how it ends; `KeeperRose` is that the keeper's count of faults rose, or can't rise any more
       abbrev pub Ends : Source → Source → Sink → Sink → Type 0 → Ending → Type 0
       Ends old new from to KeeperRose Answered =
           (records : List FileCall) × HasAnsweredAll old new from to records []
@@ -99,7 +100,7 @@ module _ {Source Sink : Type 0} (left : Source → Option (List ℕ)) (held : Si
           (records : List FileCall) × (call : FileCall) × IsWhole call
           × HasAnsweredAll old new from to records (record_bytes call) × KeeperRose
           × SourceWorked old new × SinkWorked from to
-      Ends old new from to KeeperRose NoMemory =
+      Ends old new from to KeeperRose (NoMemory short) =
           (records : List FileCall) × (bytes : List ℕ)
           × HasAnsweredAll old new from to records bytes × (IsBegun bytes ⊎ IsRecord bytes)
           × SourceWorked old new × SinkWorked from to

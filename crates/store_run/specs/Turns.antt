@@ -5,6 +5,7 @@ use Rattle.std.specs.Io.KnownBytes.{Appends, Consumes, IsAtEnd}
 use Rattle.outside_core.specs.Faults.{Rose}
 use Rattle.blob_store.specs.Callers.{CallerValue}
 use Rattle.blob_store.specs.Journals.{AreBy}
+use Rattle.blob_store.specs.States.{HasRisen}
 use Rattle.photo_store.specs.FileStores.{Files, FileCall, key_asked, file_reply, files_after, no_files}
 use Rattle.store_run.specs.Answering.{IsTied}
 use Rattle.store_run.specs.Records.{IsBad, IsBegun, IsWhole, most_records, record_bytes, replies, reply_bytes}
@@ -17,7 +18,7 @@ use Rattle.store_run.specs.declared.calls.RecordStop.TheVariants.{Bad, ReadFault
 abbrev pub ending_by : RecordStop → Ending
 ending_by Bad = BadRecord
 ending_by ReadFault = ReadFailed
-ending_by NoRoom = NoMemory
+ending_by (NoRoom short) = NoMemory short
 
 -- the files after calls
 abbrev pub files_by : Files → List FileCall → Files
@@ -41,9 +42,9 @@ module _ {Sink : Type 0} (held : Sink → Option (List ℕ)) (sink_faults : Sink
       Rose sink_faults sink_full from to
       × ((files : Files) → AreBy 0 after.view.seen → IsTied before files
       → (written : ℕ) × Appends (held from) (held to) (take written (reply_in files call)))
-  CallTurns from to before after call (Some NoMemory) = to ≡ from
+  CallTurns from to before after call (Some (NoMemory short)) = to ≡ from
   CallTurns from to before after call (Some KeeperFailed) =
-      (to ≡ from) × (before.view.faults < after.view.faults)
+      (to ≡ from) × HasRisen before.view.faults after.view.faults
   CallTurns from to before after call (Some Full) =
       AreBy 0 after.view.seen → before.number ≡ 0
       → length before.view.mine ≡ before.view.limit
@@ -63,7 +64,7 @@ module _ {Source Sink : Type 0} (left : Source → Option (List ℕ)) (held : Si
   Stops old new ReadFailed =
       (bytes : List ℕ) × Consumes (left old) (left new) bytes × IsBegun bytes
       × Rose source_faults source_full old new
-  Stops old new NoMemory =
+  Stops old new (NoMemory short) =
       (bytes : List ℕ) × Consumes (left old) (left new) bytes × IsBegun bytes
       × (source_faults new ≡ source_faults old)
   Stops old new other = ⊥

@@ -85,7 +85,7 @@ fn put_answer(put: Result<Put, Stop>, file: &[u8]) -> Result<Answer, Stop>
         Err(Stop::Clash) => Ok(Answer::Keyed(CLASH, key_of(file))),
         Err(Stop::Full) => Err(Stop::Full),
         Err(Stop::KeeperFault) => Err(Stop::KeeperFault),
-        Err(Stop::NoMemory) => Err(Stop::NoMemory),
+        Err(Stop::NoMemory(short)) => Err(Stop::NoMemory(short)),
     }
 }
 
@@ -102,7 +102,7 @@ fn answer_find<R: Wait, P: Keeper>(
     match store.find(rt, caller, key) {
         Ok(Find::Found(ticket, _)) => match show(alloc, ticket) {
             Ok(file) => Ok(Answer::File(file)),
-            Err(_) => Err(Stop::NoMemory),
+            Err((_, short)) => Err(Stop::NoMemory(short)),
         },
         Ok(Find::Missing(_)) => Ok(Answer::Mark(NOT_FOUND)),
         Err(stop) => Err(stop),

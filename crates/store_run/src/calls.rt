@@ -6,11 +6,12 @@ ghost use Rattle.outside_core.specs.Faults.{Rose};
 ghost use Rattle.container_spec.specs.Limits.{most_of_a_file};
 ghost use Rattle.store_run.specs.Reading.{IsRead, ReadsNext, ReadsRest, stop_of};
 ghost use Rattle.store_run.specs.Records.{key_length, put_mark};
-ghost use Rattle.store_run.specs.declared.calls.RecordStop.TheVariants.{Bad, ReadFault, NoMemory};
+ghost use Rattle.store_run.specs.declared.calls.RecordStop.TheVariants.{Bad, ReadFault};
 
 use crate::reading::{ReadStop, next_byte, read_exactly};
 use blob_store::Key;
 use byteorder::{BigEndian, ByteOrder};
+use growth::NoMemory;
 use outside_core::{Failed, Source};
 use std::alloc::Global;
 
@@ -38,7 +39,7 @@ pub(crate) enum RecordStop {
     /// No record begins with these bytes, or the source ended in it.
     Bad,
     ReadFault,
-    NoMemory,
+    NoMemory(NoMemory),
 }
 
 /// Reads the next record, if the source isn't at its end.
@@ -154,6 +155,6 @@ fn record_stop(stop: ReadStop) -> RecordStop
     match stop {
         ReadStop::AtEnd => RecordStop::Bad,
         ReadStop::ReadFault => RecordStop::ReadFault,
-        ReadStop::NoMemory => RecordStop::NoMemory,
+        ReadStop::NoMemory(short) => RecordStop::NoMemory(short),
     }
 }

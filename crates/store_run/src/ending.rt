@@ -2,6 +2,8 @@
 ghost use Rattle.std.specs.Prelude.{◌≡◌};
 ghost use Rattle.store_run.specs.RunEnds.{line_of, status_of};
 
+use growth::NoMemory;
+
 /// How a run ends.
 #[derive(Clone, Copy, Debug, PartialEq, Eq)]
 pub enum Ending {
@@ -11,7 +13,7 @@ pub enum Ending {
     BadRecord,
     ReadFailed,
     WriteFailed,
-    NoMemory,
+    NoMemory(NoMemory),
     KeeperFailed,
     /// 1,000,000 records were answered, and the input has more.
     Full,
@@ -27,7 +29,7 @@ impl Ending {
             Ending::BadRecord => 1,
             Ending::ReadFailed => 3,
             Ending::WriteFailed => 4,
-            Ending::NoMemory => 5,
+            Ending::NoMemory(_) => 5,
             Ending::KeeperFailed => 6,
             Ending::Full => 7,
         }
@@ -42,7 +44,7 @@ impl Ending {
             Ending::BadRecord => b"store: bad record\n",
             Ending::ReadFailed => b"lepton: read failed\n",
             Ending::WriteFailed => b"lepton: write failed\n",
-            Ending::NoMemory => b"lepton: no memory\n",
+            Ending::NoMemory(_) => b"lepton: no memory\n",
             Ending::KeeperFailed => b"store: keeper failed\n",
             Ending::Full => b"store: full\n",
         }

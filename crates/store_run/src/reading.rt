@@ -2,8 +2,9 @@
 ghost use Rattle.std.specs.Prelude.{◌≡◌, ℕ, [], ◌∷◌, ◌+◌, ◌<◌, ◌≤◌, List, length, take, drop, IfOk, IfErr, IfSome, IfNone, OnOk, OnErr, IsErrOf};
 ghost use Rattle.std.specs.Io.KnownBytes.{Consumes, IsAtEnd, Keeps};
 ghost use Rattle.outside_core.specs.Faults.{Rose};
-ghost use Rattle.store_run.specs.declared.reading.ReadStop.TheVariants.{AtEnd, ReadFault, NoMemory};
+ghost use Rattle.store_run.specs.declared.reading.ReadStop.TheVariants.{AtEnd, ReadFault};
 
+use growth::{NoMemory, resize};
 use outside_core::{Failed, Source};
 use std::alloc::Global;
 
@@ -13,7 +14,7 @@ pub(crate) enum ReadStop {
     /// The source ended.
     AtEnd,
     ReadFault,
-    NoMemory,
+    NoMemory(NoMemory),
 }
 
 /// How many bytes more memory is allocated for at a time, so that a length alone takes none.
@@ -61,7 +62,9 @@ pub(crate) fn read_exactly<S: Source>(
     let mut bytes = Vec::new(alloc);
     let mut filled = 0;
     while filled < count {
-        make_room(&mut bytes, filled, count)?;
+        if let Err(short) = make_room(&mut bytes, filled, count) {
+            return Err(ReadStop::NoMemory(short));
+        }
         let taken = fill(source, &mut bytes, filled)?;
         if taken == 0 {
             return Err(ReadStop::AtEnd);
@@ -72,21 +75,18 @@ pub(crate) fn read_exactly<S: Source>(
 }
 
 // Makes the buffer longer if all of it is filled, at most to `count` bytes.
-fn make_room(bytes: &mut Vec<u8>, filled: usize, count: usize) -> Result<(), ReadStop>
+fn make_room(bytes: &mut Vec<u8>, filled: usize, count: usize) -> Result<(), NoMemory>
     requires in_range { filled ≤ length bytes.old.items }
     requires below { filled < count }
     ensures kept { OnOk result (take filled bytes.new.items ≡ take filled bytes.old.items) }
     ensures room { OnOk result (filled < length bytes.new.items) }
     ensures within { OnOk result (length bytes.old.items ≤ count → length bytes.new.items ≤ count) }
-    ensures memory { IfErr result (λ stop. stop ≡ NoMemory) }
 {
     if filled < bytes.len() {
         return Ok(());
     }
     let piece = PIECE.min(count - filled);
-    bytes
-        .resize(filled + piece, 0)
-        .map_err(|_| ReadStop::NoMemory)
+    resize(bytes, filled + piece, 0)
 }
 
 // One read into the part of the buffer that isn't filled.

@@ -1,13 +1,13 @@
 // The records of a source, each answered before the next one is read.
-ghost use Rattle.std.specs.Prelude.{◌≡◌, ◌≤◌, ◌<◌, [], IfSome, IfNone};
+ghost use Rattle.std.specs.Prelude.{◌≡◌, ◌≤◌, [], IfSome, IfNone};
 ghost use Rattle.outside_core.specs.Takes.{TakesAll};
 ghost use Rattle.blob_store.specs.Journals.{AreBy};
+ghost use Rattle.blob_store.specs.States.{HasRisen};
 ghost use Rattle.store_run.specs.Answering.{IsLater, IsSameCaller};
 ghost use Rattle.store_run.specs.Reading.{call_of};
 ghost use Rattle.store_run.specs.Records.{IsWhole, most_records};
 ghost use Rattle.store_run.specs.RunEnds.{Ends, KeeperRose, Notes, line_of, status_of};
 ghost use Rattle.store_run.specs.Turns.{CallTurns, Turns, ending_by};
-ghost use Rattle.store_run.specs.declared.ending.Ending.{Ending};
 
 use crate::answers::{answer_call, write_answer};
 use crate::calls::{Asked, RecordStop, next_call};
@@ -24,8 +24,8 @@ use std::thread::Threads;
 pub const MOST_RECORDS: u32 = 1_000_000;
 
 /// Answers the records of a source by a store over a keeper that holds no blob, each before it reads the next one. It
-/// returns the program's status, and the keeper, unless memory was out at the start. `note` is stderr: it gets nothing,
-/// or one line.
+/// returns how the run ended, and the keeper, unless memory was out at the start. `note` is stderr: it gets nothing, or
+/// one line.
 ///
 /// | status | if | line |
 /// |---|---|---|
@@ -45,35 +45,40 @@ pub fn run_store<R: Threads + Wait + Sync, S: Source, K: Sink, N: Sink, P: Keepe
     source: &mut S,
     sink: &mut K,
     note: &mut N,
-) -> (u8, Option<P>)
+) -> (Ending, Option<P>)
     requires empty { P.blobs keeper ≡ [] }
     requires readable { S.readable source.old }
     requires takes { TakesAll K.takes sink.old }
     requires notes { TakesAll N.takes note.old }
 
-    // How it ends, by its status: what was read, and which replies were written.
-    ensures ends { (ending : Ending) × (result.0 ≡ status_of ending)
-        × Ends S.left K.held S.faults S.full K.faults K.full source.old source.new
-        sink.old sink.new (KeeperRose P.fault_count keeper result.1) ending
-        × Notes N.held N.faults N.full note.old note.new (line_of ending) }
+    // How it ends: what was read, and which replies were written.
+    ensures ends { Ends S.left K.held S.faults S.full K.faults K.full source.old source.new
+        sink.old sink.new (KeeperRose P.fault_count keeper result.1) result.0 }
+
+    // The ending's line, or a prefix of it if `note` failed.
+    ensures notes { Notes N.held N.faults N.full note.old note.new (line_of result.0) }
 
     // The keeper is given back on every status but 5.
-    ensures kept { IfNone result.1 (result.0 ≡ 5) }
+    ensures kept { IfNone result.1 (status_of result.0 ≡ 5) }
     ensures keeper_lasting { IfSome result.1 (λ last. P.fault_count keeper ≤ P.fault_count last) }
     ensures source_lasting { S.faults source.old ≤ S.faults source.new }
     ensures sink_lasting { K.faults sink.old ≤ K.faults sink.new }
     ensures note_lasting { N.faults note.old ≤ N.faults note.new }
 {
-    let Ok((store, mut callers)) = Store::start(alloc, keeper, 1, MOST_RECORDS) else {
-        tell(note, Ending::NoMemory);
-        return (Ending::NoMemory.status(), None);
+    let (store, mut callers) = match Store::start(alloc, keeper, 1, MOST_RECORDS) {
+        Ok(made) => made,
+        Err(short) => {
+            let ending = Ending::NoMemory(short);
+            tell(note, ending);
+            return (ending, None);
+        }
     };
     let Some(mut caller) = callers.pop() else {
         unreachable!()
     };
     let ending = serve(rt, alloc, &store, &mut caller, source, sink);
     tell(note, ending);
-    (ending.status(), Some(store.close(caller)))
+    (ending, Some(store.close(caller)))
 }
 
 // Writes the line of an ending.
@@ -104,7 +109,7 @@ fn serve<R: Threads + Wait + Sync, S: Source, K: Sink, P: Keeper>(
     ensures ends { AreBy 0 caller.new.view.seen
         → Ends S.left K.held S.faults S.full K.faults K.full
         source.old source.new sink.old sink.new
-        (caller.old.view.faults < caller.new.view.faults) result }
+        (HasRisen caller.old.view.faults caller.new.view.faults) result }
     ensures same { IsSameCaller caller.old caller.new }
     ensures source_lasting { S.faults source.old ≤ S.faults source.new }
     ensures sink_lasting { K.faults sink.old ≤ K.faults sink.new }
@@ -155,7 +160,7 @@ fn ending_by(stop: RecordStop) -> Ending
     match stop {
         RecordStop::Bad => Ending::BadRecord,
         RecordStop::ReadFault => Ending::ReadFailed,
-        RecordStop::NoMemory => Ending::NoMemory,
+        RecordStop::NoMemory(short) => Ending::NoMemory(short),
     }
 }
 
@@ -185,6 +190,6 @@ fn answer_asked<R: Threads + Wait + Sync, K: Sink, P: Keeper>(
         Err(Stop::Full) => Some(Ending::Full),
         Err(Stop::Clash) => unreachable!(),
         Err(Stop::KeeperFault) => Some(Ending::KeeperFailed),
-        Err(Stop::NoMemory) => Some(Ending::NoMemory),
+        Err(Stop::NoMemory(short)) => Some(Ending::NoMemory(short)),
     }
 }

@@ -2,7 +2,8 @@
 ghost use Rattle.std.specs.Prelude.{◌≡◌, [], IfOk};
 
 use blob_store::{BlobCaller, BlobStore, FakeKeeper, Form, Keeper, Key, Reply, Stop, VecKeeper};
-use std::alloc::{AllocError, Global};
+use growth::{NoMemory, from_slice};
+use std::alloc::Global;
 use std::process::Abort;
 use std::sync::Wait;
 use std::thread;
@@ -23,19 +24,12 @@ type Answer = (Result<Reply, Stop>, u64);
 
 const KEY: Key = [7; 32];
 
-// A blob with these bytes.
-fn blob(alloc: Global, bytes: &[u8]) -> Result<Vec<u8>, AllocError> {
-    let mut blob = Vec::new(alloc);
-    blob.extend_from_slice(bytes)?;
-    Ok(blob)
-}
-
 // A store and its one caller.
 fn one_caller<P: Keeper>(
     alloc: Global,
     keeper: P,
     limit: u32,
-) -> Result<(Store<P>, Caller<P>), AllocError>
+) -> Result<(Store<P>, Caller<P>), NoMemory>
     requires { P.blobs keeper ≡ [] }
     ensures { IfOk result (λ made. made.1.table ≡ made.0) }
 {
@@ -48,7 +42,7 @@ fn one_caller<P: Keeper>(
 fn two_callers(
     alloc: Global,
     limit: u32,
-) -> Result<(Store<VecKeeper>, Caller<VecKeeper>, Caller<VecKeeper>), AllocError>
+) -> Result<(Store<VecKeeper>, Caller<VecKeeper>, Caller<VecKeeper>), NoMemory>
     ensures { IfOk result (λ made. (made.1.table ≡ made.0) × (made.2.table ≡ made.0)) }
 {
     let (store, mut callers) = Store::<VecKeeper>::start(alloc, VecKeeper::new(alloc), 2, limit)?;
@@ -69,7 +63,7 @@ fn puts<P: Keeper, R: Wait + Abort>(
     requires { caller.old.table ≡ store.now }
     ensures { caller.new.table ≡ store.now }
 {
-    let blob = blob(alloc, bytes).expect(rt, "memory");
+    let blob = from_slice(alloc, bytes).expect(rt, "memory");
     assert!(rt; store.put(rt, caller, KEY, blob) == answer);
 }
 
@@ -187,11 +181,8 @@ fn full_at_its_limit(rt: HostRuntime) {
 }
 
 // The numbers of the calls that fail: the first append and the first read.
-fn first_and_third(alloc: Global) -> Result<Vec<u64>, AllocError> {
-    let mut fails = Vec::new(alloc);
-    fails.push(1)?;
-    fails.push(3)?;
-    Ok(fails)
+fn first_and_third(alloc: Global) -> Result<Vec<u64>, NoMemory> {
+    from_slice(alloc, &[1, 3])
 }
 
 #[test]
@@ -236,10 +227,10 @@ fn put_as<R: Wait>(
 fn put_by_two<R: Threads + Wait + Sync>(
     rt: &R,
     alloc: Global,
-) -> Result<(Answer, Answer), AllocError> {
+) -> Result<(Answer, Answer), NoMemory> {
     let (store, first, second) = two_callers(alloc, 8)?;
-    let one = blob(alloc, &[7])?;
-    let two = blob(alloc, &[7])?;
+    let one = from_slice(alloc, &[7])?;
+    let two = from_slice(alloc, &[7])?;
     Ok(thread::join(
         rt,
         || -> Answer

@@ -28,7 +28,7 @@ loop-preserved c =
           let pays : Pays More was.0 outcome c.step-step.new.out c.loop.decoder c.step-step.new.self =
           paid_more c.step-step.result was.0 outcome c.step-step.new.out c.loop.decoder c.step-step.new.self c.in-More.is
           (c.step-step.ensures.pays was.0 outcome was.1) in
-          let items : c.extend_from_slice.new.self.items ≡ c.loop.file.items ++ c.step-step.new.out =
+          let items : c.extend_from_slice.new.list.items ≡ c.loop.file.items ++ c.step-step.new.out =
           c.in_ok-extend_from_slice.ensures.items ∙ ap (λ (l : List ℕ). c.loop.file.items ++ l) c.bytes.ensures.bytes in (
             pays.0,
             pays.5,
@@ -43,7 +43,7 @@ returns-in_default c = record {
       let was = c.loop.invariant.still bytes outcome o in
       let all = paid_end c.step-step.result was.0 outcome c.step-step.new.out c.loop.decoder c.step-step.new.self c.in_default.not-More
       (c.step-step.ensures.pays was.0 outcome was.1) in
-      let items : c.extend_from_slice.new.self.items ≡ c.loop.file.items ++ c.step-step.new.out =
+      let items : c.extend_from_slice.new.list.items ≡ c.loop.file.items ++ c.step-step.new.out =
       c.in_ok-extend_from_slice.ensures.items ∙ ap (λ (l : List ℕ). c.loop.file.items ++ l) c.bytes.ensures.bytes in
       items ∙ (ap (λ (l : List ℕ). c.loop.file.items ++ l) (sym all) ∙ was.2);
   begun = c.step-step.ensures.begun ∙ c.loop.invariant.begun;

@@ -45,8 +45,8 @@ returns c = record {
       let count = c.segments-segment-end.ensures.count in
       let test = c.loop-segment-test.false in
       let past : n ≤ i = omega (arith, count, test) in
-      let items : c.extend_from_slice-2.new.self.items ≡ made ++ parts.trailer =
-      c.in_ok-extend_from_slice-2.ensures.items ∙ ap (λ (l : List ℕ). made ++ l) c.trailer.ensures.bytes in
+      let items : c.extend_from_slice.new.list.items ≡ made ++ parts.trailer =
+      c.in_ok-extend_from_slice.ensures.items ∙ ap (λ (l : List ℕ). made ++ l) c.trailer.ensures.bytes in
       let whole : made ≡ parts.header ++ bytes = none_left plan parts i n (parts.header ++ bytes) made past was.so_far in
       items ∙ (ap (λ (l : List ℕ). l ++ parts.trailer) whole
       ∙ shown_bytes c.args.bytes.now file plan parts stands c.in-Ok.ensures.taken);

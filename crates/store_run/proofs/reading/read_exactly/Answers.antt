@@ -4,7 +4,7 @@ use Rattle.store_run.proofs.reading.read_exactly.Goals as goal
 
 pub loop-filled-preserved : goal.loop-filled-preserved
 loop-filled-preserved g c =
-    let room = c.in_ok-make_room.ensures in
+    let room = c.in_default.ensures in
     let told = c.in_ok-taken.ensures in
     let bounded = room.within c.loop-filled.invariant.bounded in
     record {

@@ -1,23 +1,20 @@
-use Rattle.std.proofs.Common.{[], inl, refl}
+use Rattle.std.proofs.Common.{[], inl, refl, arith}
 use Rattle.std.proofs.KnownBytes.{Appends-nil, Consumes-nil}
-use Rattle.store_run.specs.declared.ending.Ending.TheVariants.{NoMemory}
+use Rattle.blob_store.specs.States.{HasRisen}
+use Rattle.blob_store.proofs.Risen.{risen_wider}
+use Rattle.store_run.proofs.Served.{ends_wider}
 use Rattle.store_run.proofs.run.run_store.Goals as goal
 
-pub returns-in_default-clause-ends : goal.returns-in_default-clause-ends
-returns-in_default-clause-ends g c = (
-  NoMemory,
-  c.status.ensures,
-  (
-    [],
-    [],
-    record {
-      whole = tt;
-      read = Consumes-nil (g.S.Source.left c.args.source.now);
-      wrote = Appends-nil (g.K.Sink.held c.args.sink.now);
-    },
-    inl (inl refl),
-    refl,
-    refl,
-  ),
-  c.tell.ensures.notes,
+pub returns-in-Err-clause-ends : goal.returns-in-Err-clause-ends
+returns-in-Err-clause-ends g c = (
+  [],
+  [],
+  record {
+    whole = tt;
+    read = Consumes-nil (g.S.Source.left c.args.source.now);
+    wrote = Appends-nil (g.K.Sink.held c.args.sink.now);
+  },
+  inl (inl refl),
+  refl,
+  refl,
 )

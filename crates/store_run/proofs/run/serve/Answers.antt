@@ -1,4 +1,6 @@
-use Rattle.std.proofs.Common.{◌≡◌, ◌<◌, ℕ, Option, ◌∙◌, subst, arith}
+use Rattle.std.proofs.Common.{◌≡◌, ℕ, Option, ◌∙◌, subst, arith}
+use Rattle.blob_store.specs.States.{HasRisen}
+use Rattle.blob_store.proofs.Risen.{risen_wider}
 use Rattle.store_run.specs.Records.{most_records}
 use Rattle.store_run.specs.Turns.{IsServing, Turns}
 use Rattle.store_run.specs.declared.ending.Ending.{Ending}
@@ -12,8 +14,8 @@ returns-in-Some-clause-ends g c = λ sole.
     turn_ends g.S.Source.left g.K.Sink.held g.S.Source.faults g.S.Source.full g.K.Sink.faults g.K.Sink.full
     c.args.source.now c.loop.source c.answer_next.new.source c.args.sink.now c.loop.sink c.answer_next.new.sink
     c.loop.caller c.answer_next.new.caller c.loop.counter before
-    (c.args.caller.now.view.faults < c.answer_next.new.caller.view.faults) c.in-Some.ending
-    (omega (arith, c.loop-test.true)) sole (λ rise. omega (arith, below, rise)) c.in-Some.ensures.turns
+    (HasRisen c.args.caller.now.view.faults c.answer_next.new.caller.view.faults) c.in-Some.ending
+    (omega (arith, c.loop-test.true)) sole (λ rise. risen_wider _ _ _ _ below rise (omega arith)) c.in-Some.ensures.turns
 
 pub loop-preserved : goal.loop-preserved
 loop-preserved g c =
@@ -55,4 +57,4 @@ returns-in-Err-clause-ends g c = λ sole.
     c.args.source.now c.loop.source c.next_byte.new.source c.args.sink.now c.loop.sink c.loop.caller
     (subst (λ (n : ℕ). IsServing g.S.Source.left g.K.Sink.held g.S.Source.faults g.S.Source.full g.K.Sink.faults g.K.Sink.full
     c.args.source.now c.loop.source c.args.sink.now c.loop.sink c.loop.caller n) all (c.loop.invariant.serving sole))
-    (c.args.caller.now.view.faults < c.loop.caller.view.faults) c.in-Err.ensures.stays c.in-Err.ensures.failed
+    (HasRisen c.args.caller.now.view.faults c.loop.caller.view.faults) c.in-Err.ensures.stays c.in-Err.ensures.failed

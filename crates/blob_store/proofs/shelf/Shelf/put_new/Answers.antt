@@ -6,17 +6,17 @@ use Rattle.blob_store.specs.declared.record.Reply.TheVariants.{Stored}
 use Rattle.blob_store.specs.Journals.{kept}
 use Rattle.blob_store.specs.States.{StoreState, Puts}
 use Rattle.blob_store.specs.CallSteps.{Enters}
-use Rattle.blob_store.proofs.ShelfKept.{agrees, taken_back, below_stored, when_ok, get_last, replies_stored}
+use Rattle.blob_store.proofs.ShelfKept.{agrees, taken_back, below_stored, get_last, replies_stored}
 use Rattle.blob_store.proofs.shelf.Shelf.put_new.Goals as goal
 
-pub invariant_of-self-in-Err : goal.invariant_of-self-in-Err
-invariant_of-self-in-Err g c =
+pub invariant_of-self-in-Err-append : goal.invariant_of-self-in-Err-append
+invariant_of-self-in-Err-append g c =
     let was = c.self.invariant in
-    let blobs = c.in-Err.ensures.stays in
-    let inserted = when_ok c.insert.result _ (sym c.is_err.ensures.value ∙ c.if-is_err.false) c.insert.ensures.updates in
+    let blobs = c.in-Err-append.ensures.stays in
+    let inserted = c.in_default.ensures.updates in
     let nothing : kept c.self.inside.journal.items c.args.key ≡ None =
     subst (λ (s : StoreState). kept s.journal c.args.key ≡ None) (sym c.self.view_is) c.requires.nothing in (
-      taken_back c.self.inside.map c.insert.new.self c.remove.new.self c.self.inside.journal.items c.args.key
+      taken_back c.self.inside.map c.map_insert.new.map c.remove.new.self c.self.inside.journal.items c.args.key
           c.self.inside.count inserted c.remove.ensures.updates was.0 nothing,
       (λ key number e. subst (λ (bs : List (List ℕ)). number < length bs) (sym blobs) (was.1 key number e)),
       was.2 ∙ ap (λ (bs : List (List ℕ)). length bs) (sym blobs),
@@ -33,8 +33,8 @@ invariant_of-self-2 g c =
     let r : Record =
     record { caller = c.args.caller; call = Put; key = c.args.key; reply = Stored c.self.inside.count } in
     let items = c.push_reserved.ensures.items in
-    let inserted = when_ok c.insert.result _ (sym c.is_err.ensures.value ∙ c.if-is_err.false) c.insert.ensures.updates in
-    let blobs = c.in_default.ensures.appended in
+    let inserted = c.in_default.ensures.updates in
+    let blobs = c.in_default-append.ensures.appended in
     let many : length (g.P.Keeper.blobs c.append.new.self) ≡ c.self.inside.count + 1 =
     ap (λ (bs : List (List ℕ)). length bs) blobs
     ∙ (length-append (g.P.Keeper.blobs c.self.inside.keeper) (c.args.blob.now ∷ [])
@@ -43,7 +43,7 @@ invariant_of-self-2 g c =
     let capacity = c.push_reserved.ensures.capacity in
     let few = was.3 in
     let wide = was.5 in (
-      (λ key. agrees c.self.inside.map c.insert.new.self c.self.inside.journal.items r (Some c.self.inside.count) inserted was.0 (λ now. refl) key
+      (λ key. agrees c.self.inside.map c.map_insert.new.map c.self.inside.journal.items r (Some c.self.inside.count) inserted was.0 (λ now. refl) key
           ∙ ap (λ (l : List Record). kept l key) (sym items)),
       (λ key number e. subst (λ (n : ℕ). number < n) (sym many)
           (below_stored c.self.inside.journal.items r c.self.inside.count refl
@@ -58,7 +58,7 @@ invariant_of-self-2 g c =
 pub returns : goal.returns
 returns g c =
     let was = c.self.invariant in
-    let blobs = c.in_default.ensures.appended in
+    let blobs = c.in_default-append.ensures.appended in
     let nothing : kept c.self.inside.journal.items c.args.key ≡ None =
     subst (λ (s : StoreState). kept s.journal c.args.key ≡ None) (sym c.self.view_is) c.requires.nothing in
     let room : length c.self.inside.journal.items < c.self.inside.limit =

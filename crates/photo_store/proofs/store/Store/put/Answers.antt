@@ -10,13 +10,13 @@ use Rattle.photo_store.specs.Photos.{SuitsKey}
 use Rattle.photo_store.proofs.Clashes.{clash_has_twin}
 use Rattle.photo_store.proofs.store.Store.put.Goals as goal
 
-pub returns-in-Err-clause-clash : goal.returns-in-Err-clause-clash
-returns-in-Err-clause-clash g c = λ is.
+pub returns-in-Err-answer-clause-clash : goal.returns-in-Err-answer-clause-clash
+returns-in-Err-answer-clause-clash g c = λ is.
     let old = c.args.caller.now in
     let new = c.put-answer.new.caller in
     let blob : List ℕ = c.in-Ok.blob.items in
-    let stop : c.in-Err.stop ≡ Clash = cc in
+    let stop : c.in-Err-answer.stop ≡ Clash = cc in
     clash_has_twin old new c.args.file.now blob c.in-Ok.ensures
     (subst (λ (key : List ℕ). HasCalled SuitsKey old new (Puts key blob) (Err Clash)) c.key_of-key.ensures
     (subst (λ (r : Result Reply Stop). HasCalled SuitsKey old new (Puts c.key_of-key.result blob) r)
-    (c.in-Err.is ∙ ap (λ (s : Stop). Err s) stop) c.put-answer.ensures.call.0))
+    (c.in-Err-answer.is ∙ ap (λ (s : Stop). Err s) stop) c.put-answer.ensures.call.0))
