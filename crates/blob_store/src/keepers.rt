@@ -1,5 +1,5 @@
 // Keepers in memory.
-ghost use Rattle.std.specs.Prelude.{◌≡◌, ◌<◌, ◌+◌, [], true, false, IfOk};
+ghost use Rattle.std.specs.Prelude.{◌≡◌, ◌+◌, [], true, false};
 ghost use Rattle.blob_store.specs.Keepers.{new_fake};
 
 use crate::keeper::{Keep, Keeper};

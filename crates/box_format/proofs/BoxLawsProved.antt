@@ -1,7 +1,7 @@
 -- A container has one spelling.
-use Rattle.std.proofs.Common.{◌≡◌, ◌<◌, ◌≤◌, ◌+◌, ◌==◌, ◌||◌, not, Bool, true, false, ℕ, List, ◌++◌, length, take, drop, map, nat_lt, flat_map, refl, sym, ap, ap₂, ◌∙◌, arith, subst, inl, inr, length-append}
-use Rattle.std.specs.Prelude.{slice_index, bytes_eq, sum, Some, None}
-use Rattle.std.proofs.lemmas.Bool.{le-ltb, ne_eqb, or_from, and_right}
+use Rattle.std.proofs.Common.{◌≡◌, ◌<◌, ◌≤◌, ◌+◌, ◌-◌, ◌==◌, ◌||◌, ◌&&◌, not, Bool, true, false, ℕ, List, ◌++◌, length, take, drop, map, nat_lt, flat_map, refl, sym, ap, ap₂, ◌∙◌, arith, subst, inl, inr, length-append}
+use Rattle.std.specs.Prelude.{slice_index, bytes_eq, sum, Option, Some, None, IfSome, is_some}
+use Rattle.std.proofs.lemmas.Bool.{le-ltb, lt-ltb, eq-eqb, ne_eqb, eqb-true, ltb-true, or_from, and_right}
 use Rattle.std.proofs.lemmas.List.{take_at, drop_at, drop-drop}
 use Rattle.jpeg_marker.specs.Plans.{PlanFields}
 use Rattle.jpeg_marker.specs.HeaderPlan.{Accepts}
@@ -10,38 +10,95 @@ use Rattle.scan_spec.specs.Slots.{Shape, shape_of}
 use Rattle.handover.specs.Handovers.{HandoverFields}
 use Rattle.scan_spec.specs.Pads.{PadBits, Same, Listed}
 use Rattle.box_format.specs.Versions.{layout_of, version_in, is_version}
-use Rattle.box_format.specs.Parts.{BoxParts, IsBox, IsBoxOf, magic, pad_byte, list_bytes, can_pad, records, box_bytes, bad_start, cut_in}
-use Rattle.box_format.specs.Raws.{Raw, raw_of, parts_of, numbers, parted, handover_at, front_room, record_place, list_place, list_long, pads_in, stream_length, stream_lengths, segments_in, header_length, header_place, trailer_length, trailer_place, streams_place, named_end}
-use Rattle.box_format.specs.BoxChecks.{PassesChecks, FailsAfter, late_fault, is_bad_pad}
-use Rattle.box_format.specs.BoxLaws.{BoxPasses, OneBox, OneBoxRefusal, NeverBoth, MigratedIsBox}
-use Rattle.box_format.specs.Whole.{IsWhole, are_wrong, list_in}
+use Rattle.cut_spec.specs.Cuts.{Cut}
+use Rattle.box_format.specs.Parts.{BoxParts, IsBox, IsBoxOf, IsCut, IsChunkIn, header_part, rows_most, magic, pad_byte, list_bytes, can_pad, records, box_bytes, bad_start, box_cut}
+use Rattle.box_format.specs.Raws.{Raw, raw_of, parts_of, chunk_in, numbers, parted, handover_at, front_room, record_place, list_place, list_long, pads_in, stream_length, stream_lengths, segments_in, header_length, header_place, trailer_length, trailer_place, streams_place, named_end}
+use Rattle.box_format.specs.BoxChecks.{PassesChecks, FailsAfter, early_fault, late_fault, are_wrong, is_bad_chunk, is_bad_pad}
+use Rattle.box_format.specs.BoxLaws.{IsRead, BoxPasses, OneBox, OneBoxRefusal, NeverBoth, MigratedIsBox}
+use Rattle.box_format.specs.Whole.{IsWhole, header_in, trailer_in, list_in}
+use Rattle.box_format.specs.declared.chunk.Chunk.{Chunk}
 use Rattle.box_format.specs.declared.version.Version.{Version}
+use Rattle.box_format.specs.declared.version.Version.TheVariants.{Third}
 use Rattle.box_format.specs.declared.refusal.BoxRefusal.{BoxRefusal}
 use Rattle.box_format.specs.declared.refusal.BoxRefusal.TheVariants.{BoxHeader}
-use Rattle.box_format.proofs.Fronts.{most_more, is_one, pads_again, pads_good, none_listed}
-use Rattle.box_format.proofs.Passed.{IsEarly, IsLate, early_none, late_none}
+use Rattle.box_format.proofs.Fronts.{Fits, most_more, front_low, version_is, is_one, byte_high, pads_again, pads_good, none_listed}
+use Rattle.box_format.proofs.Passed.{IsEarly, IsLate, early_of, early_none, late_none}
 pub use Rattle.box_format.proofs.PassedBox.{passed_is_box}
 use Rattle.box_format.proofs.Written.{IsLaid, AreRead, laid_box, records_read, records_long, streams_again, streams_long}
 
 -- ---- a container's checks pass
 
-pub parts_same : (v : Version) (p : PadBits) (h t : List ℕ) (hs : List HandoverFields)
-    (ss : List (List ℕ)) (b : BoxParts) → v ≡ b.version → p ≡ b.pads → h ≡ b.header
-    → t ≡ b.trailer → hs ≡ b.handovers → ss ≡ b.streams
-    → ◌≡◌ {A = BoxParts}
-    (record { version = v; pads = p; header = h; trailer = t; handovers = hs; streams = ss }) b
-parts_same v p h t hs ss b d e f g i j = rw (d, e, f, g, i, j) refl
+pub parts_same : (v : Version) (c : Option Chunk) (p : PadBits) (h t : List ℕ)
+    (hs : List HandoverFields) (ss : List (List ℕ)) (b : BoxParts)
+    → v ≡ b.version → c ≡ b.chunk → p ≡ b.pads → h ≡ b.header → t ≡ b.trailer → hs ≡ b.handovers
+    → ss ≡ b.streams
+    → ◌≡◌ {A = BoxParts} (record {
+      version = v;
+      chunk = c;
+      pads = p;
+      header = h;
+      trailer = t;
+      handovers = hs;
+      streams = ss;
+    }) b
+parts_same v c p h t hs ss b d k e f g i j = rw (d, k, e, f, g, i, j) refl
 
-not_wrong : (most segments rows : ℕ) → 0 < segments → segments ≤ most → segments ≤ rows
-    → are_wrong most segments rows ≡ false
-not_wrong most segments rows some few within =
-    or_from (segments == 0) (nat_lt most segments || nat_lt rows segments)
-    (ne_eqb segments 0 (λ e. omega arith))
-    (or_from (nat_lt most segments) (nat_lt rows segments)
-    (le-ltb most segments few) (le-ltb rows segments within))
+some_if : (cut : Cut) → (nat_lt cut.from cut.to ≡ true → 0 < cut.segments)
+    → (nat_lt cut.from cut.to && cut.segments == 0) ≡ false
+some_if cut some = by_case (nat_lt cut.from cut.to) some where
+  by_case : (b : Bool) → (b ≡ true → 0 < cut.segments) → (b && cut.segments == 0) ≡ false
+  by_case true some = let h = some refl in ne_eqb cut.segments 0 (λ e. omega arith)
+  by_case false some = refl
 
-module _ (plan : PlanFields) (b : BoxParts) (bytes : List ℕ) (laid : IsLaid bytes b)
-    (is : IsBox plan b) where
+not_wrong : (most : ℕ) (cut : Cut) → IsCut cut → cut.segments ≤ most → are_wrong most cut ≡ false
+not_wrong most cut is few =
+    or_from (nat_lt most cut.segments)
+    ((not (nat_lt cut.to cut.from) && nat_lt (cut.to - cut.from) cut.segments)
+    || (nat_lt cut.from cut.to && cut.segments == 0))
+    (le-ltb most cut.segments few)
+    (or_from (not (nat_lt cut.to cut.from) && nat_lt (cut.to - cut.from) cut.segments)
+    (nat_lt cut.from cut.to && cut.segments == 0)
+    (and_right (not (nat_lt cut.to cut.from)) (nat_lt (cut.to - cut.from) cut.segments)
+    (le-ltb (cut.to - cut.from) cut.segments is.rows))
+    (some_if cut (λ below. is.some (ltb-true cut.from cut.to below))))
+
+-- a chunk of the grid
+rowless_is : (from to most skip : ℕ) → (from ≡ to → (most ≡ 0) × (skip ≡ 0))
+    → (from == to && (not (most == 0) || not (skip == 0))) ≡ false
+rowless_is from to most skip none = by_case (from == to) (λ e. none (eqb-true from to e)) where
+  by_case : (b : Bool) → (b ≡ true → (most ≡ 0) × (skip ≡ 0))
+      → (b && (not (most == 0) || not (skip == 0))) ≡ false
+  by_case true none =
+      let h = none refl in
+      or_from (not (most == 0)) (not (skip == 0)) (ap not (eq-eqb most 0 h.0))
+      (ap not (eq-eqb skip 0 h.1))
+  by_case false none = refl
+
+not_bad : (down : ℕ) (header trailer : List ℕ) (c : Option Chunk)
+    → IfSome c (IsChunkIn down header trailer) → is_bad_chunk down header trailer c ≡ false
+not_bad down header trailer None is = refl
+not_bad down header trailer (Some c) is =
+    let parts = length (header_part c header) + length trailer in
+    let rowless = c.from == c.to && (not (rows_most c header trailer == 0) || not (c.skip == 0)) in
+    or_from (nat_lt c.to c.from) (nat_lt down c.to || (nat_lt c.length parts || rowless))
+    (le-ltb c.to c.from is.order)
+    (or_from (nat_lt down c.to) (nat_lt c.length parts || rowless) (le-ltb down c.to is.within)
+    (or_from (nat_lt c.length parts) rowless (le-ltb c.length parts is.room)
+    (rowless_is c.from c.to (rows_most c header trailer) c.skip is.rowless)))
+
+fits : (down : ℕ) (header trailer : List ℕ) (c : Option Chunk)
+    → IfSome c (IsChunkIn down header trailer) → IfSome c Fits
+fits down header trailer None is = tt
+fits down header trailer (Some c) is = record {
+  place = is.place_fits;
+  long = is.length_fits;
+  skip = is.skip_fits;
+  from = is.from_fits;
+  to = is.to_fits;
+}
+
+module _ (newest : Version) (plan : PlanFields) (b : BoxParts) (bytes : List ℕ)
+    (read_is : IsRead newest b.version) (laid : IsLaid bytes b) (is : IsBox plan b) where
   abbrev joined : List ℕ
   joined = flat_map (λ stream. stream) b.streams
 
@@ -103,8 +160,9 @@ module _ (plan : PlanFields) (b : BoxParts) (bytes : List ℕ) (laid : IsLaid by
   parts_again : parts_of (raw_of bytes) ≡ b
   unfolding raw_of
   parts_again =
-      parts_same (version_in bytes) (pads_in (slice_index bytes 5) (list_in bytes)) _ _ _ _ b
-      laid.version (ap₂ pads_in laid.pad list_again_is ∙ pads_again b.pads) header_again
+      parts_same (version_in bytes) (chunk_in bytes)
+      (pads_in (slice_index bytes 5) (list_in bytes)) _ _ _ _ b
+      laid.version laid.chunk (ap₂ pads_in laid.pad list_again_is ∙ pads_again b.pads) header_again
       trailer_again handovers_again all_streams
 
   end_is : length bytes ≡ named_end bytes
@@ -129,11 +187,12 @@ module _ (plan : PlanFields) (b : BoxParts) (bytes : List ℕ) (laid : IsLaid by
   whole : IsWhole bytes
   whole = let e = end_is in record { fields = omega arith; ends = omega arith }
 
-  early : IsEarly bytes
+  early : IsEarly newest bytes
   early = record {
     begins = ap (λ (l : List ℕ). bytes_eq l magic) laid.begins;
-    versions = and_right (nat_lt 4 (length bytes)) (not (is_version (slice_index bytes 4)))
-        (ap (λ (n : ℕ). not (is_version n)) laid.versions ∙ ap not (is_one b.version));
+    versions = and_right (nat_lt 4 (length bytes)) (not (is_version newest (slice_index bytes 4)))
+        (ap (λ (n : ℕ). not (is_version newest n)) laid.versions
+        ∙ ap not (is_one newest b.version read_is));
     whole = whole;
   }
 
@@ -144,17 +203,26 @@ module _ (plan : PlanFields) (b : BoxParts) (bytes : List ℕ) (laid : IsLaid by
       let end = end_is in
       record {
         header = omega arith;
-        segments = ap₂ (λ (v : Version) (k : ℕ). are_wrong (layout_of v).most k plan.down)
-            laid.version laid.segments
-            ∙ not_wrong (layout_of b.version).most (length b.handovers) plan.down is.some is.few
-            is.rows;
+        segments = ap₂ (λ (v : Version) (c : Option Chunk). are_wrong (layout_of v).most
+            (box_cut plan c (segments_in bytes))) laid.version laid.chunk
+            ∙ ap (λ (k : ℕ). are_wrong (layout_of b.version).most (box_cut plan b.chunk k))
+            laid.segments
+            ∙ not_wrong (layout_of b.version).most (box_cut plan b.chunk (length b.handovers))
+            is.cut is.few;
+        chunk = ap (λ (c : Option Chunk). is_bad_chunk plan.down (header_in bytes)
+            (trailer_in bytes) c) laid.chunk
+            ∙ ap₂ (λ (h t : List ℕ). is_bad_chunk plan.down h t b.chunk) header_again trailer_again
+            ∙ not_bad plan.down b.header b.trailer b.chunk is.chunk;
         pad = ap₂ (λ (v : Version) (n : ℕ). is_bad_pad (layout_of v).listed (shape_of plan) n
             (list_in bytes)) laid.version laid.pad
             ∙ ap (is_bad_pad (layout_of b.version).listed (shape_of plan) (pad_byte b.pads))
             list_again_is
             ∙ pads_good (layout_of b.version).listed (shape_of plan) b.pads is.pads;
         starts = ap₂ (λ (k : ℕ) (hs : List HandoverFields). bad_start (shape_of plan)
-            (cut_in plan k) 0 hs) laid.segments handovers_again ∙ is.starts;
+            (box_cut plan (chunk_in bytes) k) 0 hs) laid.segments handovers_again
+            ∙ ap (λ (c : Option Chunk). bad_start (shape_of plan)
+            (box_cut plan c (length b.handovers)) 0 b.handovers) laid.chunk
+            ∙ is.starts;
         end = omega arith;
       }
 
@@ -162,31 +230,57 @@ module _ (plan : PlanFields) (b : BoxParts) (bytes : List ℕ) (laid : IsLaid by
   unfolding raw_of
   header_taken = subst (λ (l : List ℕ). Accepts l plan) (sym header_again) is.header
 
-  passes : PassesChecks plan bytes
+  passes : PassesChecks newest plan bytes
   passes = record {
-    early = early_none bytes early;
+    early = early_none newest bytes early;
     header = header_taken;
     late = late_none plan bytes whole late;
   }
 
 pub box_passes : BoxPasses
-box_passes plan b is =
-    let laid = laid_box b is.header_fits is.trailer_fits is.list_fits
-    (none_listed (layout_of b.version).listed (shape_of plan) b.pads is.pads) in
-    (passes plan b (box_bytes b) laid is, parts_again plan b (box_bytes b) laid is)
+box_passes newest plan b read is =
+    let laid = laid_box b is.chunked (fits plan.down b.header b.trailer b.chunk is.chunk)
+    is.header_fits is.trailer_fits is.list_fits
+    (none_listed (layout_of b.version).listed (shape_of plan) b.pads is.pads) in (
+      passes newest plan b (box_bytes b) read laid is,
+      parts_again newest plan b (box_bytes b) read laid is,
+    )
+
+-- what passes the checks of who reads fewer versions passes those of who reads all
+pub widened : (newest : Version) (bytes : List ℕ) → early_fault newest bytes ≡ None
+    → early_fault Third bytes ≡ None
+widened newest bytes e =
+    let early = early_of newest bytes e in
+    let long = early.whole.fields in
+    let low = front_low (version_in bytes) in
+    let more : nat_lt 4 (length bytes) ≡ true = lt-ltb 4 (length bytes) (omega (arith, long, low)) in
+    let said = (version_is newest (nat_lt 4 (length bytes)) (slice_index bytes 4) more
+    early.versions).0 in
+    early_none Third bytes (record {
+      begins = early.begins;
+      versions = and_right (nat_lt 4 (length bytes)) (not (is_version Third (slice_index bytes 4)))
+          (ap (λ (n : ℕ). not (is_version Third n)) said
+          ∙ ap not (is_one Third (version_in bytes) (byte_high (version_in bytes))));
+      whole = early.whole;
+    })
 
 -- ---- so bytes say one thing
 
-checked : (plan : PlanFields) (b : BoxParts) (bytes : List ℕ) → IsBoxOf plan b bytes
-    → PassesChecks plan bytes × (parts_of (raw_of bytes) ≡ b)
-checked plan b bytes is =
-    let P : List ℕ → Type 0 = λ l. PassesChecks plan l × (parts_of (raw_of l) ≡ b) in
-    subst P (sym is.text) (box_passes plan b is.box)
+checked : (newest : Version) (plan : PlanFields) (b : BoxParts) (bytes : List ℕ)
+    → IsRead newest b.version → IsBoxOf plan b bytes
+    → PassesChecks newest plan bytes × (parts_of (raw_of bytes) ≡ b)
+checked newest plan b bytes read is =
+    let P : List ℕ → Type 0 = λ l. PassesChecks newest plan l × (parts_of (raw_of l) ≡ b) in
+    subst P (sym is.text) (box_passes newest plan b read is.box)
+
+-- all versions are read by who reads the last one
+pub all_read : (v : Version) → IsRead Third v
+all_read v = byte_high v
 
 pub one_box : OneBox
 one_box plan other a b bytes p q =
-    let x = checked plan a bytes p in
-    let y = checked other b bytes q in
+    let x = checked Third plan a bytes (all_read a.version) p in
+    let y = checked Third other b bytes (all_read b.version) q in
     (header_laws.one_plan (raw_of bytes).header plan other x.0.header y.0.header, sym x.1 ∙ y.1)
 
 some_is_one : {A : Type 0} (x y : A) → Some x ≡ Some y → x ≡ y
@@ -205,10 +299,11 @@ one_after raw refusal other (inr p) (inr q) =
     some_is_one refusal other (sym p.2 ∙ ap (λ plan. late_fault plan raw) same ∙ q.2)
 
 pub one_box_refusal : OneBoxRefusal
-one_box_refusal bytes refusal other are (inl p) (inl q) = some_is_one refusal other (sym p ∙ q)
-one_box_refusal bytes refusal other are (inl p) (inr q) = let e = q.0 in cc
-one_box_refusal bytes refusal other are (inr p) (inl q) = let e = p.0 in cc
-one_box_refusal bytes refusal other are (inr p) (inr q) =
+one_box_refusal newest bytes refusal other (inl p) (inl q) =
+    some_is_one refusal other (sym p ∙ q)
+one_box_refusal newest bytes refusal other (inl p) (inr q) = let e = q.0 in cc
+one_box_refusal newest bytes refusal other (inr p) (inl q) = let e = p.0 in cc
+one_box_refusal newest bytes refusal other (inr p) (inr q) =
     one_after (raw_of bytes) refusal other p.1 q.1
 
 apart_after : (raw : Raw) (plan : PlanFields) (refusal : BoxRefusal) → Accepts raw.header plan
@@ -222,11 +317,11 @@ apart_after raw plan refusal taken none (inr p) =
     cc
 
 pub never_both : NeverBoth
-never_both bytes plan b refusal is (inl p) =
-    let e = (checked plan b bytes is).0.early in
+never_both newest bytes plan b refusal read is (inl p) =
+    let e = (checked newest plan b bytes read is).0.early in
     cc
-never_both bytes plan b refusal is (inr p) =
-    let x = (checked plan b bytes is).0 in
+never_both newest bytes plan b refusal read is (inr p) =
+    let x = (checked newest plan b bytes read is).0 in
     apart_after (raw_of bytes) plan refusal x.header x.late p.1
 
 -- ---- the second version says all that the first one does
@@ -237,16 +332,25 @@ pads_more listed shape (Same pad) e = refl
 pads_more true shape (Listed bytes) e = e
 pads_more false shape (Listed bytes) e = cc
 
+whole_of : (c : Option Chunk) → is_some c ≡ false → c ≡ None
+whole_of None e = refl
+whole_of (Some c) e = cc
+
+pub no_chunk : (plan : PlanFields) (b : BoxParts) → (layout_of b.version).chunked ≡ false
+    → IsBox plan b → b.chunk ≡ None
+no_chunk plan b whole is = whole_of b.chunk (is.chunked ∙ whole)
+
 pub migrated_is : MigratedIsBox
-migrated_is plan b is =
+migrated_is plan b whole is =
     let more = most_more b.version in
     let few = is.few in
     record {
       header = is.header;
       whole = is.whole;
-      some = is.some;
       few = omega (arith, more, few);
-      rows = is.rows;
+      cut = is.cut;
+      chunked = is.chunked ∙ whole;
+      chunk = is.chunk;
       pads = pads_more (layout_of b.version).listed (shape_of plan) b.pads is.pads;
       streams = is.streams;
       each = is.each;

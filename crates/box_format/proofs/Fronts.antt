@@ -1,69 +1,101 @@
 -- What holds of the layouts of all versions, and of pad bytes.
-use Rattle.std.proofs.Common.{◌≡◌, ◌≤◌, ◌==◌, ◌||◌, ◌&&◌, not, Bool, true, false, ℕ, zero, suc, List, [], ◌∷◌, length, nat_lt, if◌then◌else◌, refl, sym, ap, ◌∙◌, arith}
-use Rattle.std.proofs.lemmas.Bool.{ltb-false, lt-ltb, ne_eqb, or_from, or_parts, and_parts, false≢true}
+use Rattle.std.proofs.Common.{◌≡◌, ◌≤◌, ◌<◌, ◌^◌, ◌==◌, ◌||◌, ◌&&◌, not, Bool, true, false, ℕ, zero, suc, List, [], ◌∷◌, length, nat_lt, if◌then◌else◌, refl, sym, ap, ◌∙◌, arith}
+use Rattle.std.proofs.lemmas.Bool.{ltb-false, lt-ltb, le-ltb, ne_eqb, or_parts, and_parts, false≢true}
 use Rattle.scan_spec.specs.Slots.{Shape}
 use Rattle.scan_spec.specs.Pads.{PadBits, Same, Listed, is_long_for, list_room}
-use Rattle.box_format.specs.Versions.{layout_of, most_segments, version_byte, is_version}
+use Rattle.box_format.specs.Versions.{layout_of, most_segments, version_byte, version_of, is_version}
 use Rattle.box_format.specs.Parts.{pad_byte, list_bytes, is_list, can_pad}
 use Rattle.box_format.specs.Raws.{pads_in}
 use Rattle.box_format.specs.BoxChecks.{is_bad_pad}
+use Rattle.box_format.specs.declared.chunk.Chunk.{Chunk}
 use Rattle.box_format.specs.declared.version.Version.{Version}
-use Rattle.box_format.specs.declared.version.Version.TheVariants.{First, Second}
+use Rattle.box_format.specs.declared.version.Version.TheVariants.{First, Second, Third}
 
 -- ---- layouts
 
 pub front_low : (v : Version) → 15 ≤ (layout_of v).front
 front_low First = omega arith
 front_low Second = omega arith
+front_low Third = omega arith
 
-pub front_high : (v : Version) → (layout_of v).front ≤ 19
+pub front_high : (v : Version) → (layout_of v).front ≤ 51
 front_high First = omega arith
 front_high Second = omega arith
-
-pub front_listed : (v : Version) → (layout_of v).listed ≡ true → (layout_of v).front ≡ 19
-front_listed First e = cc
-front_listed Second e = refl
+front_high Third = omega arith
 
 pub most_few : (v : Version) → (layout_of v).most ≤ 64
 most_few First = omega arith
 most_few Second = omega arith
+most_few Third = omega arith
 
 pub most_more : (v : Version) → (layout_of v).most ≤ most_segments
 most_more First = omega arith
 most_more Second = omega arith
+most_more Third = omega arith
+
+-- ---- chunks
+
+-- a chunk's numbers go into their fields
+pub record Fits (c : Chunk) : Type 0 where
+  pub place : c.place < 2 ^ 64
+  pub long : c.length < 2 ^ 64
+  pub skip : c.skip < 2 ^ 64
+  pub from : c.from < 2 ^ 32
+  pub to : c.to < 2 ^ 32
 
 -- ---- the byte of a version
 
-no_version : (n : ℕ) → 3 ≤ n → is_version n ≡ false
-no_version n low =
-    or_from (n == 1) (n == 2) (ne_eqb n 1 (λ e. omega (arith, e, low)))
-    (ne_eqb n 2 (λ e. omega (arith, e, low)))
+pub byte_low : (v : Version) → 1 ≤ version_byte v
+byte_low First = omega arith
+byte_low Second = omega arith
+byte_low Third = omega arith
 
-one_of : (n : ℕ) → is_version n ≡ true → n ≡ version_byte (if n == 2 then Second else First)
-one_of zero e = absurd (false≢true e)
-one_of (suc zero) e = refl
-one_of (suc (suc zero)) e = refl
-one_of (suc (suc (suc n))) e =
-    absurd (false≢true (sym (no_version (suc (suc (suc n))) (omega arith)) ∙ e))
-
-pub version_is : (there : Bool) (n : ℕ)
-    → there ≡ true → (there && not (is_version n)) ≡ false
-    → n ≡ version_byte (if n == 2 then Second else First)
-version_is false n e f = cc
-version_is true n e f = one_of n (not_not (is_version n) f) where
-  not_not : (b : Bool) → not b ≡ false → b ≡ true
-  not_not true e = refl
-  not_not false e = cc
-
-pub is_one : (v : Version) → is_version (version_byte v) ≡ true
-is_one First = refl
-is_one Second = refl
-
--- ---- pad bytes
+pub byte_high : (v : Version) → version_byte v ≤ 3
+byte_high First = omega arith
+byte_high Second = omega arith
+byte_high Third = omega arith
 
 false_not : (b : Bool) → not b ≡ false → b ≡ true
 false_not true e = refl
 false_not false e = cc
+
+true_not : (b : Bool) → not b ≡ true → b ≡ false
+true_not true e = cc
+true_not false e = refl
+
+read_byte : (newest : Version) (n : ℕ) → is_version newest n ≡ true → n ≤ version_byte newest
+read_byte newest n e =
+    let parts = and_parts (not (n == 0)) (not (nat_lt (version_byte newest) n)) e in
+    ltb-false (version_byte newest) n (true_not (nat_lt (version_byte newest) n) parts.1)
+
+one_of : (newest : Version) (n : ℕ) → is_version newest n ≡ true → n ≡ version_byte (version_of n)
+one_of newest zero e = absurd (false≢true e)
+one_of newest (suc zero) e = refl
+one_of newest (suc (suc zero)) e = refl
+one_of newest (suc (suc (suc zero))) e = refl
+one_of newest (suc (suc (suc (suc n)))) e =
+    let few = read_byte newest (suc (suc (suc (suc n)))) e in
+    let high = byte_high newest in
+    absurd (omega (arith, few, high))
+
+-- a byte that is taken says a version that is read
+pub version_is : (newest : Version) (there : Bool) (n : ℕ)
+    → there ≡ true → (there && not (is_version newest n)) ≡ false
+    → (n ≡ version_byte (version_of n)) × (version_byte (version_of n) ≤ version_byte newest)
+version_is newest false n e f = cc
+version_is newest true n e f =
+    let said = false_not (is_version newest n) f in
+    let same = one_of newest n said in
+    let few = read_byte newest n said in
+    (same, omega (arith, same, few))
+
+pub is_one : (newest v : Version) → version_byte v ≤ version_byte newest
+    → is_version newest (version_byte v) ≡ true
+is_one newest First few = ap not (le-ltb (version_byte newest) 1 few)
+is_one newest Second few = ap not (le-ltb (version_byte newest) 2 few)
+is_one newest Third few = ap not (le-ltb (version_byte newest) 3 few)
+
+-- ---- pad bytes
 
 -- but for a list in a version that has lists, the byte says one bit
 plain : (listed : Bool) (shape : Shape) (n : ℕ) (list : List ℕ)

@@ -8,11 +8,12 @@ use Rattle.jpeg_marker.specs.Plans.{PlanFields}
 use Rattle.scan_spec.specs.Slots.{shape_of}
 use Rattle.box_format.specs.Versions.{layout_of, version_in, is_version}
 use Rattle.box_format.specs.Parts.{magic}
-use Rattle.box_format.specs.Raws.{raw_of, handover_at, segments_in, list_place, header_place, header_length, named_end}
-use Rattle.box_format.specs.BoxChecks.{early_fault, late_fault, is_cut, is_bad_pad, or_else, where_failed}
-use Rattle.box_format.specs.Whole.{IsWhole, are_wrong, list_in, field_fault, bad_segment, record_fault}
+use Rattle.box_format.specs.Raws.{raw_of, chunk_in, handover_at, segments_in, list_place, header_place, header_length, named_end}
+use Rattle.box_format.specs.BoxChecks.{early_fault, late_fault, is_cut, are_wrong, is_bad_chunk, is_bad_pad, or_else, where_failed}
+use Rattle.box_format.specs.Whole.{IsWhole, header_in, trailer_in, list_in, rows_cut, field_fault, bad_segment, record_fault}
+use Rattle.box_format.specs.declared.version.Version.{Version}
 use Rattle.box_format.specs.declared.refusal.BoxRefusal.{BoxRefusal}
-use Rattle.box_format.specs.declared.refusal.BoxRefusal.TheVariants.{BoxMagic, BoxVersion, BoxCut, HeaderLong, BoxSegments, BoxPad, HandoverBad, BoxLong}
+use Rattle.box_format.specs.declared.refusal.BoxRefusal.TheVariants.{BoxMagic, BoxVersion, BoxCut, HeaderLong, BoxSegments, BoxChunk, BoxPad, HandoverBad, BoxLong}
 use Rattle.box_format.proofs.Lists.{length_values}
 
 -- the most segments of a version
@@ -24,6 +25,14 @@ abbrev pub bad_pad : PlanFields → List ℕ → Bool
 bad_pad plan bytes =
     is_bad_pad (layout_of (version_in bytes)).listed (shape_of plan) (slice_index bytes 5)
     (list_in bytes)
+
+-- whether there can't be so many segments, and whether the chunk is none of the grid
+abbrev pub bad_count : PlanFields → List ℕ → Bool
+bad_count plan bytes = are_wrong (most_in bytes) (rows_cut plan bytes)
+
+abbrev pub bad_chunk : PlanFields → List ℕ → Bool
+bad_chunk plan bytes =
+    is_bad_chunk plan.down (header_in bytes) (trailer_in bytes) (chunk_in bytes)
 
 -- three tests in a row that don't fail
 pub three_passed : (a b c : Bool) (r s t : BoxRefusal)
@@ -39,9 +48,10 @@ not_false true e = refl
 not_false false e = cc
 
 -- what the checks before the header say
-pub record IsEarly (bytes : List ℕ) : Type 0 where
+pub record IsEarly (newest : Version) (bytes : List ℕ) : Type 0 where
   pub begins : bytes_eq (take 4 bytes) magic ≡ true
-  pub versions : (nat_lt 4 (length bytes) && not (is_version (slice_index bytes 4))) ≡ false
+  pub versions : (nat_lt 4 (length bytes) && not (is_version newest (slice_index bytes 4)))
+      ≡ false
   pub whole : IsWhole bytes
 
 pub whole_of : (bytes : List ℕ) → is_cut bytes ≡ false → IsWhole bytes
@@ -53,11 +63,12 @@ whole_of bytes e =
       ends = ltb-false (length bytes) (named_end bytes) parts.1;
     }
 
-pub early_of : (bytes : List ℕ) → early_fault bytes ≡ None → IsEarly bytes
+pub early_of : (newest : Version) (bytes : List ℕ) → early_fault newest bytes ≡ None
+    → IsEarly newest bytes
 unfolding early_fault
-early_of bytes e =
+early_of newest bytes e =
     let parts = three_passed (not (bytes_eq (take 4 bytes) magic))
-    (nat_lt 4 (length bytes) && not (is_version (slice_index bytes 4)))
+    (nat_lt 4 (length bytes) && not (is_version newest (slice_index bytes 4)))
     (is_cut bytes) BoxMagic BoxVersion BoxCut e in
     record {
       begins = not_false (bytes_eq (take 4 bytes) magic) parts.0;
@@ -66,11 +77,13 @@ early_of bytes e =
     }
 
 -- the parts of the checks after the header
-or_four : (a b c d : Option BoxRefusal)
-    → or_else a (or_else b (or_else c d)) ≡ or_else (or_else a (or_else b c)) d
-or_four (Some r) b c d = refl
-or_four None (Some r) c d = refl
-or_four None None c d = refl
+or_five : (a b c d e : Option BoxRefusal)
+    → or_else a (or_else b (or_else c (or_else d e)))
+    ≡ or_else (or_else a (or_else b (or_else c d))) e
+or_five (Some r) b c d e = refl
+or_five None (Some r) c d e = refl
+or_five None None (Some r) d e = refl
+or_five None None None d e = refl
 
 or_none : (a b : Option BoxRefusal) → or_else a b ≡ None → (a ≡ None) × (b ≡ None)
 or_none (Some r) b e = cc
@@ -107,15 +120,16 @@ late_is plan bytes whole =
     ap (λ n. nat_lt 0 n) (length-drop (named_end bytes) bytes)
     ∙ rest_is (named_end bytes) (length bytes) in
     rw (count, long, rest)
-    (or_four (where_failed (nat_lt plan.header_length (header_length bytes))
-    (HeaderLong plan.header_length))
-    (where_failed (are_wrong (most_in bytes) (segments_in bytes) plan.down) BoxSegments)
-    (where_failed (bad_pad plan bytes) BoxPad) (record_fault plan bytes))
+    (or_five (where_failed (nat_lt plan.header_length (header_length bytes))
+    (HeaderLong plan.header_length)) (where_failed (bad_count plan bytes) BoxSegments)
+    (where_failed (bad_chunk plan bytes) BoxChunk) (where_failed (bad_pad plan bytes) BoxPad)
+    (record_fault plan bytes))
 
 -- what they say
 pub record IsLate (plan : PlanFields) (bytes : List ℕ) : Type 0 where
   pub header : header_length bytes ≤ plan.header_length
-  pub segments : are_wrong (most_in bytes) (segments_in bytes) plan.down ≡ false
+  pub segments : bad_count plan bytes ≡ false
+  pub chunk : bad_chunk plan bytes ≡ false
   pub pad : bad_pad plan bytes ≡ false
   pub starts : bad_segment plan bytes ≡ None
   pub end : length bytes ≤ named_end bytes
@@ -127,19 +141,23 @@ late_of plan bytes whole e =
     (sym (late_is plan bytes whole) ∙ e) in
     let fields = or_none
     (where_failed (nat_lt plan.header_length (header_length bytes)) (HeaderLong plan.header_length))
-    (or_else (where_failed (are_wrong (most_in bytes) (segments_in bytes) plan.down) BoxSegments)
-    (where_failed (bad_pad plan bytes) BoxPad)) parts.0 in
-    let more =
-    or_none (where_failed (are_wrong (most_in bytes) (segments_in bytes) plan.down) BoxSegments)
-    (where_failed (bad_pad plan bytes) BoxPad) fields.1 in
+    (or_else (where_failed (bad_count plan bytes) BoxSegments)
+    (or_else (where_failed (bad_chunk plan bytes) BoxChunk)
+    (where_failed (bad_pad plan bytes) BoxPad))) parts.0 in
+    let more = or_none (where_failed (bad_count plan bytes) BoxSegments)
+    (or_else (where_failed (bad_chunk plan bytes) BoxChunk)
+    (where_failed (bad_pad plan bytes) BoxPad)) fields.1 in
+    let last = or_none (where_failed (bad_chunk plan bytes) BoxChunk)
+    (where_failed (bad_pad plan bytes) BoxPad) more.1 in
     let records = or_none (option_map (λ i. HandoverBad i) (bad_segment plan bytes))
     (where_failed (nat_lt (named_end bytes) (length bytes)) BoxLong) parts.1 in
     record {
       header = ltb-false plan.header_length (header_length bytes)
           (passes (nat_lt plan.header_length (header_length bytes)) (HeaderLong plan.header_length)
           fields.0);
-      segments = passes (are_wrong (most_in bytes) (segments_in bytes) plan.down) BoxSegments more.0;
-      pad = passes (bad_pad plan bytes) BoxPad more.1;
+      segments = passes (bad_count plan bytes) BoxSegments more.0;
+      chunk = passes (bad_chunk plan bytes) BoxChunk last.0;
+      pad = passes (bad_pad plan bytes) BoxPad last.1;
       starts = none_mapped (bad_segment plan bytes) records.0;
       end = ltb-false (named_end bytes) (length bytes)
           (passes (nat_lt (named_end bytes) (length bytes)) BoxLong records.1);
@@ -150,32 +168,33 @@ three_none : (a b c : Bool) (r s t : BoxRefusal) → a ≡ false → b ≡ false
     → cond a (Some r) (cond b (Some s) (cond c (Some t) None)) ≡ None
 three_none a b c r s t e f g = rw (e, f, g) refl
 
-pub early_none : (bytes : List ℕ) → IsEarly bytes → early_fault bytes ≡ None
+pub early_none : (newest : Version) (bytes : List ℕ) → IsEarly newest bytes
+    → early_fault newest bytes ≡ None
 unfolding early_fault
-early_none bytes early =
+early_none newest bytes early =
     let begins : not (bytes_eq (take 4 bytes) magic) ≡ false = ap not early.begins in
     let whole : is_cut bytes ≡ false =
     or_from (nat_lt (length bytes) (list_place bytes)) (nat_lt (length bytes) (named_end bytes))
     (le-ltb (length bytes) (list_place bytes) early.whole.fields)
     (le-ltb (length bytes) (named_end bytes) early.whole.ends) in
     three_none (not (bytes_eq (take 4 bytes) magic))
-    (nat_lt 4 (length bytes) && not (is_version (slice_index bytes 4)))
+    (nat_lt 4 (length bytes) && not (is_version newest (slice_index bytes 4)))
     (is_cut bytes) BoxMagic BoxVersion BoxCut begins early.versions whole
 
-five_none : (a b c d : Bool) (o : Option ℕ) (r s t u : BoxRefusal) → a ≡ false → b ≡ false
-    → c ≡ false → o ≡ None → d ≡ false
-    → or_else (or_else (where_failed a r) (or_else (where_failed b s) (where_failed c t)))
+six_none : (a b k c d : Bool) (o : Option ℕ) (r s v t u : BoxRefusal) → a ≡ false → b ≡ false
+    → k ≡ false → c ≡ false → o ≡ None → d ≡ false
+    → or_else (or_else (where_failed a r) (or_else (where_failed b s)
+    (or_else (where_failed k v) (where_failed c t))))
     (or_else (option_map (λ i. HandoverBad i) o) (where_failed d u)) ≡ None
-five_none a b c d o r s t u e f g h i = rw (e, f, g, h, i) refl
+six_none a b k c d o r s v t u e f j g h i = rw (e, f, j, g, h, i) refl
 
 pub late_none : (plan : PlanFields) (bytes : List ℕ) → IsWhole bytes → IsLate plan bytes
     → late_fault plan (raw_of bytes) ≡ None
 late_none plan bytes whole late =
     late_is plan bytes whole
-    ∙ five_none (nat_lt plan.header_length (header_length bytes))
-    (are_wrong (most_in bytes) (segments_in bytes) plan.down) (bad_pad plan bytes)
-    (nat_lt (named_end bytes) (length bytes))
-    (bad_segment plan bytes) (HeaderLong plan.header_length) BoxSegments BoxPad BoxLong
-    (le-ltb plan.header_length (header_length bytes) late.header) late.segments
+    ∙ six_none (nat_lt plan.header_length (header_length bytes)) (bad_count plan bytes)
+    (bad_chunk plan bytes) (bad_pad plan bytes) (nat_lt (named_end bytes) (length bytes))
+    (bad_segment plan bytes) (HeaderLong plan.header_length) BoxSegments BoxChunk BoxPad BoxLong
+    (le-ltb plan.header_length (header_length bytes) late.header) late.segments late.chunk
     late.pad late.starts
     (le-ltb (named_end bytes) (length bytes) late.end)

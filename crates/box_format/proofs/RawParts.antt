@@ -7,9 +7,8 @@ use Rattle.jpeg_marker.specs.Plans.{PlanFields}
 use Rattle.scan_spec.specs.Slots.{shape_of}
 use Rattle.handover.specs.Handovers.{HandoverFields}
 use Rattle.handover.specs.HandoverBytes.{is_handover}
-use Rattle.box_format.specs.Parts.{cut_in}
 use Rattle.box_format.specs.Raws.{raw_of, numbers, handover_at, header_length, header_place, segments_in, stream_length, streams_place}
-use Rattle.box_format.specs.Whole.{bad_segment}
+use Rattle.box_format.specs.Whole.{bad_segment, rows_cut}
 use Rattle.box_format.proofs.Lists.{length_values, value_at, part_at}
 use Rattle.box_format.proofs.FirstBad.{each_starts}
 
@@ -45,7 +44,7 @@ pub is_sound_at : (plan : PlanFields) (bytes : List ℕ) (i : ℕ) → bad_segme
     → i < segments_in bytes → is_handover (handover_at bytes i) ≡ true
 is_sound_at plan bytes i none below =
     let z : 0 + i ≡ i = omega arith in
-    let starts = each_starts (shape_of plan) (cut_in plan (segments_in bytes))
+    let starts = each_starts (shape_of plan) (rows_cut plan bytes)
     (handover_at bytes) i 0 (segments_in bytes) none below in
     ap (λ (n : ℕ). is_handover (handover_at bytes n)) (sym z)
     ∙ (and_parts (is_handover (handover_at bytes (0 + i))) _ starts).0

@@ -36,14 +36,16 @@ fronted version pads count rest = magic ++ version_byte version ∷ pad_byte pad
 abbrev pub pads_at : List ℕ → PadBits
 pads_at bytes = pads_in (slice_index bytes 5) (list_in bytes)
 
-pub front_is : (bytes : List ℕ) (plan : PlanFields) → IsEarly bytes → bad_pad plan bytes ≡ false
+pub front_is : (newest : Version) (bytes : List ℕ) (plan : PlanFields) → IsEarly newest bytes
+    → bad_pad plan bytes ≡ false
     → bytes ≡ fronted (version_in bytes) (pads_at bytes) (segments_in bytes) (drop 7 bytes)
-front_is bytes plan early good =
+front_is newest bytes plan early good =
     let long : list_place bytes ≤ length bytes = early.whole.fields in
     let low = front_low (version_in bytes) in
     let more : nat_lt 4 (length bytes) ≡ true = lt-ltb 4 (length bytes) (omega (arith, long, low)) in
     let begins = same_text (take 4 bytes) magic (sym early.begins) in
-    let versions = version_is (nat_lt 4 (length bytes)) (slice_index bytes 4) more early.versions in
+    let versions = (version_is newest (nat_lt 4 (length bytes)) (slice_index bytes 4) more
+    early.versions).0 in
     let pad = pad_again (layout_of (version_in bytes)).listed (shape_of plan) (slice_index bytes 5)
     (list_in bytes) good in
     let four = next bytes 4 5 (omega (arith, long, low)) refl in

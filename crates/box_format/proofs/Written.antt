@@ -1,6 +1,6 @@
 -- A container's bytes, looked up again.
 use Rattle.std.proofs.Common.{◌≡◌, ◌<◌, ◌+◌, ◌*◌, ◌^◌, false, ℕ, suc, List, [], ◌∷◌, ◌++◌, length, take, drop, map, flat_map, refl, sym, ap, ◌∙◌, arith, subst, length-append}
-use Rattle.std.specs.Prelude.{slice_index, sum}
+use Rattle.std.specs.Prelude.{slice_index, sum, Option, Some, None, IfSome, is_some}
 use Rattle.std.specs.List.{AllByRecursion}
 use Rattle.std.proofs.lemmas.List.{take_at, drop_at, drop-drop}
 use Rattle.byteorder.specs.Endian.{big_bytes, big_number}
@@ -10,22 +10,24 @@ use Rattle.handover.specs.HandoverBytes.{handover_bytes, handover_in}
 use Rattle.handover.proofs.FieldBytes.{fields_again}
 use Rattle.scan_spec.specs.Pads.{PadBits}
 use Rattle.box_format.specs.Versions.{layout_of, version_byte, version_in}
-use Rattle.box_format.specs.Parts.{BoxParts, magic, pad_byte, list_bytes, list_length, records, box_bytes}
-use Rattle.box_format.specs.Raws.{numbers, parted, handover_at, front_room, record_place, stream_length, segments_in, header_length, trailer_length, list_long}
+use Rattle.box_format.specs.Parts.{BoxParts, magic, pad_byte, list_bytes, list_length, chunk_bytes, records, box_bytes}
+use Rattle.box_format.specs.Raws.{numbers, parted, chunk_in, handover_at, front_room, record_place, stream_length, segments_in, header_length, trailer_length, list_long}
+use Rattle.box_format.specs.declared.chunk.Chunk.{Chunk}
 use Rattle.box_format.specs.declared.version.Version.{Version}
-use Rattle.box_format.specs.declared.version.Version.TheVariants.{First, Second}
+use Rattle.box_format.specs.declared.version.Version.TheVariants.{First, Second, Third}
+use Rattle.box_format.proofs.Fronts.{Fits}
 use Rattle.box_format.proofs.Lists.{sum_first}
 use Rattle.box_format.proofs.PassedBox.{tail_is}
 use Rattle.box_format.proofs.Spelled.{fronted, together}
 
--- what follows the lengths
+-- what follows the fields
 abbrev pub after_fields : BoxParts → List ℕ
 after_fields b = records b.handovers b.streams
     ++ (list_bytes b.pads ++ (b.header ++ (b.trailer ++ flat_map (λ stream. stream) b.streams)))
 
 -- fields, by their values
-pub record IsFront (bytes : List ℕ) (v : Version) (pads : PadBits) (count h t : ℕ)
-    (rest : List ℕ) : Type 0 where
+pub record IsFront (bytes : List ℕ) (v : Version) (c : Option Chunk) (pads : PadBits)
+    (count h t : ℕ) (rest : List ℕ) : Type 0 where
   pub begins : take 4 bytes ≡ magic
   pub versions : slice_index bytes 4 ≡ version_byte v
   pub version : version_in bytes ≡ v
@@ -34,38 +36,54 @@ pub record IsFront (bytes : List ℕ) (v : Version) (pads : PadBits) (count h t 
   pub header : header_length bytes ≡ h
   pub trailer : trailer_length bytes ≡ t
   pub list : list_long bytes ≡ length (list_bytes pads)
+  pub chunk : chunk_in bytes ≡ c
   pub after : drop (front_room bytes) bytes ≡ rest
   pub long : length bytes ≡ front_room bytes + length rest
 
 -- a container's fields
 abbrev pub IsLaid : List ℕ → BoxParts → Type 0
 IsLaid bytes b =
-    IsFront bytes b.version b.pads (length b.handovers) (length b.header) (length b.trailer)
-    (after_fields b)
+    IsFront bytes b.version b.chunk b.pads (length b.handovers) (length b.header)
+    (length b.trailer) (after_fields b)
 
 -- with what is after them joined to the right
-abbrev pub nested : Version → PadBits → ℕ → ℕ → ℕ → List ℕ → List ℕ
-nested v pads count header trailer after =
+abbrev pub nested : Version → Option Chunk → PadBits → ℕ → ℕ → ℕ → List ℕ → List ℕ
+nested v c pads count header trailer after =
     fronted v pads count (big_bytes 4 header ++ (big_bytes 4 trailer
-    ++ (list_length (layout_of v).listed (list_bytes pads) ++ after)))
+    ++ (list_length (layout_of v).listed (list_bytes pads) ++ (chunk_bytes c ++ after))))
 
 pub nested_is : (b : BoxParts)
-    → nested b.version b.pads (length b.handovers) (length b.header) (length b.trailer)
+    → nested b.version b.chunk b.pads (length b.handovers) (length b.header) (length b.trailer)
     (after_fields b)
     ≡ box_bytes b
 unfolding box_bytes
 nested_is b =
     ap (λ (l : List ℕ). fronted b.version b.pads (length b.handovers)
     (big_bytes 4 (length b.header) ++ (big_bytes 4 (length b.trailer) ++ l)))
-    (tail_is (list_length (layout_of b.version).listed (list_bytes b.pads))
+    (tail_is (list_length (layout_of b.version).listed (list_bytes b.pads)) (chunk_bytes b.chunk)
     (records b.handovers b.streams) (list_bytes b.pads) b.header b.trailer
     (flat_map (λ stream. stream) b.streams))
 
-laid_nested : (v : Version) (pads : PadBits) (count header trailer : ℕ) (after : List ℕ)
+same_chunk : (c : Chunk) (place long skip from to : ℕ) → place ≡ c.place → long ≡ c.length
+    → skip ≡ c.skip → from ≡ c.from → to ≡ c.to
+    → ◌≡◌ {A = Option Chunk} (Some (record {
+      place = place;
+      length = long;
+      skip = skip;
+      from = from;
+      to = to;
+    })) (Some c)
+same_chunk c place long skip from to p l s f t = rw (p, l, s, f, t) refl
+
+laid_nested : (v : Version) (c : Option Chunk) (pads : PadBits) (count header trailer : ℕ)
+    (after : List ℕ) → is_some c ≡ (layout_of v).chunked → IfSome c Fits
     → header < 2 ^ 32 → trailer < 2 ^ 32 → length (list_bytes pads) < 2 ^ 32
     → ((layout_of v).listed ≡ false → length (list_bytes pads) ≡ 0)
-    → IsFront (nested v pads count header trailer after) v pads count header trailer after
-laid_nested First pads count header trailer after h t l none = record {
+    → IsFront (nested v c pads count header trailer after) v c pads count header trailer after
+laid_nested First (Some c) pads count header trailer after is fit h t l none = cc
+laid_nested Second (Some c) pads count header trailer after is fit h t l none = cc
+laid_nested Third None pads count header trailer after is fit h t l none = cc
+laid_nested First None pads count header trailer after is fit h t l none = record {
   begins = refl;
   versions = refl;
   version = refl;
@@ -74,10 +92,11 @@ laid_nested First pads count header trailer after h t l none = record {
   header = big_number-reads_back 4 header (big_bytes 4 trailer ++ after) h;
   trailer = big_number-reads_back 4 trailer after t;
   list = sym (none refl);
+  chunk = refl;
   after = refl;
   long = omega arith;
 }
-laid_nested Second pads count header trailer after h t l none =
+laid_nested Second None pads count header trailer after is fit h t l none =
     let list = big_bytes 4 (length (list_bytes pads)) in
     record {
       begins = refl;
@@ -88,19 +107,44 @@ laid_nested Second pads count header trailer after h t l none =
       header = big_number-reads_back 4 header (big_bytes 4 trailer ++ (list ++ after)) h;
       trailer = big_number-reads_back 4 trailer (list ++ after) t;
       list = big_number-reads_back 4 (length (list_bytes pads)) after l;
+      chunk = refl;
+      after = refl;
+      long = omega arith;
+    }
+laid_nested Third (Some c) pads count header trailer after is fit h t l none =
+    let list = big_bytes 4 (length (list_bytes pads)) in
+    let to = big_bytes 4 c.to ++ after in
+    let from = big_bytes 4 c.from ++ to in
+    let skip = big_bytes 8 c.skip ++ from in
+    let long = big_bytes 8 c.length ++ skip in
+    let chunk = big_bytes 8 c.place ++ long in
+    record {
+      begins = refl;
+      versions = refl;
+      version = refl;
+      pad = refl;
+      segments = refl;
+      header = big_number-reads_back 4 header (big_bytes 4 trailer ++ (list ++ chunk)) h;
+      trailer = big_number-reads_back 4 trailer (list ++ chunk) t;
+      list = big_number-reads_back 4 (length (list_bytes pads)) chunk l;
+      chunk = same_chunk c _ _ _ _ _ (big_number-reads_back 8 c.place long fit.place)
+          (big_number-reads_back 8 c.length skip fit.long)
+          (big_number-reads_back 8 c.skip from fit.skip) (big_number-reads_back 4 c.from to fit.from)
+          (big_number-reads_back 4 c.to after fit.to);
       after = refl;
       long = omega arith;
     }
 
-pub laid_box : (b : BoxParts) → length b.header < 2 ^ 32 → length b.trailer < 2 ^ 32
+pub laid_box : (b : BoxParts) → is_some b.chunk ≡ (layout_of b.version).chunked
+    → IfSome b.chunk Fits → length b.header < 2 ^ 32 → length b.trailer < 2 ^ 32
     → length (list_bytes b.pads) < 2 ^ 32
     → ((layout_of b.version).listed ≡ false → length (list_bytes b.pads) ≡ 0)
     → IsLaid (box_bytes b) b
-laid_box b h t l none =
+laid_box b is fit h t l none =
     subst
     (λ (bytes : List ℕ). IsLaid bytes b) (nested_is b)
-    (laid_nested b.version b.pads (length b.handovers) (length b.header) (length b.trailer)
-    (after_fields b) h t l none)
+    (laid_nested b.version b.chunk b.pads (length b.handovers) (length b.header)
+    (length b.trailer) (after_fields b) is fit h t l none)
 
 -- the records, from one on, as they were put
 pub record AreRead (bytes : List ℕ) (from : ℕ) (handovers : List HandoverFields)

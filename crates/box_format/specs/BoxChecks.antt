@@ -1,24 +1,28 @@
 -- Statement: why bytes are no container: the first check that fails (docs/FORMAT.md, The container).
-use Rattle.std.specs.Prelude.{ℕ, ◌≡◌, ◌⊎◌, Bool, ◌&&◌, ◌||◌, not, ◌==◌, nat_lt, if◌then◌else◌, List, length, take, slice_index, bytes_eq, Option, Some, None, option_map}
+use Rattle.std.specs.Prelude.{ℕ, ◌+◌, ◌-◌, ◌≡◌, ◌⊎◌, Bool, false, ◌&&◌, ◌||◌, not, ◌==◌, nat_lt, if◌then◌else◌, List, length, take, slice_index, bytes_eq, Option, Some, None, option_map}
 use Rattle.jpeg_marker.specs.Plans.{PlanFields}
 use Rattle.jpeg_marker.specs.HeaderPlan.{Accepts, Refuses as HeaderRefuses}
 use Rattle.jpeg_marker.specs.declared.refusal.HeaderRefusal.{HeaderRefusal}
 use Rattle.scan_spec.specs.Slots.{Shape, shape_of}
-use Rattle.box_format.specs.Versions.{layout_of, is_version}
-use Rattle.box_format.specs.Parts.{magic, is_list, bad_start, cut_in}
+use Rattle.cut_spec.specs.Cuts.{Cut}
+use Rattle.box_format.specs.Versions.{layout_of, is_version, newest_decoded}
+use Rattle.box_format.specs.Parts.{magic, is_list, bad_start, box_cut, header_part, rows_most}
 use Rattle.box_format.specs.Raws.{Raw, raw_of, list_place, named_end}
+use Rattle.box_format.specs.declared.chunk.Chunk.{Chunk}
+use Rattle.box_format.specs.declared.version.Version.{Version}
 use Rattle.box_format.specs.declared.refusal.BoxRefusal.{BoxRefusal}
-use Rattle.box_format.specs.declared.refusal.BoxRefusal.TheVariants.{BoxMagic, BoxVersion, BoxCut, BoxHeader, HeaderLong, BoxSegments, BoxPad, HandoverBad, BoxLong}
+use Rattle.box_format.specs.declared.refusal.BoxRefusal.TheVariants.{BoxMagic, BoxVersion, BoxCut, BoxHeader, HeaderLong, BoxSegments, BoxChunk, BoxPad, HandoverBad, BoxLong}
 
 -- the bytes end within the fields, or before the end that these name
 abbrev pub is_cut : List ℕ → Bool
 is_cut bytes = nat_lt (length bytes) (list_place bytes) || nat_lt (length bytes) (named_end bytes)
 
--- the checks before the header, in their order
-unfoldable pub early_fault : List ℕ → Option BoxRefusal
-early_fault bytes =
+-- the checks before the header, in their order, of who reads versions up to the newest one
+unfoldable pub early_fault : Version → List ℕ → Option BoxRefusal
+early_fault newest bytes =
     if not (bytes_eq (take 4 bytes) magic) then Some BoxMagic
-    else if nat_lt 4 (length bytes) && not (is_version (slice_index bytes 4)) then Some BoxVersion
+    else if nat_lt 4 (length bytes) && not (is_version newest (slice_index bytes 4))
+    then Some BoxVersion
     else if is_cut bytes then Some BoxCut
     else None
 
@@ -31,6 +35,23 @@ or_else None later = later
 abbrev pub where_failed : Bool → BoxRefusal → Option BoxRefusal
 where_failed failed refusal = if failed then Some refusal else None
 
+-- whether these can't be a container's segments: they are more than the version can have or than rows, or there is none
+-- though there are rows
+abbrev pub are_wrong : ℕ → Cut → Bool
+are_wrong most cut =
+    nat_lt most cut.segments
+    || ((not (nat_lt cut.to cut.from) && nat_lt (cut.to - cut.from) cut.segments)
+    || (nat_lt cut.from cut.to && cut.segments == 0))
+
+-- whether a chunk can't be one of a grid of so many rows: its rows are in the wrong order or none of the grid, it has no
+-- room for its parts of header and trailer, or without a row it has other bytes
+abbrev pub is_bad_chunk : ℕ → List ℕ → List ℕ → Option Chunk → Bool
+is_bad_chunk down header trailer None = false
+is_bad_chunk down header trailer (Some c) =
+    nat_lt c.to c.from || (nat_lt down c.to
+    || (nat_lt c.length (length (header_part c header) + length trailer)
+    || (c.from == c.to && (not (rows_most c header trailer == 0) || not (c.skip == 0)))))
+
 -- whether a version can't say a pad byte with a list: without a list the byte says one bit, and with one it is 2
 abbrev pub is_bad_pad : Bool → Shape → ℕ → List ℕ → Bool
 is_bad_pad listed shape pad list =
@@ -40,17 +61,16 @@ is_bad_pad listed shape pad list =
 -- the checks after a header that is accepted, in their order
 unfoldable pub late_fault : PlanFields → Raw → Option BoxRefusal
 late_fault plan raw =
-    let segments = length raw.handovers in
+    let cut = box_cut plan raw.chunk (length raw.handovers) in
     or_else (where_failed (nat_lt plan.header_length (length raw.header))
     (HeaderLong plan.header_length))
-    (or_else (where_failed
-    (segments == 0 || (nat_lt (layout_of raw.version).most segments || nat_lt plan.down segments))
-    BoxSegments)
+    (or_else (where_failed (are_wrong (layout_of raw.version).most cut) BoxSegments)
+    (or_else (where_failed (is_bad_chunk plan.down raw.header raw.trailer raw.chunk) BoxChunk)
     (or_else (where_failed (is_bad_pad (layout_of raw.version).listed (shape_of plan) raw.pad
     raw.list) BoxPad)
     (or_else (option_map (λ i. HandoverBad i)
-    (bad_start (shape_of plan) (cut_in plan segments) 0 raw.handovers))
-    (where_failed (nat_lt 0 (length raw.rest)) BoxLong))))
+    (bad_start (shape_of plan) cut 0 raw.handovers))
+    (where_failed (nat_lt 0 (length raw.rest)) BoxLong)))))
 
 -- the header is refused, or it is accepted and a later check fails
 abbrev pub FailsAfter : Raw → BoxRefusal → Type 0
@@ -58,14 +78,18 @@ FailsAfter raw refusal =
     ((inner : HeaderRefusal) × HeaderRefuses raw.header inner × (refusal ≡ BoxHeader inner))
     ⊎ ((plan : PlanFields) × Accepts raw.header plan × (late_fault plan raw ≡ Some refusal))
 
--- the first check that fails
+-- the first check that fails, of who reads versions up to the newest one
+abbrev pub IsRefusedBy : Version → List ℕ → BoxRefusal → Type 0
+IsRefusedBy newest bytes refusal =
+    (early_fault newest bytes ≡ Some refusal)
+    ⊎ ((early_fault newest bytes ≡ None) × FailsAfter (raw_of bytes) refusal)
+
+-- and of who decodes
 abbrev pub IsRefusedBox : List ℕ → BoxRefusal → Type 0
-IsRefusedBox bytes refusal =
-    (early_fault bytes ≡ Some refusal)
-    ⊎ ((early_fault bytes ≡ None) × FailsAfter (raw_of bytes) refusal)
+IsRefusedBox = IsRefusedBy newest_decoded
 
 -- no check fails
-pub record PassesChecks (plan : PlanFields) (bytes : List ℕ) : Type 0 where
-  pub early : early_fault bytes ≡ None
+pub record PassesChecks (newest : Version) (plan : PlanFields) (bytes : List ℕ) : Type 0 where
+  pub early : early_fault newest bytes ≡ None
   pub header : Accepts (raw_of bytes).header plan
   pub late : late_fault plan (raw_of bytes) ≡ None

@@ -1,25 +1,32 @@
 -- Law: what holds of all containers (own).
-use Rattle.std.specs.Prelude.{ℕ, ◌≡◌, List}
+use Rattle.std.specs.Prelude.{ℕ, ◌≡◌, ◌≤◌, false, List}
 use Rattle.std.specs.List.{AllByRecursion}
 use Rattle.bit_list.specs.Bits.{IsByte}
 use Rattle.jpeg_marker.specs.Plans.{PlanFields}
 use Rattle.box_format.specs.Parts.{BoxParts, IsBox, IsBoxOf, box_bytes, migrated, relaid}
 use Rattle.box_format.specs.Raws.{raw_of, parts_of}
-use Rattle.box_format.specs.BoxChecks.{IsRefusedBox, PassesChecks}
+use Rattle.box_format.specs.BoxChecks.{IsRefusedBy, PassesChecks}
+use Rattle.box_format.specs.Versions.{layout_of, version_byte}
 use Rattle.box_format.specs.declared.refusal.BoxRefusal.{BoxRefusal}
+use Rattle.box_format.specs.declared.version.Version.{Version}
 use Rattle.box_format.specs.declared.version.Version.TheVariants.{First, Second}
 
--- a container's checks pass, and its fields are its parts
+-- a version is read
+abbrev pub IsRead : Version → Version → Type 0
+IsRead newest version = version_byte version ≤ version_byte newest
+
+-- a container's checks pass if its version is read, and its fields are its parts
 abbrev pub BoxPasses : Type 0
 BoxPasses =
-    (plan : PlanFields) (b : BoxParts) → IsBox plan b
-    → PassesChecks plan (box_bytes b) × (parts_of (raw_of (box_bytes b)) ≡ b)
+    (newest : Version) (plan : PlanFields) (b : BoxParts) → IsRead newest b.version → IsBox plan b
+    → PassesChecks newest plan (box_bytes b) × (parts_of (raw_of (box_bytes b)) ≡ b)
 
 -- and bytes whose checks pass are the container of their fields
 abbrev pub PassedIsBox : Type 0
 PassedIsBox =
-    (plan : PlanFields) (bytes : List ℕ) → AllByRecursion IsByte bytes
-    → PassesChecks plan bytes → IsBoxOf plan (parts_of (raw_of bytes)) bytes
+    (newest : Version) (plan : PlanFields) (bytes : List ℕ) → AllByRecursion IsByte bytes
+    → PassesChecks newest plan bytes
+    → IsBoxOf plan (parts_of (raw_of bytes)) bytes × IsRead newest (raw_of bytes).version
 
 -- so a container has one plan and one list of parts
 abbrev pub OneBox : Type 0
@@ -30,22 +37,24 @@ OneBox =
 -- other bytes have one refusal
 abbrev pub OneBoxRefusal : Type 0
 OneBoxRefusal =
-    (bytes : List ℕ) (refusal other : BoxRefusal) → AllByRecursion IsByte bytes
-    → IsRefusedBox bytes refusal → IsRefusedBox bytes other → refusal ≡ other
+    (newest : Version) (bytes : List ℕ) (refusal other : BoxRefusal)
+    → IsRefusedBy newest bytes refusal → IsRefusedBy newest bytes other → refusal ≡ other
 
 -- and no bytes are both
 abbrev pub NeverBoth : Type 0
 NeverBoth =
-    (bytes : List ℕ) (plan : PlanFields) (b : BoxParts) (refusal : BoxRefusal)
-    → IsBoxOf plan b bytes → IsRefusedBox bytes refusal → ⊥
+    (newest : Version) (bytes : List ℕ) (plan : PlanFields) (b : BoxParts) (refusal : BoxRefusal)
+    → IsRead newest b.version → IsBoxOf plan b bytes → IsRefusedBy newest bytes refusal → ⊥
 
 -- a container of the second version is migrated already
 abbrev pub SecondStays : Type 0
 SecondStays = (b : BoxParts) → b.version ≡ Second → migrated b ≡ b
 
--- the parts of a container are those of one of the second version too
+-- the parts of a container that has no chunk are those of one of the second version too
 abbrev pub MigratedIsBox : Type 0
-MigratedIsBox = (plan : PlanFields) (b : BoxParts) → IsBox plan b → IsBox plan (migrated b)
+MigratedIsBox =
+    (plan : PlanFields) (b : BoxParts) → (layout_of b.version).chunked ≡ false → IsBox plan b
+    → IsBox plan (migrated b)
 
 -- and the bytes of that one are a container's of the first version, but for the fields of the version and of the list
 abbrev pub RelaidIsMigrated : Type 0

@@ -2,13 +2,14 @@
 use Rattle.std.specs.Prelude.{ℕ, ◌≡◌, true, List, [], ◌∷◌, ◌++◌, length, replicate, map, take, drop, slice_set, slice_index, Some, None}
 use Rattle.jpeg_marker.specs.Plans.{PlanFields}
 use Rattle.scan_spec.specs.BlockRows.{level_table}
+use Rattle.scan_spec.specs.ScanRows.{ones}
 use Rattle.handover.specs.Handovers.{start}
 use Rattle.scan_spec.specs.Pads.{Same, Listed}
 use Rattle.box_format.specs.Parts.{BoxParts, box_bytes, migrated}
 use Rattle.box_format.specs.Raws.{numbers, raw_of, parts_of}
 use Rattle.box_format.specs.BoxChecks.{early_fault, late_fault}
-use Rattle.box_format.specs.declared.version.Version.TheVariants.{First, Second}
-use Rattle.box_format.specs.declared.refusal.BoxRefusal.TheVariants.{BoxMagic, BoxVersion, BoxCut, BoxSegments, BoxPad, HandoverBad, BoxLong, HeaderLong}
+use Rattle.box_format.specs.declared.version.Version.TheVariants.{First, Second, Third}
+use Rattle.box_format.specs.declared.refusal.BoxRefusal.TheVariants.{BoxMagic, BoxVersion, BoxCut, BoxSegments, BoxChunk, BoxPad, HandoverBad, BoxLong, HeaderLong}
 
 -- a header of one component with one code word in each table, eight columns wide
 abbrev pub grey_header : ℕ → List ℕ
@@ -42,6 +43,7 @@ image_end = 0xff ∷ 0xd9 ∷ []
 abbrev pub least_parts : BoxParts
 least_parts = record {
   version = First;
+  chunk = None;
   pads = Same true;
   header = grey_header 8;
   trailer = image_end;
@@ -53,6 +55,7 @@ least_parts = record {
 abbrev pub byteless_parts : BoxParts
 byteless_parts = record {
   version = First;
+  chunk = None;
   pads = Same true;
   header = grey_header 16;
   trailer = image_end;
@@ -93,13 +96,49 @@ mixed_box = box_bytes mixed_parts
 abbrev pub byteless_box : List ℕ
 byteless_box = box_bytes byteless_parts
 
+-- the plan of a header of 32 rows whose code words are one bit of value 1
+abbrev pub ones_plan : PlanFields
+ones_plan = record (grey_plan 4) {
+  components = record { id = 1; h = 1; v = 1; dc = ones.dc; ac = ones.ac } ∷ [];
+  header_length = 71;
+}
+
+-- its header
+abbrev pub ones_header : List ℕ
+ones_header =
+    0xff ∷ 0xd8 ∷ 0xff ∷ 0xc0 ∷ 0x00 ∷ 0x0b ∷ 0x08 ∷ 0x00 ∷ 0x20 ∷ 0x00 ∷ 0x08
+    ∷ 0x01 ∷ 0x01 ∷ 0x11 ∷ 0x00 ∷ []
+    ++ 0xff ∷ 0xc4 ∷ 0x00 ∷ 0x15 ∷ 0x00 ∷ 0x02 ∷ replicate 15 0 ++ 0x01 ∷ 0x00 ∷ []
+    ++ 0xff ∷ 0xc4 ∷ 0x00 ∷ 0x15 ∷ 0x10 ∷ 0x02 ∷ replicate 15 0 ++ 0x01 ∷ 0x00 ∷ []
+    ++ 0xff ∷ 0xda ∷ 0x00 ∷ 0x08 ∷ 0x01 ∷ 0x01 ∷ 0x00 ∷ 0x00 ∷ 0x3f ∷ 0x00 ∷ []
+
+-- bytes 72 to 74 of a file of 75, whose scan is a byte and its stuffed zero, to which four rows come
+abbrev pub chunk_parts : BoxParts
+chunk_parts = record {
+  version = Third;
+  chunk = Some (record { place = 72; length = 3; skip = 1; from = 3; to = 4 });
+  pads = Same true;
+  header = ones_header;
+  trailer = image_end;
+  handovers = record start { partial = 0xfc; bits = 6 } ∷ [];
+  streams = zeros ∷ [];
+}
+
+-- that chunk's container, byte for byte
+abbrev pub chunk_box : List ℕ
+chunk_box =
+    0x4c ∷ 0x50 ∷ 0x53 ∷ 0x47 ∷ 3 ∷ 1 ∷ 1 ∷ 0 ∷ 0 ∷ 0 ∷ 0x47 ∷ 0 ∷ 0 ∷ 0 ∷ 2 ∷ 0 ∷ 0 ∷ 0 ∷ 0 ∷ []
+    ++ replicate 7 0 ++ 0x48 ∷ replicate 7 0 ++ 3 ∷ replicate 7 0 ++ 1 ∷ []
+    ++ 0 ∷ 0 ∷ 0 ∷ 3 ∷ 0 ∷ 0 ∷ 0 ∷ 4 ∷ []
+    ++ 0xfc ∷ 6 ∷ replicate 12 0 ++ replicate 7 0 ++ 3 ∷ ones_header ++ 0xff ∷ 0xd9 ∷ zeros
+
 -- bytes and parts, both ways
 abbrev pub laid_out : Type 0
 laid_out =
     (length least_box ≡ 111)
     × (box_bytes least_parts ≡ least_box)
     × (parts_of (raw_of least_box) ≡ least_parts)
-    × (early_fault least_box ≡ None)
+    × (early_fault Third least_box ≡ None)
     × (late_fault (grey_plan 1) (raw_of least_box) ≡ None)
     × (length byteless_box ≡ 136)
     × (parts_of (raw_of byteless_box) ≡ byteless_parts)
@@ -107,7 +146,7 @@ laid_out =
     × (length second_box ≡ 115)
     × (box_bytes (migrated least_parts) ≡ second_box)
     × (parts_of (raw_of second_box) ≡ migrated least_parts)
-    × (early_fault second_box ≡ None)
+    × (early_fault Third second_box ≡ None)
     × (late_fault (grey_plan 1) (raw_of second_box) ≡ None)
     × (slice_index mixed_box 5 ≡ 2)
     × (slice_index mixed_box 63 ≡ 0x80)
@@ -117,14 +156,14 @@ laid_out =
 -- containers that are refused before a header is looked for
 abbrev pub early : Type 0
 early =
-    (early_fault [] ≡ Some BoxMagic)
-    × (early_fault (slice_set least_box 0 0x4d) ≡ Some BoxMagic)
-    × (early_fault (take 3 least_box) ≡ Some BoxMagic)
-    × (early_fault (take 4 least_box) ≡ Some BoxCut)
-    × (early_fault (slice_set least_box 4 0x07) ≡ Some BoxVersion)
-    × (early_fault (take 110 least_box) ≡ Some BoxCut)
-    × (early_fault (slice_set least_box 4 2) ≡ Some BoxCut)
-    × (early_fault (slice_set second_box 4 3) ≡ Some BoxVersion)
+    (early_fault Third [] ≡ Some BoxMagic)
+    × (early_fault Third (slice_set least_box 0 0x4d) ≡ Some BoxMagic)
+    × (early_fault Third (take 3 least_box) ≡ Some BoxMagic)
+    × (early_fault Third (take 4 least_box) ≡ Some BoxCut)
+    × (early_fault Third (slice_set least_box 4 0x07) ≡ Some BoxVersion)
+    × (early_fault Third (take 110 least_box) ≡ Some BoxCut)
+    × (early_fault Third (slice_set least_box 4 2) ≡ Some BoxCut)
+    × (early_fault Second (slice_set second_box 4 3) ≡ Some BoxVersion)
 
 -- and after one that is accepted
 abbrev pub late : Type 0
@@ -144,8 +183,30 @@ late =
     × (late_fault mixed_plan (raw_of (slice_set mixed_box 5 3)) ≡ Some BoxPad)
     × (late_fault (grey_plan 1) (raw_of (slice_set second_box 5 2)) ≡ Some BoxPad)
 
+-- a chunk's container, and the first byte of the file's, for which no row is needed
+abbrev pub chunks : Type 0
+chunks =
+    let fault = λ (bytes : List ℕ). late_fault ones_plan (raw_of bytes) in
+    (length chunk_box ≡ 149)
+    × (box_bytes chunk_parts ≡ chunk_box)
+    × (parts_of (raw_of chunk_box) ≡ chunk_parts)
+    × (early_fault Third chunk_box ≡ None)
+    × (early_fault Second chunk_box ≡ Some BoxVersion)
+    × (early_fault Third (take 148 chunk_box) ≡ Some BoxCut)
+    × (fault chunk_box ≡ None)
+    × (fault (slice_set chunk_box 46 5) ≡ Some BoxChunk)
+    × (fault (slice_set chunk_box 50 5) ≡ Some BoxChunk)
+    × (fault (slice_set chunk_box 50 3) ≡ Some BoxSegments)
+    × (fault (slice_set chunk_box 34 1) ≡ Some BoxChunk)
+    × (fault (slice_set chunk_box 26 0) ≡ Some BoxChunk)
+    × (fault (slice_set chunk_box 26 70) ≡ None)
+    × (fault (slice_set chunk_box 46 0) ≡ Some (HandoverBad 0))
+    × (fault (slice_set chunk_box 46 2) ≡ None)
+    × (fault (slice_set chunk_box 5 2) ≡ Some BoxPad)
+    × (fault (chunk_box ++ 0 ∷ []) ≡ Some BoxLong)
+
 -- every proper prefix of a container is refused for its first bytes, or as cut
 abbrev pub prefixes : Type 0
 prefixes =
-    map (λ n. early_fault (take n least_box)) (numbers 0 111)
+    map (λ n. early_fault Third (take n least_box)) (numbers 0 111)
     ≡ replicate 4 (Some BoxMagic) ++ replicate 107 (Some BoxCut)

@@ -1,7 +1,8 @@
 -- Statement: a container by its parts, and its bytes by offset (docs/FORMAT.md, The container).
-use Rattle.std.specs.Prelude.{ℕ, ◌<◌, ◌≤◌, ◌≡◌, ◌^◌, Bool, ◌&&◌, ◌||◌, not, ◌==◌, true, if◌then◌else◌, List, [], ◌∷◌, ◌++◌, length, take, drop, flat_map, ◌+◌, unsigned_abs, slice_index_or, pos, Option, Some, None}
+use Rattle.std.specs.Prelude.{ℕ, ◌<◌, ◌≤◌, ◌≡◌, ◌^◌, Bool, ◌&&◌, ◌||◌, not, ◌==◌, true, if◌then◌else◌, List, [], ◌∷◌, ◌++◌, length, take, drop, flat_map, ◌+◌, ◌-◌, unsigned_abs, slice_index_or, pos, Option, Some, None, IfSome, is_some}
 use Rattle.std.specs.List.{list_all, list_any, AllByRecursion}
 use Rattle.byteorder.specs.Endian.{big_bytes}
+use Rattle.byte_window.specs.Slices.{Cover, slice}
 use Rattle.bit_list.specs.Bits.{IsByte, bits_of}
 use Rattle.jpeg_marker.specs.Plans.{PlanFields}
 use Rattle.jpeg_marker.specs.HeaderPlan.{Accepts}
@@ -12,12 +13,15 @@ use Rattle.handover.specs.HandoverBytes.{handover_bytes, is_handover}
 use Rattle.cut_spec.specs.Cuts.{Cut, first_mcu}
 use Rattle.cut_spec.specs.RowHandovers.{markers_before}
 use Rattle.box_format.specs.Versions.{layout_of, version_byte}
+use Rattle.box_format.specs.declared.chunk.Chunk.{Chunk}
 use Rattle.box_format.specs.declared.version.Version.{Version}
 use Rattle.box_format.specs.declared.version.Version.TheVariants.{Second}
 
--- a version, the pad bits, the header, the trailer, and for each segment what it starts from and its stream
+-- a version, the chunk if it has a chunk of a file, the pad bits, the header, the trailer or the chunk's part of it, and
+-- for each segment what it starts from and its stream
 pub record BoxParts : Type 0 where
   pub version : Version
+  pub chunk : Option Chunk
   pub pads : PadBits
   pub header : List ℕ
   pub trailer : List ℕ
@@ -46,6 +50,13 @@ list_bytes (Listed bytes) = bytes
 abbrev pub list_length : Bool → List ℕ → List ℕ
 list_length listed list = if listed then big_bytes 4 (length list) else []
 
+-- a chunk's fields, if there is a chunk
+abbrev pub chunk_bytes : Option Chunk → List ℕ
+chunk_bytes None = []
+chunk_bytes (Some c) =
+    big_bytes 8 c.place ++ (big_bytes 8 c.length ++ (big_bytes 8 c.skip
+    ++ (big_bytes 4 c.from ++ big_bytes 4 c.to)))
+
 -- a record for each segment: its handover, and its stream's length
 abbrev pub records : List HandoverFields → List (List ℕ) → List ℕ
 records [] streams = []
@@ -58,7 +69,7 @@ unfoldable pub box_bytes : BoxParts → List ℕ
 box_bytes b =
     magic ++ version_byte b.version ∷ pad_byte b.pads ∷ length b.handovers
     ∷ big_bytes 4 (length b.header) ++ big_bytes 4 (length b.trailer)
-    ++ list_length (layout_of b.version).listed (list_bytes b.pads)
+    ++ list_length (layout_of b.version).listed (list_bytes b.pads) ++ chunk_bytes b.chunk
     ++ records b.handovers b.streams ++ list_bytes b.pads
     ++ b.header ++ b.trailer ++ flat_map (λ stream. stream) b.streams
 
@@ -89,10 +100,46 @@ bad_start shape cut i [] = None
 bad_start shape cut i (h ∷ handovers) =
     if can_start shape (first_mcu cut i) h then bad_start shape cut (i + 1) handovers else Some i
 
--- a container's rows in this many segments
+-- a grid's rows in this many segments
 abbrev pub cut_in : PlanFields → ℕ → Cut
 cut_in plan segments =
     record { across = plan.across; from = 0; to = plan.down; segments = segments }
+
+-- a container's rows, which are the chunk's if it has one
+abbrev pub box_rows : PlanFields → Option Chunk → Cover
+box_rows plan None = record { from = 0; to = plan.down }
+box_rows plan (Some c) = record { from = c.from; to = c.to }
+
+-- and in this many segments
+abbrev pub box_cut : PlanFields → Option Chunk → ℕ → Cut
+box_cut plan chunk segments =
+    let rows = box_rows plan chunk in
+    record { across = plan.across; from = rows.from; to = rows.to; segments = segments }
+
+-- the bytes of a header that lie in a chunk
+abbrev pub header_part : Chunk → List ℕ → List ℕ
+header_part c header = slice c.place (c.place + c.length) header
+
+-- how many bytes of a chunk lie neither in the header nor in the trailer
+abbrev pub rows_most : Chunk → List ℕ → List ℕ → ℕ
+rows_most c header trailer = c.length - (length (header_part c header) + length trailer)
+
+-- a chunk of a grid of so many rows has room for its parts of header and trailer, and other bytes only if it has a row
+pub record IsChunkIn (down : ℕ) (header trailer : List ℕ) (c : Chunk) : Type 0 where
+  pub order : c.from ≤ c.to
+  pub within : c.to ≤ down
+  pub room : length (header_part c header) + length trailer ≤ c.length
+  pub rowless : c.from ≡ c.to → (rows_most c header trailer ≡ 0) × (c.skip ≡ 0)
+  pub place_fits : c.place < 2 ^ 64
+  pub length_fits : c.length < 2 ^ 64
+  pub skip_fits : c.skip < 2 ^ 64
+  pub from_fits : c.from < 2 ^ 32
+  pub to_fits : c.to < 2 ^ 32
+
+-- each segment has a row, and each row is in a segment
+pub record IsCut (cut : Cut) : Type 0 where
+  pub some : cut.from < cut.to → 0 < cut.segments
+  pub rows : cut.segments ≤ cut.to - cut.from
 
 -- whether a list has a bit for each interval, and bits of 0 after them
 abbrev pub is_list : Shape → List ℕ → Bool
@@ -109,13 +156,15 @@ can_pad listed shape (Listed bytes) = listed && is_list shape bytes
 pub record IsBox (plan : PlanFields) (b : BoxParts) : Type 0 where
   pub header : Accepts b.header plan
   pub whole : plan.header_length ≡ length b.header
-  pub some : 0 < length b.handovers
   pub few : length b.handovers ≤ (layout_of b.version).most
-  pub rows : length b.handovers ≤ plan.down
+  pub cut : IsCut (box_cut plan b.chunk (length b.handovers))
+  pub chunked : is_some b.chunk ≡ (layout_of b.version).chunked
+  pub chunk : IfSome b.chunk (IsChunkIn plan.down b.header b.trailer)
   pub pads : can_pad (layout_of b.version).listed (shape_of plan) b.pads ≡ true
   pub streams : length b.streams ≡ length b.handovers
   pub each : AllByRecursion IsHandover b.handovers
-  pub starts : bad_start (shape_of plan) (cut_in plan (length b.handovers)) 0 b.handovers ≡ None
+  pub starts : bad_start (shape_of plan) (box_cut plan b.chunk (length b.handovers)) 0 b.handovers
+      ≡ None
   pub header_fits : length b.header < 2 ^ 32
   pub trailer_fits : length b.trailer < 2 ^ 32
   pub list_fits : length (list_bytes b.pads) < 2 ^ 32

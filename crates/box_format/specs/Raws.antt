@@ -1,17 +1,19 @@
 -- Statement: the fields of bytes that may be a container, by their offsets, before any check (docs/FORMAT.md, The
 -- container).
-use Rattle.std.specs.Prelude.{ℕ, zero, suc, ◌+◌, ◌*◌, not, ◌==◌, if◌then◌else◌, List, [], ◌∷◌, take, drop, map, sum, slice_index}
+use Rattle.std.specs.Prelude.{ℕ, zero, suc, ◌+◌, ◌*◌, not, ◌==◌, if◌then◌else◌, List, [], ◌∷◌, take, drop, map, sum, slice_index, Option, Some, None}
 use Rattle.byteorder.specs.Endian.{big_number}
 use Rattle.handover.specs.Handovers.{HandoverFields}
 use Rattle.handover.specs.HandoverBytes.{handover_in}
 use Rattle.scan_spec.specs.Pads.{PadBits, Same, Listed}
 use Rattle.box_format.specs.Parts.{BoxParts}
 use Rattle.box_format.specs.Versions.{layout_of, version_in}
+use Rattle.box_format.specs.declared.chunk.Chunk.{Chunk}
 use Rattle.box_format.specs.declared.version.Version.{Version}
 
--- the version, the pad byte, the pad list, the parts, and what follows them
+-- the version, the chunk, the pad byte, the pad list, the parts, and what follows them
 pub record Raw : Type 0 where
   pub version : Version
+  pub chunk : Option Chunk
   pub pad : ℕ
   pub list : List ℕ
   pub handovers : List HandoverFields
@@ -54,6 +56,17 @@ abbrev pub list_long : List ℕ → ℕ
 list_long bytes =
     if (layout_of (version_in bytes)).listed then big_number 4 (drop 15 bytes) else 0
 
+-- the chunk, in a version that has one
+abbrev pub chunk_in : List ℕ → Option Chunk
+chunk_in bytes =
+    if (layout_of (version_in bytes)).chunked then Some (record {
+      place = big_number 8 (drop 19 bytes);
+      length = big_number 8 (drop 27 bytes);
+      skip = big_number 8 (drop 35 bytes);
+      from = big_number 4 (drop 43 bytes);
+      to = big_number 4 (drop 47 bytes);
+    }) else None
+
 -- the length of a segment's stream
 abbrev pub stream_length : List ℕ → ℕ → ℕ
 stream_length bytes i = big_number 8 (drop (record_place bytes i + 14) bytes)
@@ -95,6 +108,7 @@ handover_at bytes i = handover_in (take 14 (drop (record_place bytes i) bytes))
 unfoldable pub raw_of : List ℕ → Raw
 raw_of bytes = record {
   version = version_in bytes;
+  chunk = chunk_in bytes;
   pad = slice_index bytes 5;
   list = take (list_long bytes) (drop (list_place bytes) bytes);
   handovers = map (handover_at bytes) (numbers 0 (segments_in bytes));
@@ -112,6 +126,7 @@ pads_in pad list = if pad == 2 then Listed list else Same (not (pad == 0))
 abbrev pub parts_of : Raw → BoxParts
 parts_of raw = record {
   version = raw.version;
+  chunk = raw.chunk;
   pads = pads_in raw.pad raw.list;
   header = raw.header;
   trailer = raw.trailer;

@@ -1,5 +1,5 @@
 -- View: what contracts see of a container that was read, and what one is written from (own).
-use Rattle.std.specs.Prelude.{ℕ, ◌+◌, length, map, sum}
+use Rattle.std.specs.Prelude.{ℕ, ◌+◌, length, map, sum, Option, Some, None}
 use Rattle.std.specs.List.{AllByRecursion}
 use Rattle.bit_list.specs.Bits.{IsByte}
 use Rattle.jpeg_marker.specs.Plans.{PlanFields}
@@ -8,9 +8,11 @@ use Rattle.box_format.specs.Versions.{layout_of}
 use Rattle.box_format.specs.Parts.{BoxParts, list_bytes}
 use Rattle.box_format.specs.Raws.{record_room, raw_of, parts_of}
 use Rattle.box_format.specs.BoxChecks.{PassesChecks}
+use Rattle.box_format.specs.declared.chunk.Chunk.{Chunk}
 use Rattle.box_format.specs.declared.view.BoxView.TheInside.{Inside}
 use Rattle.box_format.specs.declared.parts.Parts.{Parts}
-use Rattle.box_format.specs.declared.version.Version.TheVariants.{Second}
+use Rattle.box_format.specs.declared.version.Version.{Version}
+use Rattle.box_format.specs.declared.version.Version.TheVariants.{Second, Third}
 
 -- the header's plan, and the parts
 pub record BoxSeen : Type 0 where
@@ -23,13 +25,19 @@ seen_of v = record { plan = v.plan; parts = parts_of (raw_of v.bytes.now) }
 
 -- the bytes are a container with this plan
 pub record IsView (v : Inside) : Type 0 where
-  pub checks : PassesChecks v.plan v.bytes.now
+  pub checks : PassesChecks Third v.plan v.bytes.now
   pub bytes : AllByRecursion IsByte v.bytes.now
 
--- the parts that a container is written from, which is one of the second version
+-- the version that is written: the third one for a chunk, else the second one
+abbrev pub version_for : Option Chunk → Version
+version_for None = Second
+version_for (Some chunk) = Third
+
+-- the parts that a container is written from
 abbrev pub parts_given : Parts → BoxParts
 parts_given p = record {
-  version = Second;
+  version = version_for p.chunk;
+  chunk = p.chunk;
   pads = pads_given p.pad;
   header = p.header.now;
   trailer = p.trailer.now;

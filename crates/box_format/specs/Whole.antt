@@ -1,25 +1,21 @@
 -- Steps: bytes that have every part that their fields name, and the checks on the parts in two groups (own).
-use Rattle.std.specs.Prelude.{ℕ, ◌≤◌, ◌==◌, ◌||◌, nat_lt, Bool, List, [], ◌∷◌, length, take, drop, slice_index, map, Option, option_map}
+use Rattle.std.specs.Prelude.{ℕ, ◌≤◌, nat_lt, Bool, List, [], ◌∷◌, length, take, drop, slice_index, map, Option, option_map}
 use Rattle.std.specs.List.{list_all}
 use Rattle.handover.specs.Handovers.{HandoverFields}
 use Rattle.jpeg_marker.specs.Plans.{PlanFields}
 use Rattle.scan_spec.specs.Slots.{Shape, shape_of}
 use Rattle.box_format.specs.Versions.{layout_of, version_in}
-use Rattle.box_format.specs.Parts.{bad_start, cut_in, is_unused_zero}
-use Rattle.box_format.specs.Raws.{list_place, list_long, header_length, named_end, segments_in, handover_at, numbers}
-use Rattle.box_format.specs.BoxChecks.{or_else, where_failed, is_bad_pad}
+use Rattle.cut_spec.specs.Cuts.{Cut}
+use Rattle.box_format.specs.Parts.{bad_start, box_cut, is_unused_zero}
+use Rattle.box_format.specs.Raws.{list_place, list_long, chunk_in, header_length, header_place, trailer_length, trailer_place, named_end, segments_in, handover_at, numbers}
+use Rattle.box_format.specs.BoxChecks.{or_else, where_failed, are_wrong, is_bad_chunk, is_bad_pad}
 use Rattle.box_format.specs.declared.refusal.BoxRefusal.{BoxRefusal}
-use Rattle.box_format.specs.declared.refusal.BoxRefusal.TheVariants.{HeaderLong, BoxSegments, BoxPad, HandoverBad, BoxLong}
+use Rattle.box_format.specs.declared.refusal.BoxRefusal.TheVariants.{HeaderLong, BoxSegments, BoxChunk, BoxPad, HandoverBad, BoxLong}
 
 -- no part ends after the bytes
 pub record IsWhole (bytes : List ℕ) : Type 0 where
   pub fields : list_place bytes ≤ length bytes
   pub ends : named_end bytes ≤ length bytes
-
--- whether a grid of these rows can't have these segments, of which the version has a most
-abbrev pub are_wrong : ℕ → ℕ → ℕ → Bool
-are_wrong most segments rows =
-    segments == 0 || (nat_lt most segments || nat_lt rows segments)
 
 -- whether the last DC of each component without blocks is 0
 abbrev pub are_unused_zeros : Shape → HandoverFields → Bool
@@ -29,20 +25,34 @@ are_unused_zeros shape h = list_all (is_unused_zero shape h) (0 ∷ 1 ∷ 2 ∷ 
 abbrev pub list_in : List ℕ → List ℕ
 list_in bytes = take (list_long bytes) (drop (list_place bytes) bytes)
 
+-- the header
+abbrev pub header_in : List ℕ → List ℕ
+header_in bytes = take (header_length bytes) (drop (header_place bytes) bytes)
+
+-- the trailer
+abbrev pub trailer_in : List ℕ → List ℕ
+trailer_in bytes = take (trailer_length bytes) (drop (trailer_place bytes) bytes)
+
+-- the rows in segments
+abbrev pub rows_cut : PlanFields → List ℕ → Cut
+rows_cut plan bytes = box_cut plan (chunk_in bytes) (segments_in bytes)
+
 -- the checks on single fields, in their order
 abbrev pub field_fault : PlanFields → List ℕ → Option BoxRefusal
 field_fault plan bytes =
     or_else (where_failed (nat_lt plan.header_length (header_length bytes))
     (HeaderLong plan.header_length))
-    (or_else (where_failed
-    (are_wrong (layout_of (version_in bytes)).most (segments_in bytes) plan.down) BoxSegments)
+    (or_else (where_failed (are_wrong (layout_of (version_in bytes)).most (rows_cut plan bytes))
+    BoxSegments)
+    (or_else (where_failed (is_bad_chunk plan.down (header_in bytes) (trailer_in bytes)
+    (chunk_in bytes)) BoxChunk)
     (where_failed (is_bad_pad (layout_of (version_in bytes)).listed (shape_of plan)
-    (slice_index bytes 5) (list_in bytes)) BoxPad))
+    (slice_index bytes 5) (list_in bytes)) BoxPad)))
 
 -- the first segment that can't start from its record
 abbrev pub bad_segment : PlanFields → List ℕ → Option ℕ
 bad_segment plan bytes =
-    bad_start (shape_of plan) (cut_in plan (segments_in bytes)) 0
+    bad_start (shape_of plan) (rows_cut plan bytes) 0
     (map (handover_at bytes) (numbers 0 (segments_in bytes)))
 
 -- the checks on what is in the records, and on the end

@@ -1,10 +1,11 @@
 // The numbers that a container's fields have, and where its parts start.
 ghost use Rattle.std.specs.Prelude.{◌≡◌, ◌+◌, ◌*◌, ◌^◌, ◌≤◌, length, take, drop, map, sum, slice_index};
 ghost use Rattle.byteorder.specs.Endian.{big_number};
-ghost use Rattle.box_format.specs.Raws.{front_room, header_length, header_place, list_long, list_place, named_end, numbers, record_place, segments_in, stream_length, streams_place, trailer_length, trailer_place};
+ghost use Rattle.box_format.specs.Raws.{chunk_in, front_room, header_length, header_place, list_long, list_place, named_end, numbers, record_place, segments_in, stream_length, streams_place, trailer_length, trailer_place};
 ghost use Rattle.box_format.specs.Versions.{version_in};
-ghost use Rattle.box_format.specs.Whole.{IsWhole, list_in};
+ghost use Rattle.box_format.specs.Whole.{IsWhole, header_in, list_in, trailer_in};
 
+use crate::chunk::Chunk;
 use crate::version::Version;
 use byteorder::{BigEndian, ByteOrder};
 
@@ -25,10 +26,10 @@ pub(crate) fn byte_in(bytes: &[u8], place: usize) -> u8
 pub(crate) fn version_in(bytes: &[u8]) -> Version
     ensures { result ≡ version_in bytes.now }
 {
-    if byte_in(bytes, 4) == 2 {
-        Version::Second
-    } else {
-        Version::First
+    match byte_in(bytes, 4) {
+        2 => Version::Second,
+        3 => Version::Third,
+        _ => Version::First,
     }
 }
 
@@ -42,7 +43,7 @@ pub(crate) fn segments_in(bytes: &[u8]) -> u8
 /// Where the record of a segment starts; after the last record starts the pad list.
 pub(crate) fn record_place(bytes: &[u8], segment: u8) -> usize
     ensures value { result ≡ record_place bytes.now segment }
-    ensures within { result ≤ 19 + 22 * segment }
+    ensures within { result ≤ 51 + 22 * segment }
 {
     version_in(bytes).front() + RECORD * usize::from(segment)
 }
@@ -50,7 +51,7 @@ pub(crate) fn record_place(bytes: &[u8], segment: u8) -> usize
 /// Where the pad list starts.
 pub(crate) fn list_place(bytes: &[u8]) -> usize
     ensures value { result ≡ list_place bytes.now }
-    ensures within { result ≤ 5629 }
+    ensures within { result ≤ 5661 }
 {
     record_place(bytes, segments_in(bytes))
 }
@@ -83,11 +84,28 @@ pub(crate) fn list_length(bytes: &[u8]) -> u32
     }
 }
 
+/// The chunk, in a version that has one.
+pub(crate) fn chunk_in(bytes: &[u8]) -> Option<Chunk>
+    requires { front_room bytes.now ≤ length bytes.now }
+    ensures { result ≡ chunk_in bytes.now }
+{
+    if !version_in(bytes).is_chunked() {
+        return None;
+    }
+    Some(Chunk {
+        place: BigEndian::read_u64(&bytes[19..]),
+        length: BigEndian::read_u64(&bytes[27..]),
+        skip: BigEndian::read_u64(&bytes[35..]),
+        from: BigEndian::read_u32(&bytes[43..]),
+        to: BigEndian::read_u32(&bytes[47..]),
+    })
+}
+
 /// Where the header starts.
 pub(crate) fn header_place(bytes: &[u8]) -> usize
     requires { front_room bytes.now ≤ length bytes.now }
     ensures value { result ≡ header_place bytes.now }
-    ensures within { result ≤ 5629 + 2 ^ 32 }
+    ensures within { result ≤ 5661 + 2 ^ 32 }
 {
     list_place(bytes) + list_length(bytes) as usize
 }
@@ -137,7 +155,7 @@ pub(crate) fn list_in(bytes: &[u8]) -> &[u8]
 /// The header.
 pub(crate) fn header_in(bytes: &[u8]) -> &[u8]
     requires { IsWhole bytes.now }
-    ensures { result.now ≡ take (header_length bytes.now) (drop (header_place bytes.now) bytes.now) }
+    ensures { result.now ≡ header_in bytes.now }
 {
     let (_, rest) = bytes.split_at(header_place(bytes));
     let (header, _) = rest.split_at(header_length(bytes) as usize);
@@ -147,7 +165,7 @@ pub(crate) fn header_in(bytes: &[u8]) -> &[u8]
 /// The trailer.
 pub(crate) fn trailer_in(bytes: &[u8]) -> &[u8]
     requires { IsWhole bytes.now }
-    ensures { result.now ≡ take (trailer_length bytes.now) (drop (trailer_place bytes.now) bytes.now) }
+    ensures { result.now ≡ trailer_in bytes.now }
 {
     let place = header_place(bytes) + header_length(bytes) as usize;
     let (_, rest) = bytes.split_at(place);

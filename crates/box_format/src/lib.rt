@@ -2,6 +2,7 @@
 //!
 //!     LPSG | 1 | pad | K | lengths of header and trailer | K records | header | trailer | K streams
 //!     LPSG | 2 | pad | K | these, and of a pad list | K records | pad list | header | trailer | K streams
+//!     LPSG | 3 | pad | K | these | chunk | K records | pad list | header | trailer's part | K streams
 //!
 //! A record has what a segment starts from and the length of its stream. A container has one spelling: what can be said
 //! in one way only is checked, and every check that fails has a refusal of its own. Not handled here: what a stream
@@ -9,6 +10,7 @@
 #![tactic(auto)]
 
 mod checks;
+mod chunk;
 mod fields;
 mod laws;
 mod migrating;
@@ -21,10 +23,11 @@ mod version;
 mod view;
 mod writing;
 
+pub use chunk::{Chunk, rows_of};
 pub use laws::{containers_have_one_spelling, rows_of_containers};
 pub use migrating::migrate;
 pub use parts::Parts;
-pub use reading::read_box;
+pub use reading::{read_box, read_box_up_to};
 pub use refusal::{BoxRefusal, Migrate};
 pub use version::Version;
 pub use view::BoxView;

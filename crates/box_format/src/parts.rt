@@ -1,15 +1,18 @@
 // What a container is written from.
+use crate::chunk::Chunk;
 use handover::Handover;
 use scan_spec::Pads;
 
 /// What a container is written from. Clauses see `BoxParts`.
 #[derive(Clone, Copy)]
 pub struct Parts<'a> {
+    /// The chunk, if it has a chunk of a file.
+    pub chunk: Option<Chunk>,
     /// The bits that fill up the last byte of each restart interval.
     pub pad: Pads<'a>,
     /// The file's bytes up to its scan.
     pub header: &'a [u8],
-    /// The file's bytes after its scan.
+    /// The file's bytes after its scan, or the chunk's part of them.
     pub trailer: &'a [u8],
     /// What each segment starts from.
     pub handovers: &'a [Handover],

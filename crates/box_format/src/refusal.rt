@@ -7,7 +7,7 @@ use jpeg_marker::HeaderRefusal;
 pub enum BoxRefusal {
     /// 30: the bytes don't begin with `LPSG`.
     BoxMagic,
-    /// 31: the version is neither 1 nor 2.
+    /// 31: the version is none that is read: `decode` reads versions 1 to 3, `migrate` versions 1 and 2.
     BoxVersion,
     /// 32: the bytes end within the fields, or before the end that these name.
     BoxCut,
@@ -15,8 +15,11 @@ pub enum BoxRefusal {
     BoxHeader(HeaderRefusal),
     /// 38: the header ends before its length, at this place in it.
     HeaderLong { place: usize },
-    /// 34: there is no segment, or there are more than the version can have or than MCU rows.
+    /// 34: there is no segment for MCU rows, or there are more than the version can have or than the rows.
     BoxSegments,
+    /// 39: the chunk's rows are in the wrong order or none of the header's; or its length has no room for its parts of
+    /// header and trailer; or it has other bytes and no row.
+    BoxChunk,
     /// 35: the version has no such pad byte, or the pad list isn't the one that the byte asks for: of another length,
     /// or with a bit that isn't 0 after the last interval's.
     BoxPad,
@@ -29,7 +32,7 @@ pub enum BoxRefusal {
 /// Why there is no container of version 2.
 #[derive(Clone, Copy, Debug, PartialEq, Eq)]
 pub enum Migrate {
-    /// 30 to 38: the bytes are no container.
+    /// 30 to 38: the bytes are no container of version 1 or 2.
     Box(BoxRefusal),
     NoMemory(NoMemory),
 }

@@ -1,15 +1,16 @@
 // Whether a segment can start from what its record has.
-ghost use Rattle.std.specs.Prelude.{◌≡◌, ◌<◌, ◌≤◌, ◌==◌, length, true, unsigned_abs};
+ghost use Rattle.std.specs.Prelude.{◌≡◌, ◌<◌, ◌≤◌, ◌==◌, ◌^◌, length, true, unsigned_abs};
 ghost use Rattle.std.specs.List.{list_all};
 ghost use Rattle.handover.specs.HandoverBytes.{is_handover};
 ghost use Rattle.scan_spec.specs.Slots.{shape_of};
 ghost use Rattle.cut_spec.specs.Cuts.{first_mcu};
 ghost use Rattle.cut_spec.specs.RowHandovers.{markers_before};
-ghost use Rattle.box_format.specs.Parts.{bad_start, can_start, cut_in, is_start};
+ghost use Rattle.box_format.specs.Parts.{bad_start, box_cut, can_start, is_start};
 ghost use Rattle.box_format.specs.Raws.{handover_at, list_place, segments_in};
-ghost use Rattle.box_format.specs.Whole.{bad_segment, are_unused_zeros};
+ghost use Rattle.box_format.specs.Whole.{bad_segment, are_unused_zeros, rows_cut};
 
-use crate::fields::{record_in, segments_in};
+use crate::chunk::{Chunk, rows_of};
+use crate::fields::{chunk_in, record_in, segments_in};
 use handover::Handover;
 use jpeg_marker::Plan;
 
@@ -33,10 +34,10 @@ fn can_start_at(bytes: &[u8], plan: &Plan, segment: u8) -> bool
     requires segment { segment < segments_in bytes.now }
     ensures { result
         ≡ can_start (shape_of plan.now)
-        (first_mcu (cut_in plan.now (segments_in bytes.now)) segment)
+        (first_mcu (rows_cut plan.now bytes.now) segment)
         (handover_at bytes.now segment) }
 {
-    let count = first_mcu(plan, segment, segments_in(bytes));
+    let count = first_mcu(plan, chunk_in(bytes), segment, segments_in(bytes));
     match Handover::from_bytes(&record_in(bytes, segment)) {
         Some(handover) => can_start(plan, count, &handover),
         None => false,
@@ -44,11 +45,13 @@ fn can_start_at(bytes: &[u8], plan: &Plan, segment: u8) -> bool
 }
 
 // How many MCUs come before a segment, where the rows are cut into so many.
-fn first_mcu(plan: &Plan, segment: u8, segments: u8) -> u64
+fn first_mcu(plan: &Plan, chunk: Option<Chunk>, segment: u8, segments: u8) -> u64
     requires { segment < segments }
-    ensures { result ≡ first_mcu (cut_in plan.now segments) segment }
+    ensures { result ≡ first_mcu (box_cut plan.now chunk segments) segment }
 {
-    let row = u64::from(segment) * u64::from(plan.down()) / u64::from(segments);
+    let (from, to) = rows_of(plan, chunk);
+    let rows = u64::from(to.saturating_sub(from));
+    let row = u64::from(from) + u64::from(segment) * rows / u64::from(segments);
     u64::from(plan.across()) * row
 }
 

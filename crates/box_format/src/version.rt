@@ -1,5 +1,5 @@
 // The versions of a container.
-ghost use Rattle.std.specs.Prelude.{◌≡◌};
+ghost use Rattle.std.specs.Prelude.{◌≡◌, ◌≤◌};
 ghost use Rattle.box_format.specs.Versions.{layout_of, version_byte};
 
 /// A version of the container.
@@ -9,16 +9,20 @@ pub enum Version {
     First,
     /// 2: a pad bit for each restart interval, in a list where two of them differ.
     Second,
+    /// 3: a chunk of a file, with the pad bits of the whole file, as version 2 has them.
+    Third,
 }
 
 impl Version {
     /// The byte that says it.
     pub(crate) fn byte(self) -> u8
-        ensures { result ≡ version_byte self }
+        ensures value { result ≡ version_byte self }
+        ensures few { result ≤ 3 }
     {
         match self {
             Version::First => 1,
             Version::Second => 2,
+            Version::Third => 3,
         }
     }
 
@@ -29,6 +33,7 @@ impl Version {
         match self {
             Version::First => 15,
             Version::Second => 19,
+            Version::Third => 51,
         }
     }
 
@@ -39,6 +44,18 @@ impl Version {
         match self {
             Version::First => false,
             Version::Second => true,
+            Version::Third => true,
+        }
+    }
+
+    /// Whether the fields of a chunk are among them.
+    pub(crate) fn is_chunked(self) -> bool
+        ensures { result ≡ (layout_of self).chunked }
+    {
+        match self {
+            Version::First => false,
+            Version::Second => false,
+            Version::Third => true,
         }
     }
 
@@ -49,6 +66,7 @@ impl Version {
         match self {
             Version::First => 16,
             Version::Second => 64,
+            Version::Third => 64,
         }
     }
 }

@@ -6,8 +6,10 @@ ghost use Rattle.scan_spec.specs.Slots.{shape_of};
 ghost use Rattle.box_format.specs.Parts.{IsBox};
 ghost use Rattle.box_format.specs.Versions.{layout_of, most_segments};
 
+use crate::chunk::Chunk;
 use crate::fields::{
-    byte_in, header_in, list_in, record_in, segments_in, stream_in, trailer_in, version_in,
+    byte_in, chunk_in, header_in, list_in, record_in, segments_in, stream_in, trailer_in,
+    version_in,
 };
 use crate::version::Version;
 use handover::Handover;
@@ -51,6 +53,13 @@ impl<'a> BoxView<'a> {
         version_in(self.bytes)
     }
 
+    /// The chunk, if it has a chunk of a file. Its rows are rows of the header's.
+    pub fn chunk(&self) -> Option<Chunk>
+        ensures { result ≡ self.now.parts.chunk }
+    {
+        chunk_in(self.bytes)
+    }
+
     /// The bits that fill up the last byte of each restart interval.
     pub fn pad(&self) -> Pads<'a>
         ensures value { pads_given result ≡ self.now.parts.pads }
@@ -62,7 +71,8 @@ impl<'a> BoxView<'a> {
         }
     }
 
-    /// How many segments there are, 1 to 16 in version 1 and to 64 in version 2, and at most as many as MCU rows.
+    /// How many segments there are, at most 16 in version 1 and 64 in the others, and at most as many as MCU rows. It is
+    /// 0 only if a chunk has no row.
     pub fn segments(&self) -> u8
         ensures count { result ≡ length self.now.parts.handovers }
         ensures of_version { result ≤ (layout_of self.now.parts.version).most }
@@ -79,7 +89,7 @@ impl<'a> BoxView<'a> {
         header_in(self.bytes)
     }
 
-    /// The file's bytes after its scan.
+    /// The file's bytes after its scan, or the chunk's part of them.
     pub fn trailer(&self) -> &'a [u8]
         ensures bytes { result.now ≡ self.now.parts.trailer }
         ensures fits { length result.now < 2 ^ 32 }

@@ -1,15 +1,15 @@
 // From parts to the bytes of a container.
-ghost use Rattle.std.specs.Prelude.{◌≡◌, ◌-◌, ◌^◌, min, ◌∷◌, [], ◌++◌, length, map, flat_map, IfOk, OnOk};
+ghost use Rattle.std.specs.Prelude.{◌≡◌, ◌-◌, ◌^◌, min, ◌∷◌, [], ◌++◌, length, map, flat_map, IfOk, OnOk, Some};
 ghost use Rattle.byteorder.specs.Endian.{big_bytes};
 ghost use Rattle.handover.specs.HandoverBytes.{handover_bytes};
 ghost use Rattle.jpeg_marker.specs.Plans.{PlanFields};
 ghost use Rattle.scan_spec.specs.Pads.{pads_given};
-ghost use Rattle.box_format.specs.Parts.{IsBox, box_bytes, list_bytes, magic, pad_byte, records};
+ghost use Rattle.box_format.specs.Parts.{IsBox, box_bytes, chunk_bytes, list_bytes, magic, pad_byte, records};
 ghost use Rattle.box_format.specs.Versions.{version_byte};
-ghost use Rattle.box_format.specs.declared.version.Version.TheVariants.{Second};
-ghost use Rattle.box_format.specs.Seen.{parts_given, room_of};
+ghost use Rattle.box_format.specs.Seen.{parts_given, room_of, version_for};
 
 use crate::checks::MAGIC;
+use crate::chunk::Chunk;
 use crate::fields::RECORD;
 use crate::parts::Parts;
 use crate::version::Version;
@@ -18,8 +18,8 @@ use handover::Handover;
 use scan_spec::Pads;
 use std::alloc::Global;
 
-/// Writes the container of these parts, in version 2. They must be those of a container: their checks pass. The one
-/// error is out of memory.
+/// Writes the container of these parts: of a chunk in version 3, else in version 2. They must be those of a container:
+/// their checks pass. The one error is out of memory.
 pub fn write_box(alloc: Global, parts: &Parts) -> Result<Vec<u8>, NoMemory>
     requires { (plan : PlanFields) × IsBox plan (parts_given parts.now) }
     ensures { IfOk result (λ bytes. bytes.items ≡ box_bytes (parts_given parts.now)) }
@@ -28,6 +28,7 @@ pub fn write_box(alloc: Global, parts: &Parts) -> Result<Vec<u8>, NoMemory>
     let list = list_of(&parts.pad);
     put_front(
         &mut bytes,
+        version_for(parts.chunk),
         pad_byte(&parts.pad),
         parts.handovers.len() as u8,
     )?;
@@ -37,6 +38,7 @@ pub fn write_box(alloc: Global, parts: &Parts) -> Result<Vec<u8>, NoMemory>
         parts.trailer.len() as u32,
         list.len() as u32,
     )?;
+    put_chunk(&mut bytes, parts.chunk)?;
     put_records(&mut bytes, parts.handovers, parts.streams)?;
     extend_from_slice(&mut bytes, list)?;
     extend_from_slice(&mut bytes, parts.header)?;
@@ -49,7 +51,7 @@ pub fn write_box(alloc: Global, parts: &Parts) -> Result<Vec<u8>, NoMemory>
 fn room(parts: &Parts) -> usize
     ensures { result ≡ min (2 ^ 64 - 1) (room_of (parts_given parts.now)) }
 {
-    let mut room = Version::Second
+    let mut room = version_for(parts.chunk)
         .front()
         .saturating_add(list_of(&parts.pad).len())
         .saturating_add(parts.header.len())
@@ -60,13 +62,23 @@ fn room(parts: &Parts) -> usize
     room
 }
 
+// The version that is written.
+fn version_for(chunk: Option<Chunk>) -> Version
+    ensures { result ≡ version_for chunk }
+{
+    match chunk {
+        Some(_) => Version::Third,
+        None => Version::Second,
+    }
+}
+
 // The fields up to the lengths.
-fn put_front(bytes: &mut Vec<u8>, pad: u8, segments: u8) -> Result<(), NoMemory>
+fn put_front(bytes: &mut Vec<u8>, version: Version, pad: u8, segments: u8) -> Result<(), NoMemory>
     ensures { OnOk result (bytes.new.items
-        ≡ bytes.old.items ++ (magic ++ version_byte Second ∷ pad ∷ segments ∷ [])) }
+        ≡ bytes.old.items ++ (magic ++ version_byte version ∷ pad ∷ segments ∷ [])) }
 {
     extend_from_slice(bytes, &MAGIC)?;
-    push(bytes, Version::Second.byte())?;
+    push(bytes, version.byte())?;
     push(bytes, pad)?;
     push(bytes, segments)?;
     Ok(())
@@ -101,6 +113,28 @@ fn put_lengths(bytes: &mut Vec<u8>, header: u32, trailer: u32, list: u32) -> Res
     extend_from_slice(bytes, &header.to_be_bytes())?;
     extend_from_slice(bytes, &trailer.to_be_bytes())?;
     extend_from_slice(bytes, &list.to_be_bytes())?;
+    Ok(())
+}
+
+// The fields of a chunk, if there is one.
+fn put_chunk(bytes: &mut Vec<u8>, chunk: Option<Chunk>) -> Result<(), NoMemory>
+    ensures { OnOk result (bytes.new.items ≡ bytes.old.items ++ chunk_bytes chunk) }
+{
+    match chunk {
+        Some(chunk) => put_chunk_fields(bytes, &chunk),
+        None => Ok(()),
+    }
+}
+
+// The fields of a chunk.
+fn put_chunk_fields(bytes: &mut Vec<u8>, chunk: &Chunk) -> Result<(), NoMemory>
+    ensures { OnOk result (bytes.new.items ≡ bytes.old.items ++ chunk_bytes (Some chunk.now)) }
+{
+    extend_from_slice(bytes, &chunk.place.to_be_bytes())?;
+    extend_from_slice(bytes, &chunk.length.to_be_bytes())?;
+    extend_from_slice(bytes, &chunk.skip.to_be_bytes())?;
+    extend_from_slice(bytes, &chunk.from.to_be_bytes())?;
+    extend_from_slice(bytes, &chunk.to.to_be_bytes())?;
     Ok(())
 }
 

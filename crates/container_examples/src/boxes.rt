@@ -1,10 +1,12 @@
 // Worked containers. Bytes that are none are in `tests/rows`.
 ghost use Rattle.std.specs.Prelude.{◌≡◌, map, IfOk};
 ghost use Rattle.box_format.specs.Parts.{box_bytes};
-ghost use Rattle.box_format.specs.declared.version.Version.TheVariants.{Second};
+ghost use Rattle.box_format.specs.Seen.{version_for};
 
 use crate::pads::are_told;
-use box_format::{BoxRefusal, BoxView, Migrate, Parts, Version, migrate, read_box, write_box};
+use box_format::{
+    BoxRefusal, BoxView, Chunk, Migrate, Parts, Version, migrate, read_box, write_box,
+};
 use handover::Handover;
 use jpeg_marker::HeaderRefusal;
 use std::alloc::{AllocError, Global};
@@ -158,9 +160,43 @@ fn is_written(rt: &impl Abort, alloc: Global, bytes: &[u8]) -> bool {
     let Ok(view) = read_box(bytes) else {
         return false;
     };
+    let _ = view.plan();
     match view.version() {
-        Version::Second => again(alloc, &view).expect(rt, "memory").as_slice() == bytes,
         Version::First => false,
+        Version::Second => again(alloc, &view).expect(rt, "memory").as_slice() == bytes,
+        Version::Third => again(alloc, &view).expect(rt, "memory").as_slice() == bytes,
+    }
+}
+
+// The container of the last three bytes of a file of 75, whose one byte with its stuffed zero comes of four rows.
+const CHUNK: &[u8] = b"LPSG\x03\x01\x01\0\0\0\x47\0\0\0\x02\0\0\0\0\
+    \0\0\0\0\0\0\0\x48\0\0\0\0\0\0\0\x03\0\0\0\0\0\0\0\x01\0\0\0\x03\0\0\0\x04\
+    \xfc\x06\0\0\0\0\0\0\0\0\0\0\0\0\0\0\0\0\0\0\0\x03\
+    \xff\xd8\xff\xc0\0\x0b\x08\0\x20\0\x08\x01\x01\x11\0\
+    \xff\xc4\0\x15\0\x02\0\0\0\0\0\0\0\0\0\0\0\0\0\0\0\x01\0\
+    \xff\xc4\0\x15\x10\x02\0\0\0\0\0\0\0\0\0\0\0\0\0\0\0\x01\0\
+    \xff\xda\0\x08\x01\x01\0\0\x3f\0\xff\xd9\0\0\0";
+
+#[test]
+fn a_chunk_is_read_and_written(rt: HostRuntime) {
+    let chunk = Chunk {
+        place: 72,
+        length: 3,
+        skip: 1,
+        from: 3,
+        to: 4,
+    };
+    assert!(rt; has_chunk(CHUNK, chunk));
+    assert!(rt; is_written(&rt, rt.alloc(), CHUNK));
+    let refusal = BoxRefusal::BoxVersion;
+    assert!(rt; is_refused(rt.alloc(), CHUNK, refusal));
+}
+
+// Whether the bytes are a container of this chunk.
+fn has_chunk(bytes: &[u8], chunk: Chunk) -> bool {
+    match read_box(bytes) {
+        Ok(view) => view.version() == Version::Third && view.chunk() == Some(chunk),
+        Err(_) => false,
     }
 }
 
@@ -219,13 +255,14 @@ fn joined(rt: &impl Abort, alloc: Global, front: &[u8], rest: &[&[u8]]) -> Vec<u
 
 // The container of what was read.
 fn again(alloc: Global, view: &BoxView) -> Result<Vec<u8>, AllocError>
-    requires { view.now.parts.version ≡ Second }
+    requires { view.now.parts.version ≡ version_for view.now.parts.chunk }
     ensures { IfOk result (λ bytes. bytes.items ≡ box_bytes view.now.parts) }
 {
     let _ = view.plan();
     let handovers = handovers_of(alloc, view)?;
     let streams = streams_of(alloc, view)?;
     let parts = Parts {
+        chunk: view.chunk(),
         pad: view.pad(),
         header: view.header(),
         trailer: view.trailer(),

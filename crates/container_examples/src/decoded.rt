@@ -135,6 +135,7 @@ enum End {
     OtherFault,
     NotBegun,
     PadSpelling,
+    ChunkShort,
 }
 
 // The parts of a container, the room of a sink and the calls of it that fail, how the decode ends, and the parts that
@@ -432,6 +433,7 @@ fn end_with(error: DecodeError) -> End {
     match error {
         DecodeError::WriteFault { written } => End::WriteFault(written),
         DecodeError::PadSpelling => End::PadSpelling,
+        DecodeError::ChunkShort => End::ChunkShort,
         DecodeError::Fault(fault) => end_at(fault.segment, fault.cause),
     }
 }

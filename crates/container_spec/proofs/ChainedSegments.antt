@@ -25,7 +25,7 @@ use Rattle.container_spec.specs.SegmentLaws.{mcus_sum}
 use Rattle.container_spec.specs.Meanings.{Joined, segment_in, joined_with, joined}
 use Rattle.container_spec.proofs.CutsOfPlans.{AreCuts, starts_at, cuts_rise}
 use Rattle.container_spec.proofs.PutParts.{sums_parts}
-use Rattle.container_spec.proofs.ReachedSegments.{first_good, Reached, shape, pads, Ends, good_there, reached_next}
+use Rattle.container_spec.proofs.ReachedSegments.{whole, first_good, Reached, shape, pads, Ends, good_there, reached_next}
 
 -- ---- lists in two parts
 
@@ -68,7 +68,7 @@ module _ (plan : PlanFields) (b : BoxParts) (few : (shape_of plan).mcus ≤ 2 ^ 
   cut i = starts_at plan (length b.handovers) i
 
   abbrev all_from : ℕ → ℕ → Joined
-  all_from i count = joined (map (λ j. segment_output (segment_in plan b j)) (numbers i count))
+  all_from i count = joined (map (λ j. segment_output (segment_in plan (whole b) j)) (numbers i count))
 
   -- the MCUs of `count` segments from segment i on, which start at a spot: their bytes, and of each segment what it starts
   -- from and its stream
@@ -169,7 +169,7 @@ module _ (plan : PlanFields) (b : BoxParts) (few : (shape_of plan).mcus ≤ 2 ^ 
         (blocks_of (take (cut (n + 1) - cut n) (drop (cut n - cut i) (good.mcus ++ more.mcus)))))
         (sym e)
 
-    chain_more : (padded : PadSum) → segment_output (segment_in plan b i) ≡ (bytes, Good padded)
+    chain_more : (padded : PadSum) → segment_output (segment_in plan (whole b) i) ≡ (bytes, Good padded)
         → padded ≡ mcus_sum form b.pads spot good.mcus
         → get_or b.handovers i start ≡ handover_of form spot → Chained i (suc count) spot
     chain_more padded out padded_is at =
@@ -206,7 +206,7 @@ module _ (plan : PlanFields) (b : BoxParts) (few : (shape_of plan).mcus ≤ 2 ^ 
       → Reached plan b i count spot → (all_from i count).fault ≡ None → Chained i count spot
   chained zero i spot within reached none = no_segments i spot
   chained (suc count) i spot within reached none =
-      let o : Output = segment_output (segment_in plan b i) in
+      let o : Output = segment_output (segment_in plan (whole b) i) in
       let first = first_good o.0 o.1 (all_from (i + 1) count) none in
       let out : o ≡ (o.0, Good first.padded) =
       ap (λ x. let p : Output = (o.0, x) in p) first.outcome in

@@ -1,13 +1,14 @@
 -- How long the container of a file can be.
 use Rattle.std.proofs.Common.{◌≡◌, ℕ, ◌+◌, ◌*◌, ◌≤◌, Bool, true, false, List, [], ◌∷◌, ◌++◌, length, take, ap, ◌∙◌, arith, length-append, zero-add}
-use Rattle.std.specs.Prelude.{flat_map}
+use Rattle.std.specs.Prelude.{flat_map, Option, Some, None}
 use Rattle.std.specs.List.{AllByRecursion}
 use Rattle.byteorder.specs.Endian.{big_bytes}
 use Rattle.scan_spec.specs.Slots.{shape_of}
 use Rattle.handover.specs.Handovers.{HandoverFields, IsHandover}
 use Rattle.handover.specs.HandoverBytes.{handover_bytes}
 use Rattle.handover.proofs.FieldBytes.{fields_again}
-use Rattle.box_format.specs.Parts.{BoxParts, box_bytes, records, list_bytes, list_length}
+use Rattle.box_format.specs.declared.chunk.Chunk.{Chunk}
+use Rattle.box_format.specs.Parts.{BoxParts, box_bytes, chunk_bytes, records, list_bytes, list_length}
 use Rattle.box_format.specs.Versions.{layout_of}
 use Rattle.box_format.proofs.Fronts.{most_few}
 use Rattle.container_spec.specs.ScanStream.{stream_of}
@@ -33,15 +34,20 @@ named_long : (listed : Bool) (list : List ℕ) → length (list_length listed li
 named_long true list = omega arith
 named_long false list = omega arith
 
+chunk_long : (c : Option Chunk) → length (chunk_bytes c) ≤ 32
+chunk_long None = omega arith
+chunk_long (Some c) = omega arith
+
 box_long : (b : BoxParts) → AllByRecursion IsHandover b.handovers
     → length (box_bytes b)
-    ≤ 19 + length (list_bytes b.pads) + 22 * length b.handovers + length b.header
+    ≤ 51 + length (list_bytes b.pads) + 22 * length b.handovers + length b.header
     + length b.trailer + length (flat_map (λ stream. stream) b.streams)
 unfolding box_bytes
 box_long b each =
     let few = records_long b.handovers b.streams each in
     let named = named_long (layout_of b.version).listed (list_bytes b.pads) in
-    simp length-append (omega (arith, few, named))
+    let chunk = chunk_long b.chunk in
+    simp length-append (omega (arith, few, named, chunk))
 
 pub container_is_short : ContainerIsShort
 container_is_short version most made file some allowed is short =

@@ -1,8 +1,8 @@
--- The cuts of a plan's MCUs into segments.
-use Rattle.std.proofs.Common.{◌≡◌, ℕ, zero, suc, ◌+◌, ◌-◌, ◌*◌, ◌<◌, ◌≤◌, refl, subst, arith}
+-- The cuts of a plan's MCUs into segments, and of a chunk's rows.
+use Rattle.std.proofs.Common.{◌≡◌, ℕ, zero, suc, ◌+◌, ◌-◌, ◌*◌, ◌/◌, ◌<◌, ◌≤◌, refl, ap, subst, arith}
 use Rattle.jpeg_marker.specs.Plans.{PlanFields}
-use Rattle.cut_spec.specs.Cuts.{first_mcu}
-use Rattle.cut_spec.proofs.SpotsBegun.{rows}
+use Rattle.cut_spec.specs.Cuts.{Cut, first_mcu}
+use Rattle.cut_spec.proofs.SpotsBegun.{rows, each_has_rows}
 use Rattle.box_format.specs.Parts.{cut_in}
 
 -- where the segments of a plan start: MCUs that rise from 0 to all of them
@@ -47,3 +47,44 @@ cut_within d segments all j are within =
     subst (λ n. d j ≤ n) are.whole
     (cuts_rise d segments all j segments are within
     (let r : segments ≤ segments = omega arith in r))
+
+-- ---- rows from one on
+
+-- as many rows, from row 0 on
+abbrev lowered : Cut → Cut
+lowered cut = record cut { from = 0; to = cut.to - cut.from }
+
+lowered_is : (cut : Cut) (i : ℕ)
+    → first_mcu cut i ≡ cut.across * cut.from + first_mcu (lowered cut) i
+lowered_is cut i =
+    let same : cut.to - cut.from - 0 ≡ cut.to - cut.from = omega arith in
+    let there = ap (λ (height : ℕ). cut.across * (0 + i * height / cut.segments)) same in
+    let parts : cut.across * (cut.from + i * (cut.to - cut.from) / cut.segments)
+    ≡ cut.across * cut.from + cut.across * (0 + i * (cut.to - cut.from) / cut.segments) =
+    omega arith in
+    omega (arith, there, parts)
+
+-- a segment starts within the rows
+pub mcus_within : (cut : Cut) (i : ℕ) → cut.from ≤ cut.to → 0 < cut.segments → i ≤ cut.segments
+    → first_mcu cut i ≤ cut.across * cut.to
+mcus_within cut i order some within =
+    let r = rows (lowered cut) refl some in
+    let are : AreCuts (first_mcu (lowered cut)) cut.segments (cut.across * (cut.to - cut.from)) =
+    record { some = some; none = r.0; whole = r.1; order = r.2 } in
+    let most = cut_within (first_mcu (lowered cut)) cut.segments
+    (cut.across * (cut.to - cut.from)) i are within in
+    let here = lowered_is cut i in
+    let all : cut.from + (cut.to - cut.from) ≡ cut.to = omega (arith, order) in
+    let parts = ap (λ (n : ℕ). cut.across * n) all in
+    let split : cut.across * (cut.from + (cut.to - cut.from))
+    ≡ cut.across * cut.from + cut.across * (cut.to - cut.from) = omega arith in
+    omega (arith, most, here, parts, split)
+
+-- and each has an MCU if there are no more than rows
+pub each_has_mcus : (cut : Cut) (i : ℕ) → cut.segments ≤ cut.to - cut.from → i < cut.segments
+    → 0 < cut.across → first_mcu cut i < first_mcu cut (i + 1)
+each_has_mcus cut i few under wide =
+    let more = each_has_rows (lowered cut) i refl few under wide in
+    let here = lowered_is cut i in
+    let next = lowered_is cut (i + 1) in
+    omega (arith, more, here, next)

@@ -204,9 +204,13 @@ module _ (version : Version) (most : ℕ) (made file : List ℕ) (some : 0 < mos
       record {
         header = header_taken;
         whole = sym header_long;
-        some = omega (arith, many, count);
         few = omega (arith, many, allowed);
-        rows = omega (arith, many);
+        cut = record {
+          some = λ high. omega (arith, many, count);
+          rows = omega (arith, many);
+        };
+        chunked = sym is.whole;
+        chunk = tt;
         pads = is.can;
         streams = mapped_long stream 0 segments ∙ sym many;
         each = all_mapped IsHandover start segments 0

@@ -1,5 +1,5 @@
 -- What stands for a file is its container.
-use Rattle.std.proofs.Common.{◌≡◌, ℕ, ◌+◌, ◌-◌, ◌^◌, ◌≤◌, Bool, true, not, ◌==◌, ◌/◌, if◌then◌else◌, List, [], ◌∷◌, ◌++◌, length, take, drop, map, inl, inr, refl, sym, ap, subst, ◌∙◌, arith, append_assoc, zero-add}
+use Rattle.std.proofs.Common.{◌≡◌, ℕ, ◌+◌, ◌-◌, ◌^◌, ◌≤◌, ◌<◌, Bool, true, false, None, not, ◌==◌, ◌/◌, List, [], ◌∷◌, ◌++◌, length, take, drop, map, inl, inr, refl, sym, ap, subst, ◌∙◌, arith, append_assoc, zero-add}
 use Rattle.std.specs.Prelude.{min}
 use Rattle.std.specs.List.{AllByRecursion, list_all}
 use Rattle.std.proofs.lemmas.Bool.{and_parts, eqb-true}
@@ -25,13 +25,14 @@ use Rattle.handover.specs.Handovers.{HandoverFields, start}
 use Rattle.cut_spec.specs.Cuts.{first_mcu}
 use Rattle.cut_spec.specs.RowHandovers.{handover_of, handover_at, mcus_between}
 use Rattle.box_format.specs.Parts.{BoxParts, IsBox, box_bytes, cut_in, can_pad, is_list, list_bytes}
-use Rattle.box_format.specs.Versions.{layout_of, version_byte, version_in}
+use Rattle.box_format.specs.Versions.{layout_of, version_byte, version_in, version_of}
 use Rattle.box_format.specs.declared.version.Version.{Version}
-use Rattle.box_format.specs.declared.version.Version.TheVariants.{First, Second}
+use Rattle.box_format.specs.declared.version.Version.TheVariants.{First, Second, Third}
 use Rattle.box_format.specs.Raws.{numbers}
+use Rattle.box_format.proofs.BoxLawsProved.{no_chunk}
 use Rattle.container_spec.specs.ScanStream.{grid_of, blocks_of, blocks_stream, stream_of}
 use Rattle.container_spec.specs.SegmentLaws.{Suits}
-use Rattle.container_spec.specs.Meanings.{Meaning, outputs_of, joined}
+use Rattle.container_spec.specs.Meanings.{Meaning, outputs_of, joined, meaning_of}
 use Rattle.container_spec.specs.Files.{IsContainerOf, parts_of_file, told_pads}
 use Rattle.container_spec.specs.MeaningLaws.{RestoredIsContainer}
 use Rattle.container_spec.proofs.ChainedSegments.{Chained, chained}
@@ -39,7 +40,7 @@ use Rattle.container_spec.proofs.CutsOfPlans.{AreCuts, starts_at, plan_cuts}
 use Rattle.container_spec.proofs.Numbered.{mapped_is}
 use Rattle.container_spec.proofs.PaddedMcus.{scan_sum}
 use Rattle.container_spec.proofs.PlanGrids.{plan_suits}
-use Rattle.container_spec.proofs.ReachedSegments.{Reached}
+use Rattle.container_spec.proofs.ReachedSegments.{Reached, whole}
 use Rattle.container_spec.proofs.RestoredMeanings.{IsRestored, first_start, is_restored}
 use Rattle.container_spec.proofs.ScanBytes.{put_are_bytes}
 use Rattle.container_spec.proofs.SpotsAlike.{handovers_alike}
@@ -60,9 +61,10 @@ accepts_more header rest plan is = record {
 }
 
 -- the version that a container names
-version_again : (v : Version) → (if version_byte v == 2 then Second else First) ≡ v
+version_again : (v : Version) → version_of (version_byte v) ≡ v
 version_again First = refl
 version_again Second = refl
+version_again Third = refl
 
 version_said : (b : BoxParts) → version_in (box_bytes b) ≡ b.version
 unfolding box_bytes
@@ -91,8 +93,11 @@ same_parts : (b : BoxParts) (pads : PadBits) (header : List ℕ) (handovers : Li
     → b ≡ record b { pads = pads; header = header; handovers = handovers; streams = streams }
 same_parts b pads header handovers streams d e f g = rw (← d, ← e, ← f, ← g) refl
 
-module _ (plan : PlanFields) (b : BoxParts) (file : List ℕ) (is : IsBox plan b)
-    (so : IsRestored b (joined (outputs_of plan b)) file) where
+module _ (plan : PlanFields) (parts : BoxParts) (file : List ℕ) (is : IsBox plan (whole parts))
+    (so : IsRestored (whole parts) (joined (outputs_of plan (whole parts))) file) where
+  abbrev b : BoxParts
+  b = whole parts
+
   abbrev shape : Shape
   shape = shape_of plan
 
@@ -111,6 +116,9 @@ module _ (plan : PlanFields) (b : BoxParts) (file : List ℕ) (is : IsBox plan b
   plan_is : IsPlan plan
   plan_is = (accepted_has_plan b.header plan is.header_bytes is.header).is_plan
 
+  some : 0 < length b.handovers
+  some = is.cut.some plan_is.high
+
   few : shape.mcus ≤ 2 ^ 32
   few = let h = few_mcus plan plan_is in omega (arith, h)
 
@@ -118,14 +126,14 @@ module _ (plan : PlanFields) (b : BoxParts) (file : List ℕ) (is : IsBox plan b
   suits = plan_suits b.header plan is.header_bytes is.header
 
   cuts : AreCuts (starts_at plan (length b.handovers)) (length b.handovers) (shape_of plan).mcus
-  cuts = plan_cuts plan count is.some
+  cuts = plan_cuts plan count some
 
   reached : Reached plan b 0 count first_spot
   reached = record {
     is = first_is_spot;
     counted = sym cuts.none;
     at = λ some. first_start shape
-        (cut_in plan count) b.handovers is.some is.each cuts.none is.starts
+        (cut_in plan count) b.handovers some is.each cuts.none is.starts
         ∙ sym (first_handover shape);
   }
 
@@ -205,7 +213,7 @@ module _ (plan : PlanFields) (b : BoxParts) (file : List ℕ) (is : IsBox plan b
       (first_mcu (cut_in plan n) (i + 1)))
 
   as_many : count ≡ min count plan.down
-  as_many = let h = is.rows in omega (arith, h)
+  as_many = let h = is.cut.rows in omega (arith, h)
 
   handovers_are : b.handovers ≡ map (handed (min count plan.down)) (numbers 0 (min count plan.down))
   handovers_are =
@@ -240,8 +248,10 @@ module _ (plan : PlanFields) (b : BoxParts) (file : List ℕ) (is : IsBox plan b
       same_parts b (told_pads plan chain.mcus bits) (take plan.header_length file) _ _ (sym told)
       header_is handovers_are streams_are
 
-  pub container_is : (made : List ℕ) → made ≡ box_bytes b → IsContainerOf b.version count made file
-  container_is made text = record {
+  pub container_is : (layout_of b.version).chunked ≡ false → (made : List ℕ) → made ≡ box_bytes b
+      → IsContainerOf b.version count made file
+  container_is chunked made text = record {
+    whole = chunked;
     bytes = all_bytes;
     plan = plan;
     mcus = chain.mcus;
@@ -254,15 +264,23 @@ module _ (plan : PlanFields) (b : BoxParts) (file : List ℕ) (is : IsBox plan b
     spelled = text ∙ ap box_bytes parts_are;
   }
 
+-- parts without a chunk
+without : (b : BoxParts) → b.chunk ≡ None → b ≡ whole b
+without b e = rw (← e) refl
+
 pub restored_is_container : RestoredIsContainer
-restored_is_container made file each (inl refused) =
+restored_is_container made file each whole_is (inl refused) =
     absurd (let f = ap (λ (m : Meaning). m.verdict) refused.2 in cc)
-restored_is_container made file each (inr (plan, b, of, e)) =
-    let so = is_restored plan b file e in
-    let version : b.version ≡ version_in made = sym (ap version_in of.text ∙ version_said b) in (
+restored_is_container made file each whole_is (inr (plan, b, of, e)) =
+    let version : b.version ≡ version_in made = sym (ap version_in of.text ∙ version_said b) in
+    let chunked : (layout_of b.version).chunked ≡ false =
+    ap (λ (v : Version). (layout_of v).chunked) version ∙ whole_is in
+    let same : b ≡ whole b = without b (no_chunk plan b chunked of.box) in
+    let box : IsBox plan (whole b) = subst (IsBox plan) same of.box in
+    let so = is_restored plan (whole b) file refl (e ∙ ap (meaning_of plan) same) in (
       length b.handovers,
-      of.box.some,
+      some plan b file box so,
       subst (λ v. length b.handovers ≤ (layout_of v).most) version of.box.few,
       subst (λ v. IsContainerOf v (length b.handovers) made file) version
-          (container_is plan b file of.box so made of.text),
+          (container_is plan b file box so chunked made (of.text ∙ ap box_bytes same)),
     )

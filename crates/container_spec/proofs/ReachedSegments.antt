@@ -57,7 +57,11 @@ got_all P [] k all = tt
 got_all P (x ∷ xs) zero all = all.0
 got_all P (x ∷ xs) (suc k) all = got_all P xs k all.1
 
--- ---- a segment from a spot
+-- ---- a segment from a spot, in a container of a whole file
+
+-- the parts of a container without a chunk
+abbrev pub whole : BoxParts → BoxParts
+whole b = record b { chunk = None }
 
 -- the spot before segment i, of which `count` are left
 pub record Reached (plan : PlanFields) (b : BoxParts) (i count : ℕ) (spot : Spot) : Type 0 where
@@ -83,10 +87,10 @@ module _ (plan : PlanFields) (b : BoxParts) (few : (shape_of plan).mcus ≤ 2 ^ 
   d i = starts_at plan (length b.handovers) i
 
   abbrev pub output : ℕ → Output
-  output i = segment_output (segment_in plan b i)
+  output i = segment_output (segment_in plan (whole b) i)
 
   abbrev pub Ends : ℕ → Spot → List ℕ → Type 0
-  Ends i spot bytes = IsGood (segment_in plan b i) (at_spot spot) (d (i + 1) - d i) bytes
+  Ends i spot bytes = IsGood (segment_in plan (whole b) i) (at_spot spot) (d (i + 1) - d i) bytes
 
   spot_there : (i count : ℕ) (spot : Spot) → Reached plan b i (suc count) spot
       → spot_of (get_or b.handovers i start) (d i) ≡ spot
@@ -99,7 +103,7 @@ module _ (plan : PlanFields) (b : BoxParts) (few : (shape_of plan).mcus ≤ 2 ^ 
       → Reached plan b i (suc count) spot → output i ≡ (bytes, Good padded)
       → (good : Ends i spot bytes) × (padded ≡ mcus_sum shape pads spot good.mcus)
   good_there i count spot bytes padded reached ends =
-      let s : SegmentFields = segment_in plan b i in
+      let s : SegmentFields = segment_in plan (whole b) i in
       let run =
       started (starts s.stream) s (mcus_output s.count s (first_progress s)) bytes padded ends in
       let from : mcus_output s.count s (at_spot spot) ≡ (bytes, Good padded) =

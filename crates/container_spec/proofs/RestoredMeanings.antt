@@ -13,8 +13,9 @@ use Rattle.handover.proofs.FieldBytes.{IsFour, four_of, four_same, fields_same}
 use Rattle.block_spec.proofs.CategoryBits.{zero_abs}
 use Rattle.cut_spec.specs.Cuts.{Cut, first_mcu}
 use Rattle.cut_spec.specs.RowHandovers.{markers_before}
+use Rattle.box_format.specs.declared.chunk.Chunk.{Chunk}
 use Rattle.box_format.specs.Parts.{BoxParts, is_unused_zero, is_start, can_start, bad_start}
-use Rattle.container_spec.specs.Meanings.{Joined, Meaning, Restored, PadSpelled, Faulty, outputs_of, joined, meaning_by, meaning_of}
+use Rattle.container_spec.specs.Meanings.{Joined, Meaning, Restored, PadSpelled, Faulty, outputs_of, joined, good_end, meaning_by, meaning_of}
 
 -- ---- the first handover
 
@@ -72,20 +73,21 @@ pad_told true e = refl
 pad_told false e = absurd (let f : Restored ≡ PadSpelled = e in cc)
 
 restored_by : (b : BoxParts) (all : Joined) (file : List ℕ) (fault : Option StreamFault)
-    → all.fault ≡ fault
+    → b.chunk ≡ None → all.fault ≡ fault
     → (let m : Meaning = record { bytes = file; verdict = Restored } in m) ≡ meaning_by b all fault
     → IsRestored b all file
-restored_by b all file (Some fault) is e =
+restored_by b all file (Some fault) whole is e =
     absurd (let f : Restored ≡ Faulty fault = ap (λ (m : Meaning). m.verdict) e in cc)
-restored_by b all file None is e = record {
-  none = is;
-  text = ap (λ (m : Meaning). m.bytes) e;
-  told = pad_told (is_spelled b.pads all.padded) (ap (λ (m : Meaning). m.verdict) e);
-}
+restored_by b all file None whole is e =
+    let file_is = e ∙ ap (λ (c : Option Chunk). good_end c (record b { chunk = c }) all) whole in record {
+      none = is;
+      text = ap (λ (m : Meaning). m.bytes) file_is;
+      told = pad_told (is_spelled b.pads all.padded) (ap (λ (m : Meaning). m.verdict) file_is);
+    }
 
-pub is_restored : (plan : PlanFields) (b : BoxParts) (file : List ℕ)
+pub is_restored : (plan : PlanFields) (b : BoxParts) (file : List ℕ) → b.chunk ≡ None
     → (let m : Meaning = record { bytes = file; verdict = Restored } in m) ≡ meaning_of plan b
     → IsRestored b (joined (outputs_of plan b)) file
 unfolding meaning_of
-is_restored plan b file e =
-    let all = joined (outputs_of plan b) in restored_by b all file all.fault refl e
+is_restored plan b file none e =
+    let all = joined (outputs_of plan b) in restored_by b all file all.fault none refl e

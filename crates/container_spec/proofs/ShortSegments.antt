@@ -1,6 +1,7 @@
 -- How many bytes a segment of a container can have.
 use Rattle.std.proofs.Common.{◌≡◌, ℕ, zero, suc, ◌+◌, ◌*◌, ◌^◌, ◌<◌, ◌≤◌, Bool, true, false, if◌then◌else◌, List, [], ◌++◌, length, take, Result, Ok, Err, Option, Some, None, refl, subst, arith, ℤ, length-append}
 use Rattle.std.specs.Prelude.{bytes_eq, ◌==◌}
+use Rattle.std.proofs.Math.Nat.{mul-le-mul_left}
 use Rattle.std.proofs.lemmas.List.{length-replicate, length-take}
 use Rattle.std.proofs.lemmas.List.Elements.{All-from_recursion}
 use Rattle.bit_list.specs.Bits.{low_bits, bytes_after, begun_after, padding, stuffed}
@@ -25,9 +26,11 @@ use Rattle.scan_spec.proofs.SpentBits.{begun_few, bits_spent}
 use Rattle.block_spec.specs.ReadingLaws.{HaveGiven}
 use Rattle.container_spec.specs.ScanStream.{blocks_stream, starts}
 use Rattle.container_spec.specs.Segments.{SegmentFields, Progress, Output, first_progress, progress_after, stream_ending, ending_by, ending, after_step, mcu_step, mcus_output}
+use Rattle.box_format.specs.Parts.{box_cut}
+use Rattle.box_format.proofs.PassedBox.{ordered, in_grid}
 use Rattle.container_spec.specs.Meanings.{segment_in}
 use Rattle.container_spec.specs.MeaningLaws.{SegmentIsShort}
-use Rattle.container_spec.proofs.CutsOfPlans.{starts_at, plan_cuts, cut_within}
+use Rattle.container_spec.proofs.CutsOfPlans.{mcus_within}
 use Rattle.container_spec.proofs.GoodSegments.{stepped}
 use Rattle.container_spec.proofs.PlanGrids.{plan_suits}
 use Rattle.container_spec.proofs.ReachedSegments.{none_given}
@@ -173,9 +176,11 @@ segment_is_short plan b i box within =
     let kept = All-from_recursion IsHandover b.handovers box.each i start within in
     let each = mcus_short s.count s (first_progress s) (record { is = shape.0; few = shape.1 })
     (none_given s.grid s.stream suits.grid_is) (start_few s.start kept) in
-    let cuts = plan_cuts plan (length b.handovers) box.some in
-    let last = cut_within (starts_at plan (length b.handovers)) (length b.handovers) _ (i + 1)
-    cuts (omega (arith, within)) in
+    let cut = box_cut plan b.chunk (length b.handovers) in
+    let order = ordered plan b.header b.trailer b.chunk (length b.handovers) box.chunk in
+    let last = mcus_within cut (i + 1) order (omega (arith, within)) (omega (arith, within)) in
+    let high = mul-le-mul_left plan.across
+    (in_grid plan b.header b.trailer b.chunk (length b.handovers) box.chunk) in
     let most = few_mcus plan has.is_plan in
     either (λ (output : Output). length output.0 ≤ mcu_room * 2 ^ 32) (starts s.stream) _ _
-    (omega (arith, each, last, most)) (omega arith)
+    (omega (arith, each, last, high, most)) (omega arith)

@@ -1,5 +1,5 @@
 -- Statement: the container of a file (docs/FORMAT.md, Segments).
-use Rattle.std.specs.Prelude.{ℕ, ◌≡◌, ◌+◌, ◌<◌, ◌^◌, Bool, true, List, length, take, map}
+use Rattle.std.specs.Prelude.{ℕ, ◌≡◌, ◌+◌, ◌<◌, ◌^◌, Bool, true, false, List, length, take, map, None}
 use Rattle.std.specs.List.{AllByRecursion}
 use Rattle.bit_list.specs.Bits.{IsByte}
 use Rattle.jpeg_marker.specs.Plans.{PlanFields}
@@ -48,6 +48,7 @@ parts_of_file version plan mcus pads header trailer most =
     let segments = numbers 0 (plan_cut plan most).segments in
     record {
       version = version;
+      chunk = None;
       pads = told_pads plan mcus pads;
       header = header;
       trailer = trailer;
@@ -55,10 +56,11 @@ parts_of_file version plan mcus pads header trailer most =
       streams = map (λ i. stream_of plan (segment_mcus plan mcus most i)) segments;
     }
 
--- `made` is the container of a file in a version, with at most `most` segments, by the plan of the file's header, its
+-- `made` is the container of a file in a version of whole files, with at most `most` segments, by the plan of the file's header, its
 -- MCUs, the pad bit of each of its intervals and its trailer; the lengths of header and trailer have fields of four
 -- bytes, and the version can say the pad bits
 pub record IsContainerOf (version : Version) (most : ℕ) (made file : List ℕ) : Type 0 where
+  pub whole : (layout_of version).chunked ≡ false
   pub bytes : AllByRecursion IsByte file
   pub plan : PlanFields
   pub mcus : List Mcu

@@ -1,5 +1,5 @@
 -- Law: what holds of all containers and files (own).
-use Rattle.std.specs.Prelude.{ℕ, ◌≡◌, ◌*◌, ◌^◌, ◌<◌, ◌≤◌, Bool, true, not, ◌&&◌, List, length}
+use Rattle.std.specs.Prelude.{ℕ, ◌≡◌, ◌*◌, ◌^◌, ◌<◌, ◌≤◌, Bool, true, false, not, ◌&&◌, List, length}
 use Rattle.std.specs.List.{AllByRecursion}
 use Rattle.bit_list.specs.Bits.{IsByte}
 use Rattle.jpeg_marker.specs.Plans.{PlanFields}
@@ -31,10 +31,12 @@ ContainerIsRestored =
     → most ≤ (layout_of version).most → IsContainerOf version most made file
     → IsMeaning made (record { bytes = file; verdict = Restored })
 
--- and what stands for a file is its container in the version that it names, with as many segments as it has
+-- and what stands for a file is its container in the version that it names, with as many segments as it has, if that
+-- version is one of whole files
 abbrev pub RestoredIsContainer : Type 0
 RestoredIsContainer =
     (made file : List ℕ) → AllByRecursion IsByte made
+    → (layout_of (version_in made)).chunked ≡ false
     → IsMeaning made (record { bytes = file; verdict = Restored })
     → (most : ℕ) × (0 < most) × (most ≤ (layout_of (version_in made)).most)
     × IsContainerOf (version_in made) most made file
@@ -80,9 +82,9 @@ SegmentIsShort =
     (plan : PlanFields) (b : BoxParts) (i : ℕ) → IsBox plan b → i < length b.handovers
     → length (segment_output (segment_in plan b i)).0 ≤ mcu_room * 2 ^ 32
 
--- a container and the same one in the second version stand for the same
+-- a container of a whole file and the same one in the second version stand for the same
 abbrev pub MigratedMeansTheSame : Type 0
 MigratedMeansTheSame =
     (plan : PlanFields) (b : BoxParts) (bytes : List ℕ) (meaning : Meaning)
-    → AllByRecursion IsByte bytes → IsBoxOf plan b bytes → IsMeaning bytes meaning
-    → IsMeaning (box_bytes (migrated b)) meaning
+    → AllByRecursion IsByte bytes → (layout_of b.version).chunked ≡ false → IsBoxOf plan b bytes
+    → IsMeaning bytes meaning → IsMeaning (box_bytes (migrated b)) meaning

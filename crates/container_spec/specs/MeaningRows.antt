@@ -1,9 +1,8 @@
 -- Rows: worked segments and containers, by what they stand for (own).
 use Rattle.std.specs.Prelude.{ℕ, ◌≡◌, Bool, true, false, List, [], ◌∷◌, ◌++◌, replicate, Option, Some, None}
-use Rattle.jpeg_marker.specs.Plans.{PlanFields}
 use Rattle.huff_table.specs.declared.plan_codes.ComponentCodes.{ComponentCodes}
 use Rattle.scan_spec.specs.BlockRows.{level}
-use Rattle.scan_spec.specs.ScanRows.{grey, ones}
+use Rattle.scan_spec.specs.ScanRows.{grey}
 use Rattle.handover.specs.Handovers.{HandoverFields, start}
 use Rattle.handover.specs.PadSums.{no_pads}
 use Rattle.handover.specs.declared.pads.PadSum.{PadSum}
@@ -14,10 +13,10 @@ use Rattle.scan_spec.specs.Pads.{Same, Listed}
 use Rattle.cut_spec.specs.SegmentRows.{begun}
 use Rattle.block_spec.specs.ReadingRows.{one_across, zeros_stream, dc_one_stream, dc_large_stream, dc_outside_stream, ones_stream}
 use Rattle.box_format.specs.Parts.{BoxParts}
-use Rattle.box_format.specs.BoxRows.{grey_header, grey_plan, image_end, least_parts, byteless_parts}
+use Rattle.box_format.specs.BoxRows.{grey_header, grey_plan, ones_plan, image_end, least_parts, byteless_parts, chunk_parts}
 use Rattle.container_spec.specs.Segments.{SegmentFields, Output, segment_output}
 use Rattle.box_format.specs.declared.version.Version.TheVariants.{First, Second}
-use Rattle.container_spec.specs.Meanings.{Meaning, Verdict, Restored, PadSpelled, Faulty, meaning_of}
+use Rattle.container_spec.specs.Meanings.{Meaning, Verdict, Restored, PadSpelled, ChunkShort, Faulty, meaning_of}
 
 -- a segment of one MCU of two with these tables, by its stream, what it starts from, and what the next one starts from
 abbrev pub one_of_two : ComponentCodes → List ℕ → ℕ → HandoverFields → Option HandoverFields
@@ -82,17 +81,11 @@ containers_are_joined =
       verdict = Faulty (record { segment = 0; cause = Seam (begun 0 2) (begun 0 3) });
     })
 
--- four MCUs of two bits each, which no pad bit follows
-abbrev pub ones_plan : PlanFields
-ones_plan =
-    record (grey_plan 4) {
-      components = record { id = 1; h = 1; v = 1; dc = ones.dc; ac = ones.ac } ∷ [];
-    }
-
--- two segments of two of them, and a pad bit
+-- two segments of two MCUs of two bits each, which no pad bit follows, and a pad bit
 abbrev pub ones_parts : Bool → BoxParts
 ones_parts pad = record {
   version = First;
+  chunk = None;
   pads = Same pad;
   header = [];
   trailer = image_end;
@@ -131,3 +124,18 @@ lists_are_spelled =
     (mixed 0x80 ≡ with_last 0x3f 0x00 Restored) × (mixed 0x40 ≡ with_last 0x00 0x3f Restored)
     × (mixed 0xc0 ≡ with_last 0x3f 0x3f PadSpelled)
     × (mixed 0x00 ≡ with_last 0x00 0x00 PadSpelled)
+
+-- the last three bytes of a file as a chunk: the byte before them is the row's too. If the row has fewer bytes than the
+-- chunk skips and needs, no byte of the trailer comes
+abbrev pub chunks_are_slices : Type 0
+chunks_are_slices =
+    (meaning_of ones_plan chunk_parts
+    ≡ record { bytes = 0x00 ∷ image_end; verdict = Restored })
+    × (meaning_of ones_plan (record chunk_parts {
+      chunk = Some (record { place = 72; length = 3; skip = 2; from = 3; to = 4 });
+    })
+    ≡ record { bytes = []; verdict = ChunkShort })
+    × (meaning_of ones_plan (record chunk_parts {
+      chunk = Some (record { place = 70; length = 4; skip = 0; from = 3; to = 4 });
+    })
+    ≡ record { bytes = 0x00 ∷ 0xff ∷ image_end; verdict = Restored })

@@ -1,5 +1,7 @@
 -- Statement: what bytes stand for as a container (docs/FORMAT.md, What a container stands for).
-use Rattle.std.specs.Prelude.{ℕ, ◌≡◌, ◌⊎◌, ◌+◌, ◌-◌, if◌then◌else◌, List, [], ◌∷◌, ◌++◌, length, map, get_or, slice_get, Option, Some, None}
+use Rattle.std.specs.Prelude.{ℕ, ◌≡◌, ◌⊎◌, ◌+◌, ◌-◌, nat_lt, if◌then◌else◌, List, [], ◌∷◌, ◌++◌, length, map, get_or, slice_get, Option, Some, None}
+use Rattle.byte_window.specs.declared.window.Window.{Window}
+use Rattle.byte_window.specs.Windows.{everything, window}
 use Rattle.jpeg_marker.specs.Plans.{PlanFields}
 use Rattle.scan_spec.specs.Pads.{is_spelled}
 use Rattle.scan_spec.specs.Slots.{shape_of}
@@ -10,9 +12,10 @@ use Rattle.handover.specs.declared.outcome.StreamFault.{StreamFault}
 use Rattle.handover.specs.declared.outcome.Outcome.{Outcome}
 use Rattle.handover.specs.declared.outcome.Outcome.TheVariants.{Good, Bad}
 use Rattle.cut_spec.specs.Cuts.{first_mcu}
-use Rattle.box_format.specs.Parts.{BoxParts, IsBoxOf, cut_in}
+use Rattle.box_format.specs.Parts.{BoxParts, IsBoxOf, box_cut, header_part, rows_most}
 use Rattle.box_format.specs.Raws.{numbers}
 use Rattle.box_format.specs.BoxChecks.{IsRefusedBox}
+use Rattle.box_format.specs.declared.chunk.Chunk.{Chunk}
 use Rattle.box_format.specs.declared.refusal.BoxRefusal.{BoxRefusal}
 use Rattle.container_spec.specs.ScanStream.{grid_of}
 use Rattle.container_spec.specs.Segments.{SegmentFields, Output, segment_output}
@@ -20,7 +23,7 @@ use Rattle.container_spec.specs.Segments.{SegmentFields, Output, segment_output}
 -- segment i of a container
 abbrev pub segment_in : PlanFields → BoxParts → ℕ → SegmentFields
 segment_in plan b i =
-    let cut = cut_in plan (length b.handovers) in
+    let cut = box_cut plan b.chunk (length b.handovers) in
     record {
       number = i;
       shape = shape_of plan;
@@ -59,11 +62,12 @@ abbrev pub joined : List Output → Joined
 joined [] = record { bytes = []; fault = None; padded = no_pads }
 joined (output ∷ outputs) = joined_with output.0 output.1 (joined outputs)
 
--- how a container ends: the whole file; all its bytes, but with pad bits that are spelled in another way than a
--- file's; a segment's fault; or the bytes are no container
+-- how a container ends: the whole file, or the whole chunk; all bytes of the file, but with pad bits that are spelled in
+-- another way than a file's; a chunk of fewer bytes than it says; a segment's fault; or the bytes are no container
 pub data Verdict : Type 0 where
   Restored : Verdict
   PadSpelled : Verdict
+  ChunkShort : Verdict
   Faulty : StreamFault → Verdict
   NoBox : BoxRefusal → Verdict
 
@@ -72,14 +76,39 @@ pub record Meaning : Type 0 where
   pub bytes : List ℕ
   pub verdict : Verdict
 
+-- what comes before the segments: the header, or the bytes of it that lie in the chunk
+abbrev pub before_rows : Option Chunk → List ℕ → List ℕ
+before_rows None header = header
+before_rows (Some c) header = header_part c header
+
+-- which of the segments' bytes it has: all, or those after what stands before the chunk, up to the chunk's end
+abbrev pub rows_window : Option Chunk → List ℕ → List ℕ → Window
+rows_window None header trailer = everything
+rows_window (Some c) header trailer =
+    record { skip = c.skip; most = Some (rows_most c header trailer) }
+
+-- the bytes before the trailer
+abbrev pub begun_bytes : BoxParts → Joined → List ℕ
+begun_bytes b all =
+    before_rows b.chunk b.header
+    ++ window (rows_window b.chunk b.header b.trailer) all.bytes
+
+-- without a fault: a file, or a chunk, of which the trailer's part comes only if nothing is missing before it
+abbrev pub good_end : Option Chunk → BoxParts → Joined → Meaning
+good_end None b all = record {
+  bytes = begun_bytes b all ++ b.trailer;
+  verdict = if is_spelled b.pads all.padded then Restored else PadSpelled;
+}
+good_end (Some c) b all =
+    if nat_lt (length all.bytes) (c.skip + rows_most c b.header b.trailer)
+    then record { bytes = begun_bytes b all; verdict = ChunkShort }
+    else record { bytes = begun_bytes b all ++ b.trailer; verdict = Restored }
+
 -- by the first fault, if there is one
 abbrev pub meaning_by : BoxParts → Joined → Option StreamFault → Meaning
 meaning_by b all (Some fault) =
-    record { bytes = b.header ++ all.bytes; verdict = Faulty fault }
-meaning_by b all None = record {
-  bytes = b.header ++ all.bytes ++ b.trailer;
-  verdict = if is_spelled b.pads all.padded then Restored else PadSpelled;
-}
+    record { bytes = begun_bytes b all; verdict = Faulty fault }
+meaning_by b all None = good_end b.chunk b all
 
 -- what parts stand for
 unfoldable pub meaning_of : PlanFields → BoxParts → Meaning

@@ -1,7 +1,7 @@
 // What holds of all segments, containers and files.
 ghost use Rattle.container_spec.specs.SegmentLaws.{McusArePut, SegmentIsItsSlice, GoodHasItsStream};
 ghost use Rattle.container_spec.specs.MeaningLaws.{OneMeaning, ContainerIsRestored, RestoredIsContainer, OneContainer, AcceptedIsNotRefused, FirstCanPad, SecondCanPad, ContainerIsShort, MigratedMeansTheSame, SegmentIsShort};
-ghost use Rattle.container_spec.specs.MeaningRows.{zeros_are_put, faults_are_told, containers_are_joined, pad_is_spelled, lists_are_spelled};
+ghost use Rattle.container_spec.specs.MeaningRows.{zeros_are_put, faults_are_told, containers_are_joined, pad_is_spelled, lists_are_spelled, chunks_are_slices};
 
 /// MCUs that a stream gives are put, and so a segment of a scan stands for its slice of the scan.
 pub fn segments_are_slices()
@@ -14,8 +14,8 @@ pub fn good_segments_have_their_stream()
     ensures { GoodHasItsStream }
 {}
 
-/// A file's container stands for that file, in each version that can say its pad bits, and what stands for a file is
-/// its container. Version 2 can always say them, version 1 if no two intervals are padded with different bits. Bytes
+/// A file's container stands for that file, in each version that can say its pad bits, and what stands for a file, in a
+/// version of whole files, is its container. Version 2 can always say them, version 1 if no two intervals are padded with different bits. Bytes
 /// stand for one thing. A file that has a container isn't refused.
 pub fn containers_stand_for_files()
     ensures one_meaning { OneMeaning }
@@ -41,4 +41,5 @@ pub fn rows_of_meanings()
     ensures containers { containers_are_joined }
     ensures pads { pad_is_spelled }
     ensures lists { lists_are_spelled }
+    ensures chunks { chunks_are_slices }
 {}

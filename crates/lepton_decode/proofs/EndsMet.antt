@@ -9,7 +9,7 @@ use Rattle.segment_worker.specs.declared.emitted.EmitStop.{EmitStop}
 use Rattle.segment_worker.specs.declared.emitted.EmitStop.TheVariants as Stops
 use Rattle.segment_worker.specs.Emitting.{Counts, Emits, IsThrough}
 use Rattle.lepton_decode.specs.declared.error.DecodeError.{DecodeError}
-use Rattle.lepton_decode.specs.declared.error.DecodeError.TheVariants.{WriteFault, Fault, PadSpelling}
+use Rattle.lepton_decode.specs.declared.error.DecodeError.TheVariants.{WriteFault, Fault, PadSpelling, ChunkShort}
 use Rattle.lepton_decode.specs.Ends.{Follows, HasEmitted, HaveLeft}
 
 -- it counted what it wrote
@@ -26,10 +26,12 @@ pub has_emitted : (count : ℕ) (view : EmitterView) (emitted : Result Emitted E
     → OnErr emitted (view.stopped ≡ true) → Follows emitted result → HasEmitted count view result
 has_emitted count view (Ok emitted) (Ok written) through stopped follows = through
 has_emitted count view (Ok emitted) (Err PadSpelling) through stopped follows = through
+has_emitted count view (Ok emitted) (Err ChunkShort) through stopped follows = through
 has_emitted count view (Ok emitted) (Err (Fault fault)) through stopped follows = absurd follows
 has_emitted count view (Ok emitted) (Err (WriteFault written)) through stopped follows = tt
 has_emitted count view (Err stop) (Ok written) through stopped follows = absurd follows
 has_emitted count view (Err stop) (Err PadSpelling) through stopped follows = absurd follows
+has_emitted count view (Err stop) (Err ChunkShort) through stopped follows = absurd follows
 has_emitted count view (Err stop) (Err (Fault fault)) through stopped follows = stopped
 has_emitted count view (Err stop) (Err (WriteFault written)) through stopped follows = tt
 
@@ -38,5 +40,6 @@ pub have_left : (team : List WorkerView) (result : Result ℕ DecodeError)
     → All (λ (w : WorkerView). w.left ≡ true) team → HaveLeft team result
 have_left team (Ok written) left = left
 have_left team (Err PadSpelling) left = left
+have_left team (Err ChunkShort) left = left
 have_left team (Err (Fault fault)) left = left
 have_left team (Err (WriteFault written)) left = tt

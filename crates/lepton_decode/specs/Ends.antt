@@ -2,7 +2,7 @@
 use Rattle.std.specs.Prelude.{All, ℕ, ◌≡◌, Bool, true, List, length, Option, Result, Ok, Err}
 use Rattle.jpeg_marker.specs.Plans.{PlanFields}
 use Rattle.box_format.specs.Parts.{BoxParts}
-use Rattle.container_spec.specs.Meanings.{Meaning, Restored, PadSpelled, Faulty, meaning_of}
+use Rattle.container_spec.specs.Meanings.{Meaning, Restored, PadSpelled, ChunkShort as ShortChunk, Faulty, meaning_of}
 use Rattle.output_board.specs.declared.view.EmitterView.{EmitterView}
 use Rattle.output_board.specs.declared.view.WorkerView.{WorkerView}
 use Rattle.segment_worker.specs.Written.{HasWritten, HasFailed}
@@ -10,7 +10,7 @@ use Rattle.segment_worker.specs.Emitting.{IsThrough}
 use Rattle.segment_worker.specs.declared.emitted.Emitted.{Emitted}
 use Rattle.segment_worker.specs.declared.emitted.EmitStop.{EmitStop}
 use Rattle.lepton_decode.specs.declared.error.DecodeError.{DecodeError}
-use Rattle.lepton_decode.specs.declared.error.DecodeError.TheVariants.{WriteFault, Fault, PadSpelling}
+use Rattle.lepton_decode.specs.declared.error.DecodeError.TheVariants.{WriteFault, Fault, PadSpelling, ChunkShort}
 
 -- a container that is ready: its header's plan, its parts, what the emitter and each worker know of its board, and
 -- whether it was decoded
@@ -43,6 +43,8 @@ module _ {Sink : Type 0} (held : Sink → Option (List ℕ))
       (m.verdict ≡ Restored) × (written ≡ length m.bytes) × HasWritten held takes faults old new m.bytes
   Ends old new m (Err PadSpelling) =
       (m.verdict ≡ PadSpelled) × HasWritten held takes faults old new m.bytes
+  Ends old new m (Err ChunkShort) =
+      (m.verdict ≡ ShortChunk) × HasWritten held takes faults old new m.bytes
   Ends old new m (Err (Fault fault)) =
       (m.verdict ≡ Faulty fault) × HasWritten held takes faults old new m.bytes
   Ends old new m (Err (WriteFault written)) =
@@ -52,6 +54,7 @@ module _ {Sink : Type 0} (held : Sink → Option (List ℕ))
 abbrev pub HasEmitted : ℕ → EmitterView → Result ℕ DecodeError → Type 0
 HasEmitted count e (Ok written) = IsThrough count e
 HasEmitted count e (Err PadSpelling) = IsThrough count e
+HasEmitted count e (Err ChunkShort) = IsThrough count e
 HasEmitted count e (Err (Fault fault)) = e.stopped ≡ true
 HasEmitted count e (Err (WriteFault written)) = Unit {0}
 
@@ -59,6 +62,7 @@ HasEmitted count e (Err (WriteFault written)) = Unit {0}
 abbrev pub HaveLeft : List WorkerView → Result ℕ DecodeError → Type 0
 HaveLeft team (Ok written) = All (λ w. w.left ≡ true) team
 HaveLeft team (Err PadSpelling) = All (λ w. w.left ≡ true) team
+HaveLeft team (Err ChunkShort) = All (λ w. w.left ≡ true) team
 HaveLeft team (Err (Fault fault)) = All (λ w. w.left ≡ true) team
 HaveLeft team (Err (WriteFault written)) = Unit {0}
 
@@ -66,9 +70,11 @@ HaveLeft team (Err (WriteFault written)) = Unit {0}
 abbrev pub Follows : Result Emitted EmitStop → Result ℕ DecodeError → Type 0
 Follows (Ok emitted) (Ok written) = Unit {0}
 Follows (Ok emitted) (Err PadSpelling) = Unit {0}
+Follows (Ok emitted) (Err ChunkShort) = Unit {0}
 Follows (Ok emitted) (Err (Fault fault)) = ⊥
 Follows (Ok emitted) (Err (WriteFault written)) = Unit {0}
 Follows (Err stop) (Ok written) = ⊥
 Follows (Err stop) (Err PadSpelling) = ⊥
+Follows (Err stop) (Err ChunkShort) = ⊥
 Follows (Err stop) (Err (Fault fault)) = Unit {0}
 Follows (Err stop) (Err (WriteFault written)) = Unit {0}

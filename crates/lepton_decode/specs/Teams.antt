@@ -1,5 +1,6 @@
 -- Steps: the emitter and the workers of a decode (own).
-use Rattle.std.specs.Prelude.{All, ℕ, ◌≡◌, ◌*◌, ◌≤◌, None, true, false, List, length, map, Option, Result, OnOk, OnErr}
+use Rattle.std.specs.Prelude.{All, ℕ, ◌≡◌, ◌*◌, ◌≤◌, None, true, false, List, length, map, Option, Result, IfOk, OnOk, OnErr}
+use Rattle.byte_window.specs.declared.window.Window.{Window}
 use Rattle.atomic_table.specs.Seated.{TableId}
 use Rattle.box_format.specs.Versions.{most_segments}
 use Rattle.box_format.specs.Seen.{BoxSeen}
@@ -8,7 +9,7 @@ use Rattle.output_board.specs.Seats.{SeatValue}
 use Rattle.segment_worker.specs.declared.emitted.Emitted.{Emitted}
 use Rattle.segment_worker.specs.declared.emitted.EmitStop.{EmitStop}
 use Rattle.segment_worker.specs.Contents.{segment_room}
-use Rattle.segment_worker.specs.Emitting.{Emits, IsNewEmitter, IsThrough, joined_in}
+use Rattle.segment_worker.specs.Emitting.{Emits, IsNewEmitter, IsThrough, joined_in, seen_through}
 use Rattle.segment_worker.specs.Working.{IsIdle, HasLeft}
 use Rattle.lepton_decode.specs.declared.team.Emitter.{Emitter}
 use Rattle.lepton_decode.specs.declared.team.Worker.{Worker}
@@ -29,11 +30,12 @@ IsLeftWorker table v worker = HasLeft table v worker.seat worker.decoder
 abbrev pub IsNewLead : TableId → BoxSeen → Emitter → Type 0
 IsNewLead table v emitter = IsNewEmitter table v emitter.seat emitter.decoder
 
--- and after its last one
+-- and after its last one, with this window on the segments
 pub record LeadEnds {Sink : Type 0} (held : Sink → Option (List ℕ))
     (takes : Sink → List ℕ → Type 0) (faults : Sink → ℕ) (full : Sink → Type 0)
-    (v : BoxSeen) (emitter : Emitter) (old new : Sink) (result : Result Emitted EmitStop) : Type 0 where
-  pub ends : Emits held takes faults full old new (joined_in v) result
+    (w : Window) (v : BoxSeen) (emitter : Emitter) (old new : Sink) (result : Result Emitted EmitStop) : Type 0 where
+  pub ends : Emits held takes faults full old new (seen_through w (joined_in v)) result
+  pub came : IfOk result (λ emitted. emitted.came ≡ length (joined_in v).bytes)
   pub through : OnOk result (IsThrough (length v.parts.handovers) emitter.seat.view)
   pub stopped : OnErr result (emitter.seat.view.stopped ≡ true)
   pub few : length (joined_in v).bytes ≤ segment_room * most_segments

@@ -8,11 +8,10 @@ ghost use Rattle.outside_core.specs.Takes.{TakesNext};
 ghost use Rattle.lepton_decode.specs.Ends.{Ends, lone_meaning_in};
 
 use crate::error::DecodeError;
-use crate::file_parts::{put_header, put_rest};
+use crate::file_parts::{put_before, put_rest, rows_window};
 use crate::ready::PrepareError;
 use bit_list::Piece;
 use box_format::{BoxRefusal, BoxView, read_box};
-use byte_window::Window;
 use outside_core::{Gate, Sink};
 use segment_code::SegmentDecoder;
 use segment_worker::emit_alone;
@@ -100,7 +99,7 @@ pub fn run_alone<K: Sink, G: Gate>(
     )
 }
 
-// Header, segments and trailer, and then whether the pad bits are told as a file's are.
+// What comes before the segments, what the container has of them, and the trailer.
 fn restore_alone<'a, K: Sink, G: Gate>(
     view: &BoxView<'a>,
     decoder: &mut SegmentDecoder<'a>,
@@ -117,11 +116,11 @@ fn restore_alone<'a, K: Sink, G: Gate>(
     ensures plan { decoder.new.plan ≡ decoder.old.plan }
     ensures lasting { K.faults sink.old ≤ K.faults sink.new }
 {
-    let before = match put_header(view, sink) {
+    let before = match put_before(view, sink) {
         Ok(before) => before,
         Err(written) => return Err(DecodeError::WriteFault { written }),
     };
-    let window = Window::everything();
+    let window = rows_window(view);
     let emitted = emit_alone(decoder, piece, view, window, sink, gate);
-    put_rest(view, before, emitted, sink)
+    put_rest(view, before, window, emitted, sink)
 }

@@ -6,7 +6,7 @@ ghost use Rattle.lepton_decode.specs.Ends.{Ends, HasEmitted, HaveLeft, meaning_i
 ghost use Rattle.lepton_decode.specs.Teams.{IsIdleWorker, IsNewLead, views_of};
 
 use crate::error::DecodeError;
-use crate::file_parts::{put_header, put_rest};
+use crate::file_parts::{put_before, put_rest, rows_window};
 use crate::ready::Ready;
 use crate::team::{Emitter, Shared, Worker};
 use crate::threads::lead_beside;
@@ -17,9 +17,10 @@ use segment_worker::Told;
 use std::sync::Wait;
 use std::thread::Threads;
 
-/// Writes the file that a container stands for, or if a segment's stream has a fault, the bytes before it. It returns
-/// how many bytes these are, whatever the number of workers and the order of their calls. It asks no allocator for
-/// memory. If a thread can't be had, it does without.
+/// Writes the file or the chunk that a container stands for, or if a segment's stream has a fault, the bytes before it,
+/// or what there is of a chunk whose segments have too few bytes. It returns how many bytes these are, whatever the
+/// number of workers and the order of their calls. It asks no allocator for memory. If a thread can't be had, it does
+/// without.
 ///
 /// At each moment, also while the call is under way, what was written is a prefix of the bytes that the container
 /// stands for, since the sink need take nothing else.
@@ -53,7 +54,7 @@ pub fn run<R: Threads + Wait + Sync, K: Sink + Send, G: Gate + Sync>(
     )
 }
 
-// Header, segments and trailer, and then whether the pad bits are told as a file's are.
+// What comes before the segments, what the container has of them, and the trailer.
 fn restore<'a, R: Threads + Wait + Sync, K: Sink + Send, G: Gate + Sync>(
     rt: &R,
     view: &BoxView<'a>,
@@ -74,11 +75,17 @@ fn restore<'a, R: Threads + Wait + Sync, K: Sink + Send, G: Gate + Sync>(
     ensures count { length team.new.items ≡ length team.old.items }
     ensures lasting { K.faults sink.old ≤ K.faults sink.new }
 {
-    let before = match put_header(view, sink) {
+    let before = match put_before(view, sink) {
         Ok(before) => before,
         Err(written) => return Err(DecodeError::WriteFault { written }),
     };
-    let shared = Shared { board, view, gate };
+    let window = rows_window(view);
+    let shared = Shared {
+        board,
+        view,
+        window,
+        gate,
+    };
     let emitted = lead_beside(rt, emitter, team.as_mut_slice(), &shared, sink);
-    put_rest(view, before, emitted, sink)
+    put_rest(view, before, window, emitted, sink)
 }

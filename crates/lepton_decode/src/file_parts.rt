@@ -1,52 +1,116 @@
-// What a decode writes before its segments and after them.
-ghost use Rattle.std.specs.Prelude.{◌≡◌, ◌*◌, ◌^◌, ◌<◌, ◌≤◌, length, IfOk, IfErr, OnOk};
+// What a decode writes before its segments and after them, and what it writes of them.
+ghost use Rattle.std.specs.Prelude.{◌≡◌, ◌*◌, ◌^◌, ◌<◌, ◌≤◌, length, false, IfOk, IfErr};
 ghost use Rattle.outside_core.specs.Takes.{TakesNext};
 ghost use Rattle.box_format.specs.Versions.{most_segments};
 ghost use Rattle.container_spec.specs.Meanings.{meaning_of};
 ghost use Rattle.segment_worker.specs.Contents.{segment_room};
-ghost use Rattle.segment_worker.specs.Emitting.{Counts, Emits, joined_in};
+ghost use Rattle.segment_worker.specs.Emitting.{Counts, Emits, joined_in, seen_through};
 ghost use Rattle.segment_worker.specs.Written.{HasWritten, HasFailed};
+ghost use Rattle.lepton_decode.specs.Chunked.{are_spelled, before_in, falls_short, window_in};
 ghost use Rattle.lepton_decode.specs.Ends.{Ends, Follows};
 
 use crate::error::DecodeError;
 use box_format::BoxView;
+use byte_window::Window;
+use handover::PadSum;
 use outside_core::{Sink, WriteFault, write_all};
 use segment_worker::{EmitStop, Emitted};
 
-// Writes the header. Answers how many bytes it has, or how many of them were written before the sink failed.
-pub(crate) fn put_header<K: Sink>(view: &BoxView, sink: &mut K) -> Result<u64, u64>
+// The header's bytes that the container has: all, or those that lie in its chunk.
+fn before_rows<'a>(view: &BoxView<'a>) -> &'a [u8]
+    ensures bytes { result.now ≡ before_in view.now.parts }
+    ensures fits { length result.now < 2 ^ 32 }
+{
+    let header = view.header();
+    match view.chunk() {
+        None => header,
+        Some(chunk) => {
+            let part = Window {
+                skip: chunk.place,
+                most: Some(chunk.length),
+            };
+            part.cut(header)
+        }
+    }
+}
+
+// Which of its segments' bytes the container has.
+pub(crate) fn rows_window(view: &BoxView) -> Window
+    ensures { result ≡ window_in view.now.parts }
+{
+    match view.chunk() {
+        None => Window::everything(),
+        Some(chunk) => {
+            let others = before_rows(view).len() as u64 + view.trailer().len() as u64;
+            Window {
+                skip: chunk.skip,
+                most: Some(chunk.length.saturating_sub(others)),
+            }
+        }
+    }
+}
+
+// Writes what comes before the segments. Answers how many bytes that is, or how many of them were written before the
+// sink failed.
+pub(crate) fn put_before<K: Sink>(view: &BoxView, sink: &mut K) -> Result<u64, u64>
     requires takes { TakesNext K.takes sink.old
         (meaning_of view.now.plan view.now.parts).bytes }
-    ensures count { IfOk result (λ before. before ≡ length view.now.parts.header) }
+    ensures count { IfOk result (λ before. before ≡ length (before_in view.now.parts)) }
     ensures fits { IfOk result (λ before. before < 2 ^ 32) }
     ensures whole { IfOk result (λ _.
-        HasWritten K.held K.takes K.faults sink.old sink.new view.now.parts.header) }
+        HasWritten K.held K.takes K.faults sink.old sink.new (before_in view.now.parts)) }
     ensures failed { IfErr result (λ written. HasFailed K.held K.faults K.full sink.old sink.new
         (meaning_of view.now.plan view.now.parts).bytes written) }
     ensures lasting { K.faults sink.old ≤ K.faults sink.new }
 {
-    let header = view.header();
-    match write_all(sink, header) {
-        Ok(()) => Ok(header.len() as u64),
+    let before = before_rows(view);
+    match write_all(sink, before) {
+        Ok(()) => Ok(before.len() as u64),
         Err(WriteFault { written }) => Err(written),
     }
 }
 
-// After the header, which has `before` bytes, and the segments, which ended like this: writes the trailer if all ended
-// well, and then looks whether the pad bits are told as a file's are.
+// Whether fewer bytes came than the window is for.
+fn is_short(window: Window, came: u64) -> bool
+    ensures { result ≡ falls_short window came }
+{
+    match window.most {
+        None => false,
+        Some(most) => came < window.skip || came - window.skip < most,
+    }
+}
+
+// Whether the pad bits are spelled as a file's, if the container has a file.
+fn are_pads_spelled(view: &BoxView, pads: &PadSum) -> bool
+    ensures { result ≡ are_spelled view.now.parts.chunk view.now.parts.pads pads.now }
+{
+    match view.chunk() {
+        None => view.pad().is_spelled(pads),
+        Some(_) => true,
+    }
+}
+
+// After the first `before` bytes and the segments, which ended like this: writes the trailer if all ended well and no
+// byte of a chunk is missing, and then looks whether a file's pad bits are spelled as a file's.
 pub(crate) fn put_rest<K: Sink>(
     view: &BoxView,
     before: u64,
+    window: Window,
     emitted: Result<Emitted, EmitStop>,
     sink: &mut K,
 ) -> Result<u64, DecodeError>
-    requires before { before ≡ length view.now.parts.header }
+    requires before { before ≡ length (before_in view.now.parts) }
     requires fits { before < 2 ^ 32 }
-    requires counts { Counts (joined_in view.now) emitted }
+    requires window { window ≡ window_in view.now.parts }
+    requires counts { Counts (seen_through window (joined_in view.now)) emitted }
+    requires came { IfOk emitted (λ emitted. emitted.came ≡ length (joined_in view.now).bytes) }
     requires few { length (joined_in view.now).bytes ≤ segment_room * most_segments }
-    requires takes { OnOk emitted (TakesNext K.takes sink.old view.now.parts.trailer) }
-    ensures ends { (first mid : K) → HasWritten K.held K.takes K.faults first mid view.now.parts.header
-        → Emits K.held K.takes K.faults K.full mid sink.old (joined_in view.now) emitted
+    requires takes { IfOk emitted (λ emitted. falls_short window emitted.came ≡ false
+        → TakesNext K.takes sink.old view.now.parts.trailer) }
+    ensures ends { (first mid : K)
+        → HasWritten K.held K.takes K.faults first mid (before_in view.now.parts)
+        → Emits K.held K.takes K.faults K.full mid sink.old (seen_through window (joined_in view.now))
+        emitted
         → Ends K.held K.takes K.faults K.full first sink.new (meaning_of view.now.plan view.now.parts)
         result }
     ensures follows { Follows emitted result }
@@ -61,13 +125,16 @@ pub(crate) fn put_rest<K: Sink>(
         }
         Err(EmitStop::Fault(fault)) => return Err(DecodeError::Fault(fault)),
     };
+    if is_short(window, emitted.came) {
+        return Err(DecodeError::ChunkShort);
+    }
     let trailer = view.trailer();
     if let Err(WriteFault { written }) = write_all(sink, trailer) {
         return Err(DecodeError::WriteFault {
             written: before + emitted.bytes + written,
         });
     }
-    if !view.pad().is_spelled(&emitted.pads) {
+    if !are_pads_spelled(view, &emitted.pads) {
         return Err(DecodeError::PadSpelling);
     }
     Ok(before + emitted.bytes + trailer.len() as u64)

@@ -1,10 +1,11 @@
-//! A container's file, written while it is decoded (this project's own).
+//! A container's file, or its chunk of one, written while it is decoded (this project's own).
 //!
 //!     bytes --read_box--> view --prepare--> board, seats, decoders, pieces
 //!
-//!     run     header --write_all--> sink
-//!             workers in threads of their own   --rings of the board-->  the emitter on this thread --> sink
-//!             trailer --write_all--> sink
+//!     run     header, or the chunk's part of it --write_all--> sink
+//!             workers in threads of their own   --rings of the board-->  the emitter on this thread,
+//!             and of that what the chunk has    --write_all--> sink
+//!             trailer, if no byte of a chunk is missing --write_all--> sink
 //!
 //! `prepare` takes the memory; `run` is given no allocator, so that nothing is lost for want of it once bytes are
 //! written. `prepare_alone` and `run_alone` do the same on the calling thread, with no board: nothing in them waits, so

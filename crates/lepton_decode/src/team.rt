@@ -35,6 +35,7 @@ pub(crate) struct Emitter<'a> {
 pub(crate) struct Shared<'s, 'a, G> {
     pub(crate) board: &'s Board<Told<'a>>,
     pub(crate) view: &'s BoxView<'a>,
+    pub(crate) window: Window,
     pub(crate) gate: &'s G,
 }
 
@@ -60,17 +61,18 @@ impl<'s, 'a, G: Gate> Task<Shared<'s, 'a, G>> for Worker<'a> {
 
 impl<'s, 'a, G: Gate, K: Sink> Lead<Shared<'s, 'a, G>, K> for Emitter<'a> {
     ghost use Rattle.outside_core.specs.Takes.{TakesNext};
-    ghost use Rattle.segment_worker.specs.Emitting.{joined_in};
+    ghost use Rattle.segment_worker.specs.Emitting.{joined_in, seen_through};
     ghost use Rattle.lepton_decode.specs.Teams.{IsNewLead, LeadEnds};
 
     type Answer = Result<Emitted, EmitStop>;
 
     ghost begins = { λ emitter shared. IsNewLead shared.board.now shared.view.now emitter };
 
-    ghost takes = { λ shared sink. TakesNext K.takes sink (joined_in shared.view.now).bytes };
+    ghost takes = { λ shared sink.
+        TakesNext K.takes sink (seen_through shared.window (joined_in shared.view.now)).bytes };
 
     ghost ends = { λ old new shared from to answer.
-        LeadEnds K.held K.takes K.faults K.full shared.view.now new from to answer };
+        LeadEnds K.held K.takes K.faults K.full shared.window shared.view.now new from to answer };
 
     fn lead<R: Wait>(
         &mut self,
@@ -78,7 +80,6 @@ impl<'s, 'a, G: Gate, K: Sink> Lead<Shared<'s, 'a, G>, K> for Emitter<'a> {
         shared: &Shared<'s, 'a, G>,
         sink: &mut K,
     ) -> Result<Emitted, EmitStop> {
-        let window = Window::everything();
         emit(
             rt,
             &mut self.decoder,
@@ -86,7 +87,7 @@ impl<'s, 'a, G: Gate, K: Sink> Lead<Shared<'s, 'a, G>, K> for Emitter<'a> {
             &mut self.seat,
             shared.board,
             shared.view,
-            window,
+            shared.window,
             sink,
             shared.gate,
         )

@@ -1,4 +1,5 @@
 -- A file by the place of its trailer has a container, whose parts stand in it.
+use Rattle.std.specs.Prelude.{None}
 use Rattle.std.proofs.Common.{◌≡◌, ℕ, suc, ◌<◌, ◌≤◌, ◌^◌, List, [], ◌∷◌, length, take, drop, get_or, refl, ap, ◌∙◌, arith, length-drop}
 use Rattle.std.specs.List.{AllByRecursion}
 use Rattle.bit_list.specs.Bits.{IsByte}
@@ -35,6 +36,7 @@ module _ (plan : PlanFields) (bytes : List ℕ) (most : ℕ) (starts : StartsFie
       → streams ≡ parts.streams
       → ◌≡◌ {A = BoxParts} (record {
         version = Second;
+        chunk = None;
         pads = pads;
         header = header;
         trailer = trailer;
@@ -61,6 +63,7 @@ module _ (plan : PlanFields) (bytes : List ℕ) (most : ℕ) (starts : StartsFie
           text = scan.text;
         } in
         record {
+          whole = refl;
           bytes = are;
           plan = plan;
           mcus = have.mcus;

@@ -43,6 +43,7 @@ pub fn encode<R: Threads + Sync>(
     let made = write_box(
         alloc,
         &Parts {
+            chunk: None,
             pad: starts.pad(),
             header,
             trailer,

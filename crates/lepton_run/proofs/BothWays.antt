@@ -1,5 +1,5 @@
 -- Encode and decode undo each other.
-use Rattle.std.proofs.Common.{◌≡◌, ℕ, ◌<◌, ◌≤◌, inl, inr, List, length, take, refl, sym, subst, arith}
+use Rattle.std.proofs.Common.{◌≡◌, ℕ, ◌<◌, ◌≤◌, false, inl, inr, List, length, take, refl, sym, subst, arith}
 use Rattle.std.specs.List.{AllByRecursion}
 use Rattle.bit_list.specs.Bits.{IsByte}
 use Rattle.box_format.specs.Parts.{migrated}
@@ -7,7 +7,7 @@ use Rattle.box_format.specs.Versions.{layout_of, version_in}
 use Rattle.box_format.specs.declared.version.Version.{Version}
 use Rattle.box_format.specs.declared.version.Version.TheVariants.{Second}
 use Rattle.box_format.proofs.BoxLawsProved.{migrated_is}
-use Rattle.container_spec.specs.Meanings.{Meaning, Verdict, Restored, PadSpelled, Faulty, NoBox, IsMeaning}
+use Rattle.container_spec.specs.Meanings.{Meaning, Verdict, Restored, PadSpelled, ChunkShort, Faulty, NoBox, IsMeaning}
 use Rattle.container_spec.specs.Files.{IsContainerOf, parts_of_file}
 use Rattle.container_spec.proofs.ContainerSizes.{container_is_short}
 use Rattle.container_spec.proofs.FileParts.{box_is}
@@ -60,12 +60,12 @@ migrated_same workers bytes made answer moved short is =
     let box = m.2.box in
     inr (record {
       short = short;
-      are = subst (AllByRecursion IsByte) (sym m.3)
-          (box_are m.0 (migrated m.1) (migrated_is m.0 m.1 box));
+      are = subst (AllByRecursion IsByte) (sym m.4)
+          (box_are m.0 (migrated m.1) (migrated_is m.0 m.1 m.3 box));
       makes = (
         is.makes.0,
-        subst (λ (l : List ℕ). IsMeaning l is.makes.0) (sym m.3)
-            (migrated_means_the_same m.0 m.1 bytes is.makes.0 is.are m.2 is.makes.1),
+        subst (λ (l : List ℕ). IsMeaning l is.makes.0) (sym m.4)
+            (migrated_means_the_same m.0 m.1 bytes is.makes.0 is.are m.3 m.2 is.makes.1),
         is.makes.2,
       );
     })
@@ -84,6 +84,7 @@ restored_by : (meaning bytes : List ℕ) (verdict : Verdict)
     → Made bytes ≡ answer_by meaning verdict → (meaning ≡ bytes) × (verdict ≡ Restored)
 restored_by meaning bytes Restored e = (cc, refl)
 restored_by meaning bytes PadSpelled e = absurd cc
+restored_by meaning bytes ChunkShort e = absurd cc
 restored_by meaning bytes (Faulty fault) e = absurd cc
 restored_by meaning bytes (NoBox refusal) e = absurd cc
 
@@ -91,12 +92,13 @@ same_meaning : (m : Meaning) (bytes : List ℕ) → m.bytes ≡ bytes → m.verd
     → m ≡ record { bytes = bytes; verdict = Restored }
 same_meaning m bytes e f = rw (← e, ← f) refl
 
-pub spelled_so : (workers : ℕ) (made file : List ℕ) → Answers (Decode workers) made (Made file)
+pub spelled_so : (workers : ℕ) (made file : List ℕ) → (layout_of (version_in made)).chunked ≡ false
+    → Answers (Decode workers) made (Made file)
     → (segments : ℕ) × (0 < segments) × (segments ≤ (layout_of (version_in made)).most)
     × IsContainerOf (version_in made) segments made file
-spelled_so workers made file (inl long) = absurd (let e = long.1 in cc)
-spelled_so workers made file (inr is) =
+spelled_so workers made file whole (inl long) = absurd (let e = long.1 in cc)
+spelled_so workers made file whole (inr is) =
     let m = is.makes in
     let so = restored_by m.0.bytes file m.0.verdict m.2 in
-    restored_is_container made file is.are
+    restored_is_container made file is.are whole
     (subst (IsMeaning made) (same_meaning m.0 file so.0 so.1) m.1)

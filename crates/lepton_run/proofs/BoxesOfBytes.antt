@@ -1,5 +1,5 @@
 -- A container's bytes are bytes.
-use Rattle.std.proofs.Common.{ℕ, zero, suc, ◌<◌, ◌≤◌, Bool, true, false, List, [], ◌∷◌, ◌++◌, length, flat_map, ℤ, arith}
+use Rattle.std.proofs.Common.{ℕ, zero, suc, ◌<◌, ◌≤◌, Bool, true, false, List, [], ◌∷◌, ◌++◌, length, flat_map, ℤ, Option, Some, None, arith}
 use Rattle.std.specs.List.{AllByRecursion}
 use Rattle.std.specs.Int.{w16, byte_at, cast_unsigned}
 use Rattle.byteorder.specs.Endian.{big_bytes}
@@ -9,10 +9,11 @@ use Rattle.jpeg_marker.specs.Plans.{PlanFields}
 use Rattle.handover.specs.Handovers.{HandoverFields, IsHandover}
 use Rattle.handover.specs.HandoverBytes.{handover_bytes}
 use Rattle.scan_spec.specs.Pads.{PadBits, Same, Listed}
-use Rattle.box_format.specs.Parts.{BoxParts, IsBox, bit_byte, box_bytes, list_bytes, list_length, magic, pad_byte, records}
+use Rattle.box_format.specs.Parts.{BoxParts, IsBox, bit_byte, box_bytes, chunk_bytes, list_bytes, list_length, magic, pad_byte, records}
 use Rattle.box_format.specs.Versions.{layout_of, version_byte}
+use Rattle.box_format.specs.declared.chunk.Chunk.{Chunk}
 use Rattle.box_format.specs.declared.version.Version.{Version}
-use Rattle.box_format.specs.declared.version.Version.TheVariants.{First, Second}
+use Rattle.box_format.specs.declared.version.Version.TheVariants.{First, Second, Third}
 use Rattle.box_format.proofs.Fronts.{most_few}
 
 -- the bytes of a number
@@ -71,6 +72,7 @@ pad_is (Listed bytes) = omega arith
 version_is : (version : Version) → IsByte (version_byte version)
 version_is First = omega arith
 version_is Second = omega arith
+version_is Third = omega arith
 
 -- the fields before the lengths
 abbrev fields : BoxParts → List ℕ
@@ -104,6 +106,17 @@ both_are : (xs ys : List ℕ) → AllByRecursion IsByte xs → AllByRecursion Is
     → AllByRecursion IsByte (xs ++ ys)
 both_are xs ys a b = all-append IsByte xs ys a b
 
+chunk_are : (chunk : Option Chunk) → AllByRecursion IsByte (chunk_bytes chunk)
+chunk_are None = tt
+chunk_are (Some c) =
+    let to = big_bytes 4 c.to in
+    let rows = both_are (big_bytes 4 c.from) to (number_are 4 c.from) (number_are 4 c.to) in
+    let skip = both_are (big_bytes 8 c.skip) (big_bytes 4 c.from ++ to) (number_are 8 c.skip) rows in
+    let length = both_are (big_bytes 8 c.length) (big_bytes 8 c.skip ++ (big_bytes 4 c.from ++ to))
+    (number_are 8 c.length) skip in
+    both_are (big_bytes 8 c.place) (big_bytes 8 c.length ++ (big_bytes 8 c.skip ++ (big_bytes 4 c.from ++ to)))
+    (number_are 8 c.place) length
+
 pub box_are : (plan : PlanFields) (b : BoxParts) → IsBox plan b
     → AllByRecursion IsByte (box_bytes b)
 unfolding box_bytes
@@ -117,14 +130,15 @@ box_are plan b is =
     let lengths = both_are (fields b ++ header) trailer first (number_are 4 (length b.trailer)) in
     let front = both_are ((fields b ++ header) ++ trailer) named lengths
     (named_are (layout_of b.version).listed (list_bytes b.pads)) in
-    let entries = both_are (((fields b ++ header) ++ trailer) ++ named) recorded front
+    let chunk = chunk_bytes b.chunk in
+    let first_fields = ((fields b ++ header) ++ trailer) ++ named in
+    let chunked = both_are first_fields chunk front (chunk_are b.chunk) in
+    let entries = both_are (first_fields ++ chunk) recorded chunked
     (records_are b.handovers b.streams is.each) in
-    let listed = both_are ((((fields b ++ header) ++ trailer) ++ named) ++ recorded)
-    (list_bytes b.pads) entries is.list_bytes_are in
-    let headed = both_are (((((fields b ++ header) ++ trailer) ++ named) ++ recorded)
-    ++ list_bytes b.pads) b.header listed is.header_bytes in
-    let ended = both_are ((((((fields b ++ header) ++ trailer) ++ named) ++ recorded)
-    ++ list_bytes b.pads) ++ b.header) b.trailer headed is.trailer_bytes in
-    both_are (((((((fields b ++ header) ++ trailer) ++ named) ++ recorded)
-    ++ list_bytes b.pads) ++ b.header) ++ b.trailer) streams ended
+    let listed = both_are ((first_fields ++ chunk) ++ recorded) (list_bytes b.pads) entries is.list_bytes_are in
+    let headed = both_are (((first_fields ++ chunk) ++ recorded) ++ list_bytes b.pads) b.header listed
+    is.header_bytes in
+    let ended = both_are ((((first_fields ++ chunk) ++ recorded) ++ list_bytes b.pads) ++ b.header) b.trailer headed
+    is.trailer_bytes in
+    both_are (((((first_fields ++ chunk) ++ recorded) ++ list_bytes b.pads) ++ b.header) ++ b.trailer) streams ended
     (streams_are b.streams is.stream_bytes)

@@ -1,5 +1,5 @@
 -- From how words ended to what the top call promises.
-use Rattle.std.proofs.Common.{◌≡◌, ℕ, ◌<◌, ◌≤◌, ◌⊎◌, inl, inr, List, length, Option, Some, refl, sym, ap, subst, ◌∙◌, arith}
+use Rattle.std.proofs.Common.{◌≡◌, ℕ, ◌<◌, ◌≤◌, ◌⊎◌, false, inl, inr, List, length, Option, Some, refl, sym, ap, subst, ◌∙◌, arith}
 use Rattle.std.specs.Io.KnownBytes.{Appends}
 use Rattle.outside_core.specs.Faults.{Rose}
 use Rattle.std.specs.List.{AllByRecursion}
@@ -168,19 +168,19 @@ module _ {Sink Source : Type 0} (held : Sink → Option (List ℕ)) (faults : Si
       (meaning : Meaning) → Means words Migrate
       → ¬ Rose failures lost source rest → ¬ Rose faults full old new
       → left source ≡ Some bytes → length bytes ≤ limit_of Migrate → IsBoxOf plan b bytes
-      → IsMeaning bytes meaning
+      → (layout_of b.version).chunked ≡ false → IsMeaning bytes meaning
       → ((status ≡ 0) × IsMeaning (box_bytes (migrated b)) meaning
       × Appends (held old) (held new) (box_bytes (migrated b))) ⊎ (status ≡ 5)
   migrated_of ending status is ends said bytes plan b meaning means calm still had short of
-      stands =
+      whole stands =
       let are = subst (AllByRecursion IsByte) (sym of.text) (box_are plan b of.box) in
       let made = box_bytes (migrated b) in
       elim (complete_of Migrate bytes (Made made) means had
-      (inr (record { short = short; are = are; makes = (plan, b, of, refl) })) ending status is
+      (inr (record { short = short; are = are; makes = (plan, b, of, whole, refl) })) ending status is
       ends said calm (λ _. still)) [
         | inl given ↦ inl (
           is ∙ ap status_at given.0,
-          migrated_means_the_same plan b bytes meaning are of stands,
+          migrated_means_the_same plan b bytes meaning are whole of stands,
           given.1,
         )
         | inr five ↦ inr five

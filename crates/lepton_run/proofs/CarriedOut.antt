@@ -1,5 +1,6 @@
 -- How a command ends that has bytes, from what the encoder and the decoder say.
-use Rattle.std.proofs.Common.{◌≡◌, ℕ, ◌+◌, ◌<◌, ◌≤◌, ◌∙◌, append-nil, Bool, true, false, if◌then◌else◌, inl, inr, List, [], length, take, Option, Some, None, refl, sym, ap, subst, arith, Result, Ok, Err}
+use Rattle.std.proofs.Common.{◌≡◌, ℕ, ◌+◌, ◌<◌, ◌≤◌, ◌++◌, ◌∙◌, append-nil, Bool, true, false, if◌then◌else◌, inl, inr, List, [], length, take, Option, Some, None, refl, sym, ap, subst, arith, Result, Ok, Err}
+use Rattle.std.specs.Prelude.{nat_lt}
 use Rattle.std.specs.List.{AllByRecursion}
 use Rattle.std.specs.Io.KnownBytes.{Appends}
 use Rattle.std.proofs.KnownBytes.{Appends-nil}
@@ -8,10 +9,12 @@ use Rattle.outside_core.specs.Faults.{Rose}
 use Rattle.outside_core.specs.Takes.{TakesNext}
 use Rattle.jpeg_marker.specs.Plans.{PlanFields}
 use Rattle.handover.specs.declared.outcome.StreamFault.{StreamFault}
-use Rattle.box_format.specs.Parts.{BoxParts, IsBoxOf}
+use Rattle.scan_spec.specs.Pads.{is_spelled}
+use Rattle.box_format.specs.Parts.{BoxParts, IsBoxOf, rows_most}
+use Rattle.box_format.specs.declared.chunk.Chunk.{Chunk}
 use Rattle.box_format.specs.BoxChecks.{IsRefusedBox}
 use Rattle.box_format.specs.declared.refusal.BoxRefusal.{BoxRefusal}
-use Rattle.container_spec.specs.Meanings.{Joined, Meaning, Restored, PadSpelled, Faulty, NoBox, joined, meaning_by, meaning_of, outputs_of}
+use Rattle.container_spec.specs.Meanings.{Joined, Meaning, Restored, PadSpelled, ChunkShort as ShortChunk, Faulty, NoBox, begun_bytes, good_end, joined, meaning_by, meaning_of, outputs_of}
 use Rattle.segment_worker.specs.Written.{HasFailed, HasWritten}
 use Rattle.command_words.specs.declared.command.Command.{Command}
 use Rattle.command_words.specs.declared.command.Command.TheVariants.{Decode}
@@ -23,7 +26,7 @@ use Rattle.lepton_run.specs.DecodeEndings.{decode_ending}
 use Rattle.lepton_run.specs.CommandEnds.{CarriedOut}
 use Rattle.lepton_run.specs.declared.ending.Ending.TheVariants.{Done, Refused, WriteFailed}
 use Rattle.lepton_run.specs.declared.refusal.Refusal.{Refusal}
-use Rattle.lepton_run.specs.declared.refusal.Refusal.TheVariants.{Box, Fault, PadSpelling, TooLong}
+use Rattle.lepton_run.specs.declared.refusal.Refusal.TheVariants.{Box, Fault, PadSpelling, ChunkShort, TooLong}
 
 -- what parts stand for is written, whatever their verdict
 abbrev Written : Meaning → Type 0
@@ -34,10 +37,23 @@ written_by_pad : (bytes : List ℕ) (spelled : Bool)
 written_by_pad bytes true = (tt, refl)
 written_by_pad bytes false = (tt, refl)
 
+written_by_length : (few bytes : List ℕ) (short : Bool)
+    → Written (if short then record { bytes = few; verdict = ShortChunk }
+    else record { bytes = bytes; verdict = Restored })
+written_by_length few bytes true = (tt, refl)
+written_by_length few bytes false = (tt, refl)
+
+written_at_end : (c : Option Chunk) (b : BoxParts) (all : Joined) → Written (good_end c b all)
+written_at_end None b all =
+    written_by_pad (begun_bytes b all ++ b.trailer) (is_spelled b.pads all.padded)
+written_at_end (Some c) b all =
+    written_by_length (begun_bytes b all) (begun_bytes b all ++ b.trailer)
+    (nat_lt (length all.bytes) (c.skip + rows_most c b.header b.trailer))
+
 written_by : (b : BoxParts) (all : Joined) (fault : Option StreamFault)
     → Written (meaning_by b all fault)
 written_by b all (Some fault) = (tt, refl)
-written_by b all None = written_by_pad _ _
+written_by b all None = written_at_end b.chunk b all
 
 parts_written : (plan : PlanFields) (b : BoxParts) → Written (meaning_of plan b)
 unfolding meaning_of
@@ -160,6 +176,12 @@ module _ {Sink : Type 0} (held : Sink → Option (List ℕ)) (faults : Sink → 
       pad_spelled e has =
           refused_late PadSpelling (sym (ap (answer_by (meaning_of plan b).bytes) e)) has
 
+      chunk_short : (meaning_of plan b).verdict ≡ ShortChunk
+          → HasWritten held takes faults old new (meaning_of plan b).bytes
+          → CarriedOut held faults full (Decode workers) bytes old new (Refused ChunkShort)
+      chunk_short e has =
+          refused_late ChunkShort (sym (ap (answer_by (meaning_of plan b).bytes) e)) has
+
       faulty : (fault : StreamFault) → (meaning_of plan b).verdict ≡ Faulty fault
           → HasWritten held takes faults old new (meaning_of plan b).bytes
           → CarriedOut held faults full (Decode workers) bytes old new (Refused (Fault fault))
@@ -199,5 +221,6 @@ module _ {Sink : Type 0} (held : Sink → Option (List ℕ)) (faults : Sink → 
           → CarriedOut held faults full (Decode workers) bytes old new (decode_ending end)
       ended (Ok written) e = decoded e.0 e.2
       ended (Err DecodeErrors.PadSpelling) e = pad_spelled e.0 e.1
+      ended (Err DecodeErrors.ChunkShort) e = chunk_short e.0 e.1
       ended (Err (DecodeErrors.Fault fault)) e = faulty fault e.0 e.1
       ended (Err (DecodeErrors.WriteFault written)) e = decoded_part written e

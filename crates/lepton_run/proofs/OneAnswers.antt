@@ -1,5 +1,6 @@
 -- Bytes have one answer.
-use Rattle.std.proofs.Common.{◌≡◌, ℕ, inl, inr, List, [], length, sym, ap, ◌∙◌, subst, arith}
+use Rattle.std.proofs.Common.{◌≡◌, ℕ, false, inl, inr, List, [], length, sym, ap, ◌∙◌, subst, arith}
+use Rattle.std.proofs.lemmas.Bool.{false≢true}
 use Rattle.std.specs.List.{AllByRecursion}
 use Rattle.bit_list.specs.Bits.{IsByte}
 use Rattle.jpeg_marker.specs.Plans.{PlanFields}
@@ -12,7 +13,10 @@ use Rattle.scan_spec.proofs.ItemsOnce.{one_outcome}
 use Rattle.scan_spec.proofs.PlanShapes.{accepted_is_shape}
 use Rattle.cut_spec.specs.Cuts.{cut_of}
 use Rattle.box_format.specs.Parts.{BoxParts, box_bytes, migrated}
-use Rattle.box_format.specs.declared.version.Version.TheVariants.{Second}
+use Rattle.box_format.specs.BoxLaws.{IsRead}
+use Rattle.box_format.specs.Versions.{layout_of}
+use Rattle.box_format.specs.declared.version.Version.{Version}
+use Rattle.box_format.specs.declared.version.Version.TheVariants.{First, Second, Third}
 use Rattle.box_format.proofs.BoxLawsProved.{one_box, one_box_refusal, never_both as box_or_refused}
 use Rattle.container_spec.specs.Meanings.{Meaning}
 use Rattle.container_spec.proofs.AcceptedFiles.{scan_apart}
@@ -23,7 +27,7 @@ use Rattle.sample_jpeg.specs.SampleFile.{sample_file}
 use Rattle.lepton_run.specs.Summaries.{IsSummary, sample_segments, summary_of}
 use Rattle.lepton_run.specs.Answers.{Answer, Answers, Early, Late, Made, Makes, ScanRefuses, answer_by}
 use Rattle.lepton_run.specs.declared.refusal.Refusal.{Refusal}
-use Rattle.lepton_run.specs.declared.refusal.Refusal.TheVariants.{Header, Scan, Box, Fault, PadSpelling, TooLong}
+use Rattle.lepton_run.specs.declared.refusal.Refusal.TheVariants.{Header, Scan, Box, Fault, PadSpelling, ChunkShort, TooLong}
 
 one_scan_refusal : (bytes : List ℕ) (refusal other : ScanRefusal) → AllByRecursion IsByte bytes
     → ScanRefuses bytes refusal → ScanRefuses bytes other → refusal ≡ other
@@ -45,6 +49,7 @@ one_encoded n bytes (Made a) (Early (Scan r)) all p q =
 one_encoded n bytes (Made a) (Early (Box r)) all p q = absurd q
 one_encoded n bytes (Made a) (Early (Fault r)) all p q = absurd q
 one_encoded n bytes (Made a) (Early PadSpelling) all p q = absurd q
+one_encoded n bytes (Made a) (Early ChunkShort) all p q = absurd q
 one_encoded n bytes (Made a) (Early TooLong) all p q = absurd q
 one_encoded n bytes (Made a) (Late w r) all p q = absurd q
 one_encoded n bytes (Early (Header r)) (Made b) all p q =
@@ -56,6 +61,7 @@ one_encoded n bytes (Early (Header r)) (Early (Scan s)) all p q =
 one_encoded n bytes (Early (Header r)) (Early (Box s)) all p q = absurd q
 one_encoded n bytes (Early (Header r)) (Early (Fault s)) all p q = absurd q
 one_encoded n bytes (Early (Header r)) (Early PadSpelling) all p q = absurd q
+one_encoded n bytes (Early (Header r)) (Early ChunkShort) all p q = absurd q
 one_encoded n bytes (Early (Header r)) (Early TooLong) all p q = absurd q
 one_encoded n bytes (Early (Header r)) (Late w s) all p q = absurd q
 one_encoded n bytes (Early (Scan r)) (Made b) all p q =
@@ -67,42 +73,53 @@ one_encoded n bytes (Early (Scan r)) (Early (Scan s)) all p q =
 one_encoded n bytes (Early (Scan r)) (Early (Box s)) all p q = absurd q
 one_encoded n bytes (Early (Scan r)) (Early (Fault s)) all p q = absurd q
 one_encoded n bytes (Early (Scan r)) (Early PadSpelling) all p q = absurd q
+one_encoded n bytes (Early (Scan r)) (Early ChunkShort) all p q = absurd q
 one_encoded n bytes (Early (Scan r)) (Early TooLong) all p q = absurd q
 one_encoded n bytes (Early (Scan r)) (Late w s) all p q = absurd q
 one_encoded n bytes (Early (Box r)) b all p q = absurd p
 one_encoded n bytes (Early (Fault r)) b all p q = absurd p
 one_encoded n bytes (Early PadSpelling) b all p q = absurd p
+one_encoded n bytes (Early ChunkShort) b all p q = absurd p
 one_encoded n bytes (Early TooLong) b all p q = absurd p
 one_encoded n bytes (Late w r) b all p q = absurd p
+
+-- who reads the second version reads each version of whole files
+pub read_whole : (version : Version) → (layout_of version).chunked ≡ false → IsRead Second version
+read_whole First whole = omega arith
+read_whole Second whole = omega arith
+read_whole Third whole = absurd (false≢true (sym whole))
 
 -- what migrate makes of bytes is one thing
 one_migrated : (bytes : List ℕ) (a b : Answer) → AllByRecursion IsByte bytes
     → Makes Migrate bytes a → Makes Migrate bytes b → a ≡ b
 one_migrated bytes (Made a) (Made b) all p q =
     let same = (one_box p.0 q.0 p.1 q.1 bytes p.2 q.2).1 in
-    ap Made (p.3 ∙ ap (λ (x : BoxParts). box_bytes (migrated x)) same ∙ sym q.3)
+    ap Made (p.4 ∙ ap (λ (x : BoxParts). box_bytes (migrated x)) same ∙ sym q.4)
 one_migrated bytes (Made a) (Early (Header r)) all p q = absurd q
 one_migrated bytes (Made a) (Early (Scan r)) all p q = absurd q
 one_migrated bytes (Made a) (Early (Box r)) all p q =
-    absurd (box_or_refused bytes p.0 p.1 r p.2 q)
+    absurd (box_or_refused Second bytes p.0 p.1 r (read_whole p.1.version p.3) p.2 q)
 one_migrated bytes (Made a) (Early (Fault r)) all p q = absurd q
 one_migrated bytes (Made a) (Early PadSpelling) all p q = absurd q
+one_migrated bytes (Made a) (Early ChunkShort) all p q = absurd q
 one_migrated bytes (Made a) (Early TooLong) all p q = absurd q
 one_migrated bytes (Made a) (Late w r) all p q = absurd q
 one_migrated bytes (Early (Header r)) b all p q = absurd p
 one_migrated bytes (Early (Scan r)) b all p q = absurd p
 one_migrated bytes (Early (Box r)) (Made b) all p q =
-    absurd (box_or_refused bytes q.0 q.1 r q.2 p)
+    absurd (box_or_refused Second bytes q.0 q.1 r (read_whole q.1.version q.3) q.2 p)
 one_migrated bytes (Early (Box r)) (Early (Header s)) all p q = absurd q
 one_migrated bytes (Early (Box r)) (Early (Scan s)) all p q = absurd q
 one_migrated bytes (Early (Box r)) (Early (Box s)) all p q =
-    ap (λ (x : Refusal). Early x) (ap Box (one_box_refusal bytes r s all p q))
+    ap (λ (x : Refusal). Early x) (ap Box (one_box_refusal Second bytes r s p q))
 one_migrated bytes (Early (Box r)) (Early (Fault s)) all p q = absurd q
 one_migrated bytes (Early (Box r)) (Early PadSpelling) all p q = absurd q
+one_migrated bytes (Early (Box r)) (Early ChunkShort) all p q = absurd q
 one_migrated bytes (Early (Box r)) (Early TooLong) all p q = absurd q
 one_migrated bytes (Early (Box r)) (Late w s) all p q = absurd q
 one_migrated bytes (Early (Fault r)) b all p q = absurd p
 one_migrated bytes (Early PadSpelling) b all p q = absurd p
+one_migrated bytes (Early ChunkShort) b all p q = absurd p
 one_migrated bytes (Early TooLong) b all p q = absurd p
 one_migrated bytes (Late w r) b all p q = absurd p
 

@@ -16,7 +16,7 @@ use Rattle.container_spec.proofs.OneMeanings.{one_meaning}
 use Rattle.container_spec.proofs.RestoredFiles.{container_is_restored}
 use Rattle.lepton_decode.specs.Ends.{Ends}
 use Rattle.lepton_decode.specs.declared.error.DecodeError.{DecodeError}
-use Rattle.lepton_decode.specs.declared.error.DecodeError.TheVariants.{WriteFault, Fault, PadSpelling}
+use Rattle.lepton_decode.specs.declared.error.DecodeError.TheVariants.{WriteFault, Fault, PadSpelling, ChunkShort}
 use Rattle.sample_jpeg.specs.SampleFile.{sample_mcus, sample_pads, end_of_image}
 use Rattle.sample_jpeg.specs.SampleLaw.{IsSample}
 use Rattle.sample_jpeg.specs.SampleHeader.{extent_of, sample_plan}
@@ -98,6 +98,10 @@ module _ {Sink : Type 0} (held : Sink → Option (List ℕ)) (takes : Sink → L
       let f = ends.0 in
       absurd cc
   never_ends PadSpelling calm ends =
+      let e = ap (λ (m : Meaning). m.verdict) restored in
+      let f = ends.0 in
+      absurd cc
+  never_ends ChunkShort calm ends =
       let e = ap (λ (m : Meaning). m.verdict) restored in
       let f = ends.0 in
       absurd cc

@@ -9,18 +9,19 @@ use Rattle.jpeg_marker.specs.HeaderPlan.{Accepts, Refuses as HeaderRefuses}
 use Rattle.scan_spec.specs.Items.{Refuses as ItemsRefuse}
 use Rattle.scan_spec.specs.Slots.{shape_of}
 use Rattle.scan_spec.specs.declared.refusal.ScanRefusal.{ScanRefusal}
-use Rattle.box_format.specs.BoxChecks.{IsRefusedBox}
+use Rattle.box_format.specs.BoxChecks.{IsRefusedBy}
 use Rattle.box_format.specs.Parts.{BoxParts, IsBoxOf, box_bytes, migrated}
+use Rattle.box_format.specs.Versions.{layout_of}
 use Rattle.box_format.specs.declared.version.Version.TheVariants.{Second}
 use Rattle.container_spec.specs.Files.{IsContainerOf}
 use Rattle.container_spec.specs.Limits.{most_of_a_container, most_of_a_file}
-use Rattle.container_spec.specs.Meanings.{Meaning, Verdict, Restored, PadSpelled, Faulty, NoBox, IsMeaning}
+use Rattle.container_spec.specs.Meanings.{Meaning, Verdict, Restored, PadSpelled, ChunkShort as ShortChunk, Faulty, NoBox, IsMeaning}
 use Rattle.command_words.specs.declared.command.Command.{Command}
 use Rattle.command_words.specs.declared.command.Command.TheVariants.{Encode, Decode, Migrate, Sample}
 use Rattle.lepton_run.specs.Lines.{refusal_line}
 use Rattle.lepton_run.specs.Summaries.{IsSummary}
 use Rattle.lepton_run.specs.declared.refusal.Refusal.{Refusal}
-use Rattle.lepton_run.specs.declared.refusal.Refusal.TheVariants.{Header, Scan, Box, Fault, PadSpelling, TooLong}
+use Rattle.lepton_run.specs.declared.refusal.Refusal.TheVariants.{Header, Scan, Box, Fault, PadSpelling, ChunkShort, TooLong}
 
 -- the answer to a command, if nothing fails and memory suffices: these bytes are made; or the bytes given are refused,
 -- before any byte is written or after some
@@ -58,6 +59,7 @@ limit_of (Sample seed columns rows) = 0
 abbrev pub answer_by : List ℕ → Verdict → Answer
 answer_by bytes Restored = Made bytes
 answer_by bytes PadSpelled = Late bytes PadSpelling
+answer_by bytes ShortChunk = Late bytes ChunkShort
 answer_by bytes (Faulty fault) = Late bytes (Fault fault)
 answer_by bytes (NoBox refusal) = Early (Box refusal)
 
@@ -80,11 +82,13 @@ DecodeMakes bytes answer =
     (meaning : Meaning) × IsMeaning bytes meaning
     × (answer ≡ answer_by meaning.bytes meaning.verdict)
 
--- what migrate makes of bytes: the same container in version 2, whatever its streams stand for; or it refuses it
+-- what migrate makes of bytes: the same container of a whole file in version 2, whatever its streams stand for; or it
+-- refuses it, as one that reads no later version
 abbrev pub MigrateMakes : List ℕ → Answer → Type 0
 MigrateMakes bytes (Made made) =
-    (plan : PlanFields) × (b : BoxParts) × IsBoxOf plan b bytes × (made ≡ box_bytes (migrated b))
-MigrateMakes bytes (Early (Box refusal)) = IsRefusedBox bytes refusal
+    (plan : PlanFields) × (b : BoxParts) × IsBoxOf plan b bytes
+    × ((layout_of b.version).chunked ≡ false) × (made ≡ box_bytes (migrated b))
+MigrateMakes bytes (Early (Box refusal)) = IsRefusedBy Second bytes refusal
 MigrateMakes bytes other = ⊥
 
 -- what `sample` makes, of no bytes: the summary of a file made from the seed

@@ -1,7 +1,7 @@
 -- Steps: the ending of the top call by what a decode answers, and which ending says out of memory (own).
 use Rattle.std.specs.Prelude.{ℕ, Result, Ok, Err}
 use Rattle.lepton_decode.specs.declared.error.DecodeError.{DecodeError}
-use Rattle.lepton_decode.specs.declared.error.DecodeError.TheVariants.{WriteFault, Fault, PadSpelling}
+use Rattle.lepton_decode.specs.declared.error.DecodeError.TheVariants.{WriteFault, Fault, PadSpelling, ChunkShort}
 use Rattle.lepton_run.specs.declared.ending.Ending.{Ending}
 use Rattle.lepton_run.specs.declared.ending.Ending.TheVariants.{Done, Refused, WriteFailed, NoMemory}
 use Rattle.lepton_run.specs.declared.refusal.Refusal.TheVariants as Refusal
@@ -10,6 +10,7 @@ use Rattle.lepton_run.specs.declared.refusal.Refusal.TheVariants as Refusal
 abbrev pub decode_ending : Result ℕ DecodeError → Ending
 decode_ending (Ok written) = Done
 decode_ending (Err PadSpelling) = Refused Refusal.PadSpelling
+decode_ending (Err ChunkShort) = Refused Refusal.ChunkShort
 decode_ending (Err (Fault fault)) = Refused (Refusal.Fault fault)
 decode_ending (Err (WriteFault written)) = WriteFailed
 

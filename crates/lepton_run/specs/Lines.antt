@@ -6,11 +6,11 @@ use Rattle.jpeg_marker.specs.declared.refusal.HeaderRefusal.TheVariants.{NotJpeg
 use Rattle.scan_spec.specs.declared.refusal.ScanRefusal.{ScanRefusal}
 use Rattle.scan_spec.specs.declared.refusal.ScanRefusal.TheVariants.{ScanCut, CodeBad, SymbolBad, RunPast, LooseZeros, DcRange, MarkerInScan, RestartBad, MixedPad}
 use Rattle.box_format.specs.declared.refusal.BoxRefusal.{BoxRefusal}
-use Rattle.box_format.specs.declared.refusal.BoxRefusal.TheVariants.{BoxMagic, BoxVersion, BoxCut, BoxHeader, HeaderLong, BoxSegments, BoxPad, HandoverBad, BoxLong}
+use Rattle.box_format.specs.declared.refusal.BoxRefusal.TheVariants.{BoxMagic, BoxVersion, BoxCut, BoxHeader, HeaderLong, BoxSegments, BoxChunk, BoxPad, HandoverBad, BoxLong}
 use Rattle.handover.specs.declared.outcome.StreamCause.{StreamCause}
 use Rattle.handover.specs.declared.outcome.StreamCause.TheVariants as causes
 use Rattle.lepton_run.specs.declared.refusal.Refusal.{Refusal}
-use Rattle.lepton_run.specs.declared.refusal.Refusal.TheVariants.{Header, Scan, Box, Fault, PadSpelling, TooLong}
+use Rattle.lepton_run.specs.declared.refusal.Refusal.TheVariants.{Header, Scan, Box, Fault, PadSpelling, ChunkShort, TooLong}
 
 -- room for every line, and for the lines of a summary
 abbrev pub line_room : ℕ
@@ -92,6 +92,7 @@ box_words BoxPad = codes "35 BoxPad"
 box_words (HandoverBad segment) = codes "36 HandoverBad"
 box_words BoxLong = codes "37 BoxLong"
 box_words (HeaderLong place) = codes "38 HeaderLong"
+box_words BoxChunk = codes "39 BoxChunk"
 
 -- what it holds: the header's refusal, the place or the segment
 abbrev pub box_fields : BoxRefusal → List ℕ
@@ -104,6 +105,7 @@ box_fields BoxPad = []
 box_fields (HandoverBad segment) = codes " segment " ++ decimal segment
 box_fields BoxLong = []
 box_fields (HeaderLong place) = codes " at " ++ decimal place
+box_fields BoxChunk = []
 
 -- number and name of the cause of a segment's fault; the handovers of a seam are left out
 abbrev pub cause_words : StreamCause → List ℕ
@@ -122,6 +124,7 @@ refusal_text (Box refusal) = box_words refusal ++ box_fields refusal
 refusal_text (Fault fault) =
     cause_words fault.cause ++ codes " segment " ++ decimal fault.segment
 refusal_text PadSpelling = codes "46 PadSpelling"
+refusal_text ChunkShort = codes "47 ChunkShort"
 refusal_text TooLong = codes "50 TooLong"
 
 -- a line

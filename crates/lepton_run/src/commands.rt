@@ -102,7 +102,7 @@ fn encode<R: Threads + Sync, K: Sink>(
     write_made(made.as_slice(), sink)
 }
 
-// The file of a container, decoded by `workers` threads beside this one.
+// The file or the chunk of a container, decoded by `workers` threads beside this one.
 fn decode<R: Threads + Wait + Sync, K: Sink + Send, G: Gate + Sync>(
     rt: &R,
     alloc: Global,
@@ -125,7 +125,7 @@ fn decode<R: Threads + Wait + Sync, K: Sink + Send, G: Gate + Sync>(
     restore(rt, &mut ready, sink, gate)
 }
 
-// The file of a container that is ready. Whatever memory this needs was taken before, so it never wants any.
+// The file or the chunk of a container that is ready. Whatever memory this needs was allocated before.
 fn restore<R: Threads + Wait + Sync, K: Sink + Send, G: Gate + Sync>(
     rt: &R,
     ready: &mut Ready,
@@ -143,7 +143,7 @@ fn restore<R: Threads + Wait + Sync, K: Sink + Send, G: Gate + Sync>(
     ending_by(ended)
 }
 
-// The file of a container, decoded on this thread. It has no `Wait`, so it returns.
+// The file or the chunk of a container, decoded on this thread. It has no `Wait`, so it returns.
 fn decode_alone<K: Sink, G: Gate>(alloc: Global, bytes: &[u8], sink: &mut K, gate: &G) -> Ending
     requires short { length bytes.now ≤ limit_of (Decode 0) }
     requires takes { TakesAnswers K.takes (Decode 0) bytes.now sink.old }
@@ -159,7 +159,7 @@ fn decode_alone<K: Sink, G: Gate>(alloc: Global, bytes: &[u8], sink: &mut K, gat
     restore_alone(&mut ready, sink, gate)
 }
 
-// The file of a container that is ready. Whatever memory this needs was taken before, so it never wants any.
+// The file or the chunk of a container that is ready. Whatever memory this needs was allocated before.
 fn restore_alone<K: Sink, G: Gate>(ready: &mut ReadyAlone, sink: &mut K, gate: &G) -> Ending
     requires fresh { ready.old.used ≡ false }
     requires takes { TakesNext K.takes sink.old (lone_meaning_in ready.old).bytes }
@@ -172,7 +172,7 @@ fn restore_alone<K: Sink, G: Gate>(ready: &mut ReadyAlone, sink: &mut K, gate: &
     ending_by(ended)
 }
 
-// The same container in version 2, written once it is whole. It has no `Wait`, so it returns.
+// The same container in version 2, if it has a whole file, written once it is whole. It has no `Wait`, so it returns.
 fn migrate<K: Sink>(alloc: Global, bytes: &[u8], sink: &mut K) -> Ending
     requires short { length bytes.now ≤ limit_of Migrate }
     requires takes { TakesAnswers K.takes Migrate bytes.now sink.old }
@@ -196,6 +196,7 @@ fn ending_by(ended: Result<u64, DecodeError>) -> Ending
         Ok(_) => Ending::Done,
         Err(DecodeError::Fault(fault)) => Ending::Refused(Refusal::Fault(fault)),
         Err(DecodeError::PadSpelling) => Ending::Refused(Refusal::PadSpelling),
+        Err(DecodeError::ChunkShort) => Ending::Refused(Refusal::ChunkShort),
         Err(DecodeError::WriteFault { .. }) => Ending::WriteFailed,
     }
 }

@@ -1,5 +1,5 @@
 // What holds of every file and every container.
-ghost use Rattle.std.specs.Prelude.{◌≡◌, ◌<◌, ◌≤◌, ℕ, List, length};
+ghost use Rattle.std.specs.Prelude.{◌≡◌, ◌<◌, ◌≤◌, ℕ, List, false, length};
 ghost use Rattle.box_format.specs.Versions.{layout_of, version_in};
 ghost use Rattle.box_format.specs.declared.version.Version.TheVariants.{Second};
 ghost use Rattle.container_spec.specs.Files.{IsContainerOf};
@@ -15,10 +15,11 @@ pub fn decode_undoes_encode()
         → Answers (Decode workers) made (Made file) }
 {}
 
-/// A container has one spelling: what decode takes is the container of the file that decode makes of it, in the version
-/// that it names and some number of segments.
+/// A whole file's container has one spelling: what decode reads is the container of the file that decode makes of it,
+/// in the version that it names and some number of segments.
 pub fn one_spelling_a_file()
-    ensures { (workers : ℕ) (made file : List ℕ) → Answers (Decode workers) made (Made file)
+    ensures { (workers : ℕ) (made file : List ℕ) → (layout_of (version_in made)).chunked ≡ false
+        → Answers (Decode workers) made (Made file)
         → (segments : ℕ) × (0 < segments) × (segments ≤ (layout_of (version_in made)).most)
         × IsContainerOf (version_in made) segments made file }
 {}

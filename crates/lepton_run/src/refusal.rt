@@ -16,12 +16,14 @@ pub enum Refusal {
     Header(HeaderRefusal),
     /// 16 to 24: after the header there is no scan that is accepted.
     Scan(ScanRefusal),
-    /// 30 to 38: the bytes are no container.
+    /// 30 to 39: the bytes are no container.
     Box(BoxRefusal),
     /// 40 to 45: a segment's stream has a fault; the file's bytes before it are written.
     Fault(StreamFault),
     /// 46: the container spells its pad bits in another way than a file's; all bytes of the file are written.
     PadSpelling,
+    /// 47: a chunk's segments have fewer bytes than it says; all that they have are written.
+    ChunkShort,
     /// 50: there are more bytes than the limit.
     TooLong,
 }
@@ -50,6 +52,7 @@ impl Refusal {
                 line.push_number(usize::from(fault.segment));
             }
             Refusal::PadSpelling => line.push(b"46 PadSpelling"),
+            Refusal::ChunkShort => line.push(b"47 ChunkShort"),
             Refusal::TooLong => line.push(b"50 TooLong"),
         }
     }

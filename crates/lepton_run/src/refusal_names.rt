@@ -81,6 +81,7 @@ pub(crate) fn box_words(refusal: BoxRefusal) -> &'static [u8]
         BoxRefusal::HandoverBad { .. } => b"36 HandoverBad",
         BoxRefusal::BoxLong => b"37 BoxLong",
         BoxRefusal::HeaderLong { .. } => b"38 HeaderLong",
+        BoxRefusal::BoxChunk => b"39 BoxChunk",
     }
 }
 

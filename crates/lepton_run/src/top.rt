@@ -1,5 +1,5 @@
 // The top call.
-ghost use Rattle.std.specs.Prelude.{◌≡◌, ◌≢◌, ◌⊎◌, ◌+◌, ◌<◌, ◌≤◌, ℕ, List, Some, String, string_bytes, map, length};
+ghost use Rattle.std.specs.Prelude.{◌≡◌, ◌≢◌, ◌⊎◌, ◌+◌, ◌<◌, ◌≤◌, ℕ, List, Some, false, String, string_bytes, map, length};
 ghost use Rattle.std.specs.Io.KnownBytes.{Appends};
 ghost use Rattle.outside_core.specs.Faults.{Rose};
 ghost use Rattle.outside_core.specs.Takes.{TakesAll};
@@ -31,14 +31,15 @@ use std::thread::Threads;
 ///
 /// | status | if | line |
 /// |---|---|---|
-/// | 0 | the container, the file, the container in version 2, or a sample's five lines were written | none |
-/// | 1 | the bytes are refused: with 40 to 45 what is before the fault was written, with 46 all, else none | (a) |
+/// | 0 | the container, the file or chunk, the container in version 2, or a sample's five lines were written | none |
+/// | 1 | the bytes are refused: with 40 to 47 what they stand for was written, else nothing | (a) |
 /// | 2 | the arguments mean no command | `lepton: words refused` |
 /// | 3 | the source failed | `lepton: read failed` |
 /// | 4 | the sink failed | `lepton: write failed` |
 /// | 5 | out of memory | `lepton: no memory` |
 ///
-/// (a) `lepton: refused `, the refusal's number and name, and the code, the place or the segment that it holds.
+/// (a) `lepton: refused `, the refusal's number and name, and the code, the place or the segment that it holds. With 40
+/// to 45 what is before the fault was written, with 46 the whole file, with 47 what the chunk's segments have.
 ///
 /// The commands are `encode` with `--segments`, `decode` with `--workers`, `migrate`, or `sample` with `--seed`,
 /// `--columns` and `--rows`, as `command_words` has them. The whole source is read before anything is written. Once
@@ -134,12 +135,13 @@ pub fn run<R: Threads + Wait + Sync, S: Source, K: Sink + Send, N: Sink + Send, 
         → ((status_at result ≡ 0) × Appends (K.held sink.old) (K.held sink.new) file)
         ⊎ (status_at result ≡ 5) }
 
-    // A container is migrated to the same one in version 2, whatever its streams are, and that stands for the same.
+    // A whole file's container is migrated to the same one in version 2, whatever its streams are, and that stands for
+    // the same.
     ensures migrated { (bytes : List ℕ) (plan : PlanFields) (b : BoxParts) (meaning : Meaning)
         → Means (map string_bytes words.now) Migrate
         → ¬ Rose S.faults S.full source.old source.new → ¬ Rose K.faults K.full sink.old sink.new
         → S.left source.old ≡ Some bytes → length bytes ≤ limit_of Migrate
-        → IsBoxOf plan b bytes → IsMeaning bytes meaning
+        → IsBoxOf plan b bytes → (layout_of b.version).chunked ≡ false → IsMeaning bytes meaning
         → ((status_at result ≡ 0) × IsMeaning (box_bytes (migrated b)) meaning
         × Appends (K.held sink.old) (K.held sink.new) (box_bytes (migrated b)))
         ⊎ (status_at result ≡ 5) }

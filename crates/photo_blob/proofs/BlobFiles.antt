@@ -1,11 +1,12 @@
 -- Blobs and their files.
-use Rattle.std.proofs.Common.{◌≡◌, ℕ, zero, suc, ◌-◌, List, [], ◌∷◌, length, take, drop, get_or, sym, ap, ap₂, ◌∙◌, subst, inl, inr, arith}
+use Rattle.std.proofs.Common.{◌≡◌, ℕ, zero, suc, ◌-◌, List, [], ◌∷◌, length, take, drop, get_or, refl, sym, ap, ap₂, ◌∙◌, subst, inl, inr, None, arith}
 use Rattle.jpeg_marker.specs.Plans.{PlanFields}
-use Rattle.box_format.specs.Parts.{BoxParts}
+use Rattle.box_format.specs.Parts.{BoxParts, IsBoxOf}
 use Rattle.box_format.proofs.BoxLawsProved.{one_box}
-use Rattle.container_spec.specs.Files.{written}
-use Rattle.container_spec.specs.Meanings.{Meaning, Restored, NoBox, meaning_of}
+use Rattle.container_spec.specs.Files.{IsContainerOf, parts_of_file, written}
+use Rattle.container_spec.specs.Meanings.{IsMeaning, Meaning, Restored, NoBox, meaning_of}
 use Rattle.container_spec.proofs.AcceptedFiles.{accepted_is_not_refused}
+use Rattle.container_spec.proofs.FileParts.{box_is}
 use Rattle.container_spec.proofs.OneMeanings.{one_container}
 use Rattle.container_spec.proofs.RestoredFiles.{container_is_restored}
 use Rattle.photo_blob.specs.Blobs.{IsBlobOf, blob_segments}
@@ -20,28 +21,45 @@ take_all (x ∷ xs) (suc n) e = ap (λ (l : List ℕ). x ∷ l) (take_all xs n (
 rest_is : (made : List ℕ) → take (length (1 ∷ made) - 1) (drop 1 (1 ∷ made)) ≡ made
 rest_is made = take_all made (length (1 ∷ made) - 1) (omega arith)
 
+-- a file's container has no chunk, and stands for the file
+stands_by : (made file : List ℕ) (plan : PlanFields) (b : BoxParts) → IsBoxOf plan b made → b.chunk ≡ None
+    → IsMeaning made (record { bytes = file; verdict = Restored }) → StandsFor made file
+stands_by made file plan b box none (inl x) =
+    let v : Restored ≡ NoBox x.0 = ap (λ (m : Meaning). m.verdict) x.2 in absurd (cc)
+stands_by made file plan b box none (inr x) =
+    let same = one_box plan x.0 b x.1 made box x.2 in (
+      plan,
+      b,
+      box,
+      none,
+      ap₂ (λ (p : PlanFields) (parts : BoxParts). meaning_of p parts) same.0 same.1 ∙ sym x.3,
+    )
+
+stands : (made file : List ℕ) → IsContainerOf written blob_segments made file → StandsFor made file
+stands made file is =
+    stands_by made file is.plan
+    (parts_of_file written is.plan is.mcus is.pads (take is.plan.header_length file) is.trailer blob_segments)
+    (record { box = box_is written blob_segments made file (omega arith) is (omega arith); text = is.spelled })
+    refl (container_is_restored written blob_segments made file (omega arith) (omega arith) is)
+
 -- after a mark that isn't 0 the file's container follows
 pub container_of : (blob file : List ℕ) → (get_or blob 0 0 ≡ 0 → ⊥) → IsBlobOf blob file
     → StandsFor (take (length blob - 1) (drop 1 blob)) file
 container_of blob file marked (inl a) =
     subst (λ (l : List ℕ). StandsFor (take (length l - 1) (drop 1 l)) file) (sym a.1)
     (subst (λ (l : List ℕ). StandsFor l file) (sym (rest_is a.0))
-    (container_is_restored written blob_segments a.0 file (omega arith) (omega arith) a.2))
+    (stands a.0 file a.2))
 container_of blob file marked (inr a) =
     absurd (marked (ap (λ (l : List ℕ). get_or l 0 0) a.0))
 
 -- bytes stand for one file
 one_restored : (bytes file other : List ℕ) → StandsFor bytes file → StandsFor bytes other
     → file ≡ other
-one_restored bytes file other (inl x) y =
-    let v : Restored ≡ NoBox x.0 = ap (λ (m : Meaning). m.verdict) x.2 in absurd (cc)
-one_restored bytes file other (inr x) (inl y) =
-    let v : Restored ≡ NoBox y.0 = ap (λ (m : Meaning). m.verdict) y.2 in absurd (cc)
-one_restored bytes file other (inr x) (inr y) =
+one_restored bytes file other x y =
     let same = one_box x.0 y.0 x.1 y.1 bytes x.2 y.2 in
     ap (λ (m : Meaning). m.bytes)
-    (x.3 ∙ ap₂ (λ (plan : PlanFields) (parts : BoxParts). meaning_of plan parts) same.0 same.1
-    ∙ sym y.3)
+    (sym x.4 ∙ ap₂ (λ (plan : PlanFields) (parts : BoxParts). meaning_of plan parts) same.0 same.1
+    ∙ y.4)
 
 pub one_blob : OneBlob
 one_blob blob other file (inl a) (inl b) =
@@ -61,12 +79,8 @@ marks_differ blob made file a b =
 pub one_file : OneFile
 one_file blob file other (inl a) (inl b) =
     let same : a.0 ≡ b.0 = ap (λ (l : List ℕ). drop 1 l) (sym a.1 ∙ b.1) in
-    let first = container_is_restored written blob_segments a.0 file (omega arith) (omega arith)
-    a.2 in
-    let second = container_is_restored written blob_segments b.0 other (omega arith)
-    (omega arith) b.2 in
     one_restored b.0 file other
-    (subst (λ (l : List ℕ). StandsFor l file) same first) second
+    (subst (λ (l : List ℕ). StandsFor l file) same (stands a.0 file a.2)) (stands b.0 other b.2)
 one_file blob file other (inl a) (inr b) = absurd (marks_differ blob a.0 other a.1 b.0)
 one_file blob file other (inr a) (inl b) = absurd (marks_differ blob b.0 file b.1 a.0)
 one_file blob file other (inr a) (inr b) = ap (λ (l : List ℕ). drop 1 l) (sym a.0 ∙ b.0)

@@ -1,16 +1,19 @@
 -- A container's file is its header, its segments' bytes and its trailer.
-use Rattle.std.proofs.Common.{◌≡◌, ℕ, zero, suc, ◌+◌, ◌-◌, ◌<◌, ◌≤◌, List, ◌++◌, length, map, Option, Some, None, sym, ap, ap₂, ◌∙◌, refl, append_assoc, append-nil, inl, inr, arith}
+use Rattle.std.proofs.Common.{◌≡◌, ℕ, zero, suc, ◌+◌, ◌-◌, ◌<◌, ◌≤◌, List, ◌++◌, length, map, Option, Some, None, sym, ap, ap₂, ◌∙◌, refl, append_assoc, append-nil, arith}
+use Rattle.byte_window.specs.Windows.{window}
 use Rattle.jpeg_marker.specs.Plans.{PlanFields}
 use Rattle.handover.specs.declared.outcome.Outcome.{Outcome}
 use Rattle.handover.specs.declared.outcome.Outcome.TheVariants.{Good, Bad}
 use Rattle.handover.specs.declared.outcome.StreamFault.{StreamFault}
 use Rattle.box_format.specs.Parts.{BoxParts, IsBoxOf}
 use Rattle.box_format.specs.BoxChecks.{IsRefusedBox}
+use Rattle.box_format.specs.declared.chunk.Chunk.{Chunk}
 use Rattle.box_format.specs.declared.refusal.BoxRefusal.{BoxRefusal}
-use Rattle.box_format.proofs.BoxLawsProved.{one_box, never_both}
+use Rattle.box_format.specs.declared.version.Version.TheVariants.{Third}
+use Rattle.box_format.proofs.BoxLawsProved.{all_read, one_box, never_both}
 use Rattle.box_format.specs.Raws.{numbers}
 use Rattle.container_spec.specs.Segments.{segment_output}
-use Rattle.container_spec.specs.Meanings.{Meaning, Verdict, Restored, Faulty, NoBox, Joined, joined, joined_with, outputs_of, meaning_by, meaning_of, segment_in}
+use Rattle.container_spec.specs.Meanings.{Meaning, Verdict, Restored, Faulty, Joined, before_rows, begun_bytes, good_end, joined, joined_with, outputs_of, meaning_by, meaning_of, rows_window, segment_in}
 use Rattle.photo_blob.specs.Showing.{StandsFor, segment_bytes, bytes_from}
 
 one_more : (bytes : List ℕ) (o : Outcome) (rest : Joined) (all : List ℕ)
@@ -34,21 +37,37 @@ same_file : (f : List ℕ) (v : Verdict) (m : Meaning) → m ≡ record { bytes 
     → (m.bytes ≡ f) × (m.verdict ≡ v)
 same_file f v m e = (ap (λ (x : Meaning). x.bytes) e, ap (λ (x : Meaning). x.verdict) e)
 
+-- with no chunk all of the header and of the segments' bytes is there, and the trailer
+begun_is : (c : Option Chunk) (header trailer bytes : List ℕ) → c ≡ None
+    → before_rows c header ++ window (rows_window c header trailer) bytes ≡ header ++ bytes
+begun_is None header trailer bytes none = refl
+begun_is (Some c) header trailer bytes none = absurd (cc)
+
+end_is : (c : Option Chunk) (b : BoxParts) (all : Joined) → c ≡ None
+    → (good_end c b all).bytes ≡ begun_bytes b all ++ b.trailer
+end_is None b all none = refl
+end_is (Some c) b all none = absurd (cc)
+
 by_fault : (b : BoxParts) (all : Joined) (fault : Option StreamFault) (file : List ℕ)
-    → meaning_by b all fault ≡ record { bytes = file; verdict = Restored }
+    → b.chunk ≡ None → meaning_by b all fault ≡ record { bytes = file; verdict = Restored }
     → (fault ≡ None) × (b.header ++ all.bytes ++ b.trailer ≡ file)
-by_fault b all None file e = (refl, (same_file file Restored (meaning_by b all None) e).0)
-by_fault b all (Some fault) file e =
+by_fault b all None file none e = (
+  refl,
+  sym (end_is b.chunk b all none
+      ∙ ap (λ (l : List ℕ). l ++ b.trailer) (begun_is b.chunk b.header b.trailer all.bytes none))
+      ∙ (same_file file Restored (meaning_by b all None) e).0,
+)
+by_fault b all (Some fault) file none e =
     let v : Faulty fault ≡ Restored = (same_file file Restored (meaning_by b all (Some fault)) e).1 in absurd (cc)
 
 -- what parts stand for a file have its bytes
-pub restored_bytes : (plan : PlanFields) (b : BoxParts) (file : List ℕ)
-    → meaning_of plan b ≡ record { bytes = file; verdict = Restored }
+restored_bytes : (plan : PlanFields) (b : BoxParts) (file : List ℕ)
+    → b.chunk ≡ None → meaning_of plan b ≡ record { bytes = file; verdict = Restored }
     → b.header ++ bytes_from plan b 0 (length b.handovers) ++ b.trailer ≡ file
 unfolding meaning_of
-restored_bytes plan b file e =
+restored_bytes plan b file none e =
     let all = joined (outputs_of plan b) in
-    let h = by_fault b all all.fault file e in
+    let h = by_fault b all all.fault file none e in
     ap (λ (l : List ℕ). b.header ++ l ++ b.trailer) (sym (all_bytes plan b 0 (length b.handovers) h.0)) ∙ h.1
 
 -- the bytes from a segment on begin with it
@@ -76,17 +95,14 @@ none_left plan b i n first file all is =
 -- a container that stands for a file isn't refused
 pub not_refused : (bytes file : List ℕ) (refusal : BoxRefusal) → StandsFor bytes file
     → IsRefusedBox bytes refusal → ⊥
-not_refused bytes file refusal (inl x) refused =
-    let v : Restored ≡ NoBox x.0 = ap (λ (m : Meaning). m.verdict) x.2 in cc
-not_refused bytes file refusal (inr x) refused =
-    never_both bytes x.0 x.1 refusal x.2 refused
+not_refused bytes file refusal x refused =
+    never_both Third bytes x.0 x.1 refusal (all_read x.1.version) x.2 refused
 
 -- its file, by its parts
 pub shown_bytes : (bytes file : List ℕ) (plan : PlanFields) (b : BoxParts)
     → StandsFor bytes file → IsBoxOf plan b bytes
     → b.header ++ bytes_from plan b 0 (length b.handovers) ++ b.trailer ≡ file
-shown_bytes bytes file plan b (inl x) box = absurd (never_both bytes plan b x.0 box x.1)
-shown_bytes bytes file plan b (inr x) box =
+shown_bytes bytes file plan b x box =
     let same = one_box plan x.0 b x.1 bytes box x.2 in
-    restored_bytes plan b file
-    (ap₂ (λ (p : PlanFields) (parts : BoxParts). meaning_of p parts) same.0 same.1 ∙ sym x.3)
+    restored_bytes plan b file (ap (λ (parts : BoxParts). parts.chunk) same.1 ∙ x.3)
+    (ap₂ (λ (p : PlanFields) (parts : BoxParts). meaning_of p parts) same.0 same.1 ∙ x.4)

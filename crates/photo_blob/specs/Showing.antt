@@ -1,14 +1,16 @@
 -- Steps: a container's file, put together segment by segment (own).
-use Rattle.std.specs.Prelude.{ℕ, List, flat_map}
+use Rattle.std.specs.Prelude.{ℕ, ◌≡◌, List, None, flat_map}
 use Rattle.jpeg_marker.specs.Plans.{PlanFields}
-use Rattle.box_format.specs.Parts.{BoxParts}
+use Rattle.box_format.specs.Parts.{BoxParts, IsBoxOf}
 use Rattle.box_format.specs.Raws.{numbers}
 use Rattle.container_spec.specs.Segments.{segment_output}
-use Rattle.container_spec.specs.Meanings.{IsMeaning, Restored, segment_in}
+use Rattle.container_spec.specs.Meanings.{Restored, meaning_of, segment_in}
 
--- bytes are a container that stands for a file
+-- bytes are a container with no chunk that stands for a file
 abbrev pub StandsFor : List ℕ → List ℕ → Type 0
-StandsFor made file = IsMeaning made (record { bytes = file; verdict = Restored })
+StandsFor made file =
+    (plan : PlanFields) × (b : BoxParts) × IsBoxOf plan b made × (b.chunk ≡ None)
+    × (meaning_of plan b ≡ record { bytes = file; verdict = Restored })
 
 -- the bytes of segment i
 abbrev pub segment_bytes : PlanFields → BoxParts → ℕ → List ℕ

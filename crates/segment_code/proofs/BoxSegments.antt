@@ -13,8 +13,10 @@ use Rattle.handover.specs.Handovers.{HandoverFields, start}
 use Rattle.handover.specs.HandoverBytes.{is_handover}
 use Rattle.cut_spec.specs.Cuts.{Cut, row_of, first_mcu}
 use Rattle.cut_spec.specs.RowHandovers.{markers_before}
-use Rattle.cut_spec.proofs.SpotsBegun.{each_has_rows}
-use Rattle.box_format.specs.Parts.{BoxParts, IsBox, bad_start, can_start, cut_in, is_start, is_unused_zero}
+use Rattle.box_format.specs.declared.chunk.Chunk.{Chunk}
+use Rattle.box_format.specs.Parts.{BoxParts, IsBox, bad_start, box_cut, box_rows, can_start, is_start, is_unused_zero}
+use Rattle.box_format.proofs.PassedBox.{ordered, in_grid}
+use Rattle.container_spec.proofs.CutsOfPlans.{each_has_mcus}
 use Rattle.container_spec.specs.ScanStream.{grid_of}
 use Rattle.container_spec.specs.Meanings.{segment_in}
 use Rattle.container_spec.specs.SegmentLaws.{Suits}
@@ -73,35 +75,50 @@ box_suits plan b box =
 pub record IsCounted (plan : PlanFields) (b : BoxParts) (i row count : ℕ) : Type 0 where
   pub box : IsBox plan b
   pub under : i < length b.handovers
-  pub is_row : row ≡ row_of (cut_in plan (length b.handovers)) i
-  pub counted : first_mcu (cut_in plan (length b.handovers)) i + count
-      ≡ first_mcu (cut_in plan (length b.handovers)) (i + 1)
-  pub within : first_mcu (cut_in plan (length b.handovers)) i + count ≤ plan.across * plan.down
+  pub is_row : row ≡ row_of (box_cut plan b.chunk (length b.handovers)) i
+  pub counted : first_mcu (box_cut plan b.chunk (length b.handovers)) i + count
+      ≡ first_mcu (box_cut plan b.chunk (length b.handovers)) (i + 1)
+  pub within : first_mcu (box_cut plan b.chunk (length b.handovers)) i + count
+      ≤ plan.across * plan.down
 
--- for a plan and a number of segments that are a container's
-pub counted_in : (plan p q : PlanFields) (b : BoxParts) (n i row count : ℕ) → q ≡ p → p ≡ plan
-    → n ≡ length b.handovers → IsBox p b → i < length b.handovers → row ≡ row_of (cut_in q n) i
-    → first_mcu (cut_in q n) i + count ≡ first_mcu (cut_in q n) (i + 1)
-    → first_mcu (cut_in q n) i + count ≤ q.across * q.down → IsCounted plan b i row count
-counted_in plan p q b n i row count same here many box under is_row counted within =
-    let all = same ∙ here in record {
+-- for a plan, a chunk and a number of segments that are a container's
+pub counted_in : (plan p q : PlanFields) (b : BoxParts) (k : Option Chunk) (n i row count : ℕ)
+    → q ≡ p → p ≡ plan → k ≡ b.chunk → n ≡ length b.handovers → IsBox p b → i < length b.handovers
+    → row ≡ row_of (box_cut q k n) i
+    → first_mcu (box_cut q k n) i + count ≡ first_mcu (box_cut q k n) (i + 1)
+    → first_mcu (box_cut q k n) i + count ≤ q.across * q.down → IsCounted plan b i row count
+counted_in plan p q b k n i row count same here chunk many box under is_row counted within =
+    let all = same ∙ here in
+    let cut : box_cut q k n ≡ box_cut plan b.chunk (length b.handovers) =
+    ap₂ (λ (r : PlanFields) (c : Option Chunk). box_cut r c n) all chunk
+    ∙ ap (box_cut plan b.chunk) many in record {
       box = subst (λ (r : PlanFields). IsBox r b) here box;
       under = under;
-      is_row = is_row ∙ ap₂ (λ (r : PlanFields) (m : ℕ). row_of (cut_in r m) i) all many;
-      counted =
-          subst (λ (r : PlanFields). first_mcu (cut_in r (length b.handovers)) i + count
-          ≡ first_mcu (cut_in r (length b.handovers)) (i + 1)) all
-          (subst (λ (m : ℕ). first_mcu (cut_in q m) i + count ≡ first_mcu (cut_in q m) (i + 1)) many
-          counted);
-      within =
-          subst (λ (r : PlanFields). first_mcu (cut_in r (length b.handovers)) i + count
-          ≤ r.across * r.down) all
-          (subst (λ (m : ℕ). first_mcu (cut_in q m) i + count ≤ q.across * q.down) many within);
+      is_row = is_row ∙ ap (λ (c : Cut). row_of c i) cut;
+      counted = subst (λ (c : Cut). first_mcu c i + count ≡ first_mcu c (i + 1)) cut counted;
+      within = subst (λ (c : Cut). first_mcu c i + count ≤ plan.across * plan.down) cut
+          (subst (λ (r : PlanFields). first_mcu (box_cut q k n) i + count ≤ r.across * r.down) all
+          within);
     }
+
+-- a container's rows are in order, and rows of the grid
+pub rows_ordered : (p q : PlanFields) (b : BoxParts) (k : Option Chunk) → q ≡ p → k ≡ b.chunk
+    → IsBox p b → (box_rows q k).from ≤ (box_rows q k).to
+rows_ordered p q b k same chunk box =
+    subst (λ (c : Option Chunk). (box_rows q c).from ≤ (box_rows q c).to) (sym chunk)
+    (subst (λ (r : PlanFields). (box_rows r b.chunk).from ≤ (box_rows r b.chunk).to) (sym same)
+    (ordered p b.header b.trailer b.chunk 0 box.chunk))
+
+pub rows_in_grid : (p q : PlanFields) (b : BoxParts) (k : Option Chunk) → q ≡ p → k ≡ b.chunk
+    → IsBox p b → (box_rows q k).to ≤ q.down
+rows_in_grid p q b k same chunk box =
+    subst (λ (c : Option Chunk). (box_rows q c).to ≤ q.down) (sym chunk)
+    (subst (λ (r : PlanFields). (box_rows r b.chunk).to ≤ r.down) (sym same)
+    (in_grid p b.header b.trailer b.chunk 0 box.chunk))
 
 module _ (plan : PlanFields) (b : BoxParts) (i row count : ℕ)
     (is : IsCounted plan b i row count) where
-  from_is : plan.across * row ≡ first_mcu (cut_in plan (length b.handovers)) i
+  from_is : plan.across * row ≡ first_mcu (box_cut plan b.chunk (length b.handovers)) i
   from_is = ap (λ (r : ℕ). plan.across * r) is.is_row
 
   pub some_mcus : 0 < count
@@ -110,7 +127,8 @@ module _ (plan : PlanFields) (b : BoxParts) (i row count : ℕ)
       let has = accepted_has_plan b.header plan box.header_bytes box.header in
       let is_plan = has.is_plan in
       let more =
-      each_has_rows (cut_in plan (length b.handovers)) i refl box.rows is.under is_plan.wide in
+      each_has_mcus (box_cut plan b.chunk (length b.handovers)) i box.cut.rows is.under is_plan.wide
+      in
       let counted = is.counted in
       omega (arith, counted, more)
 
@@ -128,12 +146,12 @@ module _ (plan : PlanFields) (b : BoxParts) (i row count : ℕ)
       ≡ markers_before (shape_of plan) (plan.across * row)
   starts_there =
       let box = is.box in
-      restarts_are (shape_of plan) (first_mcu (cut_in plan (length b.handovers)) i)
+      restarts_are (shape_of plan) (first_mcu (box_cut plan b.chunk (length b.handovers)) i)
       (get_or b.handovers i start)
       (let none : 0 + i ≡ i = omega arith in
-      subst (λ (n : ℕ). can_start (shape_of plan) (first_mcu (cut_in plan (length b.handovers)) n)
+      subst (λ (n : ℕ). can_start (shape_of plan) (first_mcu (box_cut plan b.chunk (length b.handovers)) n)
       (get_or b.handovers i start) ≡ true) none
-      (each_can_start (shape_of plan) (cut_in plan (length b.handovers)) b.handovers 0 i box.starts
+      (each_can_start (shape_of plan) (box_cut plan b.chunk (length b.handovers)) b.handovers 0 i box.starts
       is.under))
       ∙ ap (markers_before (shape_of plan)) (sym from_is)
 
@@ -143,7 +161,7 @@ module _ (plan : PlanFields) (b : BoxParts) (i row count : ℕ)
       → next ≡ slice_get b.handovers (i + 1) → pads ≡ b.pads
       → segment_with plan i stream h row count next pads ≡ segment_in plan b i
   same_segment stream h next pads stream_is h_is next_is pads_is =
-      let cut = cut_in plan (length b.handovers) in
+      let cut = box_cut plan b.chunk (length b.handovers) in
       let counted = is.counted in
       let count_is : count ≡ first_mcu cut (i + 1) - first_mcu cut i = omega (arith, counted) in
       ap₂ (λ (l : List ℕ) (g : HandoverFields). segment_with plan i l g row count next pads)

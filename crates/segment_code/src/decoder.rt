@@ -115,8 +115,9 @@ impl<'a> SegmentDecoder<'a> {
         let segments = view.segments();
         let stream = view.stream(segment);
         let handover = view.handover(segment);
-        let row = row_of(plan, segments as u32, segment as u32);
-        let count = mcus_in(plan, segments as u32, segment as u32);
+        let chunk = view.chunk();
+        let row = row_of(plan, chunk, segments as u32, segment as u32);
+        let count = mcus_in(plan, chunk, segments as u32, segment as u32);
         let next = start_after(view, segment);
         self.begin_at(segment, stream, handover, row, count, next, view.pad());
     }

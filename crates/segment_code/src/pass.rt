@@ -114,10 +114,10 @@ impl<'a> ScanPass<'a> {
             plan: self.plan,
             codes: self.codes,
             bytes: self.bytes,
-            row: row_of(self.plan, count, segment),
+            row: row_of(self.plan, None, count, segment),
             place: self.reader.place(),
             handover: self.reader.handover(),
-            mcus: mcus_in(self.plan, count, segment),
+            mcus: mcus_in(self.plan, None, count, segment),
         }
     }
 

@@ -60,7 +60,7 @@ pub fn encode_segment(
         row: starts.row(segment),
         place: starts.place(segment),
         handover: starts.handover(segment),
-        mcus: mcus_in(plan, starts.segments(), segment),
+        mcus: mcus_in(plan, None, starts.segments(), segment),
     };
     match part.encode(alloc) {
         Ok(stream) => Ok(stream),

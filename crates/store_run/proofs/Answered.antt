@@ -1,12 +1,11 @@
 -- What the calls of a store's sole caller are answered.
-use Rattle.std.proofs.Common.{◌≡◌, ◌≢◌, ℕ, ◌<◌, Bool, true, false, List, ◌∷◌, ◌++◌, length, Option, Some, None, inl, inr, sym, ap, ◌∙◌, subst, refl, arith}
+use Rattle.std.proofs.Common.{◌≡◌, ◌≢◌, ℕ, Bool, true, false, List, ◌∷◌, ◌++◌, length, Option, Some, None, inl, inr, sym, ap, ◌∙◌, subst, refl, arith}
 use Rattle.std.specs.Prelude.{slice_get, if◌then◌else◌, bytes_eq}
 use Rattle.std.specs.Global.{Vec}
 use Rattle.std.specs.declared.result.Result.{Result}
 use Rattle.std.specs.declared.result.Result.TheVariants.{Ok, Err}
 use Rattle.std.proofs.lemmas.Slice.Eq.{bytes_eq-Decides}
 use Rattle.sha2.specs.Sha256.{sha256}
-use Rattle.growth.specs.declared.no_memory.NoMemory.{NoMemory as OutOfMemory}
 use Rattle.byteorder.specs.Endian.{big_bytes}
 use Rattle.blob_store.specs.declared.record.Call.TheVariants.{Put, Find, Remove}
 use Rattle.blob_store.specs.declared.record.Record.{Record}
@@ -268,13 +267,7 @@ module _ (old new : CallerValue) (key : List ℕ) where
         );
       }
 
-  -- a find that stops, or finds a file that there is no memory for
-  pub no_memory_answered : (ticket : List ℕ) (front : ℕ) (short : OutOfMemory)
-      → FindGives old new key (Ok (FindFound ticket front))
-      → HasAnswered old new (FindFile key) (Err (NoMemory short))
-  no_memory_answered ticket front short g =
-      record { later = is_later old new (Finds key) (Ok (Found g.0)) g.1.0; gives = tt }
-
+  -- a find that stops
   pub find_stopped : (stop : Stop) → FindGives old new key (Err stop)
       → HasAnswered old new (FindFile key) (Err stop)
   find_stopped Full h = record { later = is_later old new _ _ h; gives = full_gives old new _ h }

@@ -25,7 +25,7 @@ pub key_cut : (mark : ℕ) (part : List ℕ) (left : Option (List ℕ)) (stop : 
     → IsRead (mark ∷ part) left (Err stop)
 key_cut mark part left Bad is short end = inr (inr (inr (mark, part, refl, is, short)), end refl)
 key_cut mark part left ReadFault is short end = inr (inr (inr (mark, part, refl, is, short)))
-key_cut mark part left (NoMemory short) is short end = inr (inr (inr (mark, part, refl, is, short)))
+key_cut mark part left (NoMemory error) is short end = inr (inr (inr (mark, part, refl, is, short)))
 
 -- a length above the most
 pub long_is_bad : (field : List ℕ) (long : ℕ) (left : Option (List ℕ)) → big_bytes 4 long ≡ field

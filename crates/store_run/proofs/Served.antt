@@ -54,18 +54,6 @@ sole_before before after s sole = first_are_by before.view.seen s.0 (subst (AreB
 module _ {Source Sink : Type 0} (left : Source → Option (List ℕ)) (held : Sink → Option (List ℕ))
     (source_faults : Source → ℕ) (source_full : Source → Type 0) (sink_faults : Sink → ℕ)
     (sink_full : Sink → Type 0) where
-  -- it ends so by a weaker fact of the keeper too
-  pub ends_wider : (old new : Source) (from to : Sink) (rose more : Type 0) → (rose → more) → (ending : Ending)
-      → Ends left held source_faults source_full sink_faults sink_full old new from to rose ending
-      → Ends left held source_faults source_full sink_faults sink_full old new from to more ending
-  ends_wider old new from to rose more wider Answered e = e
-  ends_wider old new from to rose more wider BadRecord e = e
-  ends_wider old new from to rose more wider Full e = e
-  ends_wider old new from to rose more wider ReadFailed e = e
-  ends_wider old new from to rose more wider WriteFailed e = e
-  ends_wider old new from to rose more wider KeeperFailed e = (e.0, e.1, e.2, e.3, wider e.4, e.5)
-  ends_wider old new from to rose more wider (NoMemory short) e = e
-
   abbrev Serving : Source → Source → Sink → Sink → CallerValue → ℕ → Type 0
   Serving = IsServing left held source_faults source_full sink_faults sink_full
 

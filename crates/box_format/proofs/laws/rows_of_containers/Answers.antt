@@ -38,3 +38,25 @@ returns-clause-late c = (refl, refl, refl, refl, refl, refl, refl, refl, refl, r
 pub returns-clause-prefixes : goal.returns-clause-prefixes
 unfolding early_fault
 returns-clause-prefixes c = refl
+
+pub returns-clause-chunks : goal.returns-clause-chunks
+unfolding handover_bytes handover_in box_bytes raw_of early_fault late_fault
+returns-clause-chunks c = (
+  refl,
+  refl,
+  refl,
+  refl,
+  refl,
+  refl,
+  refl,
+  refl,
+  refl,
+  refl,
+  refl,
+  refl,
+  refl,
+  refl,
+  refl,
+  refl,
+  refl,
+)

@@ -2,7 +2,7 @@ use Rattle.std.proofs.Common.{rules, vec_len, ◌≡◌, sym, subst, List, lengt
 use Rattle.std.specs.Prelude.{All}
 use Rattle.std.proofs.lemmas.List.{with_items_is}
 use Rattle.output_board.specs.declared.view.WorkerView.{WorkerView}
-use Rattle.segment_worker.specs.Emitting.{joined_in}
+use Rattle.segment_worker.specs.Emitting.{joined_in, seen_through}
 use Rattle.lepton_decode.specs.declared.team.Worker.{Worker}
 use Rattle.lepton_decode.specs.Teams.{views_of}
 use Rattle.lepton_decode.proofs.EndsMet.{counted, has_emitted, have_left}
@@ -12,12 +12,12 @@ use Rattle.lepton_decode.proofs.decode.restore.Goals as goal
 
 pub put_rest-requires-clause-counts : goal.put_rest-requires-clause-counts
 put_rest-requires-clause-counts g c =
-    counted g.K.Sink.held g.K.Sink.takes g.K.Sink.faults g.K.Sink.full c.put_header.new.sink c.lead_beside-emitted.new.sink
-    (joined_in c.args.view.now) c.lead_beside-emitted.result c.lead_beside-emitted.ensures.lead.ends
+    counted g.K.Sink.held g.K.Sink.takes g.K.Sink.faults g.K.Sink.full c.put_before.new.sink c.lead_beside-emitted.new.sink
+    (seen_through c.rows_window-window.result (joined_in c.args.view.now)) c.lead_beside-emitted.result c.lead_beside-emitted.ensures.lead.ends
 
 pub returns-clause-ends : goal.returns-clause-ends
 returns-clause-ends g c =
-    c.put_rest.ensures.ends c.args.sink.now c.put_header.new.sink c.in-Ok.ensures.whole
+    c.put_rest.ensures.ends c.args.sink.now c.put_before.new.sink c.in-Ok.ensures.whole
     c.lead_beside-emitted.ensures.lead.ends
 
 pub returns-clause-emitted : goal.returns-clause-emitted
@@ -37,12 +37,14 @@ returns-clause-left g c =
 pub lead_beside-emitted-requires-clause-takes : goal.lead_beside-emitted-requires-clause-takes
 lead_beside-emitted-requires-clause-takes g c κs within =
     let view = c.args.view.now in
-    segments_taken g.K.Sink.held g.K.Sink.takes g.K.Sink.faults g.K.Sink.full view.plan view.parts c.args.sink.now
-    c.put_header.new.sink c.requires.takes c.in-Ok.ensures.whole
+    segments_taken g.K.Sink.held g.K.Sink.takes g.K.Sink.faults g.K.Sink.full view.plan view.parts
+    c.rows_window-window.result c.rows_window-window.ensures c.args.sink.now c.put_before.new.sink c.requires.takes
+    c.in-Ok.ensures.whole
 
 pub put_rest-requires-clause-takes : goal.put_rest-requires-clause-takes
 put_rest-requires-clause-takes g c =
     let view = c.args.view.now in
-    trailer_taken g.K.Sink.held g.K.Sink.takes g.K.Sink.faults g.K.Sink.full view.plan view.parts c.args.sink.now
-    c.put_header.new.sink c.lead_beside-emitted.new.sink c.lead_beside-emitted.result c.requires.takes
-    c.in-Ok.ensures.whole c.lead_beside-emitted.ensures.lead.ends
+    trailer_taken g.K.Sink.held g.K.Sink.takes g.K.Sink.faults g.K.Sink.full view.plan view.parts
+    c.rows_window-window.result c.rows_window-window.ensures c.args.sink.now c.put_before.new.sink
+    c.lead_beside-emitted.new.sink c.lead_beside-emitted.result c.requires.takes c.in-Ok.ensures.whole
+    c.lead_beside-emitted.ensures.lead.ends c.lead_beside-emitted.ensures.lead.came

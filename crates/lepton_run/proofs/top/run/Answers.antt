@@ -42,14 +42,14 @@ returns-clause-back g c =
 
 pub returns-clause-migrated : goal.returns-clause-migrated
 returns-clause-migrated g c =
-    λ bytes plan b meaning means calm still had short of stands.
+    λ bytes plan b meaning means calm still had short of whole stands.
     migrated_of g.K.Sink.held g.K.Sink.faults g.K.Sink.full g.S.Source.left g.S.Source.faults
     g.S.Source.full (map string_bytes c.args.words.now) c.args.source.now
     c.answer-ending.new.source c.args.sink.now c.answer-ending.new.sink
     (λ (line : List ℕ). Notes g.N.Sink.held g.N.Sink.faults g.N.Sink.full c.args.note.now
     c.tell.new.note line) c.answer-ending.result _ refl
     c.answer-ending.ensures.ending c.tell.ensures.notes bytes plan b meaning means calm still had
-    short of stands
+    short of whole stands
 
 pub returns-clause-sampled : goal.returns-clause-sampled
 returns-clause-sampled g c = λ seed columns rows means.

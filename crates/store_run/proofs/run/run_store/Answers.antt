@@ -1,8 +1,5 @@
-use Rattle.std.proofs.Common.{[], inl, refl, arith}
+use Rattle.std.proofs.Common.{[], inl, refl}
 use Rattle.std.proofs.KnownBytes.{Appends-nil, Consumes-nil}
-use Rattle.blob_store.specs.States.{HasRisen}
-use Rattle.blob_store.proofs.Risen.{risen_wider}
-use Rattle.store_run.proofs.Served.{ends_wider}
 use Rattle.store_run.proofs.run.run_store.Goals as goal
 
 pub returns-in-Err-clause-ends : goal.returns-in-Err-clause-ends

@@ -6,17 +6,28 @@ use Rattle.handover.specs.Handovers.{HandoverFields}
 use Rattle.container_spec.specs.Meanings.{segment_in}
 use Rattle.container_spec.specs.Segments.{SegmentFields, first_progress}
 use Rattle.segment_code.specs.Decoding.{StandsAt}
-use Rattle.segment_code.proofs.BoxSegments.{IsCounted, box_suits, counted_in, some_mcus, within_rows, starts_there, same_segment}
+use Rattle.segment_code.proofs.BoxSegments.{IsCounted, box_suits, counted_in, rows_ordered, rows_in_grid, some_mcus, within_rows, starts_there, same_segment}
 use Rattle.segment_code.proofs.decoder.SegmentDecoder.begin.Goals as goal
 
 -- the segment that is begun
 is_counted : (c : goal.After-pad) → IsCounted c.args.self.now.plan c.args.view.now.parts c.args.segment c.row_of-row.result c.mcus_in-count.result
 is_counted c =
     counted_in c.args.self.now.plan c.args.view.now.plan c.plan-plan.result.now c.args.view.now.parts
-    c.segments-segments.result c.args.segment c.row_of-row.result c.mcus_in-count.result
-    c.plan-plan.ensures.value c.requires.plan c.segments-segments.ensures.count c.plan-plan.ensures.sound
+    c.chunk-chunk.result c.segments-segments.result c.args.segment c.row_of-row.result
+    c.mcus_in-count.result
+    c.plan-plan.ensures.value c.requires.plan c.chunk-chunk.ensures c.segments-segments.ensures.count c.plan-plan.ensures.sound
     c.requires.segment c.row_of-row.ensures.value c.mcus_in-count.ensures.value
     c.mcus_in-count.ensures.within
+
+pub row_of-row-requires-clause-order : goal.row_of-row-requires-clause-order
+row_of-row-requires-clause-order c =
+    rows_ordered c.args.view.now.plan c.plan-plan.result.now c.args.view.now.parts
+    c.chunk-chunk.result c.plan-plan.ensures.value c.chunk-chunk.ensures c.plan-plan.ensures.sound
+
+pub row_of-row-requires-clause-grid : goal.row_of-row-requires-clause-grid
+row_of-row-requires-clause-grid c =
+    rows_in_grid c.args.view.now.plan c.plan-plan.result.now c.args.view.now.parts
+    c.chunk-chunk.result c.plan-plan.ensures.value c.chunk-chunk.ensures c.plan-plan.ensures.sound
 
 pub begin_at-requires-clause-suits : goal.begin_at-requires-clause-suits
 begin_at-requires-clause-suits c =
@@ -47,8 +58,9 @@ pub returns-clause-stands : goal.returns-clause-stands
 returns-clause-stands c =
     let is =
     counted_in c.args.self.now.plan c.args.view.now.plan c.plan-plan.result.now c.args.view.now.parts
-    c.segments-segments.result c.args.segment c.row_of-row.result c.mcus_in-count.result
-    c.plan-plan.ensures.value c.requires.plan c.segments-segments.ensures.count c.plan-plan.ensures.sound
+    c.chunk-chunk.result c.segments-segments.result c.args.segment c.row_of-row.result
+    c.mcus_in-count.result
+    c.plan-plan.ensures.value c.requires.plan c.chunk-chunk.ensures c.segments-segments.ensures.count c.plan-plan.ensures.sound
     c.requires.segment c.row_of-row.ensures.value c.mcus_in-count.ensures.value
     c.mcus_in-count.ensures.within in
     subst (λ (s : SegmentFields). StandsAt c.begin_at.new.self s s.count (first_progress s))
