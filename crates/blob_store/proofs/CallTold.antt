@@ -11,7 +11,7 @@ use Rattle.blob_store.specs.declared.record.Stop.TheVariants.{Full, Clash, Keepe
 use Rattle.blob_store.specs.declared.view.View.{View}
 use Rattle.blob_store.specs.declared.note.Note.{Note}
 use Rattle.blob_store.specs.Journals.{IsReplied, kept}
-use Rattle.blob_store.specs.States.{StoreState, Asked, Puts, Finds, Removes, HasRisen, IsSound, IsClash, NamesBlob, entry_of}
+use Rattle.blob_store.specs.States.{StoreState, Asked, Puts, Finds, Removes, HasRisen, AsksKeeper, IsSound, IsClash, NamesBlob, entry_of}
 use Rattle.blob_store.specs.CallSteps.{Calls, HasCause}
 use Rattle.blob_store.specs.StoreRule.{Fits, FitsCaller, asked_by, entries_by, blobs_by, after}
 use Rattle.blob_store.specs.Callers.{CallerValue, HasCalled, KnowsMore, Answered, CauseSeen, FaultTold, store_seen}
@@ -61,6 +61,9 @@ module _ (suits : List ℕ → List ℕ → Type 0) (s t : StoreState) (id : ℕ
       let limit = f.limit in
       omega (arith, long, limit, l)
 
+  asks_seen : AsksKeeper s.journal asked → AsksKeeper (s.journal ++ []) asked
+  asks_seen a = subst (λ (l : List Record). AsksKeeper l asked) (sym (append-nil s.journal)) a
+
   cause_seen : (stop : Stop) → HasCause s t asked stop
       → CauseSeen v (after_call v s t id asked (Err stop)) asked stop
   cause_seen Full c = ap (λ (l : List Record). length l) (append-nil s.journal) ∙ (c ∙ f.limit)
@@ -68,9 +71,12 @@ module _ (suits : List ℕ → List ℕ → Type 0) (s t : StoreState) (id : ℕ
     few_seen Clash c.0,
     clash_moves s (store_seen (after_call v s t id asked (Err Clash))) (append-nil s.journal) (append-nil s.blobs) asked c.1,
   )
-  cause_seen KeeperFault c =
-      (few_seen KeeperFault c.0, risen_wider v.faults s.faults t.faults t.faults f.faults c.1 (omega arith))
-  cause_seen (NoMemory short) c = few_seen (NoMemory short) c
+  cause_seen KeeperFault c = (
+    few_seen KeeperFault c.0,
+    risen_wider v.faults s.faults t.faults t.faults f.faults c.1 (omega arith),
+    asks_seen c.2,
+  )
+  cause_seen (NoMemory short) c = (few_seen (NoMemory short) c.0, asks_seen c.1)
 
   pub answered : (answer : Result Reply Stop) → Calls s t id asked answer
       → Answered id v (after_call v s t id asked answer) asked answer

@@ -11,7 +11,7 @@ use Rattle.blob_store.specs.declared.record.Stop.TheVariants.{Full, Clash, Keepe
 use Rattle.blob_store.specs.declared.keeper.Keep.{Keep}
 use Rattle.blob_store.specs.declared.keeper.Keep.TheVariants.{Failed, NoMemory as NoRoom}
 use Rattle.blob_store.specs.Journals.{reply_to, kept}
-use Rattle.blob_store.specs.States.{StoreState, Asked, Puts, Finds, HasRisen, NamesBlob, IsClash, call_of, key_of, entry_of}
+use Rattle.blob_store.specs.States.{StoreState, Asked, Puts, Finds, HasRisen, AsksKeeper, NamesBlob, IsClash, call_of, key_of, entry_of}
 
 -- the blobs that a call with this reply adds after the others
 abbrev pub added_by : Asked → Reply → List (List ℕ)
@@ -31,13 +31,15 @@ pub record Enters (found left : StoreState) (caller : ℕ) (asked : Asked) (repl
   pub limit : left.limit ≡ found.limit
 
 -- the cause of a stop; if memory is out, the stop holds the error of a failed allocation, and nothing more is said than
--- that the journal had room
+-- that the journal had room, and that the call asked the keeper
 abbrev pub HasCause : StoreState → StoreState → Asked → Stop → Type 0
 HasCause found left asked Full = length found.journal ≡ found.limit
 HasCause found left asked Clash = (length found.journal < found.limit) × IsClash found asked
 HasCause found left asked KeeperFault =
     (length found.journal < found.limit) × HasRisen found.faults left.faults
-HasCause found left asked (NoMemory short) = length found.journal < found.limit
+    × AsksKeeper found.journal asked
+HasCause found left asked (NoMemory short) =
+    (length found.journal < found.limit) × AsksKeeper found.journal asked
 
 -- a call got no reply: journal and blobs are as they were
 pub record Stays (found left : StoreState) (asked : Asked) (stop : Stop) : Type 0 where

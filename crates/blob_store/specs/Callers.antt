@@ -12,7 +12,7 @@ use Rattle.blob_store.specs.declared.record.Stop.TheVariants.{Full, Clash, Keepe
 use Rattle.blob_store.specs.declared.view.View.{View}
 use Rattle.blob_store.specs.declared.note.Note.{Note}
 use Rattle.blob_store.specs.Journals.{StartsWith, IsReplied, calls_by}
-use Rattle.blob_store.specs.States.{StoreState, Asked, HasRisen, IsSound, IsClash, NamesBlob, entry_of}
+use Rattle.blob_store.specs.States.{StoreState, Asked, HasRisen, AsksKeeper, IsSound, IsClash, NamesBlob, entry_of}
 use Rattle.blob_store.specs.StoreRule.{asked_by}
 
 -- the store as a caller knows it
@@ -48,8 +48,9 @@ abbrev pub CauseSeen : View → View → Asked → Stop → Type 0
 CauseSeen old new asked Full = length new.seen ≡ new.limit
 CauseSeen old new asked Clash = (length new.seen < new.limit) × IsClash (store_seen new) asked
 CauseSeen old new asked KeeperFault =
-    (length new.seen < new.limit) × HasRisen old.faults new.faults
-CauseSeen old new asked (NoMemory short) = length new.seen < new.limit
+    (length new.seen < new.limit) × HasRisen old.faults new.faults × AsksKeeper new.seen asked
+CauseSeen old new asked (NoMemory short) =
+    (length new.seen < new.limit) × AsksKeeper new.seen asked
 
 -- a call got no reply, and made no entry
 pub record MadeNone (old new : View) (asked : Asked) (stop : Stop) : Type 0 where

@@ -1,5 +1,5 @@
 -- Statement: the state of a store, what calls ask of it, and what always holds of it (own).
-use Rattle.std.specs.Prelude.{◌≡◌, ◌≢◌, ◌⊎◌, ℕ, ◌-◌, ◌<◌, ◌≤◌, ◌^◌, List, [], length, slice_get, Option, Some, None}
+use Rattle.std.specs.Prelude.{◌≡◌, ◌≢◌, ◌⊎◌, ℕ, ◌-◌, ◌<◌, ◌≤◌, ◌^◌, List, [], length, slice_get, Option, Some, None, IsSome}
 use Rattle.std.specs.List.{AllByRecursion}
 use Rattle.std.specs.Global.{Vec}
 use Rattle.std.specs.declared.result.Result.{Result}
@@ -61,6 +61,12 @@ abbrev pub NamesBlob : List (List ℕ) → Asked → Reply → Type 0
 NamesBlob blobs (Puts key blob) (Stored number) = slice_get blobs number ≡ Some blob
 NamesBlob blobs (Puts key blob) (Held number) = slice_get blobs number ≡ Some blob
 NamesBlob blobs asked reply = Unit {0}
+
+-- a call asks the keeper, and for memory, if it is a put, or a find of a key that has a blob
+abbrev pub AsksKeeper : List Record → Asked → Type 0
+AsksKeeper journal (Puts key blob) = Unit {0}
+AsksKeeper journal (Finds key) = IsSome (kept journal key)
+AsksKeeper journal (Removes key) = ⊥
 
 -- the key of a put has another blob
 abbrev pub IsClash : StoreState → Asked → Type 0

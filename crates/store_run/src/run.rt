@@ -58,8 +58,9 @@ pub fn run_store<R: Threads + Wait + Sync, S: Source, K: Sink, N: Sink, P: Keepe
     // The ending's line, or a prefix of it if `note` failed.
     ensures notes { Notes N.held N.faults N.full note.old note.new (line_of result.0) }
 
-    // The keeper is given back on every status but 5.
-    ensures kept { IfNone result.1 (status_of result.0 ≡ 5) }
+    // The keeper is given back, unless memory was out before anything was read.
+    ensures kept { IfNone result.1 ((status_of result.0 ≡ 5)
+        × (source.new ≡ source.old) × (sink.new ≡ sink.old)) }
     ensures keeper_lasting { IfSome result.1 (λ last. P.fault_count keeper ≤ P.fault_count last) }
     ensures source_lasting { S.faults source.old ≤ S.faults source.new }
     ensures sink_lasting { K.faults sink.old ≤ K.faults sink.new }
