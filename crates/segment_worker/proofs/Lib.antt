@@ -7,6 +7,5 @@ pub mod OwnPieces
 pub mod Putting
 pub mod StreamsMade
 mod StreamsPassed
-mod PartsMade
 pub mod LonePieces
 pub mod LoneWritten

@@ -8,7 +8,7 @@ use Rattle.jpeg_marker.specs.Plans.{PlanFields}
 use Rattle.segment_code.specs.ScanPasses.{HasPassed, IsNextStream, PassFields, passed, segments_left}
 use Rattle.segment_code.specs.Starting.{IsFileAt}
 use Rattle.segment_code.proofs.PassesOn.{has_ended}
-use Rattle.segment_worker.specs.StreamsFound.{AreStreams, HasEnded, last_stream}
+use Rattle.segment_worker.specs.StreamsFound.{AreStreams, last_stream}
 
 -- the last one's
 pub last_made : {A E : Type 0} (items : A → List ℕ) (result : Result A E) (old new : PassFields)
@@ -19,13 +19,15 @@ last_made items (Ok s) old new one on next = last_stream old new (items s) one o
 last_made items (Err e) old new one on next = tt
 
 -- after the last segment the bytes are a file's
-pub a_file : (old end : PassFields) → HasEnded old end
+pub a_file : (old mid end : PassFields) (streams : List (List ℕ)) → HasPassed old mid
+    → AreStreams mid end streams
     → (mcus : List Mcu) × (pads : List Bool) × (trailer : ℕ)
     × IsFileAt old.bytes old.plan mcus pads trailer
-a_file old end ended =
-    let have = has_ended end ended.is ended.none in
-    let plan = ap (λ (p : PassFields). p.plan) ended.same in
-    let bytes = ap (λ (p : PassFields). p.bytes) ended.same in
+a_file old mid end streams on are =
+    let have = has_ended end are.is are.none in
+    let plan = ap (λ (p : PassFields). p.plan) are.same ∙ ap (λ (p : PassFields). p.plan) on.same in
+    let bytes = ap (λ (p : PassFields). p.bytes) are.same
+    ∙ ap (λ (p : PassFields). p.bytes) on.same in
     let trailer = end.reader.at.cursor.next in (
       have.mcus,
       have.pads,

@@ -10,15 +10,12 @@ use Rattle.container_spec.specs.ScanStream.{stream_of}
 use Rattle.segment_code.specs.ScanPasses.{HasPassed, IsNextStream, IsPass, PassFields, pass_cut, passed, segments_left}
 use Rattle.segment_code.specs.Starting.{IsFileAt}
 
--- from one pass to another after the last segment
-pub record HasEnded (old new : PassFields) : Type 0 where
+-- from one pass to another after the last segment; where the bytes are a file's, the streams are those of the segments
+-- that were left
+pub record AreStreams (old new : PassFields) (streams : List (List ℕ)) : Type 0 where
   pub is : IsPass new
   pub none : segments_left new ≡ 0
   pub same : new ≡ record old { reader = new.reader; starts = new.starts; pads = new.pads }
-
--- the same; where the bytes are a file's, the streams are those of the segments that were left
-pub record AreStreams (old new : PassFields) (streams : List (List ℕ)) : Type 0 where
-  pub ended : HasEnded old new
   pub each : (mcus : List Mcu) (pads : List Bool) (trailer : ℕ)
       → IsFileAt old.bytes old.plan mcus pads trailer
       → streams ≡ map (λ i. stream_of old.plan (segment_mcus old.plan mcus old.most i))
@@ -56,16 +53,6 @@ fewer_left old new on =
     let within = on.is.within in
     omega (arith, cut, count, within)
 
--- the end after a segment
-pub ended_after : (old mid end : PassFields) → HasPassed old mid → HasEnded mid end
-    → HasEnded old end
-ended_after old mid end on ended =
-    record { is = ended.is; none = ended.none; same = same_on old mid end on.same ended.same }
-
-pub streams_end : (old end : PassFields) (streams : List (List ℕ)) → AreStreams old end streams
-    → HasEnded old end
-streams_end old end streams are = are.ended
-
 -- the stream of a segment before those of the segments after it
 pub streams_joined : (old mid end : PassFields) (stream : List ℕ) (streams : List (List ℕ))
     → HasPassed old mid → IsNextStream old stream → AreStreams mid end streams
@@ -73,7 +60,9 @@ pub streams_joined : (old mid end : PassFields) (stream : List ℕ) (streams : L
 streams_joined old mid end stream streams on next are =
     let k = kept old mid on.same in
     record {
-      ended = ended_after old mid end on are.ended;
+      is = are.is;
+      none = are.none;
+      same = same_on old mid end on.same are.same;
       each = λ mcus pads trailer file.
           let f : ℕ → List ℕ = λ i. stream_of old.plan (segment_mcus old.plan mcus old.most i) in
           let there = subst (λ (b : List ℕ). IsFileAt b mid.plan mcus pads trailer) (sym k.bytes)
@@ -93,7 +82,9 @@ pub last_stream : (old new : PassFields) (stream : List ℕ) → segments_left o
 last_stream old new stream one on next =
     let fewer = fewer_left old new on in
     record {
-      ended = record { is = on.is; none = omega (arith, one, fewer); same = on.same };
+      is = on.is;
+      none = omega (arith, one, fewer);
+      same = on.same;
       each = λ mcus pads trailer file.
           let f : ℕ → List ℕ = λ i. stream_of old.plan (segment_mcus old.plan mcus old.most i) in
           ap (λ (s : List ℕ). s ∷ []) (next mcus pads trailer file)

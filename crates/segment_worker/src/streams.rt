@@ -17,12 +17,11 @@ use huff_table::PlanCodes;
 use jpeg_marker::Plan;
 use segment_code::{ScanError, ScanPass, SegmentPart, Starts, encode_segment};
 use std::alloc::Global;
-use std::thread::{Threads, available_parallelism};
+use std::thread::Threads;
 
 /// Where the segments of a file start, whose header's plan this is, and the stream of each, in order: at most
-/// `segments`, and at most as many as rows of MCUs. One pass over the scan finds the starts, and codes the last
-/// segment. Each of the others is coded in a thread of its own, if one can be had: the first ones as soon as the pass
-/// has come to them, and at most as many as there are processors once it has come to the last one.
+/// `segments`, and at most as many as rows of MCUs. One pass over the scan finds the starts. Each segment but the
+/// last is coded in a thread of its own, if one can be had, once the pass is there; the pass codes the last one.
 pub fn encode_scan<R: Threads + Sync>(
     rt: &R,
     alloc: Global,
@@ -43,25 +42,9 @@ pub fn encode_scan<R: Threads + Sync>(
 {
     let codes = PlanCodes::build(plan);
     let mut pass = ScanPass::start(alloc, plan, &codes, bytes, segments as u32);
-    let early = early_segments(rt, pass.left());
-    let streams = make_all(rt, alloc, &mut pass, early)?;
+    let streams = make_all(rt, alloc, &mut pass)?;
     let starts = pass.end()?;
     Ok((starts, streams))
-}
-
-// How many segments are coded as soon as the pass has come to them. With one fewer than there are processors, the pass
-// has one to itself. There are more if otherwise more than the number of processors would be kept.
-fn early_segments<R: Threads>(rt: &R, segments: u32) -> usize {
-    let processors = match available_parallelism(rt) {
-        Ok(count) => count.get(),
-        Err(_) => 1,
-    };
-    let others = (segments as usize).saturating_sub(processors);
-    if others > processors {
-        others - 1
-    } else {
-        processors - 1
-    }
 }
 
 impl<'a> Part for SegmentPart<'a> {
@@ -80,7 +63,7 @@ impl<'a> Part for SegmentPart<'a> {
 
 impl<'a> Pass<SegmentPart<'a>> for ScanPass<'a> {
     ghost use Rattle.segment_code.specs.ScanPasses.{HasPassed, IsNextStream, IsPass, segments_left};
-    ghost use Rattle.segment_worker.specs.StreamsFound.{AreStreams, HasEnded, PassRefuses, ended_after, refused_later, streams_end, streams_joined};
+    ghost use Rattle.segment_worker.specs.StreamsFound.{AreStreams, PassRefuses, refused_later, streams_joined};
 
     ghost holds = { λ pass. IsPass pass };
 
@@ -91,8 +74,6 @@ impl<'a> Pass<SegmentPart<'a>> for ScanPass<'a> {
     ghost gives_next = { λ pass stream. IsNextStream pass stream };
 
     ghost gives_all = { λ old new streams. AreStreams old new streams };
-
-    ghost ended = { λ old new. HasEnded old new };
 
     ghost refuses = { λ pass refusal. PassRefuses pass refusal };
 
@@ -113,10 +94,6 @@ impl<'a> Pass<SegmentPart<'a>> for ScanPass<'a> {
     }
 
     ghost joined = { streams_joined };
-
-    ghost onward = { ended_after };
-
-    ghost whole = { streams_end };
 
     ghost later = { refused_later };
 }
