@@ -43,8 +43,8 @@ are_wrong most cut =
     || ((not (nat_lt cut.to cut.from) && nat_lt (cut.to - cut.from) cut.segments)
     || (nat_lt cut.from cut.to && cut.segments == 0))
 
--- whether a chunk can't be one of a grid of so many rows: its rows are in the wrong order or none of the grid, it has no
--- room for its parts of header and trailer, or without a row it has other bytes
+-- whether a chunk can't be one of a grid of so many rows: its rows are in the wrong order or none of the grid, it has
+-- no room for its parts of header and trailer, or without a row it has other bytes
 abbrev pub is_bad_chunk : ℕ → List ℕ → List ℕ → Option Chunk → Bool
 is_bad_chunk down header trailer None = false
 is_bad_chunk down header trailer (Some c) =

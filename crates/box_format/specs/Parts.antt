@@ -17,8 +17,8 @@ use Rattle.box_format.specs.declared.chunk.Chunk.{Chunk}
 use Rattle.box_format.specs.declared.version.Version.{Version}
 use Rattle.box_format.specs.declared.version.Version.TheVariants.{Second}
 
--- a version, the chunk if it has a chunk of a file, the pad bits, the header, the trailer or the chunk's part of it, and
--- for each segment what it starts from and its stream
+-- a version, the chunk if it has a chunk of a file, the pad bits, the header, the trailer or the chunk's part of it,
+-- and for each segment what it starts from and its stream
 pub record BoxParts : Type 0 where
   pub version : Version
   pub chunk : Option Chunk

@@ -4,9 +4,9 @@
 //!     LPSG | 2 | pad | K | these, and of a pad list | K records | pad list | header | trailer | K streams
 //!     LPSG | 3 | pad | K | these | chunk | K records | pad list | header | trailer's part | K streams
 //!
-//! A record has what a segment starts from and the length of its stream. A container has one spelling: what can be said
-//! in one way only is checked, and every check that fails has a refusal of its own. Not handled here: what a stream
-//! stands for (see `container_spec`).
+//! A record has what a segment starts from and the length of its stream. A container of version 1 or 2 has one
+//! spelling: what can be said in one way only is checked. Every check that fails has a refusal of its own. Not handled
+//! here: what a stream stands for (see `container_spec`).
 #![tactic(auto)]
 
 mod checks;

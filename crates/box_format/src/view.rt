@@ -71,8 +71,8 @@ impl<'a> BoxView<'a> {
         }
     }
 
-    /// How many segments there are, at most 16 in version 1 and 64 in the others, and at most as many as MCU rows. It is
-    /// 0 only if a chunk has no row.
+    /// How many segments there are, at most 16 in version 1 and 64 in the others, and at most as many as MCU rows. It
+    /// is 0 only if a chunk has no row.
     pub fn segments(&self) -> u8
         ensures count { result ≡ length self.now.parts.handovers }
         ensures of_version { result ≤ (layout_of self.now.parts.version).most }

@@ -56,9 +56,9 @@ parts_of_file version plan mcus pads header trailer most =
       streams = map (λ i. stream_of plan (segment_mcus plan mcus most i)) segments;
     }
 
--- `made` is the container of a file in a version of whole files, with at most `most` segments, by the plan of the file's header, its
--- MCUs, the pad bit of each of its intervals and its trailer; the lengths of header and trailer have fields of four
--- bytes, and the version can say the pad bits
+-- `made` is the container of a file in a version of whole files, with at most `most` segments, by the plan of the
+-- file's header, its MCUs, the pad bit of each of its intervals and its trailer; the lengths of header and trailer have
+-- fields of four bytes, and the version can say the pad bits
 pub record IsContainerOf (version : Version) (most : ℕ) (made file : List ℕ) : Type 0 where
   pub whole : (layout_of version).chunked ≡ false
   pub bytes : AllByRecursion IsByte file

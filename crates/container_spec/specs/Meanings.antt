@@ -62,8 +62,8 @@ abbrev pub joined : List Output → Joined
 joined [] = record { bytes = []; fault = None; padded = no_pads }
 joined (output ∷ outputs) = joined_with output.0 output.1 (joined outputs)
 
--- how a container ends: the whole file, or the whole chunk; all bytes of the file, but with pad bits that are spelled in
--- another way than a file's; a chunk of fewer bytes than it says; a segment's fault; or the bytes are no container
+-- how a container ends: the whole file, or the whole chunk; all bytes of the file, but with pad bits that are spelled
+-- in another way than a file's; a chunk of fewer bytes than it says; a segment's fault; or the bytes are no container
 pub data Verdict : Type 0 where
   Restored : Verdict
   PadSpelled : Verdict

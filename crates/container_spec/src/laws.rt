@@ -15,8 +15,8 @@ pub fn good_segments_have_their_stream()
 {}
 
 /// A file's container stands for that file, in each version that can say its pad bits, and what stands for a file, in a
-/// version of whole files, is its container. Version 2 can always say them, version 1 if no two intervals are padded with different bits. Bytes
-/// stand for one thing. A file that has a container isn't refused.
+/// version of whole files, is its container. Version 2 can always say them, version 1 if no two intervals are padded
+/// with different bits. Bytes stand for one thing. A file that has a container isn't refused.
 pub fn containers_stand_for_files()
     ensures one_meaning { OneMeaning }
     ensures restored { ContainerIsRestored }

@@ -49,8 +49,8 @@ impl<'a> ReadyAlone<'a> {
     }
 }
 
-/// Reads a container's parts, and allocates all the memory that its decoding on one thread needs: the bins, two MCU rows
-/// of blocks and a piece of bytes.
+/// Reads a container's parts, and allocates all the memory that its decoding on one thread needs: the bins, two MCU
+/// rows of blocks and a piece of bytes.
 pub fn prepare_alone(alloc: Global, bytes: &[u8]) -> Result<ReadyAlone<'_>, PrepareError>
     ensures ready { IfOk result (λ ready. IsBoxOf ready.plan ready.parts bytes.now) }
     ensures fresh { IfOk result (λ ready. ready.used ≡ false) }

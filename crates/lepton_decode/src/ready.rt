@@ -70,9 +70,9 @@ impl From<NoMemory> for PrepareError {
     }
 }
 
-/// Reads a container's parts, and allocates all the memory that its decoding by `workers` workers needs: for the emitter
-/// and each worker the bins, two MCU rows of blocks and a piece of bytes, and for each segment a ring of `ring` bytes. No
-/// more workers are made than the container has segments. With 0 workers the emitter decodes all.
+/// Reads a container's parts, and allocates all the memory that its decoding by `workers` workers needs: for the
+/// emitter and each worker the bins, two MCU rows of blocks and a piece of bytes, and for each segment a ring of `ring`
+/// bytes. No more workers are made than the container has segments. With 0 workers the emitter decodes all.
 pub fn prepare(
     alloc: Global,
     bytes: &[u8],
@@ -117,8 +117,8 @@ const LEAST_RING: usize = 1 << 16;
 const MOST_RING: usize = 1 << 26;
 
 /// A ring, in bytes, in which a segment of a photograph fits whole, so that no worker waits for the emitter: twice what
-/// the container has for each of its segments, 64 KiB to 64 MiB. Above the least all rings together have at most twice the
-/// container's length.
+/// the container has for each of its segments, 64 KiB to 64 MiB. Above the least all rings together have at most twice
+/// the container's length.
 pub fn ample_ring(bytes: &[u8]) -> usize
     ensures some { 1 ≤ result }
 {
