@@ -1,11 +1,12 @@
 // Where the segments of small files start, and their streams.
-ghost use Rattle.std.specs.Prelude.{◌<◌, length};
+ghost use Rattle.std.specs.Prelude.{◌≡◌, ◌<◌, length};
 
 use crate::pads::are_told;
+use box_format::Chunk;
 use handover::Handover;
 use jpeg_marker::read_header;
 use scan_spec::ScanRefusal;
-use segment_code::{ScanError, Starts, encode_segment, find_rows, find_starts};
+use segment_code::{ScanError, Starts, encode_segment, find_rows, find_starts, row_of};
 use segment_worker::{encode_all, encode_scan};
 use std::alloc::{AllocError, Global};
 use std::test::Fail;
@@ -44,6 +45,12 @@ const RESTARTS_OF_FOUR: &[u8] = b"\xff\xdd\0\x04\0\x04";
 const LEVEL: &[u8] = b"\xff\xc4\0\x14\0\x01\0\0\0\0\0\0\0\0\0\0\0\0\0\0\0\0";
 
 const END: &[u8] = b"\xff\xc4\0\x14\x10\x01\0\0\0\0\0\0\0\0\0\0\0\0\0\0\0\0";
+
+// `0` for DC category 0, and `10` for category 1: a block whose DC rises is `1010`, and one whose DC falls `1000`.
+const STEPS: &[u8] = b"\xff\xc4\0\x15\0\x01\x01\0\0\0\0\0\0\0\0\0\0\0\0\0\0\0\x01";
+
+// Sixty-four such blocks, whose DC is 1, 2, 3, 2, 3, 3, 3, 4, and 5 from then on.
+const UP_AND_DOWN: &[u8] = b"\xaa\xa8\xa0\xaa\0\0\0\0\0\0\0\0\0\0\0\0\0\x03";
 
 // `1` for DC category 0, and `1` for the end of a block: a block of zeros is `11`.
 const ONES: &[u8] = b"\xff\xc4\0\x15\0\x02\0\0\0\0\0\0\0\0\0\0\0\0\0\0\0\x01\0";
@@ -196,8 +203,12 @@ fn are_found(
     if !are_told(&starts.pad(), pads) {
         return Ok(false);
     }
-    for segment in 0..starts.segments() {
-        let stream = encode_segment(alloc, &plan, bytes, &starts, segment)?;
+    let Ok(rows) = find_rows(alloc, &plan, bytes) else {
+        return Ok(false);
+    };
+    let count = segments.min(plan.down());
+    for segment in 0..count {
+        let stream = encode_segment(alloc, &plan, bytes, &rows, None, count, segment)?;
         if stream.as_slice() != BLANK {
             return Ok(false);
         }
@@ -287,7 +298,7 @@ fn rows_start(alloc: Global, bytes: &[u8], rows: u32) -> bool {
     }
 }
 
-// Segments that are coded beside the pass over a scan are those that are coded after it.
+// Segments that are coded beside the pass over a scan are those that are coded after it, by the starts of its rows.
 #[test]
 fn segments_beside_the_pass_are_those_after_it(rt: HostRuntime) {
     let header = [START, SIXTY_FOUR_HIGH, LEVEL, END, GREY_SCAN];
@@ -311,13 +322,14 @@ fn are_alike<R: Threads + Sync>(
     let Ok((starts, streams)) = encode_scan(rt, alloc, &plan, bytes, segments) else {
         return Ok(false);
     };
-    let Ok(found) = find_starts(alloc, &plan, bytes, u32::from(segments)) else {
+    let Ok(rows) = find_rows(alloc, &plan, bytes) else {
         return Ok(false);
     };
-    let after = encode_all(rt, alloc, &plan, bytes, &found)?;
+    let count = u32::from(segments).min(plan.down());
+    let after = encode_all(rt, alloc, &plan, bytes, &rows, None, count)?;
     Ok(
-        starts.segments() == found.segments()
-            && starts.trailer() == found.trailer()
+        starts.segments() == count
+            && starts.trailer() == rows.trailer()
             && are_same(&streams, &after),
     )
 }
@@ -332,6 +344,57 @@ fn are_same(streams: &[Vec<u8>], others: &[Vec<u8>]) -> bool {
         }
     }
     true
+}
+
+// A chunk's rows in two segments, each of which is a chunk of its own in one.
+#[test]
+fn rows_of_a_chunk_are_coded(rt: HostRuntime) {
+    let header = [START, SIXTY_FOUR_HIGH, STEPS, END, GREY_SCAN];
+    let bytes = joined(rt.alloc(), &header, UP_AND_DOWN).expect(&rt, "memory");
+    assert!(rt; are_coded_apart(&rt, rt.alloc(), &bytes).expect(&rt, "memory"));
+}
+
+fn are_coded_apart<R: Threads + Sync>(
+    rt: &R,
+    alloc: Global,
+    bytes: &[u8],
+) -> Result<bool, AllocError> {
+    let Ok(plan) = read_header(bytes) else {
+        return Ok(false);
+    };
+    let Ok(starts) = find_rows(alloc, &plan, bytes) else {
+        return Ok(false);
+    };
+    if plan.down() < 7 {
+        return Ok(false);
+    }
+    let chunk = Some(rows_between(3, 7));
+    let both = encode_all(rt, alloc, &plan, bytes, &starts, chunk, 2)?;
+    let first = Some(rows_between(3, 5));
+    let first = encode_segment(alloc, &plan, bytes, &starts, first, 1, 0)?;
+    let second = Some(rows_between(5, 7));
+    let second = encode_segment(alloc, &plan, bytes, &starts, second, 1, 0)?;
+    Ok(
+        row_of(&plan, chunk, 2, 1) == 5
+            && both.len() == 2
+            && both[0].as_slice() == first.as_slice()
+            && both[1].as_slice() == second.as_slice()
+            && first.as_slice() != second.as_slice(),
+    )
+}
+
+// A chunk of rows, of whose bytes nobody asks.
+fn rows_between(from: u32, to: u32) -> Chunk
+    ensures from { result.from ≡ from }
+    ensures to { result.to ≡ to }
+{
+    Chunk {
+        place: 0,
+        length: 0,
+        skip: 0,
+        from,
+        to,
+    }
 }
 
 // A scan without its last MCU, whose refusal the threads beside the pass don't hide.

@@ -1,31 +1,8 @@
--- Where a plan's segments start and end, in MCUs.
-use Rattle.std.proofs.Common.{◌≡◌, ℕ, ◌+◌, ◌-◌, ◌*◌, ◌/◌, ◌<◌, ◌≤◌, ap, ◌∙◌, subst, arith}
-use Rattle.std.specs.Prelude.{min}
+-- Where the segments of a cut start and end, in MCUs.
+use Rattle.std.proofs.Common.{◌≡◌, ℕ, ◌-◌, ◌*◌, ◌/◌, ◌<◌, ◌≤◌, ap, ◌∙◌, arith}
 use Rattle.std.proofs.Math.Nat.{div-le_of_le-mul, zero-mul, zero-div, mul-zero, mul-le-mul_left, mul-le-mul_right}
-use Rattle.jpeg_marker.specs.Plans.{PlanFields}
 use Rattle.cut_spec.specs.Cuts.{Cut, first_mcu, row_of}
 use Rattle.cut_spec.proofs.SpotsBegun.{rows}
-use Rattle.container_spec.specs.Files.{plan_cut}
-use Rattle.box_format.specs.Parts.{cut_in}
-
--- a plan's cut by how many segments it has
-pub cut_is : (plan : PlanFields) (most count : ℕ) → count ≡ min most plan.down
-    → cut_in plan count ≡ plan_cut plan most
-cut_is plan most count is = ap (cut_in plan) is
-
--- so where a segment of so many ends, it ends in that cut
-pub ends_there : (plan : PlanFields) (most count i mcus : ℕ) → count ≡ min most plan.down
-    → first_mcu (cut_in plan count) i + mcus ≡ first_mcu (cut_in plan count) (i + 1)
-    → first_mcu (plan_cut plan most) i + mcus ≡ first_mcu (plan_cut plan most) (i + 1)
-ends_there plan most count i mcus is ends = subst
-    (λ (cut : Cut). first_mcu cut i + mcus ≡ first_mcu cut (i + 1)) (cut_is plan most count is) ends
-
-pub ends_within : (plan : PlanFields) (most count i mcus : ℕ) → count ≡ min most plan.down
-    → first_mcu (cut_in plan count) i + mcus ≤ plan.across * plan.down
-    → first_mcu (plan_cut plan most) i + mcus ≤ plan.across * plan.down
-ends_within plan most count i mcus is within =
-    subst (λ (cut : Cut). first_mcu cut i + mcus ≤ plan.across * plan.down)
-    (cut_is plan most count is) within
 
 -- the first segment starts with the first MCU
 pub first_of_all : (cut : Cut) → cut.from ≡ 0 → first_mcu cut 0 ≡ 0

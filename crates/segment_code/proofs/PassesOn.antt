@@ -39,7 +39,7 @@ use Rattle.segment_code.proofs.CutsOfPlans.{end_of_all, first_of_all}
 use Rattle.segment_code.proofs.PadsOn.{more_through, none_through}
 use Rattle.segment_code.proofs.ReadOn.{Keeps, count_on, keeps, none_read, read_more, refused_in}
 use Rattle.segment_code.proofs.ScansCoded.{mcus_once, scan_refused}
-use Rattle.segment_code.proofs.SegmentsCoded.{HasMcus, between, good_of, has_mcus, row_within}
+use Rattle.segment_code.proofs.SegmentsCoded.{HasMcus, HasRows, between, good_of, has_mcus, has_rows}
 use Rattle.segment_code.proofs.StartsFound.{are_starts, found_at, found_more, stands_there}
 
 -- its reader is one of the file's scan, with no refusal
@@ -56,7 +56,8 @@ counted p is =
 -- what holds of the next segment
 pub record IsNext (p : PassFields) : Type 0 where
   pub under : passed p < min p.most p.plan.down
-  pub has : HasMcus p.plan p.most (passed p)
+  pub rows : HasRows (pass_cut p) (passed p)
+  pub has : HasMcus p.plan (row_of (pass_cut p) (passed p)) (row_of (pass_cut p) (passed p + 1))
   pub ends : mcus_passed p + (next_part p).mcus ≡ first_mcu (pass_cut p) (passed p + 1)
   pub count : p.reader.at.count + (next_part p).mcus ≤ p.plan.across * p.plan.down
 
@@ -64,13 +65,22 @@ pub is_next : (p : PassFields) → IsPass p → 0 < segments_left p → IsNext p
 is_next p is some =
     let wide = (accepted_has_plan p.bytes p.plan is.bytes is.accepted).is_plan.wide in
     let under : passed p < min p.most p.plan.down = omega (arith, some) in
-    let has = has_mcus p.plan p.most (passed p) wide under in
+    let cut = pass_cut p in
+    let rows = has_rows cut (passed p) (omega arith) under in
+    let has = has_mcus p.plan (row_of cut (passed p)) (row_of cut (passed p + 1)) wide rows.some
+    rows.within in
     let first = has.some in
     let within = has.within in
     let ends : mcus_passed p + (next_part p).mcus ≡ first_mcu (pass_cut p) (passed p + 1) =
     omega (arith, first) in
     let count = counted p is in
-    record { under = under; has = has; ends = ends; count = omega (arith, count, ends, within) }
+    record {
+      under = under;
+      rows = rows;
+      has = has;
+      ends = ends;
+      count = omega (arith, count, ends, within);
+    }
 
 -- before the first segment
 pub first_pass : (plan : PlanFields) (codes : List ComponentCodes) (bytes : List ℕ) (most : ℕ)
@@ -324,18 +334,20 @@ next_is_part p is some =
     let kept = kept_in p is in
     let ends = next.ends in
     let within = next.has.within in
+    let some_row = next.rows.some in
+    let last_row = next.rows.within in
     record {
       bytes = is.bytes;
       codes = is.codes;
-      row = row_within p.plan p.most (passed p) next.under;
+      row = omega (arith, some_row, last_row);
       restarts = ap₂ markers_before kept.shape (counted p is);
       count = omega (arith, ends, within);
     }
 
--- it is a segment of each file that the bytes are
+-- it is rows of each file that the bytes are
 pub next_is_part_of : (p : PassFields) (mcus : List Mcu) (pads : List Bool) (trailer : ℕ) → IsPass p
     → 0 < segments_left p → IsFileAt p.bytes p.plan mcus pads trailer
-    → IsPartOf (next_part p) mcus pads p.most (passed p)
+    → IsPartOf (next_part p) mcus pads (row_of (pass_cut p) (passed p + 1))
 next_is_part_of p mcus pads trailer is some file =
     let next = is_next p is some in
     let first = first_reader p in
@@ -347,8 +359,8 @@ next_is_part_of p mcus pads trailer is some file =
     let at = found_at p.plan mcus pads p.bytes trailer (mcus_passed p) good.shape file.scan
     (omega (arith, begins, within)) in
     record {
-      under = next.under;
-      row = refl;
+      some = next.rows.some;
+      within = next.rows.within;
       place = ap (λ (s : Standing). resume_place s.cursor) (sym there) ∙ at.place;
       handover = ap₂ (λ (s : Shape) (b : List ℕ). handover_of s (spot_in b p.reader.at)) kept.shape
           kept.bytes
@@ -361,12 +373,12 @@ next_is_part_of p mcus pads trailer is some file =
 pub stream_of_part : (p : PassFields) (part : PartFields) → part ≡ next_part p → IsPass p
     → 0 < segments_left p → (stream : List ℕ) → IsPartStream part stream → IsNextStream p stream
 stream_of_part p part e is some stream of_part = λ mcus pads trailer file.
-    (subst (λ (x : PartFields). IsPartStream x stream) e of_part) mcus pads trailer p.most (passed p)
-    file (next_is_part_of p mcus pads trailer is some file)
+    (subst (λ (x : PartFields). IsPartStream x stream) e of_part) mcus pads trailer
+    (row_of (pass_cut p) (passed p + 1)) file (next_is_part_of p mcus pads trailer is some file)
 
 pub no_file_of : (p : PassFields) (part : PartFields) → part ≡ next_part p → IsPass p
     → 0 < segments_left p → IsNoPart part → (mcus : List Mcu) (pads : List Bool) (trailer : ℕ)
     → IsFileAt p.bytes p.plan mcus pads trailer → ⊥
 no_file_of p part e is some none mcus pads trailer file =
-    (subst (λ (x : PartFields). IsNoPart x) e none) mcus pads trailer p.most (passed p) file
-    (next_is_part_of p mcus pads trailer is some file)
+    (subst (λ (x : PartFields). IsNoPart x) e none) mcus pads trailer
+    (row_of (pass_cut p) (passed p + 1)) file (next_is_part_of p mcus pads trailer is some file)

@@ -15,8 +15,8 @@ use Rattle.scan_spec.specs.Slots.{shape_of}
 use Rattle.scan_spec.specs.Spots.{bytes_done}
 use Rattle.cut_spec.specs.Cuts.{Cut, first_mcu, row_of}
 use Rattle.cut_spec.specs.HandedOver.{reader_from, spot_in}
-use Rattle.cut_spec.specs.RowHandovers.{handover_of, markers_before}
-use Rattle.container_spec.specs.Files.{plan_cut, segment_mcus, segment_start}
+use Rattle.cut_spec.specs.RowHandovers.{handover_at, handover_of, markers_before, mcus_between}
+use Rattle.container_spec.specs.Files.{plan_cut, segment_mcus}
 use Rattle.container_spec.specs.ScanStream.{stream_of}
 use Rattle.segment_code.specs.FileStarts.{StartsFields}
 use Rattle.segment_code.specs.CodedMcus.{AreReadOn}
@@ -107,29 +107,29 @@ next_part p = record {
   mcus = first_mcu (pass_cut p) (passed p + 1) - mcus_passed p;
 }
 
--- it is segment i of a file by its MCUs and pad bits
-pub record IsPartOf (part : PartFields) (mcus : List Mcu) (pads : List Bool) (most i : ℕ) : Type 0
-  where
-    pub under : i < (plan_cut part.plan most).segments
-    pub row : part.row ≡ row_of (plan_cut part.plan most) i
-    pub place : part.place ≡ part.plan.header_length + bytes_done (shape_of part.plan)
-        (pad_at pads) mcus (first_mcu (plan_cut part.plan most) i)
-    pub handover : part.handover ≡ segment_start part.plan mcus pads most i
-    pub ends : first_mcu (plan_cut part.plan most) i + part.mcus
-        ≡ first_mcu (plan_cut part.plan most) (i + 1)
+-- it is rows of a file by its MCUs and pad bits: from its first row to before another
+pub record IsPartOf (part : PartFields) (mcus : List Mcu) (pads : List Bool) (to : ℕ) : Type 0 where
+  pub some : part.row < to
+  pub within : to ≤ part.plan.down
+  pub place : part.place ≡ part.plan.header_length + bytes_done (shape_of part.plan)
+      (pad_at pads) mcus (part.plan.across * part.row)
+  pub handover : part.handover ≡ handover_at (shape_of part.plan) (pad_at pads) mcus
+      (part.plan.across * part.row)
+  pub ends : part.plan.across * part.row + part.mcus ≡ part.plan.across * to
 
--- a stream is that of a segment, if the bytes are a file's and the segment is one of its
+-- a stream is that of the segment, if the bytes are a file's and the segment is rows of it
 abbrev pub IsPartStream : PartFields → List ℕ → Type 0
 IsPartStream part stream =
-    (mcus : List Mcu) (pads : List Bool) (trailer most i : ℕ)
-    → IsFileAt part.bytes part.plan mcus pads trailer → IsPartOf part mcus pads most i
-    → stream ≡ stream_of part.plan (segment_mcus part.plan mcus most i)
+    (mcus : List Mcu) (pads : List Bool) (trailer to : ℕ)
+    → IsFileAt part.bytes part.plan mcus pads trailer → IsPartOf part mcus pads to
+    → stream ≡ stream_of part.plan
+    (mcus_between mcus (part.plan.across * part.row) (part.plan.across * to))
 
--- a segment is one of no file
+-- a segment is rows of no file
 abbrev pub IsNoPart : PartFields → Type 0
 IsNoPart part =
-    (mcus : List Mcu) (pads : List Bool) (trailer most i : ℕ)
-    → IsFileAt part.bytes part.plan mcus pads trailer → IsPartOf part mcus pads most i → ⊥
+    (mcus : List Mcu) (pads : List Bool) (trailer to : ℕ)
+    → IsFileAt part.bytes part.plan mcus pads trailer → IsPartOf part mcus pads to → ⊥
 
 -- a stream is that of the segment that a pass comes to next, if the bytes are a file's
 abbrev pub IsNextStream : PassFields → List ℕ → Type 0

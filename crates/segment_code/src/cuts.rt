@@ -13,8 +13,9 @@ pub(crate) fn segment_count(plan: &Plan, segments: u32) -> u32
     plan.down().min(segments)
 }
 
-/// The row of MCUs that one of `count` segments starts with; the rows end where the segment after the last would start.
-pub(crate) fn row_of(plan: &Plan, chunk: Option<Chunk>, count: u32, segment: u32) -> u32
+/// The row of MCUs that one of `count` segments of a file, or of a chunk's rows of it, starts with. The first segment
+/// has number 0; for number `count` it is the row after the last segment.
+pub fn row_of(plan: &Plan, chunk: Option<Chunk>, count: u32, segment: u32) -> u32
     requires order { (box_rows plan.now chunk).from ≤ (box_rows plan.now chunk).to }
     requires grid { (box_rows plan.now chunk).to ≤ plan.now.down }
     requires some { 0 < count }

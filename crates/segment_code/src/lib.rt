@@ -5,8 +5,9 @@
 //!
 //! `ScanPass` goes over a scan from segment to segment, and keeps where each starts. It reads a segment and codes it,
 //! or only reads it, and gives a `SegmentPart` that is coded beside the pass. `find_starts` is a pass that codes
-//! nothing, and `encode_segment` codes one segment whose start it found. `SegmentDecoder` decodes the segments of a
-//! container, each in steps of a piece of bytes.
+//! nothing, and `find_rows` one that finds where each row starts. By these starts `encode_segment` codes one segment
+//! of a file, or of a chunk's rows of it. `SegmentDecoder` decodes the segments of a container, each in steps of a
+//! piece of bytes.
 //!
 //! Two MCU rows of blocks are kept, as neighbours. What a block's events are is `block_spec`'s, what a scan's bytes
 //! are is `scan_spec`'s, and what a segment's stream stands for is `container_spec`'s.
@@ -26,6 +27,7 @@ mod segment_stream;
 mod starts;
 mod step;
 
+pub use cuts::row_of;
 pub use decoder::SegmentDecoder;
 pub use error::ScanError;
 pub use find::{find_rows, find_starts};

@@ -1,5 +1,5 @@
-// The stream of one segment of a file.
-ghost use Rattle.std.specs.Prelude.{◌≡◌, ◌<◌, ◌≤◌, ◌+◌, ℕ, Bool, List, [], length, None, Err, IfOk, OnOk, IsErrOf};
+// The stream of one segment of a file, or of a chunk's rows of it.
+ghost use Rattle.std.specs.Prelude.{◌≡◌, ◌<◌, ◌≤◌, ◌+◌, ◌-◌, Bool, List, [], length, None, Err, IfOk, OnOk, IsErrOf};
 ghost use Rattle.std.specs.List.{AllByRecursion};
 ghost use Rattle.coef_block.specs.Block.{IsBlock};
 ghost use Rattle.coef_block.specs.TwoRows.{block_count};
@@ -9,14 +9,16 @@ ghost use Rattle.scan_spec.specs.ScanLaws.{zigzag_of};
 ghost use Rattle.scan_spec.specs.Scans.{Mcu};
 ghost use Rattle.scan_spec.specs.Slots.{shape_of};
 ghost use Rattle.scan_spec.specs.declared.refusal.ScanRefusal.{ScanRefusal};
-ghost use Rattle.container_spec.specs.Files.{segment_mcus};
+ghost use Rattle.cut_spec.specs.Cuts.{first_mcu};
+ghost use Rattle.cut_spec.specs.RowHandovers.{mcus_between};
+ghost use Rattle.box_format.specs.Parts.{box_cut, box_rows};
 ghost use Rattle.segment_code.specs.FileStarts.{starts_of};
 ghost use Rattle.container_spec.specs.ScanStream.{stream_of};
 ghost use Rattle.segment_code.specs.CodedMcus.{AreCoded, AreReadOn, next_of};
 ghost use Rattle.segment_code.specs.FoundPads.{pads_through};
 ghost use Rattle.segment_code.specs.Starting.{AreStarts, IsFileAt};
 
-use crate::cuts::mcus_in;
+use crate::cuts::{mcus_in, row_of};
 use crate::error::ScanError;
 use crate::find::keep_pad;
 use crate::grid::grid_of;
@@ -26,6 +28,7 @@ use crate::starts::Starts;
 use adapt_bins::{Bins, Put};
 use block_code::{SegmentRows, put_mcu};
 use bool_coder::Encoder;
+use box_format::Chunk;
 use coef_block::Block;
 use coef_context::BINS;
 use growth::NoMemory;
@@ -35,32 +38,40 @@ use scan_decode::Reader;
 use scan_spec::MOST_SLOTS;
 use std::alloc::Global;
 
-/// The stream of one segment of a file; the first one has number 0. Each MCU is read, coded and forgotten: beside the
-/// stream, memory is for two MCU rows of blocks and the bins. The one error is out of memory.
+/// The stream of one of `count` segments of a file, or of a chunk's rows of it, by the starts of all the file's rows;
+/// the first one has number 0. Each MCU is read, coded and forgotten: beside the stream, memory is for two MCU rows of
+/// blocks and the bins. The one error is out of memory.
 pub fn encode_segment(
     alloc: Global,
     plan: &Plan,
     bytes: &[u8],
     starts: &Starts,
+    chunk: Option<Chunk>,
+    count: u32,
     segment: u32,
 ) -> Result<Vec<u8>, NoMemory>
-    requires starts { (most : ℕ) × AreStarts plan.now bytes.now most starts.now }
-    requires segment { segment < length starts.now.rows }
-    ensures { (mcus : List Mcu) (pads : List Bool) (most : ℕ)
+    requires starts { AreStarts plan.now bytes.now plan.now.down starts.now }
+    requires order { (box_rows plan.now chunk).from ≤ (box_rows plan.now chunk).to }
+    requires grid { (box_rows plan.now chunk).to ≤ plan.now.down }
+    requires rows { count ≤ (box_rows plan.now chunk).to - (box_rows plan.now chunk).from }
+    requires segment { segment < count }
+    ensures { (mcus : List Mcu) (pads : List Bool)
         → IsFileAt bytes.now plan.now mcus pads starts.now.trailer
-        → starts.now ≡ starts_of plan.now mcus pads starts.now.trailer most
-        → IfOk result (λ stream. stream.items
-        ≡ stream_of plan.now (segment_mcus plan.now mcus most segment)) }
+        → starts.now ≡ starts_of plan.now mcus pads starts.now.trailer plan.now.down
+        → IfOk result (λ stream. stream.items ≡ stream_of plan.now
+        (mcus_between mcus (first_mcu (box_cut plan.now chunk count) segment)
+        (first_mcu (box_cut plan.now chunk count) (segment + 1)))) }
 {
     let codes = PlanCodes::build(plan);
+    let row = row_of(plan, chunk, count, segment);
     let part = SegmentPart {
         plan,
         codes: &codes,
         bytes,
-        row: starts.row(segment),
-        place: starts.place(segment),
-        handover: starts.handover(segment),
-        mcus: mcus_in(plan, None, starts.segments(), segment),
+        row,
+        place: starts.place(row),
+        handover: starts.handover(row),
+        mcus: mcus_in(plan, chunk, count, segment),
     };
     match part.encode(alloc) {
         Ok(stream) => Ok(stream),

@@ -1,17 +1,21 @@
-// The streams of a file's segments, side by side.
+// The streams of the segments of a file, or of a chunk's rows of it, side by side.
 ghost use Rattle.jpeg_marker.specs.HeaderPlan.{Accepts};
-ghost use Rattle.std.specs.Prelude.{◌≡◌, ◌^◌, ◌<◌, ℕ, Bool, List, length, map, Ok, IfOk, IsErrOf};
+ghost use Rattle.std.specs.Prelude.{◌≡◌, ◌<◌, ◌≤◌, ◌+◌, ◌-◌, ℕ, Bool, List, map, Ok, IfOk, IsErrOf};
 ghost use Rattle.scan_spec.specs.Items.{Refuses};
 ghost use Rattle.scan_spec.specs.Scans.{Mcu};
 ghost use Rattle.scan_spec.specs.Slots.{shape_of};
 ghost use Rattle.scan_spec.specs.declared.refusal.ScanRefusal.{ScanRefusal};
+ghost use Rattle.box_format.specs.Parts.{box_cut, box_rows};
 ghost use Rattle.box_format.specs.Raws.{numbers};
+ghost use Rattle.cut_spec.specs.Cuts.{first_mcu};
+ghost use Rattle.cut_spec.specs.RowHandovers.{mcus_between};
 ghost use Rattle.container_spec.specs.Files.{plan_cut, segment_mcus};
 ghost use Rattle.segment_code.specs.FileStarts.{starts_of};
 ghost use Rattle.container_spec.specs.ScanStream.{stream_of};
 ghost use Rattle.segment_code.specs.Starting.{AreStarts, IsFileAt};
 
 use crate::relay::{Part, Pass, make_all};
+use box_format::Chunk;
 use growth::{NoMemory, map_indices, push, with_capacity};
 use huff_table::PlanCodes;
 use jpeg_marker::Plan;
@@ -98,29 +102,33 @@ impl<'a> Pass<SegmentPart<'a>> for ScanPass<'a> {
     ghost later = { refused_later };
 }
 
-/// The stream of each segment of a file, in order. Each is made in a thread of its own if one can be had. The one error
-/// is out of memory.
+/// The stream of each of `count` segments of a file, or of a chunk's rows of it, in order, by the starts of all the
+/// file's rows. Each is made in a thread of its own if one can be had. The one error is out of memory.
 pub fn encode_all<R: Threads + Sync>(
     rt: &R,
     alloc: Global,
     plan: &Plan,
     bytes: &[u8],
     starts: &Starts,
+    chunk: Option<Chunk>,
+    count: u32,
 ) -> Result<Vec<Vec<u8>>, NoMemory>
-    requires { (most : ℕ) × AreStarts plan.now bytes.now most starts.now }
-    ensures { (mcus : List Mcu) (pads : List Bool) (most : ℕ)
+    requires starts { AreStarts plan.now bytes.now plan.now.down starts.now }
+    requires order { (box_rows plan.now chunk).from ≤ (box_rows plan.now chunk).to }
+    requires grid { (box_rows plan.now chunk).to ≤ plan.now.down }
+    requires rows { count ≤ (box_rows plan.now chunk).to - (box_rows plan.now chunk).from }
+    ensures { (mcus : List Mcu) (pads : List Bool)
         → IsFileAt bytes.now plan.now mcus pads starts.now.trailer
-        → starts.now ≡ starts_of plan.now mcus pads starts.now.trailer most
+        → starts.now ≡ starts_of plan.now mcus pads starts.now.trailer plan.now.down
         → IfOk result (λ streams. map (λ v. v.items) streams.items
-        ≡ map (λ i. stream_of plan.now (segment_mcus plan.now mcus most i))
-        (numbers 0 (plan_cut plan.now most).segments)) }
+        ≡ map (λ i. stream_of plan.now (mcus_between mcus (first_mcu (box_cut plan.now chunk count) i)
+        (first_mcu (box_cut plan.now chunk count) (i + 1)))) (numbers 0 count)) }
 {
-    let segments = starts.segments() as usize;
     let made = map_indices(
         rt,
         alloc,
-        segments,
-        &|segment| { encode_one(alloc, plan, bytes, starts, segment) },
+        count as usize,
+        &|segment| { encode_one(alloc, plan, bytes, starts, chunk, count, segment) },
     )?;
     all_made(alloc, made)
 }
@@ -131,18 +139,23 @@ fn encode_one(
     plan: &Plan,
     bytes: &[u8],
     starts: &Starts,
+    chunk: Option<Chunk>,
+    count: u32,
     segment: usize,
 ) -> Result<Vec<u8>, NoMemory>
-    requires starts { (most : ℕ) × AreStarts plan.now bytes.now most starts.now }
-    requires segment { segment < length starts.now.rows }
-    requires small { segment < 2 ^ 32 }
-    ensures { (mcus : List Mcu) (pads : List Bool) (most : ℕ)
+    requires starts { AreStarts plan.now bytes.now plan.now.down starts.now }
+    requires order { (box_rows plan.now chunk).from ≤ (box_rows plan.now chunk).to }
+    requires grid { (box_rows plan.now chunk).to ≤ plan.now.down }
+    requires rows { count ≤ (box_rows plan.now chunk).to - (box_rows plan.now chunk).from }
+    requires segment { segment < count }
+    ensures { (mcus : List Mcu) (pads : List Bool)
         → IsFileAt bytes.now plan.now mcus pads starts.now.trailer
-        → starts.now ≡ starts_of plan.now mcus pads starts.now.trailer most
-        → IfOk result (λ stream. stream.items
-        ≡ stream_of plan.now (segment_mcus plan.now mcus most segment)) }
+        → starts.now ≡ starts_of plan.now mcus pads starts.now.trailer plan.now.down
+        → IfOk result (λ stream. stream.items ≡ stream_of plan.now
+        (mcus_between mcus (first_mcu (box_cut plan.now chunk count) segment)
+        (first_mcu (box_cut plan.now chunk count) (segment + 1)))) }
 {
-    encode_segment(alloc, plan, bytes, starts, segment as u32)
+    encode_segment(alloc, plan, bytes, starts, chunk, count, segment as u32)
 }
 
 // All that were made, or that one wasn't.

@@ -24,10 +24,10 @@ returns-clause-stream c =
     c.requires.bytes from so.1 so.2 so.3) coded
 
 pub returns-clause-refused : goal.returns-clause-refused
-returns-clause-refused c = λ refusal is mcus pads trailer most i file of_file.
+returns-clause-refused c = λ refusal is mcus pads trailer to file of_file.
     let part = c.args.self.now in
     let from = c.at-reader.ensures ∙ ap part_reader c.self.view_is in
-    let read = part_reads part mcus pads trailer most i c.requires.bytes file of_file
+    let read = part_reads part mcus pads trailer to c.requires.bytes file of_file
     c.at-reader.result from in
     not_refused part.mcus c.at-reader.result _ read.0 refusal read.1
     (ap (λ (p : PartFields). next_of p.mcus c.at-reader.result) (sym c.self.view_is)
