@@ -1,3 +1,5 @@
 mod FilesWritten
 mod NewTeams
+mod NoSegments
 mod EndsMet
+mod RingSizes

@@ -1,5 +1,5 @@
 -- The seats of a team before their first calls.
-use Rattle.std.proofs.Common.{◌≡◌, ℕ, zero, suc, true, List, [], ◌∷◌, length, length-append, refl, ap, arith}
+use Rattle.std.proofs.Common.{◌≡◌, ℕ, zero, suc, true, List, [], ◌∷◌, length, length-append, refl, arith}
 use Rattle.std.proofs.lemmas.List.Elements.{All-push}
 use Rattle.std.specs.Prelude.{All}
 use Rattle.atomic_table.specs.Seated.{TableId}
@@ -28,11 +28,7 @@ left_views table v (worker ∷ team) all zero d within = (all 0 worker (omega ar
 left_views table v (worker ∷ team) all (suc k) d within =
     left_views table v team (tail_is (IsLeftWorker table v) worker team all) k d (omega (arith, within))
 
--- there are as many views as workers, and as many seats
-pub views_long : (team : List Worker) → length (views_of team) ≡ length team
-views_long [] = refl
-views_long (worker ∷ team) = ap suc (views_long team)
-
+-- there are as many seats as workers
 pub seats_long : (table : TableId) (v : BoxSeen) (workers : ℕ)
     → length (new_worker_seats table v workers) ≡ workers
 seats_long table v zero = refl

@@ -1,5 +1,5 @@
 -- Steps: what a decode returns, and what it leaves in a sink (own).
-use Rattle.std.specs.Prelude.{All, ℕ, ◌≡◌, Bool, true, List, length, Option, Result, Ok, Err}
+use Rattle.std.specs.Prelude.{All, ℕ, ◌≡◌, Bool, true, List, [], length, Option, Some, None, Result, Ok, Err}
 use Rattle.jpeg_marker.specs.Plans.{PlanFields}
 use Rattle.box_format.specs.Parts.{BoxParts}
 use Rattle.container_spec.specs.Meanings.{Meaning, Restored, PadSpelled, ChunkShort as ShortChunk, Faulty, meaning_of}
@@ -12,13 +12,22 @@ use Rattle.segment_worker.specs.declared.emitted.EmitStop.{EmitStop}
 use Rattle.lepton_decode.specs.declared.error.DecodeError.{DecodeError}
 use Rattle.lepton_decode.specs.declared.error.DecodeError.TheVariants.{WriteFault, Fault, PadSpelling, ChunkShort}
 
--- a container that is ready: its header's plan, its parts, what the emitter and each worker know of its board, and
--- whether it was decoded
+-- what the emitter and each worker know of a board
+pub record CrewSeen : Type 0 where
+  pub emitter : EmitterView
+  pub team : List WorkerView
+
+-- what each worker knows; nothing if there is no board
+abbrev pub team_in : Option CrewSeen → List WorkerView
+team_in None = []
+team_in (Some crew) = crew.team
+
+-- a container that is ready: its header's plan, its parts, what is known of its board if it has one, and whether it was
+-- decoded
 pub record ReadySeen : Type 0 where
   pub plan : PlanFields
   pub parts : BoxParts
-  pub emitter : EmitterView
-  pub team : List WorkerView
+  pub crew : Option CrewSeen
   pub used : Bool
 
 -- what it stands for

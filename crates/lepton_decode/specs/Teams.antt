@@ -11,6 +11,8 @@ use Rattle.segment_worker.specs.declared.emitted.EmitStop.{EmitStop}
 use Rattle.segment_worker.specs.Contents.{segment_room}
 use Rattle.segment_worker.specs.Emitting.{Emits, IsNewEmitter, IsThrough, joined_in, seen_through}
 use Rattle.segment_worker.specs.Working.{IsIdle, HasLeft}
+use Rattle.lepton_decode.specs.Ends.{CrewSeen}
+use Rattle.lepton_decode.specs.declared.crew.Crew.{Crew}
 use Rattle.lepton_decode.specs.declared.team.Emitter.{Emitter}
 use Rattle.lepton_decode.specs.declared.team.Worker.{Worker}
 
@@ -30,7 +32,16 @@ IsLeftWorker table v worker = HasLeft table v worker.seat worker.decoder
 abbrev pub IsNewLead : TableId → BoxSeen → Emitter → Type 0
 IsNewLead table v emitter = IsNewEmitter table v emitter.seat emitter.decoder
 
--- and after its last one, with this window on the segments
+-- what the emitter and each worker of a crew know of the board
+abbrev pub crew_seen : Crew → CrewSeen
+crew_seen crew = record { emitter = crew.emitter.seat.view; team = views_of crew.team.items }
+
+-- a crew before its first call
+pub record IsNewCrew (v : BoxSeen) (crew : Crew) : Type 0 where
+  pub emitter : IsNewLead crew.board v crew.emitter
+  pub team : All (IsIdleWorker crew.board v) crew.team.items
+
+-- the emitter after its last call, with this window on the segments
 pub record LeadEnds {Sink : Type 0} (held : Sink → Option (List ℕ))
     (takes : Sink → List ℕ → Type 0) (faults : Sink → ℕ) (full : Sink → Type 0)
     (w : Window) (v : BoxSeen) (emitter : Emitter) (old new : Sink) (result : Result Emitted EmitStop) : Type 0 where

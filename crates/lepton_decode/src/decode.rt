@@ -1,8 +1,8 @@
 // A container decoded into a sink.
-ghost use Rattle.std.specs.Prelude.{◌≡◌, ◌≤◌, All, false, length, true};
+ghost use Rattle.std.specs.Prelude.{◌≡◌, ◌≤◌, All, IfSome, false, is_some, length, true};
 ghost use Rattle.container_spec.specs.Meanings.{meaning_of};
 ghost use Rattle.outside_core.specs.Takes.{TakesNext};
-ghost use Rattle.lepton_decode.specs.Ends.{Ends, HasEmitted, HaveLeft, meaning_in};
+ghost use Rattle.lepton_decode.specs.Ends.{Ends, HasEmitted, HaveLeft, meaning_in, team_in};
 ghost use Rattle.lepton_decode.specs.Teams.{IsIdleWorker, IsNewLead, views_of};
 
 use crate::error::DecodeError;
@@ -11,9 +11,10 @@ use crate::ready::Ready;
 use crate::team::{Emitter, Shared, Worker};
 use crate::threads::lead_beside;
 use box_format::BoxView;
+use handover::PadSum;
 use output_board::Board;
 use outside_core::{Gate, Sink};
-use segment_worker::Told;
+use segment_worker::{Emitted, Told};
 use std::sync::Wait;
 use std::thread::Threads;
 
@@ -35,23 +36,28 @@ pub fn run<R: Threads + Wait + Sync, K: Sink + Send, G: Gate + Sync>(
     requires fresh { ready.old.used ≡ false }
     requires takes { TakesNext K.takes sink.old (meaning_in ready.old).bytes }
     ensures ends { Ends K.held K.takes K.faults K.full sink.old sink.new (meaning_in ready.old) result }
-    // What the emitter's seat knows then of the board, and that each worker has left it.
-    ensures emitted { HasEmitted (length ready.old.parts.handovers) ready.new.emitter result }
-    ensures left { HaveLeft ready.new.team result }
-    ensures team { length ready.new.team ≡ length ready.old.team }
+    // If there is a board, what the emitter's seat knows then of it, and that each worker has left it.
+    ensures emitted { IfSome ready.new.crew (λ crew.
+        HasEmitted (length ready.old.parts.handovers) crew.emitter result) }
+    ensures left { IfSome ready.new.crew (λ crew. HaveLeft crew.team result) }
+    ensures crew { is_some ready.new.crew ≡ is_some ready.old.crew }
+    ensures team { length (team_in ready.new.crew) ≡ length (team_in ready.old.crew) }
     ensures used { ready.new.used ≡ true }
     ensures lasting { K.faults sink.old ≤ K.faults sink.new }
 {
     ready.used = true;
-    restore(
-        rt,
-        &ready.view,
-        &ready.board,
-        &mut ready.emitter,
-        &mut ready.team,
-        sink,
-        gate,
-    )
+    match &mut ready.crew {
+        Some(crew) => restore(
+            rt,
+            &ready.view,
+            &crew.board,
+            &mut crew.emitter,
+            &mut crew.team,
+            sink,
+            gate,
+        ),
+        None => restore_bare(&ready.view, sink),
+    }
 }
 
 // What comes before the segments, what the container has of them, and the trailer.
@@ -88,4 +94,26 @@ fn restore<'a, R: Threads + Wait + Sync, K: Sink + Send, G: Gate + Sync>(
     };
     let emitted = lead_beside(rt, emitter, team.as_mut_slice(), &shared, sink);
     put_rest(view, before, window, emitted, sink)
+}
+
+// The same of a container without a segment.
+fn restore_bare<K: Sink>(view: &BoxView, sink: &mut K) -> Result<u64, DecodeError>
+    requires none { length view.now.parts.handovers ≡ 0 }
+    requires takes { TakesNext K.takes sink.old
+        (meaning_of view.now.plan view.now.parts).bytes }
+    ensures ends { Ends K.held K.takes K.faults K.full sink.old sink.new
+        (meaning_of view.now.plan view.now.parts) result }
+    ensures lasting { K.faults sink.old ≤ K.faults sink.new }
+{
+    let before = match put_before(view, sink) {
+        Ok(before) => before,
+        Err(written) => return Err(DecodeError::WriteFault { written }),
+    };
+    let window = rows_window(view);
+    let emitted = Emitted {
+        bytes: 0,
+        came: 0,
+        pads: PadSum::none(),
+    };
+    put_rest(view, before, window, Ok(emitted), sink)
 }

@@ -1,6 +1,6 @@
 //! A container's file, or its chunk of one, written while it is decoded (this project's own).
 //!
-//!     bytes --read_box--> view --prepare--> board, seats, decoders, pieces
+//!     bytes --read_box--> view --prepare--> if there is a segment: board, seats, decoders, pieces
 //!
 //!     run     header, or the chunk's part of it --write_all--> sink
 //!             workers in threads of their own   --rings of the board-->  the emitter on this thread,
@@ -14,6 +14,7 @@
 #![tactic(auto)]
 
 mod alone;
+mod crew;
 mod decode;
 mod error;
 mod file_parts;

@@ -1,31 +1,27 @@
 // A container that is ready to be decoded.
-ghost use Rattle.std.specs.Prelude.{◌≡◌, ◌≤◌, IfOk, IsErrOf, false, length, min};
-ghost use Rattle.box_format.specs.Parts.{IsBoxOf};
+ghost use Rattle.std.specs.Prelude.{◌≡◌, ◌+◌, ◌*◌, ◌^◌, ◌<◌, ◌≤◌, IfOk, IfSome, IsErrOf, false, is_some, length, min, nat_lt};
+ghost use Rattle.box_format.specs.Parts.{BoxParts, IsBoxOf};
+ghost use Rattle.jpeg_marker.specs.Plans.{PlanFields};
 ghost use Rattle.box_format.specs.BoxChecks.{IsRefusedBox};
 ghost use Rattle.box_format.specs.declared.refusal.BoxRefusal.{BoxRefusal};
+ghost use Rattle.lepton_decode.specs.Ends.{team_in};
 
-use crate::team::{Emitter, Worker, team_of};
-use bit_list::Piece;
+use crate::crew::{Crew, crew_for};
 use box_format::{BoxRefusal, BoxView, read_box};
 use growth::NoMemory;
-use output_board::Board;
-use segment_code::SegmentDecoder;
-use segment_worker::{Told, prepare_board};
 use std::alloc::Global;
 use std::marker::Model;
 use thiserror::Error;
 
-/// A container that is ready to be decoded, once: its parts, its board with the seats, and all the memory that decoding
-/// needs.
+/// A container that is ready to be decoded, once: its parts, and if it has a segment, its board with the seats, and all
+/// the memory that decoding needs.
 ///
-/// Clauses see its header's plan, its parts, what the emitter and each worker know of the board, and whether it was
-/// decoded.
+/// Clauses see its header's plan, its parts, what the emitter and each worker know of the board, if there is one, and
+/// whether it was decoded.
 #[derive(Drop)]
 pub struct Ready<'a> {
     pub(crate) view: BoxView<'a>,
-    pub(crate) board: Board<Told<'a>>,
-    pub(crate) emitter: Emitter<'a>,
-    pub(crate) team: Vec<Worker<'a>>,
+    pub(crate) crew: Option<Crew<'a>>,
     pub(crate) used: bool,
 }
 
@@ -72,7 +68,8 @@ impl From<NoMemory> for PrepareError {
 
 /// Reads a container's parts, and allocates all the memory that its decoding by `workers` workers needs: for the
 /// emitter and each worker the bins, two MCU rows of blocks and a piece of bytes, and for each segment a ring of `ring`
-/// bytes. No more workers are made than the container has segments. With 0 workers the emitter decodes all.
+/// bytes. No more workers are made than the container has segments. With 0 workers the emitter decodes all. If the
+/// container has no segment, there is no board.
 pub fn prepare(
     alloc: Global,
     bytes: &[u8],
@@ -82,9 +79,12 @@ pub fn prepare(
     requires { 1 ≤ ring }
     ensures ready { IfOk result (λ ready. IsBoxOf ready.plan ready.parts bytes.now) }
     ensures fresh { IfOk result (λ ready. ready.used ≡ false) }
+    ensures crew { IfOk result (λ ready.
+        is_some ready.crew ≡ nat_lt 0 (length ready.parts.handovers)) }
     ensures team { IfOk result (λ ready.
-        length ready.team ≡ min workers (length ready.parts.handovers)) }
-    ensures rings { IfOk result (λ ready. ready.emitter.capacity ≡ ring) }
+        length (team_in ready.crew) ≡ min workers (length ready.parts.handovers)) }
+    ensures rings { IfOk result (λ ready.
+        IfSome ready.crew (λ crew. crew.emitter.capacity ≡ ring)) }
     ensures refused { (refusal : BoxRefusal) → IsErrOf result (PrepareError.Box refusal)
         → IsRefusedBox bytes.now refusal }
 {
@@ -92,20 +92,10 @@ pub fn prepare(
         Ok(view) => view,
         Err(refusal) => return Err(PrepareError::Box(refusal)),
     };
-    let workers = workers.min(view.segments());
-    let decoder = SegmentDecoder::prepare(alloc, view.plan())?;
-    let piece = Piece::new(alloc)?;
-    let (board, seat, seats) = prepare_board(alloc, &view, ring, workers)?;
-    let team = team_of(alloc, &view, &board, seats)?;
+    let crew = crew_for(alloc, &view, workers, ring)?;
     Ok(Ready {
         view,
-        board,
-        emitter: Emitter {
-            seat,
-            decoder,
-            piece,
-        },
-        team,
+        crew,
         used: false,
     })
 }
@@ -117,16 +107,29 @@ const LEAST_RING: usize = 1 << 16;
 const MOST_RING: usize = 1 << 26;
 
 /// A ring, in bytes, in which a segment of a photograph fits whole, so that no worker waits for the emitter: twice what
-/// the container has for each of its segments, 64 KiB to 64 MiB. Above the least all rings together have at most twice
-/// the container's length.
+/// the container has for each of its segments, 64 KiB to 64 MiB. All rings together have at most twice the container's
+/// length, and 64 KiB for each segment.
 pub fn ample_ring(bytes: &[u8]) -> usize
     ensures some { 1 ≤ result }
+    ensures least { 2 ^ 16 ≤ result }
+    ensures most { result ≤ 2 ^ 26 }
+    ensures all { (plan : PlanFields) (b : BoxParts) → IsBoxOf plan b bytes.now
+        → result * length b.handovers ≤ 2 * length bytes.now + 2 ^ 16 * length b.handovers }
 {
-    let segments = match read_box(bytes) {
-        Ok(view) => usize::from(view.segments()).max(1),
-        Err(_) => 1,
-    };
-    (bytes.len() / segments)
+    match read_box(bytes) {
+        Ok(view) => ring_for(bytes.len(), usize::from(view.segments()).max(1)),
+        Err(_) => ring_for(bytes.len(), 1),
+    }
+}
+
+// The same, by how many bytes the container has and how many segments.
+fn ring_for(length: usize, segments: usize) -> usize
+    requires { 0 < segments }
+    ensures least { 2 ^ 16 ≤ result }
+    ensures most { result ≤ 2 ^ 26 }
+    ensures all { result * segments ≤ 2 * length + 2 ^ 16 * segments }
+{
+    (length / segments)
         .saturating_mul(2)
         .clamp(LEAST_RING, MOST_RING)
 }
