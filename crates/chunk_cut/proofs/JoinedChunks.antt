@@ -1,0 +1,45 @@
+-- What the containers of all chunks of a file stand for, one after another, is the file.
+use Rattle.std.proofs.Common.{◌≡◌, ℕ, zero, suc, ◌+◌, ◌<◌, ◌≤◌, inl, inr, List, ◌++◌, refl, sym, ap, ap₂, ◌∙◌, arith}
+use Rattle.std.specs.Prelude.{flat_map}
+use Rattle.jpeg_marker.specs.Plans.{PlanFields}
+use Rattle.chunk_spec.specs.ChunkLaws.{chunks_of}
+use Rattle.chunk_spec.proofs.ChunkJoins.{chunks_are_the_file}
+use Rattle.box_format.specs.Parts.{BoxParts}
+use Rattle.box_format.specs.Raws.{numbers}
+use Rattle.box_format.proofs.BoxLawsProved.{one_box}
+use Rattle.container_spec.specs.Meanings.{Meaning, Restored, NoBox, IsMeaning, meaning_of}
+use Rattle.chunk_cut.specs.ChunkLaws.{ChunksAreRestored}
+use Rattle.chunk_cut.specs.ChunksOfFiles.{chunk_of}
+use Rattle.chunk_cut.proofs.RestoredChunks.{chunk_is_restored}
+
+-- bytes stand for one file or chunk
+one_restored : (bytes a b : List ℕ) → IsMeaning bytes (record { bytes = a; verdict = Restored })
+    → IsMeaning bytes (record { bytes = b; verdict = Restored }) → a ≡ b
+one_restored bytes a b (inl x) y =
+    let bad : Restored ≡ NoBox x.0 = ap (λ (m : Meaning). m.verdict) x.2 in absurd cc
+one_restored bytes a b (inr x) (inl y) =
+    let bad : Restored ≡ NoBox y.0 = ap (λ (m : Meaning). m.verdict) y.2 in absurd cc
+one_restored bytes a b (inr x) (inr y) =
+    let same = one_box x.0 y.0 x.1 y.1 bytes x.2 y.2 in
+    ap (λ (m : Meaning). m.bytes)
+    (x.3 ∙ ap₂ (λ (plan : PlanFields) (parts : BoxParts). meaning_of plan parts) same.0 same.1
+    ∙ sym y.3)
+
+-- chunks from number i on
+chunks_joined : (file : List ℕ) (size : ℕ) (decoded : ℕ → List ℕ) (count i : ℕ)
+    → ((j : ℕ) → i ≤ j → j < i + count → decoded j ≡ chunk_of file size j)
+    → flat_map decoded (numbers i count) ≡ flat_map (λ chunk. chunk) (chunks_of file size i count)
+chunks_joined file size decoded zero i each = refl
+chunks_joined file size decoded (suc count) i each =
+    ap₂ (λ (x y : List ℕ). x ++ y) (each i (omega arith) (omega arith))
+    (chunks_joined file size decoded count (i + 1)
+    (λ j after within. each j (omega (arith, after)) (omega (arith, within))))
+
+pub chunks_are_restored : ChunksAreRestored
+chunks_are_restored most size count file made decoded some allowed long chunks meanings =
+    chunks_joined file size decoded count 0
+    (λ j after within.
+    let under : j < count = omega (arith, within) in
+    one_restored (made j) (decoded j) (chunk_of file size j) (meanings j under)
+    (chunk_is_restored most size j (made j) file some allowed (chunks j under)))
+    ∙ chunks_are_the_file file size count long

@@ -1,0 +1,45 @@
+-- Law: what holds of the containers of all chunks (own).
+use Rattle.std.specs.Prelude.{ℕ, ◌≡◌, ◌*◌, ◌<◌, ◌≤◌, List, length, flat_map}
+use Rattle.box_format.specs.Raws.{numbers}
+use Rattle.box_format.specs.Versions.{layout_of}
+use Rattle.box_format.specs.declared.version.Version.TheVariants.{Third}
+use Rattle.container_spec.specs.Limits.{most_of_a_container, most_of_a_file}
+use Rattle.container_spec.specs.Meanings.{Restored, IsMeaning}
+use Rattle.container_spec.specs.Refusals.{IsRefusedFile}
+use Rattle.chunk_cut.specs.ChunksOfFiles.{IsChunkOf, chunk_of}
+
+-- a chunk's container stands for the chunk
+abbrev pub ChunkIsRestored : Type 0
+ChunkIsRestored =
+    (most size i : ℕ) (made file : List ℕ) → 0 < most → most ≤ (layout_of Third).most
+    → IsChunkOf most size i made file
+    → IsMeaning made (record { bytes = chunk_of file size i; verdict = Restored })
+
+-- what the containers of all chunks of a file stand for, one after another, is the file
+abbrev pub ChunksAreRestored : Type 0
+ChunksAreRestored =
+    (most size count : ℕ) (file : List ℕ) (made decoded : ℕ → List ℕ) → 0 < most
+    → most ≤ (layout_of Third).most → length file ≤ count * size
+    → ((i : ℕ) → i < count → IsChunkOf most size i (made i) file)
+    → ((i : ℕ) → i < count
+    → IsMeaning (made i) (record { bytes = decoded i; verdict = Restored }))
+    → flat_map decoded (numbers 0 count) ≡ file
+
+-- a chunk has one container of each number of segments
+abbrev pub OneChunk : Type 0
+OneChunk =
+    (most size i : ℕ) (made other file : List ℕ)
+    → IsChunkOf most size i made file → IsChunkOf most size i other file → made ≡ other
+
+-- a file that has a chunk isn't refused
+abbrev pub ChunkedIsNotRefused : Type 0
+ChunkedIsNotRefused =
+    (most size i : ℕ) (made file : List ℕ)
+    → IsChunkOf most size i made file → IsRefusedFile file → ⊥
+
+-- the container of a chunk of a file that encode takes is within what decode takes
+abbrev pub ChunkIsShort : Type 0
+ChunkIsShort =
+    (most size i : ℕ) (made file : List ℕ) → 0 < most → most ≤ (layout_of Third).most
+    → IsChunkOf most size i made file → length file ≤ most_of_a_file
+    → length made ≤ most_of_a_container

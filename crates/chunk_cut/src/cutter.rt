@@ -1,0 +1,192 @@
+// A file whose chunks are cut, each into a container of its own.
+ghost use Rattle.std.specs.Prelude.{◌≡◌, ◌-◌, ◌*◌, ◌<◌, ◌≤◌, ◌^◌, drop, length, IfNone, IfOk, IfSome, IsErrOf};
+ghost use Rattle.byte_window.specs.Slices.{slice};
+ghost use Rattle.jpeg_marker.specs.HeaderPlan.{Accepts, Refuses as HeaderRefuses};
+ghost use Rattle.jpeg_marker.specs.Plans.{PlanFields};
+ghost use Rattle.jpeg_marker.specs.declared.refusal.HeaderRefusal.{HeaderRefusal};
+ghost use Rattle.scan_spec.specs.Items.{Refuses as ScanRefuses};
+ghost use Rattle.scan_spec.specs.Slots.{shape_of};
+ghost use Rattle.scan_spec.specs.declared.refusal.ScanRefusal.{ScanRefusal};
+ghost use Rattle.chunk_spec.specs.Chunks.{chunk_from, chunk_to};
+ghost use Rattle.box_format.specs.Versions.{layout_of};
+ghost use Rattle.box_format.specs.declared.version.Version.TheVariants.{Third};
+ghost use Rattle.chunk_cut.specs.ChunksOfFiles.{IsChunkOf, IsFile};
+
+use crate::error::CutError;
+use crate::rows::{chunk_between, handovers_of};
+use box_format::{Parts, write_box};
+use growth::NoMemory;
+use jpeg_marker::{Plan, read_header};
+use segment_code::{Starts, find_rows};
+use segment_worker::encode_all;
+use std::alloc::Global;
+use std::marker::Model;
+use std::thread::Threads;
+
+/// A file whose chunks are cut, one after another or in any order: its header's plan, and where each row of MCUs of its
+/// scan starts. The scan is read once, for all chunks; a chunk's rows are read again as its segments are coded.
+///
+/// Clauses see the file's bytes.
+#[derive(Drop)]
+pub struct ChunkCutter<'a> {
+    plan: Plan,
+    bytes: &'a [u8],
+    starts: Starts,
+}
+
+impl<'a> Model for ChunkCutter<'a> {
+    ghost use Rattle.std.specs.Prelude.{List, ℕ};
+    ghost use Rattle.chunk_cut.specs.Found.{IsCutter};
+
+    ghost Value = { List ℕ };
+
+    ghost view = { λ c. c.bytes.now };
+
+    ghost invariant = { IsCutter };
+}
+
+impl<'a> ChunkCutter<'a> {
+    /// Reads a file's header and its scan. A refusal is the header's, or else the scan's; `NoChunk` isn't among them.
+    pub fn prepare(alloc: Global, bytes: &'a [u8]) -> Result<ChunkCutter<'a>, CutError>
+        requires length { length bytes.now < 2 ^ 32 }
+        ensures bytes { IfOk result (λ cutter. cutter ≡ bytes.entry.now) }
+        ensures file { IfOk result (λ cutter. IsFile bytes.entry.now) }
+        ensures header { (refusal : HeaderRefusal) → IsErrOf result (CutError.Header refusal)
+            → HeaderRefuses bytes.entry.now refusal }
+        ensures scan { (refusal : ScanRefusal) → IsErrOf result (CutError.Scan refusal)
+            → (plan : PlanFields) × Accepts bytes.entry.now plan
+            × ScanRefuses (shape_of plan) bytes.entry.now plan.header_length refusal }
+        ensures chunk { ¬ IsErrOf result CutError.NoChunk }
+    {
+        let plan = read_header(bytes)?;
+        let starts = find_rows(alloc, &plan, bytes)?;
+        Ok(ChunkCutter {
+            plan,
+            bytes,
+            starts,
+        })
+    }
+
+    /// The container, of version 3, of one of the file's chunks of `size` bytes, the one with number `index`, of which
+    /// the first is 0; none if the file ends before it. It has at most `segments` segments, and at most as many as the
+    /// chunk has rows. Each segment is coded in a thread of its own if one can be had.
+    pub fn cut<R: Threads + Sync>(
+        &self,
+        rt: &R,
+        alloc: Global,
+        segments: u8,
+        size: u64,
+        index: u64,
+    ) -> Result<Option<Vec<u8>>, NoMemory>
+        requires some { 0 < segments }
+        requires few { segments ≤ (layout_of Third).most }
+        requires size { 0 < size }
+        ensures made { IfOk result (λ cut. IfSome cut
+            (λ made. IsChunkOf segments size index made.items self.now)) }
+        ensures none { IfOk result (λ cut. IfNone cut (length self.now ≤ index * size)) }
+    {
+        let Some((from, to)) = span_of(self.bytes.len(), size, index) else {
+            return Ok(None);
+        };
+        let chunk = chunk_between(&self.starts, from, to);
+        let count = u32::from(segments).min(chunk.to - chunk.from);
+        let handovers = handovers_of(alloc, &self.plan, &self.starts, chunk, count)?;
+        let streams = encode_all(
+            rt,
+            alloc,
+            &self.plan,
+            self.bytes,
+            &self.starts,
+            Some(chunk),
+            count,
+        )?;
+        let (header, _) = self.bytes.split_at(self.plan.header_length());
+        let trailer = trailer_between(self.bytes, self.starts.trailer(), from, to);
+        let made = write_box(
+            alloc,
+            &Parts {
+                chunk: Some(chunk),
+                pad: self.starts.pad(),
+                header,
+                trailer,
+                handovers: handovers.as_slice(),
+                streams: streams.as_slice(),
+            },
+        )?;
+        Ok(Some(made))
+    }
+
+    /// How many chunks of `size` bytes the file has; the last one may have fewer bytes.
+    pub fn chunks(&self, size: u64) -> u64
+        requires { 0 < size }
+        ensures all { length self.now ≤ result * size }
+        ensures last { 0 < result → (result - 1) * size < length self.now }
+    {
+        let length = self.bytes.len() as u64;
+        let whole = length / size;
+        if whole * size < length {
+            whole + 1
+        } else {
+            whole
+        }
+    }
+}
+
+/// The container, of version 3, of one of a file's chunks of `size` bytes, as `ChunkCutter::cut` gives it. A refusal is
+/// the header's, or else the scan's, or else the file ends before the chunk.
+pub fn cut_chunk<R: Threads + Sync>(
+    rt: &R,
+    alloc: Global,
+    bytes: &[u8],
+    segments: u8,
+    size: u64,
+    index: u64,
+) -> Result<Vec<u8>, CutError>
+    requires length { length bytes.now < 2 ^ 32 }
+    requires some { 0 < segments }
+    requires few { segments ≤ (layout_of Third).most }
+    requires size { 0 < size }
+    ensures made { IfOk result (λ made. IsChunkOf segments size index made.items bytes.now) }
+    ensures header { (refusal : HeaderRefusal) → IsErrOf result (CutError.Header refusal)
+        → HeaderRefuses bytes.now refusal }
+    ensures scan { (refusal : ScanRefusal) → IsErrOf result (CutError.Scan refusal)
+        → (plan : PlanFields) × Accepts bytes.now plan
+        × ScanRefuses (shape_of plan) bytes.now plan.header_length refusal }
+    ensures none { IsErrOf result CutError.NoChunk
+        → IsFile bytes.now × (length bytes.now ≤ index * size) }
+{
+    let cutter = ChunkCutter::prepare(alloc, bytes)?;
+    match cutter.cut(rt, alloc, segments, size, index)? {
+        Some(made) => Ok(made),
+        None => Err(CutError::NoChunk),
+    }
+}
+
+// From which place to before which one chunk `index` of `size` bytes is, in a file of this length.
+fn span_of(length: usize, size: u64, index: u64) -> Option<(usize, usize)>
+    ensures from { IfSome result (λ span. span.0 ≡ chunk_from size index) }
+    ensures to { IfSome result (λ span. span.1 ≡ chunk_to length size index) }
+    ensures some { IfSome result (λ span. span.0 < length) }
+    ensures none { IfNone result (length ≤ index * size) }
+{
+    let length = length as u64;
+    let from = index.checked_mul(size)?;
+    if from >= length {
+        return None;
+    }
+    let to = from.saturating_add(size).min(length);
+    Some((from as usize, to as usize))
+}
+
+// What of a file's trailer lies from place `from` to before place `to`.
+fn trailer_between(bytes: &[u8], trailer: usize, from: usize, to: usize) -> &[u8]
+    requires trailer { trailer ≤ length bytes.now }
+    requires order { from ≤ to }
+    requires within { to ≤ length bytes.now }
+    ensures { result.now ≡ slice (from - trailer) (to - trailer) (drop trailer bytes.now) }
+{
+    let (_, after) = bytes.split_at(trailer);
+    let (upto, _) = after.split_at(to.saturating_sub(trailer));
+    let (_, part) = upto.split_at(from.saturating_sub(trailer));
+    part
+}

@@ -1,0 +1,17 @@
+//! Chunks of a file, each cut into a container of its own, which is decoded alone (this project's own; docs/FORMAT.md).
+//!
+//!     bytes --read_header--> plan --find_rows--> where each row starts
+//!     chunk --its rows--> segments --encode_all--> streams --write_box--> container of version 3
+//!
+//! A `ChunkCutter` reads a file's scan once, and cuts each chunk from it. Which rows a chunk has is `chunk_spec`'s, what
+//! its container stands for `container_spec`'s.
+#![tactic(auto)]
+
+mod cutter;
+mod error;
+mod laws;
+mod rows;
+
+pub use cutter::{ChunkCutter, cut_chunk};
+pub use error::CutError;
+pub use laws::{chunks_are_restored, rows_of_chunks};
