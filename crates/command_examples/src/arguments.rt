@@ -38,6 +38,27 @@ const COMMANDS: &[(&[&str], Command)] = &[
     (&["migrate", "--"], Command::Migrate),
 ];
 
+// The same for a chunk: its number and its size, and the segments, that they mean.
+const CHUNKS: &[(&[&str], [u32; 2], u8)] = &[
+    (&["chunk"], [0, 4194304], 8),
+    (&["chunk", "--"], [0, 4194304], 8),
+    (
+        &["chunk", "--index", "4294967295"],
+        [4294967295, 4194304],
+        8,
+    ),
+    (&["chunk", "--index=-0"], [0, 4194304], 8),
+    (&["chunk", "--size", "1"], [0, 1], 8),
+    (&["chunk", "--size=67108864"], [0, 67108864], 8),
+    (&["chunk", "--segments=1"], [0, 4194304], 1),
+    (&["chunk", "--segments", "64"], [0, 4194304], 64),
+    (
+        &["chunk", "--segments", "02", "--index=+3", "--size", "4"],
+        [3, 4],
+        2,
+    ),
+];
+
 // The same for a sample: the seed, the columns and the rows that they mean.
 const SAMPLES: &[(&[&str], u32, [u16; 2])] = &[
     (
@@ -94,6 +115,29 @@ const REFUSED: &[&[&str]] = &[
     &["migrate", "-h"],
 ];
 
+const REFUSED_CHUNKS: &[&[&str]] = &[
+    &["Chunk"],
+    &["chunk", "-h"],
+    &["chunk", "x"],
+    &["chunk", "chunk"],
+    &["chunk", "--index"],
+    &["chunk", "--index", ""],
+    &["chunk", "--index", "4294967296"],
+    &["chunk", "--index", "-1"],
+    &["chunk", "--size", "0"],
+    &["chunk", "--size", "67108865"],
+    &["chunk", "--size", "-1"],
+    &["chunk", "--segments", "0"],
+    &["chunk", "--segments", "65"],
+    &["chunk", "--segments", "-1"],
+    &["chunk", "--index=1", "--index=1"],
+    &["chunk", "--size=1", "--size=1"],
+    &["chunk", "--workers", "1"],
+    &["--index", "1", "chunk"],
+    &["encode", "--index", "1"],
+    &["migrate", "--size", "1"],
+];
+
 const REFUSED_SAMPLES: &[&[&str]] = &[
     &["sample"],
     &["sample", "--seed=1", "--columns=1"],
@@ -121,6 +165,25 @@ fn segments_and_workers_are_read(rt: HostRuntime) -> Result<(), Fail> {
 }
 
 #[test]
+fn numbers_of_a_chunk_are_read(rt: HostRuntime) -> Result<(), Fail> {
+    for (given, place, segments) in CHUNKS {
+        assert!(rt;
+            means(rt.alloc(), given, Ok(chunk(*place, *segments)))?,
+            "{given:?}"
+        );
+    }
+    Ok(())
+}
+
+fn chunk(place: [u32; 2], segments: u8) -> Command {
+    Command::Chunk {
+        index: place[0],
+        size: place[1],
+        segments,
+    }
+}
+
+#[test]
 fn numbers_of_a_sample_are_read(rt: HostRuntime) -> Result<(), Fail> {
     for (given, seed, size) in SAMPLES {
         assert!(rt;
@@ -142,6 +205,17 @@ fn sample(seed: u32, size: [u16; 2]) -> Command {
 #[test]
 fn other_arguments_are_rejected(rt: HostRuntime) -> Result<(), Fail> {
     for given in REFUSED {
+        assert!(rt;
+            means(rt.alloc(), given, Err(WordsError::Refused))?,
+            "{given:?}"
+        );
+    }
+    Ok(())
+}
+
+#[test]
+fn other_arguments_of_a_chunk_are_rejected(rt: HostRuntime) -> Result<(), Fail> {
+    for given in REFUSED_CHUNKS {
         assert!(rt;
             means(rt.alloc(), given, Err(WordsError::Refused))?,
             "{given:?}"

@@ -28,7 +28,7 @@ use Rattle.clap.proofs.ValueTestLemmas.{accepts-Accepts}
 use Rattle.command_words.specs.LeptonApp.{faults, given, lepton_app}
 use Rattle.command_words.specs.Meaning.{Asks, IsInRange, Means, Reads, ReadsAs}
 use Rattle.command_words.specs.declared.command.Command.{Command}
-use Rattle.command_words.specs.declared.command.Command.TheVariants.{Decode, Encode, Migrate, Sample}
+use Rattle.command_words.specs.declared.command.Command.TheVariants.{Chunk, Decode, Encode, Migrate, Sample}
 use Rattle.command_words.proofs.Reading.{name_in, other_name, rows_in}
 use Rattle.command_words.proofs.RowsKept.{no_else, settled_keeps, walk_keeps}
 
@@ -254,6 +254,11 @@ encode_rules = option_built (codes "segments") (Signed (pos 1) (pos 64)) (codes 
 abbrev decode_rules : List Rule
 decode_rules = option_built (codes "workers") (Signed (pos 0) (pos 16)) (codes "4" ∷ []) false ∷ help_built ∷ []
 
+abbrev chunk_rules : List Rule
+chunk_rules = option_built (codes "index") (Signed (pos 0) (pos 4294967295)) (codes "0" ∷ []) false
+    ∷ option_built (codes "size") (Signed (pos 1) (pos 67108864)) (codes "4194304" ∷ []) false
+    ∷ option_built (codes "segments") (Signed (pos 1) (pos 64)) (codes "8" ∷ []) false ∷ help_built ∷ []
+
 abbrev sample_rules : List Rule
 sample_rules = option_built (codes "seed") (Signed (pos 0) (pos 4294967295)) [] true
     ∷ option_built (codes "columns") (Signed (pos 1) (pos 256)) [] true
@@ -271,6 +276,7 @@ encode_fine s named rules = record { fine = go }
         number_fine (codes "segments") 1 64 8 (omega arith) s segments words none _ asks.rows asks.is n asks.reads
     go words (Decode n) none asks = other_command _ s words _ _ named asks.is refl
     go words Migrate none asks = other_command _ s words _ _ named asks.1 refl
+    go words (Chunk k z n) none asks = other_command _ s words _ _ named asks.is refl
     go words (Sample k c r) none asks = other_command _ s words _ _ named asks.is refl
 
 decode_fine : (s : Shape) → s.name ≡ codes "decode" → s.rules ≡ decode_rules → IsFine s
@@ -285,6 +291,7 @@ decode_fine s named rules = record { fine = go }
         (number_fine (codes "workers") 0 16 8 (omega arith) s workers words none _ asks.rows asks.is n asks.reads).1
     go words (Encode n) none asks = other_command _ s words _ _ named asks.is refl
     go words Migrate none asks = other_command _ s words _ _ named asks.1 refl
+    go words (Chunk k z n) none asks = other_command _ s words _ _ named asks.is refl
     go words (Sample k c r) none asks = other_command _ s words _ _ named asks.is refl
 
 sample_fine : (s : Shape) → s.name ≡ codes "sample" → s.rules ≡ sample_rules → IsFine s
@@ -312,6 +319,34 @@ sample_fine s named rules = record { fine = go }
     go words (Encode n) none asks = other_command _ s words _ _ named asks.is refl
     go words (Decode n) none asks = other_command _ s words _ _ named asks.is refl
     go words Migrate none asks = other_command _ s words _ _ named asks.1 refl
+    go words (Chunk k z n) none asks = other_command _ s words _ _ named asks.is refl
+
+chunk_fine : (s : Shape) → s.name ≡ codes "chunk" → s.rules ≡ chunk_rules → IsFine s
+chunk_fine s named rules = record { fine = go }
+  where
+    indices : AllByRecursion (Keeps (codes "index") 0 4294967295) s.rules
+    indices = subst (AllByRecursion (Keeps (codes "index") 0 4294967295)) (sym rules)
+        (own_keeps _ _ _ _ _, (other_keeps _ _ _ _ _ _ _ refl, (other_keeps _ _ _ _ _ _ _ refl, (help_keeps _ _ _, tt))))
+
+    sizes : AllByRecursion (Keeps (codes "size") 1 67108864) s.rules
+    sizes = subst (AllByRecursion (Keeps (codes "size") 1 67108864)) (sym rules)
+        (other_keeps _ _ _ _ _ _ _ refl, (own_keeps _ _ _ _ _, (other_keeps _ _ _ _ _ _ _ refl, (help_keeps _ _ _, tt))))
+
+    segments : AllByRecursion (Keeps (codes "segments") 1 64) s.rules
+    segments = subst (AllByRecursion (Keeps (codes "segments") 1 64)) (sym rules)
+        (other_keeps _ _ _ _ _ _ _ refl, (other_keeps _ _ _ _ _ _ _ refl, (own_keeps _ _ _ _ _, (help_keeps _ _ _, tt))))
+
+    go : (words : List Text) (command : Command) → level_fault s [] nothing_held words false [] ≡ []
+        → Asks (Some (rows_at s words)) command → IsInRange command
+    go words (Chunk k z n) none asks =
+        let index = number_fine (codes "index") 0 4294967295 32 (omega arith) s indices words none _ asks.options asks.is k asks.index_is in
+        let size = number_fine (codes "size") 1 67108864 32 (omega arith) s sizes words none _ asks.options asks.is z asks.size_is in
+        let most = number_fine (codes "segments") 1 64 8 (omega arith) s segments words none _ asks.options asks.is n asks.segments_is in
+        (omega arith, size.0, size.1, most.0, most.1)
+    go words (Encode n) none asks = other_command _ s words _ _ named asks.is refl
+    go words (Decode n) none asks = other_command _ s words _ _ named asks.is refl
+    go words Migrate none asks = other_command _ s words _ _ named asks.1 refl
+    go words (Sample k c r) none asks = other_command _ s words _ _ named asks.is refl
 
 migrate_fine : (s : Shape) → s.name ≡ codes "migrate" → IsFine s
 migrate_fine s named = record { fine = go }
@@ -321,6 +356,7 @@ migrate_fine s named = record { fine = go }
     go words Migrate none asks = tt
     go words (Encode n) none asks = other_command _ s words _ _ named asks.is refl
     go words (Decode n) none asks = other_command _ s words _ _ named asks.is refl
+    go words (Chunk k z n) none asks = other_command _ s words _ _ named asks.is refl
     go words (Sample k c r) none asks = other_command _ s words _ _ named asks.is refl
 
 help_fine : (s : Shape) → s.name ≡ codes "help" → IsFine s
@@ -331,15 +367,17 @@ help_fine s named = record { fine = go }
     go words (Encode n) none asks = other_command _ s words _ _ named asks.is refl
     go words (Decode n) none asks = other_command _ s words _ _ named asks.is refl
     go words Migrate none asks = other_command _ s words _ _ named asks.1 refl
+    go words (Chunk k z n) none asks = other_command _ s words _ _ named asks.is refl
     go words (Sample k c r) none asks = other_command _ s words _ _ named asks.is refl
 
 subs_fine : AllByRecursion IsFine (built lepton_app).subs
-subs_fine = (encode_fine _ refl refl, (decode_fine _ refl refl, (migrate_fine _ refl, (sample_fine _ refl refl, (help_fine _ refl, tt)))))
+subs_fine = (encode_fine _ refl refl, (decode_fine _ refl refl, (migrate_fine _ refl, (chunk_fine _ refl refl, (sample_fine _ refl refl, (help_fine _ refl, tt))))))
 
 asked_nothing : (command : Command) → Asks None command → IsInRange command
 asked_nothing (Encode n) asks = let bad : true ≡ false = ap (λ o. is_some o) (sym asks.is) in absurd cc
 asked_nothing (Decode n) asks = let bad : true ≡ false = ap (λ o. is_some o) (sym asks.is) in absurd cc
 asked_nothing Migrate asks = let bad : true ≡ false = ap (λ o. is_some o) (sym asks.1) in absurd cc
+asked_nothing (Chunk k z n) asks = let bad : true ≡ false = ap (λ o. is_some o) (sym asks.is) in absurd cc
 asked_nothing (Sample k c r) asks = let bad : true ≡ false = ap (λ o. is_some o) (sym asks.is) in absurd cc
 
 module _ (subs : List Shape) (all : AllByRecursion IsFine subs) (command : Command) where

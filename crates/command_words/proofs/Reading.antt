@@ -12,7 +12,7 @@ use Rattle.clap.specs.declared.parser.matches.SubCommand.{SubCommand}
 use Rattle.clap.proofs.WalkLemmas.{one_text-rows}
 use Rattle.command_words.specs.Meaning.{Asks, Reads}
 use Rattle.command_words.specs.declared.command.Command.{Command}
-use Rattle.command_words.specs.declared.command.Command.TheVariants.{Decode, Encode, Migrate, Sample}
+use Rattle.command_words.specs.declared.command.Command.TheVariants.{Chunk, Decode, Encode, Migrate, Sample}
 
 abbrev pub rows_in : Option (Text × List Row) → List Row
 rows_in None = []
@@ -74,6 +74,7 @@ encode_unread met rows is none (Encode n) asks =
     none n (subst (λ rs. Reads 8 rs (codes "segments") n) (same_rows _ _ _ _ _ is asks.is) asks.reads)
 encode_unread met rows is none (Decode n) asks = other_met _ _ _ _ _ is asks.is refl
 encode_unread met rows is none Migrate asks = other_met _ _ _ _ _ is asks.1 refl
+encode_unread met rows is none (Chunk k z n) asks = other_met _ _ _ _ _ is asks.is refl
 encode_unread met rows is none (Sample s c r) asks = other_met _ _ _ _ _ is asks.is refl
 
 pub decode_unread : (met : Option (Text × List Row)) (rows : List Row) → met ≡ Some (codes "decode", rows)
@@ -82,7 +83,22 @@ decode_unread met rows is none (Decode n) asks =
     none n (subst (λ rs. Reads 8 rs (codes "workers") n) (same_rows _ _ _ _ _ is asks.is) asks.reads)
 decode_unread met rows is none (Encode n) asks = other_met _ _ _ _ _ is asks.is refl
 decode_unread met rows is none Migrate asks = other_met _ _ _ _ _ is asks.1 refl
+decode_unread met rows is none (Chunk k z n) asks = other_met _ _ _ _ _ is asks.is refl
 decode_unread met rows is none (Sample s c r) asks = other_met _ _ _ _ _ is asks.is refl
+
+pub chunk_unread : (met : Option (Text × List Row)) (options : List Row) → met ≡ Some (codes "chunk", options)
+    → ((index size segments : ℕ) → Reads 32 options (codes "index") index → Reads 32 options (codes "size") size
+    → ¬ Reads 8 options (codes "segments") segments)
+    → (command : Command) → ¬ Asks met command
+chunk_unread met options is none (Chunk k z n) asks =
+    let same = same_rows _ _ _ _ _ is asks.is in
+    none k z n (subst (λ rs. Reads 32 rs (codes "index") k) same asks.index_is)
+    (subst (λ rs. Reads 32 rs (codes "size") z) same asks.size_is)
+    (subst (λ rs. Reads 8 rs (codes "segments") n) same asks.segments_is)
+chunk_unread met options is none (Encode n) asks = other_met _ _ _ _ _ is asks.is refl
+chunk_unread met options is none (Decode n) asks = other_met _ _ _ _ _ is asks.is refl
+chunk_unread met options is none Migrate asks = other_met _ _ _ _ _ is asks.1 refl
+chunk_unread met options is none (Sample s c r) asks = other_met _ _ _ _ _ is asks.is refl
 
 pub sample_unread : (met : Option (Text × List Row)) (options : List Row) → met ≡ Some (codes "sample", options)
     → ((seed columns rows : ℕ) → Reads 32 options (codes "seed") seed → Reads 16 options (codes "columns") columns
@@ -96,6 +112,7 @@ sample_unread met options is none (Sample s c r) asks =
 sample_unread met options is none (Encode n) asks = other_met _ _ _ _ _ is asks.is refl
 sample_unread met options is none (Decode n) asks = other_met _ _ _ _ _ is asks.is refl
 sample_unread met options is none Migrate asks = other_met _ _ _ _ _ is asks.1 refl
+sample_unread met options is none (Chunk k z n) asks = other_met _ _ _ _ _ is asks.is refl
 
 pub if_none : {X : Type 0} (r : Option X) (P : Type 0) → P → IfNone r P
 if_none None P p = p

@@ -37,6 +37,14 @@ decode_app = with_rule (new_app (codes "decode"))
 abbrev pub migrate_app : App
 migrate_app = new_app (codes "migrate")
 
+-- `chunk`, with `--index` from 0 to 4294967295, 0 where it is left out, `--size` from 1 to 67108864,
+-- 4194304 where it is left out, and `--segments` from 1 to 64, 8 where it is left out
+abbrev pub chunk_app : App
+chunk_app = with_rule (with_rule (with_rule (new_app (codes "chunk"))
+    (number_rule (codes "index") (Signed (pos 0) (pos 4294967295)) (codes "0")))
+    (number_rule (codes "size") (Signed (pos 1) (pos 67108864)) (codes "4194304")))
+    (number_rule (codes "segments") (Signed (pos 1) (pos 64)) (codes "8"))
+
 -- `sample`, with `--seed` from 0 to 4294967295, and `--columns` and `--rows` from 1 to 256 each;
 -- all three have to be given
 abbrev pub sample_app : App
@@ -49,11 +57,11 @@ sample_app = with_rule (with_rule (with_rule (new_app (codes "sample"))
 abbrev pub requiring_subcommand : App → App
 requiring_subcommand = on_top (λ s. record s { subcommand_required = true })
 
--- the program with the four
+-- the program with the five
 abbrev pub lepton_app : App
-lepton_app = with_subcommand (with_subcommand (with_subcommand
+lepton_app = with_subcommand (with_subcommand (with_subcommand (with_subcommand
     (with_subcommand (requiring_subcommand (new_app (codes "lepton"))) encode_app.top)
-    decode_app.top) migrate_app.top) sample_app.top
+    decode_app.top) migrate_app.top) chunk_app.top) sample_app.top
 
 -- the kinds of error that clap may give at the words: none where it takes them
 unfoldable pub faults : List Text → Kinds

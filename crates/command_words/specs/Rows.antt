@@ -2,18 +2,21 @@
 use Rattle.std.specs.Prelude.{List, [], ◌∷◌, codes}
 use Rattle.clap.specs.Words.{Text}
 use Rattle.command_words.specs.declared.command.Command.{Command}
-use Rattle.command_words.specs.declared.command.Command.TheVariants.{Decode, Encode, Migrate, Sample}
+use Rattle.command_words.specs.declared.command.Command.TheVariants.{Chunk, Decode, Encode, Migrate, Sample}
 
 -- a line of words begins with the program's name
 abbrev pub line : List Text → List Text
 line words = codes "lepton" ∷ words
 
--- `encode`, `decode` and `sample`, with these words after it
+-- `encode`, `decode`, `chunk` and `sample`, with these words after it
 abbrev pub encode_with : List Text → List Text
 encode_with words = codes "encode" ∷ words
 
 abbrev pub decode_with : List Text → List Text
 decode_with words = codes "decode" ∷ words
+
+abbrev pub chunk_with : List Text → List Text
+chunk_with words = codes "chunk" ∷ words
 
 abbrev pub sample_with : List Text → List Text
 sample_with words = codes "sample" ∷ words
@@ -33,6 +36,17 @@ meant = (encode_with [], Encode 8)
     ∷ (decode_with (codes "--workers" ∷ codes "0" ∷ []), Decode 0)
     ∷ (decode_with (codes "--workers=16" ∷ []), Decode 16)
     ∷ (codes "migrate" ∷ [], Migrate)
+    ∷ (chunk_with [], Chunk 0 4194304 8)
+    ∷ (chunk_with (codes "--index=0" ∷ []), Chunk 0 4194304 8)
+    ∷ (chunk_with (codes "--index" ∷ codes "4294967295" ∷ []), Chunk 4294967295 4194304 8)
+    ∷ (chunk_with (codes "--size" ∷ codes "1" ∷ []), Chunk 0 1 8)
+    ∷ (chunk_with (codes "--size=67108864" ∷ []), Chunk 0 67108864 8)
+    ∷ (chunk_with (codes "--segments=1" ∷ []), Chunk 0 4194304 1)
+    ∷ (chunk_with (codes "--segments" ∷ codes "64" ∷ []), Chunk 0 4194304 64)
+    ∷ (
+      chunk_with (codes "--segments" ∷ codes "2" ∷ codes "--index=3" ∷ codes "--size" ∷ codes "4" ∷ []),
+      Chunk 3 4 2,
+    )
     ∷ (sample_of (codes "2") (codes "256") (codes "256"), Sample 2 256 256)
     ∷ (
       sample_with (codes "--rows=3" ∷ codes "--seed=0" ∷ codes "--columns" ∷ codes "4" ∷ []),
@@ -61,6 +75,17 @@ meaningless = []
     ∷ decode_with (codes "--segments" ∷ codes "8" ∷ [])
     ∷ (codes "migrate" ∷ codes "--segments" ∷ codes "8" ∷ [])
     ∷ (codes "migrate" ∷ codes "x" ∷ [])
+    ∷ chunk_with (codes "--index" ∷ codes "4294967296" ∷ [])
+    ∷ chunk_with (codes "--index" ∷ codes "-1" ∷ [])
+    ∷ chunk_with (codes "--size" ∷ codes "0" ∷ [])
+    ∷ chunk_with (codes "--size" ∷ codes "67108865" ∷ [])
+    ∷ chunk_with (codes "--size" ∷ codes "-1" ∷ [])
+    ∷ chunk_with (codes "--segments" ∷ codes "0" ∷ [])
+    ∷ chunk_with (codes "--segments" ∷ codes "65" ∷ [])
+    ∷ chunk_with (codes "--segments" ∷ codes "-1" ∷ [])
+    ∷ chunk_with (codes "--index" ∷ codes "1" ∷ codes "--index" ∷ codes "1" ∷ [])
+    ∷ chunk_with (codes "--workers" ∷ codes "1" ∷ [])
+    ∷ chunk_with (codes "x" ∷ [])
     ∷ sample_with []
     ∷ sample_with (codes "--seed" ∷ codes "1" ∷ codes "--columns" ∷ codes "1" ∷ [])
     ∷ sample_with (codes "--seed" ∷ codes "1" ∷ codes "--rows" ∷ codes "1" ∷ [])

@@ -16,8 +16,11 @@ pub enum Command {
     Encode { segments: u8 },
     /// Give the file back with at most this many workers, 0 to 16.
     Decode { workers: u8 },
-    /// Make the same container in the newest version.
+    /// Make the same container in version 2.
     Migrate,
+    /// Make the container of one chunk of a file: of its chunks of this size, 1 to 67108864 bytes, the one with this
+    /// number, 0 to 4294967295, in at most this many segments, 1 to 64.
+    Chunk { index: u32, size: u32, segments: u8 },
     /// Make a sample from this seed, 0 to 4294967295, with this many columns and rows, 1 to 256 each.
     Sample { seed: u32, columns: u16, rows: u16 },
 }
@@ -85,6 +88,16 @@ fn asked(matches: &ArgMatches) -> Option<Command>
             Some(Command::Decode { workers })
         }
         ("migrate", _) => Some(Command::Migrate),
+        ("chunk", options) => {
+            let index = u32_of(options, "index")?;
+            let size = u32_of(options, "size")?;
+            let segments = u8_of(options, "segments")?;
+            Some(Command::Chunk {
+                index,
+                size,
+                segments,
+            })
+        }
         ("sample", options) => {
             let seed = u32_of(options, "seed")?;
             let columns = u16_of(options, "columns")?;

@@ -11,8 +11,9 @@ pub fn one_command()
     ensures { (words : List Text) (a b : Command) → Means words a → Means words b → a ≡ b }
 {}
 
-/// A command that arguments mean has 1 to 64 segments, or 0 to 16 workers, or a seed from 0 to 4294967295 with 1 to 256
-/// columns and 1 to 256 rows.
+/// A command that arguments mean has 1 to 64 segments, or 0 to 16 workers, or a chunk's number from 0 to 4294967295
+/// with a size from 1 to 67108864 and 1 to 64 segments, or a seed from 0 to 4294967295 with 1 to 256 columns and 1 to
+/// 256 rows.
 pub fn numbers_are_in_range()
     ensures { (words : List Text) (command : Command) → Means words command
         → IsInRange command }

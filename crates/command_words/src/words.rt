@@ -1,14 +1,15 @@
 // The arguments that are known, as clap needs them.
-ghost use Rattle.std.specs.Prelude.{◌≡◌, false, IfOk, Some, [], ◌∷◌};
+ghost use Rattle.std.specs.Prelude.{◌≡◌, false, IfOk, Some, [], ◌∷◌, codes, pos};
+ghost use Rattle.clap.specs.declared.builder.value_parser.ValueParser.TheVariants.{Signed};
 ghost use Rattle.clap.specs.Words.{app_of, rule_of, with_subcommand};
-ghost use Rattle.command_words.specs.LeptonApp.{decode_app, encode_app, lepton_app, migrate_app, number_rule, required_rule, sample_app};
+ghost use Rattle.command_words.specs.LeptonApp.{chunk_app, decode_app, encode_app, lepton_app, migrate_app, number_rule, required_rule, sample_app};
 
 use clap::builder::ValueParser;
 use clap::{Arg, value_parser};
 use growth::{NoMemory, arg, subcommand};
 use std::alloc::Global;
 
-/// The program with its four subcommands, of which one must be named.
+/// The program with its five subcommands, of which one must be named.
 pub(crate) fn known_words<'a>(alloc: Global) -> Result<clap::Command<'a>, NoMemory>
     ensures { IfOk result (λ known. app_of known ≡ lepton_app) }
 {
@@ -16,6 +17,7 @@ pub(crate) fn known_words<'a>(alloc: Global) -> Result<clap::Command<'a>, NoMemo
     let known = with_encode(alloc, known)?;
     let known = with_decode(alloc, known)?;
     let known = with_migrate(alloc, known)?;
+    let known = with_chunk(alloc, known)?;
     with_sample(alloc, known)
 }
 
@@ -24,7 +26,7 @@ fn with_encode<'a>(alloc: Global, known: clap::Command<'a>) -> Result<clap::Comm
     ensures { IfOk result (λ more. app_of more
         ≡ with_subcommand (app_of known.entry) encode_app.top) }
 {
-    let segments = number_option(alloc, "segments", value_parser!(u8).range(1..=64), "8");
+    let segments = segments_option(alloc);
     let encode = arg(clap::Command::new(alloc, "encode"), segments)?;
     subcommand(known, encode)
 }
@@ -45,6 +47,29 @@ fn with_migrate<'a>(alloc: Global, known: clap::Command<'a>) -> Result<clap::Com
     subcommand(known, clap::Command::new(alloc, "migrate"))
 }
 
+fn with_chunk<'a>(alloc: Global, known: clap::Command<'a>) -> Result<clap::Command<'a>, NoMemory>
+    ensures { IfOk result (λ more. app_of more
+        ≡ with_subcommand (app_of known.entry) chunk_app.top) }
+{
+    let index = number_option(
+        alloc,
+        "index",
+        value_parser!(u32).range(0..=4294967295),
+        "0",
+    );
+    let size = number_option(
+        alloc,
+        "size",
+        value_parser!(u32).range(1..=67108864),
+        "4194304",
+    );
+    let segments = segments_option(alloc);
+    let chunk = arg(clap::Command::new(alloc, "chunk"), index)?;
+    let chunk = arg(chunk, size)?;
+    let chunk = arg(chunk, segments)?;
+    subcommand(known, chunk)
+}
+
 fn with_sample<'a>(alloc: Global, known: clap::Command<'a>) -> Result<clap::Command<'a>, NoMemory>
     ensures { IfOk result (λ more. app_of more
         ≡ with_subcommand (app_of known.entry) sample_app.top) }
@@ -56,6 +81,15 @@ fn with_sample<'a>(alloc: Global, known: clap::Command<'a>) -> Result<clap::Comm
     let sample = arg(sample, columns)?;
     let sample = arg(sample, rows)?;
     subcommand(known, sample)
+}
+
+// How many segments there may be at most, of a file or of a chunk.
+fn segments_option<'a>(alloc: Global) -> Arg<'a>
+    ensures rule { rule_of result
+        ≡ number_rule (codes "segments") (Signed (pos 1) (pos 64)) (codes "8") }
+    ensures local { result.global ≡ false }
+{
+    number_option(alloc, "segments", value_parser!(u8).range(1..=64), "8")
 }
 
 // An option with a number, `usual` where it is left out.

@@ -80,7 +80,7 @@ migrated_back workers bytes made answer (inr moved) short (inr is) =
     migrated_same workers bytes made answer moved short is
 
 -- what ends as a file stands for it
-restored_by : (meaning bytes : List ℕ) (verdict : Verdict)
+pub restored_by : (meaning bytes : List ℕ) (verdict : Verdict)
     → Made bytes ≡ answer_by meaning verdict → (meaning ≡ bytes) × (verdict ≡ Restored)
 restored_by meaning bytes Restored e = (cc, refl)
 restored_by meaning bytes PadSpelled e = absurd cc
@@ -88,7 +88,7 @@ restored_by meaning bytes ChunkShort e = absurd cc
 restored_by meaning bytes (Faulty fault) e = absurd cc
 restored_by meaning bytes (NoBox refusal) e = absurd cc
 
-same_meaning : (m : Meaning) (bytes : List ℕ) → m.bytes ≡ bytes → m.verdict ≡ Restored
+pub same_meaning : (m : Meaning) (bytes : List ℕ) → m.bytes ≡ bytes → m.verdict ≡ Restored
     → m ≡ record { bytes = bytes; verdict = Restored }
 same_meaning m bytes e f = rw (← e, ← f) refl
 

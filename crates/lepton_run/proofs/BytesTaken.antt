@@ -3,8 +3,10 @@ use Rattle.std.proofs.Common.{◌≡◌, ℕ, ◌<◌, ◌≤◌, inl, inr, true
 use Rattle.std.specs.Io.KnownBytes.{Consumes, IsAtEnd}
 use Rattle.std.proofs.lemmas.Bool.{false≢true}
 use Rattle.command_words.specs.declared.command.Command.{Command}
-use Rattle.command_words.specs.declared.command.Command.TheVariants.{Encode, Decode, Migrate, Sample}
-use Rattle.lepton_run.specs.Answers.{Answer, Answers, GaveUpTo, IsInput, Took, limit_of, reads}
+use Rattle.command_words.specs.declared.command.Command.TheVariants.{Sample}
+use Rattle.lepton_run.specs.Answers.{Answer, Answers, GaveUpTo, IsAllOf, IsInput, Took, TookAs, input_of, is_taken, limit_of, most_of, reads}
+use Rattle.lepton_run.specs.declared.input.Input.{Input}
+use Rattle.lepton_run.specs.declared.input.Input.TheVariants.{File, Container, Nothing}
 
 -- what a source gave to its end is what it had
 all_taken : (had : List ℕ) (new : Option (List ℕ)) (bytes : List ℕ)
@@ -37,38 +39,52 @@ answer_given command had bytes new answer took is =
           (taken_within had bytes new took.0) is
     ]
 
+-- the answer to what was taken as an input is the answer to all of it
+answer_of : (input : Input) (command : Command) (had bytes : List ℕ) (left new : Option (List ℕ))
+    (answer : Answer) → input_of command ≡ input → IsAllOf input left had
+    → TookAs input left new bytes → Answers command bytes answer → Answers command had answer
+answer_of File command had bytes left new answer of all took is =
+    answer_given command had bytes new answer
+    (subst (λ (n : ℕ). GaveUpTo n (Some had) new bytes) (sym (ap most_of of))
+    (subst (λ (l : Option (List ℕ)). GaveUpTo (most_of File) l new bytes) all took)) is
+answer_of Container command had bytes left new answer of all took is =
+    answer_given command had bytes new answer
+    (subst (λ (n : ℕ). GaveUpTo n (Some had) new bytes) (sym (ap most_of of))
+    (subst (λ (l : Option (List ℕ)). GaveUpTo (most_of Container) l new bytes) all took)) is
+answer_of Nothing command had bytes left new answer of all took is =
+    subst (λ (l : List ℕ). Answers command l answer) (took.1 ∙ sym all) is
+
 -- the answer to what a command took is the answer to its input
 pub answer_had : (command : Command) (had bytes : List ℕ) (left new : Option (List ℕ))
     (answer : Answer)
     → IsInput command left had → Took command left new bytes → Answers command bytes answer
     → Answers command had answer
-answer_had (Encode n) had bytes left new answer input took is =
-    answer_given (Encode n) had bytes new answer
-    (subst (λ (l : Option (List ℕ)). GaveUpTo (limit_of (Encode n)) l new bytes) input took) is
-answer_had (Decode n) had bytes left new answer input took is =
-    answer_given (Decode n) had bytes new answer
-    (subst (λ (l : Option (List ℕ)). GaveUpTo (limit_of (Decode n)) l new bytes) input took) is
-answer_had Migrate had bytes left new answer input took is =
-    answer_given Migrate had bytes new answer
-    (subst (λ (l : Option (List ℕ)). GaveUpTo (limit_of Migrate) l new bytes) input took) is
-answer_had (Sample s c r) had bytes left new answer input took is =
-    subst (λ (l : List ℕ). Answers (Sample s c r) l answer) (took.1 ∙ sym input) is
+answer_had command had bytes left new answer all took is =
+    answer_of (input_of command) command had bytes left new answer refl all took is
+
+-- what is taken of an input that is
+taken_as : (input : Input) (old new : Option (List ℕ)) (bytes : List ℕ) → is_taken input ≡ true
+    → GaveUpTo (most_of input) old new bytes → TookAs input old new bytes
+taken_as File old new bytes is gave = gave
+taken_as Container old new bytes is gave = gave
+taken_as Nothing old new bytes is gave = absurd (false≢true is)
 
 -- what a command takes that takes what there is
 pub took_of : (command : Command) (old new : Option (List ℕ)) (bytes : List ℕ)
     → reads command ≡ true → GaveUpTo (limit_of command) old new bytes → Took command old new bytes
-took_of (Encode n) old new bytes is gave = gave
-took_of (Decode n) old new bytes is gave = gave
-took_of Migrate old new bytes is gave = gave
-took_of (Sample s c r) old new bytes is gave = absurd (false≢true is)
+took_of command old new bytes is gave = taken_as (input_of command) old new bytes is gave
+
+-- what is taken of one that isn't
+none_taken : (input : Input) (old : Option (List ℕ)) → is_taken input ≡ false
+    → TookAs input old old []
+none_taken File old is = absurd (false≢true (sym is))
+none_taken Container old is = absurd (false≢true (sym is))
+none_taken Nothing old is = (refl, refl)
 
 -- and one that takes none
 pub took_none : (command : Command) (old : Option (List ℕ)) → reads command ≡ false
     → Took command old old []
-took_none (Encode n) old is = absurd (false≢true (sym is))
-took_none (Decode n) old is = absurd (false≢true (sym is))
-took_none Migrate old is = absurd (false≢true (sym is))
-took_none (Sample s c r) old is = (refl, refl)
+took_none command old is = none_taken (input_of command) old is
 
 -- `sample` is one of these
 pub sample_reads : (command : Command) (seed columns rows : ℕ) → command ≡ Sample seed columns rows

@@ -8,6 +8,8 @@ use Rattle.jpeg_marker.specs.Plans.{PlanFields}
 use Rattle.box_format.specs.Parts.{BoxParts, IsBoxOf, box_bytes, migrated}
 use Rattle.box_format.specs.Versions.{layout_of}
 use Rattle.box_format.specs.declared.version.Version.{Version}
+use Rattle.box_format.specs.declared.version.Version.TheVariants.{Third}
+use Rattle.chunk_cut.specs.ChunksOfFiles.{IsChunkOf, chunk_of}
 use Rattle.container_spec.specs.Files.{IsContainerOf}
 use Rattle.container_spec.specs.Meanings.{Meaning, IsMeaning}
 use Rattle.container_spec.proofs.MigratedMeanings.{migrated_means_the_same}
@@ -22,6 +24,7 @@ use Rattle.lepton_run.specs.declared.ending.Ending.TheVariants.{Done, Refused, W
 use Rattle.lepton_run.proofs.BothWays.{file_back}
 use Rattle.lepton_run.proofs.BoxesOfBytes.{box_are}
 use Rattle.lepton_run.proofs.BytesTaken.{answer_had}
+use Rattle.lepton_run.proofs.ChunksBack.{chunk_back}
 use Rattle.lepton_run.proofs.OneAnswers.{one_answer}
 use Rattle.lepton_run.proofs.SameCommand.{same_command}
 
@@ -30,18 +33,32 @@ same_line (Made bytes) = refl
 same_line (Early refusal) = refl
 same_line (Late bytes refusal) = refl
 
--- bytes that a source had have one answer, whichever of them were taken
+-- the answer to what was taken of the bytes that a source had is the answer to these
+answer_to : (words : List (List ℕ)) (command other : Command) (had taken : List ℕ)
+    (left rest : Option (List ℕ)) (given : Answer)
+    → Means words command → Means words other → IsInput command left had
+    → Took other left rest taken → Answers other taken given → Answers command had given
+answer_to words command other had taken left rest given means meant is took so =
+    let same = same_command words other command meant means in
+    let input = subst (λ (k : Command). IsInput k left had) (sym same) is in
+    subst (λ (k : Command). Answers k had given) same
+    (answer_had other had taken left rest given input took so)
+
+-- and they have one, whichever of them were taken
 same_answer : (words : List (List ℕ)) (command other : Command) (had taken : List ℕ)
     (left rest : Option (List ℕ)) (answer given : Answer)
     → Means words command → Means words other → IsInput command left had
     → Took other left rest taken → Answers other taken given
     → Answers command had answer → given ≡ answer
 same_answer words command other had taken left rest answer given means meant is took so wanted =
-    let same = same_command words other command meant means in
-    let input = subst (λ (k : Command). IsInput k left had) (sym same) is in
     one_answer command had given answer
-    (subst (λ (k : Command). Answers k had given) same
-    (answer_had other had taken left rest given input took so)) wanted
+    (answer_to words command other had taken left rest given means meant is took so) wanted
+
+-- what ends well was made
+made_at : (answer : Answer) → Done ≡ ending_of answer → (made : List ℕ) × (answer ≡ Made made)
+made_at (Made bytes) e = (bytes, refl)
+made_at (Early refusal) e = absurd cc
+made_at (Late bytes refusal) e = absurd cc
 
 module _ {Sink Source : Type 0} (held : Sink → Option (List ℕ)) (faults : Sink → ℕ)
     (full : Sink → Type 0) (left : Source → Option (List ℕ)) (failures : Source → ℕ)
@@ -147,6 +164,27 @@ module _ {Sink Source : Type 0} (held : Sink → Option (List ℕ)) (faults : Si
         absurd (still (subst Writes same cut.1.writes) cut.1.rose)
     complete_of (NoMemory short) status is ends said calm still = inr is
 
+  -- nothing is made of bytes of which nothing can be
+  pub outside_of : (ending : Ending) (status : ℕ) → status ≡ status_at ending → Ends ending
+      → (command : Command) (had : List ℕ) → Means words command
+      → ¬ Rose failures lost source rest → ¬ Rose faults full old new
+      → IsInput command (left source) had → ((made : List ℕ) → ¬ Answers command had (Made made))
+      → (status ≡ 1) ⊎ (status ≡ 5)
+  outside_of Done status is ends command had means calm still all none =
+      let given = ends.2.3 in
+      let made = made_at given.0 given.2 in
+      absurd (none made.0 (subst (Answers command had) made.1
+      (answer_to words command ends.0 had ends.2.0 (left source) (left rest) given.0 means ends.1 all
+      ends.2.1 given.1.answers)))
+  outside_of (Refused refusal) status is ends command had means calm still all none = inl is
+  outside_of WordsRefused status is ends command had means calm still all none =
+      absurd (ends.0 command means)
+  outside_of ReadFailed status is ends command had means calm still all none =
+      absurd (calm ends.2.0)
+  outside_of WriteFailed status is ends command had means calm still all none =
+      absurd (still ends.2.3.1.rose)
+  outside_of (NoMemory short) status is ends command had means calm still all none = inr is
+
   pub back_of : (ending : Ending) (status : ℕ) → status ≡ status_at ending → Ends ending
       → Said (ending_line ending) → (version : Version) (workers most : ℕ) (bytes file : List ℕ)
       → Means words (Decode workers) → ¬ Rose failures lost source rest
@@ -159,6 +197,22 @@ module _ {Sink Source : Type 0} (held : Sink → Option (List ℕ)) (faults : Si
       elim (complete_of (Decode workers) bytes (Made file) means had
       (file_back version most workers bytes file some few short of) ending status is ends said calm
       (λ _. still)) [
+        | inl given ↦ inl (is ∙ ap status_at given.0, given.1)
+        | inr five ↦ inr five
+      ]
+
+  pub chunk_back_of : (ending : Ending) (status : ℕ) → status ≡ status_at ending → Ends ending
+      → Said (ending_line ending) → (workers most size index : ℕ) (bytes file : List ℕ)
+      → Means words (Decode workers) → ¬ Rose failures lost source rest
+      → ¬ Rose faults full old new → left source ≡ Some bytes
+      → length file ≤ limit_of (Encode most) → 0 < most → most ≤ (layout_of Third).most
+      → IsChunkOf most size index bytes file
+      → ((status ≡ 0) × Appends (held old) (held new) (chunk_of file size index)) ⊎ (status ≡ 5)
+  chunk_back_of ending status is ends said workers most size index bytes file means calm still had
+      short some few of =
+      elim (complete_of (Decode workers) bytes (Made (chunk_of file size index)) means had
+      (chunk_back most size index workers bytes file some few short of) ending status is ends said
+      calm (λ _. still)) [
         | inl given ↦ inl (is ∙ ap status_at given.0, given.1)
         | inr five ↦ inr five
       ]

@@ -3,6 +3,7 @@ pub mod BytesTaken
 pub mod BoxesOfBytes
 pub mod OneAnswers
 pub mod BothWays
+pub mod ChunksBack
 pub mod CarriedOut
 pub mod CallEnds
 pub mod LinesNoted

@@ -1,5 +1,5 @@
 -- Bytes have one answer.
-use Rattle.std.proofs.Common.{◌≡◌, ℕ, false, inl, inr, List, [], length, sym, ap, ◌∙◌, subst, arith}
+use Rattle.std.proofs.Common.{◌≡◌, ℕ, false, inl, inr, List, [], length, refl, sym, ap, ◌∙◌, subst, arith}
 use Rattle.std.proofs.lemmas.Bool.{false≢true}
 use Rattle.std.specs.List.{AllByRecursion}
 use Rattle.bit_list.specs.Bits.{IsByte}
@@ -21,13 +21,14 @@ use Rattle.box_format.proofs.BoxLawsProved.{one_box, one_box_refusal, never_both
 use Rattle.container_spec.specs.Meanings.{Meaning}
 use Rattle.container_spec.proofs.AcceptedFiles.{scan_apart}
 use Rattle.container_spec.proofs.OneMeanings.{one_container, one_meaning}
+use Rattle.chunk_cut.proofs.OneChunks.{one_chunk}
 use Rattle.command_words.specs.declared.command.Command.{Command}
-use Rattle.command_words.specs.declared.command.Command.TheVariants.{Encode, Decode, Migrate, Sample}
+use Rattle.command_words.specs.declared.command.Command.TheVariants.{Encode, Decode, Migrate, Chunk, Sample}
 use Rattle.sample_jpeg.specs.SampleFile.{sample_file}
 use Rattle.lepton_run.specs.Summaries.{IsSummary, sample_segments, summary_of}
 use Rattle.lepton_run.specs.Answers.{Answer, Answers, Early, Late, Made, Makes, ScanRefuses, answer_by}
 use Rattle.lepton_run.specs.declared.refusal.Refusal.{Refusal}
-use Rattle.lepton_run.specs.declared.refusal.Refusal.TheVariants.{Header, Scan, Box, Fault, PadSpelling, ChunkShort, TooLong}
+use Rattle.lepton_run.specs.declared.refusal.Refusal.TheVariants.{Header, Scan, Box, Fault, PadSpelling, ChunkShort, NoChunk, TooLong}
 
 one_scan_refusal : (bytes : List ℕ) (refusal other : ScanRefusal) → AllByRecursion IsByte bytes
     → ScanRefuses bytes refusal → ScanRefuses bytes other → refusal ≡ other
@@ -51,6 +52,7 @@ one_encoded n bytes (Made a) (Early (Fault r)) all p q = absurd q
 one_encoded n bytes (Made a) (Early PadSpelling) all p q = absurd q
 one_encoded n bytes (Made a) (Early ChunkShort) all p q = absurd q
 one_encoded n bytes (Made a) (Early TooLong) all p q = absurd q
+one_encoded n bytes (Made a) (Early NoChunk) all p q = absurd q
 one_encoded n bytes (Made a) (Late w r) all p q = absurd q
 one_encoded n bytes (Early (Header r)) (Made b) all p q =
     absurd (never_both bytes q.plan r q.is.header p)
@@ -63,6 +65,7 @@ one_encoded n bytes (Early (Header r)) (Early (Fault s)) all p q = absurd q
 one_encoded n bytes (Early (Header r)) (Early PadSpelling) all p q = absurd q
 one_encoded n bytes (Early (Header r)) (Early ChunkShort) all p q = absurd q
 one_encoded n bytes (Early (Header r)) (Early TooLong) all p q = absurd q
+one_encoded n bytes (Early (Header r)) (Early NoChunk) all p q = absurd q
 one_encoded n bytes (Early (Header r)) (Late w s) all p q = absurd q
 one_encoded n bytes (Early (Scan r)) (Made b) all p q =
     absurd (scan_apart bytes q.plan q.mcus q.pads q.trailer r all q.is p)
@@ -75,12 +78,14 @@ one_encoded n bytes (Early (Scan r)) (Early (Fault s)) all p q = absurd q
 one_encoded n bytes (Early (Scan r)) (Early PadSpelling) all p q = absurd q
 one_encoded n bytes (Early (Scan r)) (Early ChunkShort) all p q = absurd q
 one_encoded n bytes (Early (Scan r)) (Early TooLong) all p q = absurd q
+one_encoded n bytes (Early (Scan r)) (Early NoChunk) all p q = absurd q
 one_encoded n bytes (Early (Scan r)) (Late w s) all p q = absurd q
 one_encoded n bytes (Early (Box r)) b all p q = absurd p
 one_encoded n bytes (Early (Fault r)) b all p q = absurd p
 one_encoded n bytes (Early PadSpelling) b all p q = absurd p
 one_encoded n bytes (Early ChunkShort) b all p q = absurd p
 one_encoded n bytes (Early TooLong) b all p q = absurd p
+one_encoded n bytes (Early NoChunk) b all p q = absurd p
 one_encoded n bytes (Late w r) b all p q = absurd p
 
 -- who reads the second version reads each version of whole files
@@ -103,6 +108,7 @@ one_migrated bytes (Made a) (Early (Fault r)) all p q = absurd q
 one_migrated bytes (Made a) (Early PadSpelling) all p q = absurd q
 one_migrated bytes (Made a) (Early ChunkShort) all p q = absurd q
 one_migrated bytes (Made a) (Early TooLong) all p q = absurd q
+one_migrated bytes (Made a) (Early NoChunk) all p q = absurd q
 one_migrated bytes (Made a) (Late w r) all p q = absurd q
 one_migrated bytes (Early (Header r)) b all p q = absurd p
 one_migrated bytes (Early (Scan r)) b all p q = absurd p
@@ -116,12 +122,79 @@ one_migrated bytes (Early (Box r)) (Early (Fault s)) all p q = absurd q
 one_migrated bytes (Early (Box r)) (Early PadSpelling) all p q = absurd q
 one_migrated bytes (Early (Box r)) (Early ChunkShort) all p q = absurd q
 one_migrated bytes (Early (Box r)) (Early TooLong) all p q = absurd q
+one_migrated bytes (Early (Box r)) (Early NoChunk) all p q = absurd q
 one_migrated bytes (Early (Box r)) (Late w s) all p q = absurd q
 one_migrated bytes (Early (Fault r)) b all p q = absurd p
 one_migrated bytes (Early PadSpelling) b all p q = absurd p
 one_migrated bytes (Early ChunkShort) b all p q = absurd p
 one_migrated bytes (Early TooLong) b all p q = absurd p
+one_migrated bytes (Early NoChunk) b all p q = absurd p
 one_migrated bytes (Late w r) b all p q = absurd p
+
+-- what `chunk` makes of bytes is one thing
+one_chunked : (index size segments : ℕ) (bytes : List ℕ) (a b : Answer)
+    → AllByRecursion IsByte bytes → Makes (Chunk index size segments) bytes a
+    → Makes (Chunk index size segments) bytes b → a ≡ b
+one_chunked i s n bytes (Made a) (Made b) all p q = ap Made (one_chunk n s i a b bytes p q)
+one_chunked i s n bytes (Made a) (Early (Header r)) all p q =
+    absurd (never_both bytes p.plan r p.is.header q)
+one_chunked i s n bytes (Made a) (Early (Scan r)) all p q =
+    absurd (scan_apart bytes p.plan p.mcus p.pads p.trailer r all p.is q)
+one_chunked i s n bytes (Made a) (Early NoChunk) all p q =
+    absurd (let h = p.there in let l = q.1 in omega (arith, h, l))
+one_chunked i s n bytes (Made a) (Early (Box r)) all p q = absurd q
+one_chunked i s n bytes (Made a) (Early (Fault r)) all p q = absurd q
+one_chunked i s n bytes (Made a) (Early PadSpelling) all p q = absurd q
+one_chunked i s n bytes (Made a) (Early ChunkShort) all p q = absurd q
+one_chunked i s n bytes (Made a) (Early TooLong) all p q = absurd q
+one_chunked i s n bytes (Made a) (Late w r) all p q = absurd q
+one_chunked i s n bytes (Early (Header r)) (Made b) all p q =
+    absurd (never_both bytes q.plan r q.is.header p)
+one_chunked i s n bytes (Early (Header r)) (Early (Header t)) all p q =
+    ap (λ (x : Refusal). Early x) (ap Header (one_refusal bytes r t p q))
+one_chunked i s n bytes (Early (Header r)) (Early (Scan t)) all p q =
+    absurd (never_both bytes q.0 r q.1 p)
+one_chunked i s n bytes (Early (Header r)) (Early NoChunk) all p q =
+    absurd (never_both bytes q.0.0 r q.0.4.header p)
+one_chunked i s n bytes (Early (Header r)) (Early (Box t)) all p q = absurd q
+one_chunked i s n bytes (Early (Header r)) (Early (Fault t)) all p q = absurd q
+one_chunked i s n bytes (Early (Header r)) (Early PadSpelling) all p q = absurd q
+one_chunked i s n bytes (Early (Header r)) (Early ChunkShort) all p q = absurd q
+one_chunked i s n bytes (Early (Header r)) (Early TooLong) all p q = absurd q
+one_chunked i s n bytes (Early (Header r)) (Late w t) all p q = absurd q
+one_chunked i s n bytes (Early (Scan r)) (Made b) all p q =
+    absurd (scan_apart bytes q.plan q.mcus q.pads q.trailer r all q.is p)
+one_chunked i s n bytes (Early (Scan r)) (Early (Header t)) all p q =
+    absurd (never_both bytes p.0 t p.1 q)
+one_chunked i s n bytes (Early (Scan r)) (Early (Scan t)) all p q =
+    ap (λ (x : Refusal). Early x) (ap Scan (one_scan_refusal bytes r t all p q))
+one_chunked i s n bytes (Early (Scan r)) (Early NoChunk) all p q =
+    let f = q.0 in absurd (scan_apart bytes f.0 f.1 f.2 f.3 r all f.4 p)
+one_chunked i s n bytes (Early (Scan r)) (Early (Box t)) all p q = absurd q
+one_chunked i s n bytes (Early (Scan r)) (Early (Fault t)) all p q = absurd q
+one_chunked i s n bytes (Early (Scan r)) (Early PadSpelling) all p q = absurd q
+one_chunked i s n bytes (Early (Scan r)) (Early ChunkShort) all p q = absurd q
+one_chunked i s n bytes (Early (Scan r)) (Early TooLong) all p q = absurd q
+one_chunked i s n bytes (Early (Scan r)) (Late w t) all p q = absurd q
+one_chunked i s n bytes (Early NoChunk) (Made b) all p q =
+    absurd (let h = q.there in let l = p.1 in omega (arith, h, l))
+one_chunked i s n bytes (Early NoChunk) (Early (Header t)) all p q =
+    absurd (never_both bytes p.0.0 t p.0.4.header q)
+one_chunked i s n bytes (Early NoChunk) (Early (Scan t)) all p q =
+    let f = p.0 in absurd (scan_apart bytes f.0 f.1 f.2 f.3 t all f.4 q)
+one_chunked i s n bytes (Early NoChunk) (Early NoChunk) all p q = refl
+one_chunked i s n bytes (Early NoChunk) (Early (Box t)) all p q = absurd q
+one_chunked i s n bytes (Early NoChunk) (Early (Fault t)) all p q = absurd q
+one_chunked i s n bytes (Early NoChunk) (Early PadSpelling) all p q = absurd q
+one_chunked i s n bytes (Early NoChunk) (Early ChunkShort) all p q = absurd q
+one_chunked i s n bytes (Early NoChunk) (Early TooLong) all p q = absurd q
+one_chunked i s n bytes (Early NoChunk) (Late w t) all p q = absurd q
+one_chunked i s n bytes (Early (Box r)) b all p q = absurd p
+one_chunked i s n bytes (Early (Fault r)) b all p q = absurd p
+one_chunked i s n bytes (Early PadSpelling) b all p q = absurd p
+one_chunked i s n bytes (Early ChunkShort) b all p q = absurd p
+one_chunked i s n bytes (Early TooLong) b all p q = absurd p
+one_chunked i s n bytes (Late w r) b all p q = absurd p
 
 -- what `sample` says is one thing
 one_summary : (seed columns rows : ℕ) (a b : List ℕ) → IsSummary seed columns rows a
@@ -149,6 +222,8 @@ one_made (Decode workers) bytes a b all p q =
     p.2 ∙ ap (λ (m : Meaning). answer_by m.bytes m.verdict)
     (one_meaning bytes p.0 q.0 all p.1 q.1) ∙ sym q.2
 one_made Migrate bytes a b all p q = one_migrated bytes a b all p q
+one_made (Chunk index size segments) bytes a b all p q =
+    one_chunked index size segments bytes a b all p q
 one_made (Sample seed columns rows) bytes a b all p q =
     one_sampled seed columns rows bytes a b p q
 

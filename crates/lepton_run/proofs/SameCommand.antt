@@ -1,16 +1,12 @@
 -- Words mean at most one command.
-use Rattle.std.proofs.Common.{◌≡◌, ℕ, List, Option, Some, get_or, refl, sym, ap, subst, ◌∙◌, arith}
+use Rattle.std.proofs.Common.{◌≡◌, ℕ, List, Option, Some, None, get_or, refl, sym, ap, subst, ◌∙◌, arith}
+use Rattle.std.specs.Prelude.{codes}
 use Rattle.command_words.specs.LeptonApp.{given}
-use Rattle.command_words.specs.Meaning.{IsNumbered, IsSampled, Means, ReadsAs}
+use Rattle.command_words.specs.Meaning.{IsChunked, IsNumbered, IsSampled, Means, ReadsAs}
 use Rattle.command_words.specs.declared.command.Command.{Command}
-use Rattle.command_words.specs.declared.command.Command.TheVariants.{Encode, Decode, Migrate, Sample}
+use Rattle.command_words.specs.declared.command.Command.TheVariants.{Encode, Decode, Migrate, Chunk, Sample}
 
--- the parts of equal pairs
-first_same : {A B : Type 0} (a c : A) (x y : B)
-    → ◌≡◌ {A = Option (A × B)} (Some (a, x)) (Some (c, y)) → a ≡ c
-first_same {A} {B} a c x y e =
-    let pairs : ◌≡◌ {A = A × B} (a, x) (c, y) = cc in ap (λ (p : A × B). p.0) pairs
-
+-- the second parts of equal pairs
 second_same : {A B : Type 0} (a c : A) (x y : B)
     → ◌≡◌ {A = Option (A × B)} (Some (a, x)) (Some (c, y)) → x ≡ y
 second_same {A} {B} a c x y e =
@@ -54,41 +50,96 @@ samples_same words s c r t d u p q =
     let rows = one_reading 16 _ _ r u heights p.rows_is.number_is q.rows_is.number_is in
     rw (seed, columns, rows) refl
 
--- no subcommand has two names
-apart : {P X : Type 0} (met : Option (List ℕ × X)) (a b : List ℕ) (rows others : X)
-    → (get_or a 0 0 ≡ get_or b 0 0 → ⊥) → met ≡ Some (a, rows) → met ≡ Some (b, others) → P
-apart met a b rows others other p q =
-    absurd (other (ap (λ (l : List ℕ). get_or l 0 0) (first_same _ _ rows others (sym p ∙ q))))
+chunks_same : (words : List (List ℕ)) (i s n j t m : ℕ) → IsChunked (given words) i s n
+    → IsChunked (given words) j t m → Chunk i s n ≡ Chunk j t m
+chunks_same words i s n j t m p q =
+    let options = second_same _ _ p.options q.options (sym p.is ∙ q.is) in
+    let one = p.index_is.first in
+    let two = q.index_is.first in
+    let indices : p.index_is.text ≡ q.index_is.text = cc in
+    let three = p.size_is.first in
+    let four = q.size_is.first in
+    let sizes : p.size_is.text ≡ q.size_is.text = cc in
+    let five = p.segments_is.first in
+    let six = q.segments_is.first in
+    let numbers : p.segments_is.text ≡ q.segments_is.text = cc in
+    let index = one_reading 32 _ _ i j indices p.index_is.number_is q.index_is.number_is in
+    let size = one_reading 32 _ _ s t sizes p.size_is.number_is q.size_is.number_is in
+    let segments = one_reading 8 _ _ n m numbers p.segments_is.number_is q.segments_is.number_is in
+    rw (index, size, segments) refl
+
+-- the name of a command's subcommand
+abbrev name_of : Command → List ℕ
+name_of (Encode segments) = codes "encode"
+name_of (Decode workers) = codes "decode"
+name_of Migrate = codes "migrate"
+name_of (Chunk index size segments) = codes "chunk"
+name_of (Sample seed columns rows) = codes "sample"
+
+-- the first letter of the subcommand that was met
+abbrev letter_in : {X : Type 0} → Option (List ℕ × X) → ℕ
+letter_in None = 0
+letter_in (Some (name, options)) = get_or name 0 0
+
+-- it is that of the command's
+letter_is : (words : List (List ℕ)) (command : Command) → Means words command
+    → letter_in (given words) ≡ get_or (name_of command) 0 0
+letter_is words (Encode segments) means = ap letter_in means.asks.is
+letter_is words (Decode workers) means = ap letter_in means.asks.is
+letter_is words Migrate means = ap letter_in means.asks.1
+letter_is words (Chunk index size segments) means = ap letter_in means.asks.is
+letter_is words (Sample seed columns rows) means = ap letter_in means.asks.is
+
+-- no two subcommands begin with one letter
+apart : (words : List (List ℕ)) (a b : Command) → Means words a → Means words b
+    → (get_or (name_of a) 0 0 ≡ get_or (name_of b) 0 0 → ⊥) → a ≡ b
+apart words a b p q other =
+    absurd (other (sym (letter_is words a p) ∙ letter_is words b q))
 
 pub same_command : (words : List (List ℕ)) (a b : Command) → Means words a → Means words b
     → a ≡ b
-same_command words (Encode m) (Encode n) p q =
-    ap Encode (numbers_same words _ _ m n p.asks q.asks)
+same_command words (Encode m) (Encode n) p q = ap Encode (numbers_same words _ _ m n p.asks q.asks)
 same_command words (Encode m) (Decode n) p q =
-    apart (given words) _ _ p.asks.rows q.asks.rows (λ e. omega (arith, e)) p.asks.is q.asks.is
-same_command words (Encode m) (Sample s c r) p q =
-    apart (given words) _ _ p.asks.rows q.asks.options (λ e. omega (arith, e)) p.asks.is q.asks.is
+    apart words (Encode m) (Decode n) p q (λ e. omega (arith, e))
 same_command words (Encode m) Migrate p q =
-    apart (given words) _ _ p.asks.rows q.asks.0 (λ e. omega (arith, e)) p.asks.is q.asks.1
+    apart words (Encode m) Migrate p q (λ e. omega (arith, e))
+same_command words (Encode m) (Chunk j t k) p q =
+    apart words (Encode m) (Chunk j t k) p q (λ e. omega (arith, e))
+same_command words (Encode m) (Sample t d u) p q =
+    apart words (Encode m) (Sample t d u) p q (λ e. omega (arith, e))
 same_command words (Decode m) (Encode n) p q =
-    apart (given words) _ _ p.asks.rows q.asks.rows (λ e. omega (arith, e)) p.asks.is q.asks.is
-same_command words (Decode m) (Decode n) p q =
-    ap Decode (numbers_same words _ _ m n p.asks q.asks)
-same_command words (Decode m) (Sample s c r) p q =
-    apart (given words) _ _ p.asks.rows q.asks.options (λ e. omega (arith, e)) p.asks.is q.asks.is
+    apart words (Decode m) (Encode n) p q (λ e. omega (arith, e))
+same_command words (Decode m) (Decode n) p q = ap Decode (numbers_same words _ _ m n p.asks q.asks)
 same_command words (Decode m) Migrate p q =
-    apart (given words) _ _ p.asks.rows q.asks.0 (λ e. omega (arith, e)) p.asks.is q.asks.1
+    apart words (Decode m) Migrate p q (λ e. omega (arith, e))
+same_command words (Decode m) (Chunk j t k) p q =
+    apart words (Decode m) (Chunk j t k) p q (λ e. omega (arith, e))
+same_command words (Decode m) (Sample t d u) p q =
+    apart words (Decode m) (Sample t d u) p q (λ e. omega (arith, e))
 same_command words Migrate (Encode n) p q =
-    apart (given words) _ _ p.asks.0 q.asks.rows (λ e. omega (arith, e)) p.asks.1 q.asks.is
+    apart words Migrate (Encode n) p q (λ e. omega (arith, e))
 same_command words Migrate (Decode n) p q =
-    apart (given words) _ _ p.asks.0 q.asks.rows (λ e. omega (arith, e)) p.asks.1 q.asks.is
+    apart words Migrate (Decode n) p q (λ e. omega (arith, e))
 same_command words Migrate Migrate p q = refl
-same_command words Migrate (Sample s c r) p q =
-    apart (given words) _ _ p.asks.0 q.asks.options (λ e. omega (arith, e)) p.asks.1 q.asks.is
+same_command words Migrate (Chunk j t m) p q =
+    apart words Migrate (Chunk j t m) p q (λ e. omega (arith, e))
+same_command words Migrate (Sample t d u) p q =
+    apart words Migrate (Sample t d u) p q (λ e. omega (arith, e))
+same_command words (Chunk i s n) (Encode k) p q =
+    apart words (Chunk i s n) (Encode k) p q (λ e. omega (arith, e))
+same_command words (Chunk i s n) (Decode k) p q =
+    apart words (Chunk i s n) (Decode k) p q (λ e. omega (arith, e))
+same_command words (Chunk i s n) Migrate p q =
+    apart words (Chunk i s n) Migrate p q (λ e. omega (arith, e))
+same_command words (Chunk i s n) (Chunk j t m) p q = chunks_same words i s n j t m p.asks q.asks
+same_command words (Chunk i s n) (Sample t d u) p q =
+    apart words (Chunk i s n) (Sample t d u) p q (λ e. omega (arith, e))
 same_command words (Sample s c r) (Encode n) p q =
-    apart (given words) _ _ p.asks.options q.asks.rows (λ e. omega (arith, e)) p.asks.is q.asks.is
+    apart words (Sample s c r) (Encode n) p q (λ e. omega (arith, e))
 same_command words (Sample s c r) (Decode n) p q =
-    apart (given words) _ _ p.asks.options q.asks.rows (λ e. omega (arith, e)) p.asks.is q.asks.is
+    apart words (Sample s c r) (Decode n) p q (λ e. omega (arith, e))
 same_command words (Sample s c r) Migrate p q =
-    apart (given words) _ _ p.asks.options q.asks.0 (λ e. omega (arith, e)) p.asks.is q.asks.1
+    apart words (Sample s c r) Migrate p q (λ e. omega (arith, e))
+same_command words (Sample s c r) (Chunk j t m) p q =
+    apart words (Sample s c r) (Chunk j t m) p q (λ e. omega (arith, e))
 same_command words (Sample s c r) (Sample t d u) p q = samples_same words s c r t d u p.asks q.asks

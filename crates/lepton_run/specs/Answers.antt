@@ -1,6 +1,6 @@
 -- Statement: the one answer to a command and the bytes that it reads: the bytes that it writes and its line
 -- (README.md, Use).
-use Rattle.std.specs.Prelude.{ℕ, ◌≡◌, ◌⊎◌, ◌+◌, ◌<◌, ◌≤◌, Bool, true, false, List, [], length, take, Option, Some}
+use Rattle.std.specs.Prelude.{ℕ, ◌≡◌, ◌⊎◌, ◌+◌, ◌*◌, ◌<◌, ◌≤◌, Bool, true, false, List, [], length, take, Option, Some}
 use Rattle.std.specs.List.{AllByRecursion}
 use Rattle.std.specs.Io.KnownBytes.{Appends, Consumes, IsAtEnd}
 use Rattle.bit_list.specs.Bits.{IsByte}
@@ -16,12 +16,15 @@ use Rattle.box_format.specs.declared.version.Version.TheVariants.{Second}
 use Rattle.container_spec.specs.Files.{IsContainerOf}
 use Rattle.container_spec.specs.Limits.{most_of_a_container, most_of_a_file}
 use Rattle.container_spec.specs.Meanings.{Meaning, Verdict, Restored, PadSpelled, ChunkShort as ShortChunk, Faulty, NoBox, IsMeaning}
+use Rattle.chunk_cut.specs.ChunksOfFiles.{IsChunkOf, IsFile}
 use Rattle.command_words.specs.declared.command.Command.{Command}
-use Rattle.command_words.specs.declared.command.Command.TheVariants.{Encode, Decode, Migrate, Sample}
+use Rattle.command_words.specs.declared.command.Command.TheVariants.{Encode, Decode, Migrate, Chunk, Sample}
 use Rattle.lepton_run.specs.Lines.{refusal_line}
 use Rattle.lepton_run.specs.Summaries.{IsSummary}
+use Rattle.lepton_run.specs.declared.input.Input.{Input}
+use Rattle.lepton_run.specs.declared.input.Input.TheVariants.{File, Container, Nothing}
 use Rattle.lepton_run.specs.declared.refusal.Refusal.{Refusal}
-use Rattle.lepton_run.specs.declared.refusal.Refusal.TheVariants.{Header, Scan, Box, Fault, PadSpelling, ChunkShort, TooLong}
+use Rattle.lepton_run.specs.declared.refusal.Refusal.TheVariants.{Header, Scan, Box, Fault, PadSpelling, ChunkShort, NoChunk, TooLong}
 
 -- the answer to a command, if nothing fails and memory suffices: these bytes are made; or the bytes given are refused,
 -- before any byte is written or after some
@@ -48,12 +51,23 @@ line_of (Made bytes) = []
 line_of (Early refusal) = refusal_line refusal
 line_of (Late bytes refusal) = refusal_line refusal
 
--- the most bytes that a command takes: 64 MiB of a file, 32 GiB of a container; `sample` takes none
+-- what a command takes: a file or a container, or nothing
+abbrev pub input_of : Command → Input
+input_of (Encode segments) = File
+input_of (Decode workers) = Container
+input_of Migrate = Container
+input_of (Chunk index size segments) = File
+input_of (Sample seed columns rows) = Nothing
+
+-- and how many bytes of it at most
+abbrev pub most_of : Input → ℕ
+most_of File = most_of_a_file
+most_of Container = most_of_a_container
+most_of Nothing = 0
+
+-- the most bytes that a command takes
 abbrev pub limit_of : Command → ℕ
-limit_of (Encode segments) = most_of_a_file
-limit_of (Decode workers) = most_of_a_container
-limit_of Migrate = most_of_a_container
-limit_of (Sample seed columns rows) = 0
+limit_of command = most_of (input_of command)
 
 -- the answer that a container's meaning is
 abbrev pub answer_by : List ℕ → Verdict → Answer
@@ -91,6 +105,16 @@ MigrateMakes bytes (Made made) =
 MigrateMakes bytes (Early (Box refusal)) = IsRefusedBy Second bytes refusal
 MigrateMakes bytes other = ⊥
 
+-- what `chunk` makes of a file: the container of its chunk with this number, of chunks of this size; or it refuses the
+-- header, or else the scan, or else there is no such chunk
+abbrev pub ChunkMakes : ℕ → ℕ → ℕ → List ℕ → Answer → Type 0
+ChunkMakes index size segments bytes (Made made) = IsChunkOf segments size index made bytes
+ChunkMakes index size segments bytes (Early (Header refusal)) = HeaderRefuses bytes refusal
+ChunkMakes index size segments bytes (Early (Scan refusal)) = ScanRefuses bytes refusal
+ChunkMakes index size segments bytes (Early NoChunk) =
+    IsFile bytes × (length bytes ≤ index * size)
+ChunkMakes index size segments bytes other = ⊥
+
 -- what `sample` makes, of no bytes: the summary of a file made from the seed
 abbrev pub SampleMakes : ℕ → ℕ → ℕ → Answer → Type 0
 SampleMakes seed columns rows (Made made) = IsSummary seed columns rows made
@@ -101,6 +125,7 @@ abbrev pub Makes : Command → List ℕ → Answer → Type 0
 Makes (Encode segments) bytes answer = EncodeMakes segments bytes answer
 Makes (Decode workers) bytes answer = DecodeMakes bytes answer
 Makes Migrate bytes answer = MigrateMakes bytes answer
+Makes (Chunk index size segments) bytes answer = ChunkMakes index size segments bytes answer
 Makes (Sample seed columns rows) bytes answer = SampleMakes seed columns rows answer
 
 -- bytes within the limit, and what is made of them
@@ -115,24 +140,36 @@ Answers command bytes answer =
     ((limit_of command < length bytes) × (answer ≡ Early TooLong))
     ⊎ AnswersWithin command bytes answer
 
+-- whether bytes are taken at all
+abbrev pub is_taken : Input → Bool
+is_taken Nothing = false
+is_taken other = true
+
 -- whether a command reads its source
 abbrev pub reads : Command → Bool
-reads (Sample seed columns rows) = false
-reads other = true
+reads command = is_taken (input_of command)
 
 -- a source gave these bytes: all that it had, or the limit and one more
 abbrev pub GaveUpTo : ℕ → Option (List ℕ) → Option (List ℕ) → List ℕ → Type 0
 GaveUpTo limit old new bytes = Consumes old new bytes × (IsAtEnd new ⊎ (length bytes ≡ limit + 1))
 
--- the bytes that a command read from a source; `sample` reads none
-abbrev pub Took : Command → Option (List ℕ) → Option (List ℕ) → List ℕ → Type 0
-Took (Sample seed columns rows) old new bytes = (new ≡ old) × (bytes ≡ [])
-Took other old new bytes = GaveUpTo (limit_of other) old new bytes
+-- bytes that were taken of a source; nothing is no byte
+abbrev pub TookAs : Input → Option (List ℕ) → Option (List ℕ) → List ℕ → Type 0
+TookAs Nothing old new bytes = (new ≡ old) × (bytes ≡ [])
+TookAs other old new bytes = GaveUpTo (most_of other) old new bytes
 
--- the bytes that a command answers to, of a source that has these left: all of them, and for `sample` none
+-- the bytes that a command read from a source
+abbrev pub Took : Command → Option (List ℕ) → Option (List ℕ) → List ℕ → Type 0
+Took command old new bytes = TookAs (input_of command) old new bytes
+
+-- all bytes of a source that has these left; nothing is no byte
+abbrev pub IsAllOf : Input → Option (List ℕ) → List ℕ → Type 0
+IsAllOf Nothing left bytes = bytes ≡ []
+IsAllOf other left bytes = left ≡ Some bytes
+
+-- the bytes that a command answers to, of a source that has these left
 abbrev pub IsInput : Command → Option (List ℕ) → List ℕ → Type 0
-IsInput (Sample seed columns rows) left bytes = bytes ≡ []
-IsInput other left bytes = left ≡ Some bytes
+IsInput command left bytes = IsAllOf (input_of command) left bytes
 
 -- bytes that a command may get of a source with these left
 abbrev pub MayTake : Command → Option (List ℕ) → List ℕ → Type 0

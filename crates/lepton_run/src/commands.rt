@@ -2,10 +2,10 @@
 ghost use Rattle.std.specs.Prelude.{◌≡◌, ◌≤◌, ℕ, Result, false, length};
 ghost use Rattle.outside_core.specs.Takes.{TakesNext};
 ghost use Rattle.command_words.specs.Meaning.{IsInRange};
-ghost use Rattle.command_words.specs.declared.command.Command.TheVariants.{Encode, Decode, Migrate};
+ghost use Rattle.command_words.specs.declared.command.Command.TheVariants.{Encode, Decode, Migrate, Chunk};
 ghost use Rattle.lepton_decode.specs.Ends.{Ends, lone_meaning_in, meaning_in};
 ghost use Rattle.lepton_decode.specs.declared.error.DecodeError.{DecodeError};
-ghost use Rattle.lepton_run.specs.Answers.{TakesAnswers, limit_of, reads};
+ghost use Rattle.lepton_run.specs.Answers.{TakesAnswers, limit_of};
 ghost use Rattle.lepton_run.specs.DecodeEndings.{IsNoMemory, decode_ending};
 ghost use Rattle.lepton_run.specs.CommandEnds.{CarriedOut};
 
@@ -13,6 +13,7 @@ use crate::ending::Ending;
 use crate::refusal::Refusal;
 use crate::sample_command::show_sample;
 use crate::writing::write_made;
+use chunk_cut::{CutError, cut_chunk};
 use command_words::Command;
 use lepton_decode::{
     DecodeError, PrepareError, Ready, ReadyAlone, ample_ring, prepare, prepare_alone, run_alone,
@@ -22,33 +23,6 @@ use outside_core::{Gate, Sink};
 use std::alloc::Global;
 use std::sync::Wait;
 use std::thread::Threads;
-
-/// The most bytes of a file that is encoded: 64 MiB.
-const MOST_OF_A_FILE: u64 = 67_108_864;
-
-/// The most bytes of a container that is decoded or migrated: 32 GiB.
-const MOST_OF_A_CONTAINER: u64 = 34_359_738_368;
-
-/// The most bytes that a command takes.
-pub(crate) fn limit(command: Command) -> u64
-    ensures { result ≡ limit_of command }
-{
-    match command {
-        Command::Encode { .. } => MOST_OF_A_FILE,
-        Command::Decode { .. } | Command::Migrate => MOST_OF_A_CONTAINER,
-        Command::Sample { .. } => 0,
-    }
-}
-
-/// Whether a command takes bytes of its source.
-pub(crate) fn reads(command: Command) -> bool
-    ensures { result ≡ reads command }
-{
-    match command {
-        Command::Encode { .. } | Command::Decode { .. } | Command::Migrate => true,
-        Command::Sample { .. } => false,
-    }
-}
 
 /// Writes what the command makes of the bytes that it took.
 pub(crate) fn carry_out<R: Threads + Wait + Sync, K: Sink + Send, G: Gate + Sync>(
@@ -70,6 +44,11 @@ pub(crate) fn carry_out<R: Threads + Wait + Sync, K: Sink + Send, G: Gate + Sync
         Command::Decode { workers: 0 } => decode_alone(alloc, bytes, sink, gate),
         Command::Decode { workers } => decode(rt, alloc, workers, bytes, sink, gate),
         Command::Migrate => migrate(alloc, bytes, sink),
+        Command::Chunk {
+            index,
+            size,
+            segments,
+        } => chunk(rt, alloc, index, size, segments, bytes, sink),
         Command::Sample {
             seed,
             columns,
@@ -183,6 +162,40 @@ fn migrate<K: Sink>(alloc: Global, bytes: &[u8], sink: &mut K) -> Ending
         Ok(made) => made,
         Err(box_format::Migrate::Box(refusal)) => return Ending::Refused(Refusal::Box(refusal)),
         Err(box_format::Migrate::NoMemory(short)) => return Ending::NoMemory(short),
+    };
+    write_made(made.as_slice(), sink)
+}
+
+// The container of a chunk of a file, written once it is whole. It has no `Wait`, so it returns.
+fn chunk<R: Threads + Sync, K: Sink>(
+    rt: &R,
+    alloc: Global,
+    index: u32,
+    size: u32,
+    segments: u8,
+    bytes: &[u8],
+    sink: &mut K,
+) -> Ending
+    requires short { length bytes.now ≤ limit_of (Chunk index size segments) }
+    requires in_range { IsInRange (Chunk index size segments) }
+    requires takes { TakesAnswers K.takes (Chunk index size segments) bytes.now sink.old }
+    ensures ending { CarriedOut K.held K.faults K.full (Chunk index size segments) bytes.now sink.old
+        sink.new result }
+    ensures lasting { K.faults sink.old ≤ K.faults sink.new }
+{
+    let made = match cut_chunk(
+        rt,
+        alloc,
+        bytes,
+        segments,
+        u64::from(size),
+        u64::from(index),
+    ) {
+        Ok(made) => made,
+        Err(CutError::Header(refusal)) => return Ending::Refused(Refusal::Header(refusal)),
+        Err(CutError::Scan(refusal)) => return Ending::Refused(Refusal::Scan(refusal)),
+        Err(CutError::NoChunk) => return Ending::Refused(Refusal::NoChunk),
+        Err(CutError::NoMemory(short)) => return Ending::NoMemory(short),
     };
     write_made(made.as_slice(), sink)
 }

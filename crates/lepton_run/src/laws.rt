@@ -1,10 +1,12 @@
 // What holds of every file and every container.
-ghost use Rattle.std.specs.Prelude.{◌≡◌, ◌<◌, ◌≤◌, ℕ, List, false, length};
+ghost use Rattle.std.specs.Prelude.{◌≡◌, ◌*◌, ◌<◌, ◌≤◌, ℕ, List, false, flat_map, length};
+ghost use Rattle.box_format.specs.Raws.{numbers};
 ghost use Rattle.box_format.specs.Versions.{layout_of, version_in};
-ghost use Rattle.box_format.specs.declared.version.Version.TheVariants.{Second};
+ghost use Rattle.box_format.specs.declared.version.Version.TheVariants.{Second, Third};
 ghost use Rattle.container_spec.specs.Files.{IsContainerOf};
+ghost use Rattle.chunk_cut.specs.ChunksOfFiles.{chunk_of};
 ghost use Rattle.command_words.specs.declared.command.Command.{Command};
-ghost use Rattle.command_words.specs.declared.command.Command.TheVariants.{Encode, Decode, Migrate};
+ghost use Rattle.command_words.specs.declared.command.Command.TheVariants.{Encode, Decode, Migrate, Chunk};
 ghost use Rattle.lepton_run.specs.Answers.{Answer, Answers, Made, limit_of};
 
 /// What was encoded is decoded: of the container that encode makes of a file, in any number of segments, decode makes
@@ -13,6 +15,20 @@ pub fn decode_undoes_encode()
     ensures { (segments workers : ℕ) (file made : List ℕ) → 0 < segments
         → segments ≤ (layout_of Second).most → Answers (Encode segments) file (Made made)
         → Answers (Decode workers) made (Made file) }
+{}
+
+/// Each chunk of a file is decoded alone: of the container that `chunk` makes, decode makes that slice of the file, with
+/// any number of workers. The chunks of a size one after another are the file.
+pub fn chunks_are_decoded_alone()
+    ensures slice { (index size segments workers : ℕ) (file made : List ℕ) → 0 < segments
+        → segments ≤ (layout_of Third).most
+        → Answers (Chunk index size segments) file (Made made)
+        → Answers (Decode workers) made (Made (chunk_of file size index)) }
+    ensures joined { (count size segments workers : ℕ) (file : List ℕ) (made decoded : ℕ → List ℕ)
+        → 0 < segments → segments ≤ (layout_of Third).most → length file ≤ count * size
+        → ((i : ℕ) → i < count → Answers (Chunk i size segments) file (Made (made i)))
+        → ((i : ℕ) → i < count → Answers (Decode workers) (made i) (Made (decoded i)))
+        → flat_map decoded (numbers 0 count) ≡ file }
 {}
 
 /// A whole file's container has one spelling: what decode reads is the container of the file that decode makes of it,

@@ -3,15 +3,17 @@
 //!     arguments --> command --> encode:  source --> bytes --> container --> sink
 //!                               decode:  source --> bytes --> file, segment by segment --> sink
 //!                               migrate: source --> bytes --> container of version 2 --> sink
+//!                               chunk:   source --> bytes --> container of a chunk --> sink
 //!                               sample:  number --> file --> container --> file again --> five lines --> sink
 //!                                                                            ending --> stderr, status
 //!
-//! `run` carries the theorem as clauses of its own. The arguments, the container of a file, the file of a container and
-//! the file of a number are crates below. Here are the order of the answers, the statuses and the lines.
+//! `run` carries the theorem as clauses of its own. The arguments, the container of a file, that of a chunk, the file of
+//! a container and the file of a number are crates below. Here are the order of the answers, the statuses and the lines.
 #![tactic(auto)]
 
 mod commands;
 mod ending;
+mod input;
 mod laws;
 mod line;
 mod refusal;
@@ -23,7 +25,8 @@ mod writing;
 pub use command_words::Command;
 pub use ending::Ending;
 pub use laws::{
-    decode_undoes_encode, migrated_stands_for_the_same, one_answer, one_spelling_a_file,
+    chunks_are_decoded_alone, decode_undoes_encode, migrated_stands_for_the_same, one_answer,
+    one_spelling_a_file,
 };
 pub use refusal::Refusal;
 pub use top::{no_memory_for_words, run};

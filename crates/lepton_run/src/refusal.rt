@@ -22,10 +22,12 @@ pub enum Refusal {
     Fault(StreamFault),
     /// 46: the container spells its pad bits in another way than a file's; all bytes of the file are written.
     PadSpelling,
-    /// 47: a chunk's segments have fewer bytes than it says; all that they have are written.
+    /// 47: a chunk's segments have fewer bytes than it says; what there is of it before its trailer is written.
     ChunkShort,
     /// 50: there are more bytes than the limit.
     TooLong,
+    /// 51: the file ends before the chunk.
+    NoChunk,
 }
 
 impl Refusal {
@@ -54,6 +56,7 @@ impl Refusal {
             Refusal::PadSpelling => line.push(b"46 PadSpelling"),
             Refusal::ChunkShort => line.push(b"47 ChunkShort"),
             Refusal::TooLong => line.push(b"50 TooLong"),
+            Refusal::NoChunk => line.push(b"51 NoChunk"),
         }
     }
 }

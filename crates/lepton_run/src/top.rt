@@ -9,6 +9,8 @@ ghost use Rattle.container_spec.specs.Meanings.{Meaning, IsMeaning};
 ghost use Rattle.box_format.specs.Parts.{BoxParts, IsBoxOf, box_bytes, migrated};
 ghost use Rattle.box_format.specs.Versions.{layout_of};
 ghost use Rattle.box_format.specs.declared.version.Version.{Version};
+ghost use Rattle.box_format.specs.declared.version.Version.TheVariants.{Third};
+ghost use Rattle.chunk_cut.specs.ChunksOfFiles.{IsChunkOf, chunk_of};
 ghost use Rattle.command_words.specs.Meaning.{IsInRange, Means};
 ghost use Rattle.command_words.specs.declared.command.Command.{Command};
 ghost use Rattle.command_words.specs.declared.command.Command.TheVariants.{Encode, Decode, Migrate, Sample};
@@ -16,8 +18,9 @@ ghost use Rattle.lepton_run.specs.Answers.{Answer, Answers, AppendsPart, IsInput
 ghost use Rattle.lepton_run.specs.Endings.{Notes, ending_line, ending_of, line_at, status_at};
 ghost use Rattle.lepton_run.specs.CommandEnds.{Answered, SampleEnds, Transferred};
 
-use crate::commands::{carry_out, limit, reads};
+use crate::commands::carry_out;
 use crate::ending::Ending;
+use crate::input::{limit, reads};
 use crate::refusal::Refusal;
 use command_words::{Command, WordsError, command_of};
 use growth::NoMemory;
@@ -31,7 +34,7 @@ use std::thread::Threads;
 ///
 /// | status | if | line |
 /// |---|---|---|
-/// | 0 | the container, the file or chunk, the container in version 2, or a sample's five lines were written | none |
+/// | 0 | the container of the file or chunk, the file or chunk, or a sample's five lines were written | none |
 /// | 1 | the bytes are refused: with 40 to 47 what they stand for was written, else nothing | (a) |
 /// | 2 | the arguments mean no command | `lepton: words refused` |
 /// | 3 | the source failed | `lepton: read failed` |
@@ -39,12 +42,14 @@ use std::thread::Threads;
 /// | 5 | out of memory | `lepton: no memory` |
 ///
 /// (a) `lepton: refused `, the refusal's number and name, and the code, the place or the segment that it holds. With 40
-/// to 45 what is before the fault was written, with 46 the whole file, with 47 what the chunk's segments have.
+/// to 45 what is before the fault was written, with 46 the whole file, with 47 what there is of the chunk before its
+/// trailer.
 ///
-/// The commands are `encode` with `--segments`, `decode` with `--workers`, `migrate`, or `sample` with `--seed`,
-/// `--columns` and `--rows`, as `command_words` has them. The whole source is read before anything is written. Once
-/// the first byte is written, no memory is allocated. `sample` reads nothing. The segments of a file are coded, and
-/// those of a container decoded, in other threads too if these can be had. A failure of `note` changes no status.
+/// The commands are `encode` with `--segments`, `decode` with `--workers`, `migrate`, `chunk` with `--index`, `--size`
+/// and `--segments`, or `sample` with `--seed`, `--columns` and `--rows`, as `command_words` has them. The whole source
+/// is read before anything is written. Once the first byte is written, no memory is asked for but what a new thread is
+/// handed. `sample` reads nothing. The segments of a file are coded, and those of a container decoded, in other threads
+/// too if these can be had. A failure of `note` changes no status.
 pub fn run<R: Threads + Wait + Sync, S: Source, K: Sink + Send, N: Sink + Send, G: Gate + Sync>(
     rt: &R,
     alloc: Global,
@@ -84,18 +89,19 @@ pub fn run<R: Threads + Wait + Sync, S: Source, K: Sink + Send, N: Sink + Send, 
     // 2, 3 and 5: nothing is written.
     ensures untouched { 1 < status_at result → status_at result ≢ 4 → sink.new ≡ sink.old }
 
-    // 2: exactly if the arguments mean no command, unless memory ran out; nothing is read.
+    // 2: exactly if the arguments mean no command, unless memory ran out; nothing is read if they mean none.
     ensures words { status_at result ≡ 2
         → (command : Command) → ¬ Means (map string_bytes words.now) command }
     ensures meaningless { ((command : Command) → ¬ Means (map string_bytes words.now) command)
         → (status_at result ≡ 2) ⊎ (status_at result ≡ 5) }
-    ensures unread { status_at result ≡ 2 → source.new ≡ source.old }
+    ensures unread { ((command : Command) → ¬ Means (map string_bytes words.now) command)
+        → source.new ≡ source.old }
 
     // In any case, the source gave at most one byte past the command's limit.
     ensures taken { (command : Command) → Means (map string_bytes words.now) command
         → TakenWithin (limit_of command + 1) (S.left source.old) (S.left source.new) }
 
-    // 3 and 4: only if the count of faults of that source or sink rose in this call.
+    // 3 and 4: only if the count of faults of that source or sink rose in this call, or is at its last value.
     ensures read_failed { status_at result ≡ 3 → Rose S.faults S.full source.old source.new }
     ensures write_failed { status_at result ≡ 4 → Rose K.faults K.full sink.old sink.new }
 
@@ -133,6 +139,17 @@ pub fn run<R: Threads + Wait + Sync, S: Source, K: Sink + Send, N: Sink + Send, 
         → S.left source.old ≡ Some bytes → length file ≤ limit_of (Encode most)
         → 0 < most → most ≤ (layout_of version).most → IsContainerOf version most bytes file
         → ((status_at result ≡ 0) × Appends (K.held sink.old) (K.held sink.new) file)
+        ⊎ (status_at result ≡ 5) }
+
+    // A chunk is decoded alone: of the container of a chunk of a file within the limit, exactly that slice of the file
+    // is appended.
+    ensures chunk_back { (workers most size index : ℕ) (bytes file : List ℕ)
+        → Means (map string_bytes words.now) (Decode workers)
+        → ¬ Rose S.faults S.full source.old source.new → ¬ Rose K.faults K.full sink.old sink.new
+        → S.left source.old ≡ Some bytes → length file ≤ limit_of (Encode most)
+        → 0 < most → most ≤ (layout_of Third).most → IsChunkOf most size index bytes file
+        → ((status_at result ≡ 0)
+        × Appends (K.held sink.old) (K.held sink.new) (chunk_of file size index))
         ⊎ (status_at result ≡ 5) }
 
     // A whole file's container is migrated to the same one in version 2, whatever its streams are, and that stands for
@@ -191,6 +208,8 @@ fn answer<R: Threads + Wait + Sync, S: Source, K: Sink + Send, G: Gate + Sync>(
         (map string_bytes words.now) source.old source.new sink.old sink.new result }
     ensures taken { (command : Command) → Means (map string_bytes words.now) command
         → TakenWithin (limit_of command + 1) (S.left source.old) (S.left source.new) }
+    ensures unread { ((command : Command) → ¬ Means (map string_bytes words.now) command)
+        → source.new ≡ source.old }
     ensures sampled { (seed columns rows : ℕ)
         → Means (map string_bytes words.now) (Sample seed columns rows)
         → (source.new ≡ source.old) × SampleEnds result }

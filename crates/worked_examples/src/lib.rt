@@ -1,7 +1,9 @@
 //! What a row of `tests/rows.txt` can't say of the top call: sources and sinks that fail, threads that meet, each byte
-//! changed, and samples by their digests.
+//! changed, samples by their digests, and chunks.
 #![tactic(auto)]
 
+#[cfg(test)]
+mod chunks;
 #[cfg(test)]
 mod containers;
 #[cfg(test)]

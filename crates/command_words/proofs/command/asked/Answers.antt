@@ -1,5 +1,5 @@
 use Rattle.std.proofs.Common.{◌∙◌, Some, ap, sym}
-use Rattle.command_words.proofs.Reading.{decode_unread, encode_unread, if_none, met_is, sample_unread}
+use Rattle.command_words.proofs.Reading.{chunk_unread, decode_unread, encode_unread, if_none, met_is, sample_unread}
 use Rattle.command_words.proofs.command.asked.Goals as goal
 
 pub returns-in_err-segments-in-encode-default-clause-none :
@@ -15,6 +15,27 @@ returns-in_err-workers-in-decode-default-clause-none c =
     let named = ap (λ name. Some name) (sym c.in-decode-default.is-decode-0) ∙ c.in_ok-options.ensures.name in
     if_none _ _ (decode_unread _ _ (met_is _ _ _ named c.in_ok-options.ensures.rows)
     c.in_err-workers-in-decode-default.ensures.none)
+
+pub returns-in_err-index-in-chunk-default-clause-none :
+    goal.returns-in_err-index-in-chunk-default-clause-none
+returns-in_err-index-in-chunk-default-clause-none c =
+    let named = ap (λ name. Some name) (sym c.in-chunk-default.is-chunk-0) ∙ c.in_ok-options.ensures.name in
+    if_none _ _ (chunk_unread _ _ (met_is _ _ _ named c.in_ok-options.ensures.rows)
+    (λ index size segments one two last. c.in_err-index-in-chunk-default.ensures.none index one))
+
+pub returns-in_err-size-in-chunk-default-clause-none :
+    goal.returns-in_err-size-in-chunk-default-clause-none
+returns-in_err-size-in-chunk-default-clause-none c =
+    let named = ap (λ name. Some name) (sym c.in-chunk-default.is-chunk-0) ∙ c.in_ok-options.ensures.name in
+    if_none _ _ (chunk_unread _ _ (met_is _ _ _ named c.in_ok-options.ensures.rows)
+    (λ index size segments one two last. c.in_err-size-in-chunk-default.ensures.none size two))
+
+pub returns-in_err-segments-in-chunk-default-clause-none :
+    goal.returns-in_err-segments-in-chunk-default-clause-none
+returns-in_err-segments-in-chunk-default-clause-none c =
+    let named = ap (λ name. Some name) (sym c.in-chunk-default.is-chunk-0) ∙ c.in_ok-options.ensures.name in
+    if_none _ _ (chunk_unread _ _ (met_is _ _ _ named c.in_ok-options.ensures.rows)
+    (λ index size segments one two last. c.in_err-segments-in-chunk-default.ensures.none segments last))
 
 pub returns-in_err-seed-in-sample-default-clause-none :
     goal.returns-in_err-seed-in-sample-default-clause-none

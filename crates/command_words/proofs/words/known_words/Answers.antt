@@ -2,7 +2,7 @@ use Rattle.std.proofs.Common.{ap, ◌∙◌}
 use Rattle.std.proofs.lemmas.Result.{IfOk-weaker}
 use Rattle.clap.specs.Words.{with_subcommand}
 use Rattle.clap.specs.Simple.{app_of_fields}
-use Rattle.command_words.specs.LeptonApp.{decode_app, encode_app, migrate_app, requiring_subcommand, sample_app}
+use Rattle.command_words.specs.LeptonApp.{chunk_app, decode_app, encode_app, migrate_app, requiring_subcommand, sample_app}
 use Rattle.command_words.proofs.words.known_words.Goals as goal
 
 pub returns : goal.returns
@@ -11,4 +11,5 @@ returns c =
     let first = c.in_ok-known.ensures ∙ ap (λ a. with_subcommand a encode_app.top) wanted in
     let second = c.in_ok-known-2.ensures ∙ ap (λ a. with_subcommand a decode_app.top) first in
     let third = c.in_ok-known-3.ensures ∙ ap (λ a. with_subcommand a migrate_app.top) second in
-    IfOk-weaker c.with_sample.result _ _ (λ known more. more ∙ ap (λ a. with_subcommand a sample_app.top) third) c.with_sample.ensures
+    let fourth = c.in_ok-known-4.ensures ∙ ap (λ a. with_subcommand a chunk_app.top) third in
+    IfOk-weaker c.with_sample.result _ _ (λ known more. more ∙ ap (λ a. with_subcommand a sample_app.top) fourth) c.with_sample.ensures

@@ -1,0 +1,78 @@
+-- Chunks are decoded alone.
+use Rattle.std.proofs.Common.{◌≡◌, ℕ, ◌*◌, ◌<◌, ◌≤◌, inl, inr, List, length, take, refl, sym, subst}
+use Rattle.std.specs.Prelude.{flat_map}
+use Rattle.std.specs.List.{AllByRecursion}
+use Rattle.bit_list.specs.Bits.{IsByte}
+use Rattle.box_format.specs.Raws.{numbers}
+use Rattle.box_format.specs.Versions.{layout_of}
+use Rattle.box_format.specs.declared.version.Version.TheVariants.{Third}
+use Rattle.chunk_spec.specs.Chunks.{chunk_from, chunk_to}
+use Rattle.container_spec.specs.Files.{told_pads}
+use Rattle.container_spec.specs.Meanings.{Restored, IsMeaning}
+use Rattle.chunk_cut.specs.ChunksOfFiles.{IsChunkOf, chunk_of, parted, parts_of_chunk}
+use Rattle.chunk_cut.proofs.ChunkBoxes.{box_is}
+use Rattle.chunk_cut.proofs.ChunkSizes.{chunk_is_short}
+use Rattle.chunk_cut.proofs.JoinedChunks.{chunks_are_restored}
+use Rattle.chunk_cut.proofs.RestoredChunks.{chunk_is_restored}
+use Rattle.command_words.specs.declared.command.Command.TheVariants.{Encode, Decode, Chunk}
+use Rattle.lepton_run.specs.Answers.{Answers, Made, limit_of}
+use Rattle.lepton_run.proofs.BothWays.{restored_by, same_meaning}
+use Rattle.lepton_run.proofs.BoxesOfBytes.{box_are}
+
+-- the bytes of a chunk's container are bytes
+chunk_are : (most size i : ℕ) (made file : List ℕ) → 0 < most → most ≤ (layout_of Third).most
+    → IsChunkOf most size i made file → AllByRecursion IsByte made
+chunk_are most size i made file some few is =
+    subst (AllByRecursion IsByte) (sym is.spelled)
+    (box_are is.plan
+    (parts_of_chunk is.plan (told_pads is.plan is.mcus is.pads)
+    (parted is.plan is.mcus is.pads (take is.plan.header_length file) is.is.scan is.trailer)
+    (chunk_from size i) (chunk_to (length file) size i) most)
+    (box_is most size i made file some is few))
+
+-- of the container of a chunk of a file that encode takes, decode makes that chunk
+pub chunk_back : (most size i workers : ℕ) (made file : List ℕ) → 0 < most
+    → most ≤ (layout_of Third).most → length file ≤ limit_of (Encode most)
+    → IsChunkOf most size i made file → Answers (Decode workers) made (Made (chunk_of file size i))
+chunk_back most size i workers made file some few short is = inr (record {
+  short = chunk_is_short most size i made file some few is short;
+  are = chunk_are most size i made file some few is;
+  makes = (
+    record { bytes = chunk_of file size i; verdict = Restored },
+    chunk_is_restored most size i made file some few is,
+    refl,
+  );
+})
+
+-- what `chunk` makes is such a container
+is_chunk : (index size segments : ℕ) (file made : List ℕ)
+    → Answers (Chunk index size segments) file (Made made)
+    → IsChunkOf segments size index made file × (length file ≤ limit_of (Encode segments))
+is_chunk index size segments file made (inl long) = absurd (let e = long.1 in cc)
+is_chunk index size segments file made (inr is) = (is.makes, is.short)
+
+pub chunk_undone : (index size segments workers : ℕ) (file made : List ℕ) → 0 < segments
+    → segments ≤ (layout_of Third).most → Answers (Chunk index size segments) file (Made made)
+    → Answers (Decode workers) made (Made (chunk_of file size index))
+chunk_undone index size segments workers file made some few answers =
+    let is = is_chunk index size segments file made answers in
+    chunk_back segments size index workers made file some few is.1 is.0
+
+-- what a decode makes is what its container stands for
+is_meant : (workers : ℕ) (made bytes : List ℕ) → Answers (Decode workers) made (Made bytes)
+    → IsMeaning made (record { bytes = bytes; verdict = Restored })
+is_meant workers made bytes (inl long) = absurd (let e = long.1 in cc)
+is_meant workers made bytes (inr is) =
+    let m = is.makes in
+    let so = restored_by m.0.bytes bytes m.0.verdict m.2 in
+    subst (IsMeaning made) (same_meaning m.0 bytes so.0 so.1) m.1
+
+pub chunks_joined : (count size segments workers : ℕ) (file : List ℕ) (made decoded : ℕ → List ℕ)
+    → 0 < segments → segments ≤ (layout_of Third).most → length file ≤ count * size
+    → ((i : ℕ) → i < count → Answers (Chunk i size segments) file (Made (made i)))
+    → ((i : ℕ) → i < count → Answers (Decode workers) (made i) (Made (decoded i)))
+    → flat_map decoded (numbers 0 count) ≡ file
+chunks_joined count size segments workers file made decoded some few long cut back =
+    chunks_are_restored segments size count file made decoded some few long
+    (λ i within. (is_chunk i size segments file (made i) (cut i within)).0)
+    (λ i within. is_meant workers (made i) (decoded i) (back i within))
