@@ -1,0 +1,2 @@
+pub mod RangeParts
+pub mod BegunSegments
