@@ -1,6 +1,7 @@
-//! `chunk_bench SIZE SEGMENTS`, for `bench/chunks`: reads a JPEG file on standard input, its scan once, and cuts each of
-//! its chunks of SIZE bytes into a container of its own, in at most SEGMENTS segments. Prints how many chunks there are
-//! and how many bytes their containers have. Exits with 1 if the file is refused, and with 2 if the arguments are others.
+//! `chunk_bench SIZE SEGMENTS`, for `bench/chunks`: reads a JPEG file on standard input, its scan once, and cuts each
+//! of its chunks of SIZE bytes into a container of its own, in at most SEGMENTS segments. Prints how many chunks there
+//! are and how many bytes their containers have. Exits with 1 if the file is refused, and with 2 if the arguments are
+//! others.
 #![tactic(auto)]
 
 ghost use Rattle.std.specs.Prelude.{◌<◌, ◌≤◌};
