@@ -1,5 +1,6 @@
 -- Rows: worked containers (own).
-use Rattle.std.specs.Prelude.{ℕ, ◌≡◌, true, List, [], ◌∷◌, ◌++◌, length, replicate, map, take, drop, slice_set, slice_index, Some, None}
+use Rattle.std.specs.Prelude.{ℕ, ◌*◌, ◌==◌, if◌then◌else◌, ◌≡◌, true, false, List, [], ◌∷◌, ◌++◌, length, replicate, map, take, drop, slice_set, slice_index, Some, None}
+use Rattle.jpeg_marker.specs.HeldTables.{eight_tables}
 use Rattle.jpeg_marker.specs.Plans.{PlanFields}
 use Rattle.scan_spec.specs.BlockRows.{level_table}
 use Rattle.scan_spec.specs.ScanRows.{ones}
@@ -23,12 +24,30 @@ grey_header height =
 -- its plan, with this many MCU rows
 abbrev pub grey_plan : ℕ → PlanFields
 grey_plan down = record {
-  components = record { id = 1; h = 1; v = 1; dc = level_table; ac = level_table } ∷ [];
+  components = record {
+    index = 0;
+    id = 1;
+    h = 1;
+    v = 1;
+    dc = level_table;
+    ac = level_table;
+  } ∷ [];
   across = 1;
   down = down;
   interval = 0;
   header_length = 69;
   blocks = down;
+  known = record {
+    frame = Some (record {
+      height = 8 * down;
+      width = 8;
+      parts = record { id = 1; h = 1; v = 1 } ∷ [];
+    });
+    tables = eight_tables (λ class number. if number == 0 then Some level_table else None);
+    interval = 0;
+    coded = true ∷ replicate 3 false;
+    blocks = down;
+  };
 }
 
 -- the stream of a block of zeros
@@ -99,8 +118,12 @@ byteless_box = box_bytes byteless_parts
 -- the plan of a header of 32 rows whose code words are one bit of value 1
 abbrev pub ones_plan : PlanFields
 ones_plan = record (grey_plan 4) {
-  components = record { id = 1; h = 1; v = 1; dc = ones.dc; ac = ones.ac } ∷ [];
+  components = record { index = 0; id = 1; h = 1; v = 1; dc = ones.dc; ac = ones.ac } ∷ [];
   header_length = 71;
+  known = record (grey_plan 4).known {
+    tables = eight_tables (λ class number. if number == 0
+        then Some (if class == 0 then ones.dc else ones.ac) else None);
+  };
 }
 
 -- its header

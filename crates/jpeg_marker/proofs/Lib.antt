@@ -1,3 +1,4 @@
+pub mod Choices
 pub mod Chosen
 pub mod HeaderLaws
 pub mod KeptPlans
@@ -10,4 +11,6 @@ pub mod Walking
 pub mod PlanGrids
 pub mod FramesTaken
 pub mod HeadersTaken
+pub mod MovedHeaders
+pub mod OneScans
 pub mod TablesTaken

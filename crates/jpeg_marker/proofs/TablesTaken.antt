@@ -1,23 +1,21 @@
 -- The tables of segments that passed their checks.
-use Rattle.std.proofs.Common.{◌≡◌, ℕ, zero, suc, ◌+◌, ◌<◌, ◌≤◌, Bool, true, false, List, [], ◌∷◌, ◌++◌, length, get_or, take, drop, sum, filter, flat_map, fold, Option, Some, None, option_map, refl, arith, subst, cond, eqb, replicate}
+use Rattle.std.proofs.Common.{◌≡◌, ℕ, zero, suc, ◌+◌, ◌<◌, ◌≤◌, Bool, true, false, List, [], ◌∷◌, ◌++◌, length, get_or, take, drop, sum, filter, map, flat_map, Option, Some, None, IfSome, refl, arith, subst, cond, eqb, replicate, ◌*◌}
 use Rattle.std.specs.List.{AllByRecursion}
 use Rattle.std.proofs.lemmas.List.{length-take-le, length-drop}
 use Rattle.std.proofs.lemmas.Bool.{leb-true, eqb-true}
 use Rattle.std.proofs.lemmas.Bool.Decides.{nat_tests}
 use Rattle.jpeg_marker.specs.declared.refusal.HeaderRefusal.{HeaderRefusal}
 use Rattle.jpeg_marker.specs.HeaderRefusals.{or_else}
-use Rattle.jpeg_marker.specs.MarkerSegments.{Segment, two_bytes, segment_text}
-use Rattle.jpeg_marker.specs.HuffmanTables.{Table, TableFields, IsTable, fields_at, tables_after, tables_in, tables_of, table_of, is_of, distinct, code_space}
+use Rattle.jpeg_marker.specs.MarkerSegments.{Segment, two_bytes, segment_text, last_of}
+use Rattle.jpeg_marker.specs.HuffmanTables.{Table, TableFields, fields_at, tables_after, tables_in, tables_of, is_of, distinct, code_space}
+use Rattle.jpeg_marker.specs.HeldTables.{table_in}
+use Rattle.jpeg_marker.specs.Walks.{Walk}
+use Rattle.jpeg_marker.specs.declared.definitions.Definitions.{Definitions}
+use Rattle.jpeg_marker.specs.declared.scans.Scans.{Scans}
 use Rattle.jpeg_marker.specs.TableFaults.{is_table, table_fault, tables_fault}
-use Rattle.jpeg_marker.specs.GoodSegments.{IsGood, AreGoodAfter, length_place, body_fault}
-use Rattle.jpeg_marker.specs.Frames.{FrameFields, frame_of}
-use Rattle.jpeg_marker.specs.AcceptedPlans.{AreBytes}
+use Rattle.jpeg_marker.specs.GoodSegments.{IsGood, AreGoodAfter, length_place, body_fault, known_after}
+use Rattle.jpeg_marker.specs.AcceptedPlans.{AreBytes, IsSound}
 use Rattle.jpeg_marker.proofs.Repeats.{both_hold, IsDistinct-from_distinct}
-
--- a table that is one, of bytes
-pub record IsSound (t : TableFields) : Type 0 where
-  pub table : IsTable t
-  pub bytes : AreBytes t.values
 
 -- parts of lists
 pub bytes_first : (xs ys : List ℕ) → AreBytes (xs ++ ys) → AreBytes xs
@@ -101,32 +99,46 @@ put_where : (b : Bool) (t : Table) (tables : List Table) → IsSound t.fields �
 put_where true t tables one all = (one, all)
 put_where false t tables one all = all
 
-tables_checked : (frame : Option FrameFields) (table : ℕ → ℕ → Option TableFields) (at code : ℕ) (body : List ℕ) → code ≡ 196 → body_fault frame table at code body ≡ None → tables_fault at (at + 2) 0 body ≡ None
-tables_checked frame table at code body is none = subst (λ (n : ℕ). body_fault frame table at n body ≡ None) is none
+tables_checked : (scans : Scans) (known : Definitions) (at code : ℕ) (body : List ℕ) → code ≡ 196 → body_fault scans known at code body ≡ None → tables_fault at (at + 2) 0 body ≡ None
+tables_checked scans known at code body is none = subst (λ (n : ℕ). body_fault scans known at n body ≡ None) is none
 
-sound_in : (before : List Segment) (s : Segment) → AreBytes s.body → IsGood before s → AllByRecursion (λ (t : Table). IsSound t.fields) (tables_in s)
-sound_in before s all good =
-    where_so (λ (t : Table). IsSound t.fields) (eqb s.code 196) (tables_after 0 s.body) (λ is. sound_after _ _ 0 s.body all (tables_checked (frame_of before) (table_of before) (length_place before s) s.code s.body (eqb-true s.code 196 is) good.checked))
+sound_in : (w : Walk) (before : List Segment) (s : Segment) → AreBytes s.body → IsGood w before s → AllByRecursion (λ (t : Table). IsSound t.fields) (tables_in s)
+sound_in w before s all good =
+    where_so (λ (t : Table). IsSound t.fields) (eqb s.code 196) (tables_after 0 s.body) (λ is. sound_after _ _ 0 s.body all (tables_checked w.scans (known_after w.known before) (length_place w before s) s.code s.body (eqb-true s.code 196 is) good.checked))
 
-sound_of : (before segments : List Segment) → AreGoodAfter before segments → BodiesAreBytes segments → AllByRecursion (λ (t : Table). IsSound t.fields) (tables_of segments)
-sound_of before [] good all = tt
-sound_of before (s ∷ segments) good all =
-    all-append (λ (t : Table). IsSound t.fields) (tables_in s) (tables_of segments) (sound_in before s all.0 good.0) (sound_of (before ++ s ∷ []) segments good.1 all.1)
-
-some_is_one : {A : Type 0} (x y : A) → Some x ≡ Some y → x ≡ y
-some_is_one x y e = cc
+sound_of : (w : Walk) (before segments : List Segment) → AreGoodAfter w before segments → BodiesAreBytes segments → AllByRecursion (λ (t : Table). IsSound t.fields) (tables_of segments)
+sound_of w before [] good all = tt
+sound_of w before (s ∷ segments) good all =
+    all-append (λ (t : Table). IsSound t.fields) (tables_in s) (tables_of segments) (sound_in w before s all.0 good.0) (sound_of w (before ++ s ∷ []) segments good.1 all.1)
 
 -- what is kept of sound tables is sound
 kept_sound : (keep : Table → Bool) (tables : List Table) → AllByRecursion (λ (t : Table). IsSound t.fields) tables → AllByRecursion (λ (t : Table). IsSound t.fields) (filter keep tables)
 kept_sound keep [] all = tt
 kept_sound keep (t ∷ tables) all = put_where (keep t) t (filter keep tables) all.0 (kept_sound keep tables all.1)
 
--- and so is the last one
-last_sound : (tables : List Table) (found : Option Table) (t : TableFields) → AllByRecursion (λ (u : Table). IsSound u.fields) tables → (option_map (λ (u : Table). u.fields) found ≡ Some t → IsSound t) → option_map (λ (u : Table). u.fields) (fold (λ _ x. Some x) found tables) ≡ Some t → IsSound t
-last_sound [] found t all here is = here is
-last_sound (u ∷ tables) found t all here is = last_sound tables (Some u) t all.1 (λ e. subst IsSound (some_is_one u.fields t e) all.0) is
+-- and so is the last one, or the one before
+last_sound : (tables : List Table) (found : Option TableFields) → AllByRecursion (λ (u : Table). IsSound u.fields) tables → IfSome found IsSound → IfSome (last_of found (map (λ (u : Table). u.fields) tables)) IsSound
+last_sound [] found all here = here
+last_sound (u ∷ tables) found all here = last_sound tables (Some u.fields) all.1 all.0
 
--- the table of a class and number
-pub latest_sound : (segments : List Segment) (class number : ℕ) (t : TableFields) → AreGoodAfter [] segments → BodiesAreBytes segments → table_of segments class number ≡ Some t → IsSound t
-latest_sound segments class number t good all is =
-    last_sound (filter (is_of class number) (tables_of segments)) None t (kept_sound (is_of class number) (tables_of segments) (sound_of [] segments good all)) (λ none. cc) is
+-- a table that is kept
+each_sound : (tables : List (Option TableFields)) (i : ℕ) → AllByRecursion (λ t. IfSome t IsSound) tables → IfSome (get_or tables i None) IsSound
+each_sound [] i all = tt
+each_sound (t ∷ tables) zero all = all.0
+each_sound (t ∷ tables) (suc i) all = each_sound tables i all.1
+
+some_is_one : {A : Type 0} (x y : A) → Some x ≡ Some y → x ≡ y
+some_is_one x y e = cc
+
+if_some : {A : Type 0} (P : A → Type 0) (o : Option A) (x : A) → IfSome o P → o ≡ Some x → P x
+if_some P None x all e = cc
+if_some P (Some y) x all e = subst P (some_is_one y x e) all
+
+pub table_sound : (tables : List (Option TableFields)) (class number : ℕ) (t : TableFields) → AllByRecursion (λ t. IfSome t IsSound) tables → table_in tables class number ≡ Some t → IsSound t
+table_sound tables class number t all is = if_some IsSound (table_in tables class number) t (each_sound tables (4 * class + number) all) is
+
+-- the tables that are known
+pub known_sound : (w : Walk) (segments : List Segment) → AreGoodAfter w [] segments → BodiesAreBytes segments → AllByRecursion (λ t. IfSome t IsSound) w.known.tables → AllByRecursion (λ t. IfSome t IsSound) (known_after w.known segments).tables
+known_sound w segments good all known =
+    let one = λ (class number : ℕ). last_sound (filter (is_of class number) (tables_of segments)) (table_in w.known.tables class number) (kept_sound (is_of class number) (tables_of segments) (sound_of w [] segments good all)) (each_sound w.known.tables (4 * class + number) known) in
+    (one 0 0, (one 0 1, (one 0 2, (one 0 3, (one 1 0, (one 1 1, (one 1 2, (one 1 3, tt))))))))

@@ -1,10 +1,14 @@
 -- Law: what holds of the plan of every header that is accepted (ITU-T T.81, B.2).
-use Rattle.std.specs.Prelude.{ℕ, ◌<◌, ◌≤◌, List, ◌++◌, length, take}
-use Rattle.std.specs.List.{AllByRecursion}
-use Rattle.jpeg_marker.specs.HuffmanTables.{IsTable}
-use Rattle.jpeg_marker.specs.Plans.{PlanFields, IsPlan}
-use Rattle.jpeg_marker.specs.HeaderPlan.{Accepts}
+use Rattle.std.specs.Prelude.{ℕ, ◌+◌, ◌<◌, ◌≤◌, ◌≡◌, true, false, List, ◌++◌, length, take, drop, map, Some, IfSome}
+use Rattle.std.specs.List.{AllByRecursion, list_any}
+use Rattle.jpeg_marker.specs.HuffmanTables.{TableFields, IsTable}
+use Rattle.jpeg_marker.specs.Frames.{FrameFields, IsFrame}
+use Rattle.jpeg_marker.specs.Plans.{PlanFields, IsPlan, is_coded, coded_after, are_all_coded}
+use Rattle.jpeg_marker.specs.HeaderPlan.{Accepts, Opens, AcceptsNext}
 use Rattle.jpeg_marker.specs.declared.component.Component.{Component}
+use Rattle.jpeg_marker.specs.declared.scans.Scans.{Scans}
+use Rattle.jpeg_marker.specs.declared.scans.Scans.TheVariants.{One, Several}
+use Rattle.jpeg_marker.specs.declared.definitions.Definitions.{Definitions}
 
 -- numbers that are bytes
 abbrev pub AreBytes : List ℕ → Type 0
@@ -17,16 +21,68 @@ pub record HasTables (c : Component) : Type 0 where
   pub dc_bytes : AreBytes c.dc.values
   pub ac_bytes : AreBytes c.ac.values
 
--- a plan of bytes that begin with a header (B.2.1): what a plan keeps, its tables, the header's length, and that the
--- header alone says it, whatever follows
-pub record HasPlan (bytes : List ℕ) (plan : PlanFields) : Type 0 where
+-- a table whose values are bytes (B.2.4.2)
+pub record IsSound (t : TableFields) : Type 0 where
+  pub table : IsTable t
+  pub bytes : AreBytes t.values
+
+-- a frame, and tables
+pub record IsKnown (known : Definitions) : Type 0 where
+  pub frame : FrameFields
+  pub there : known.frame ≡ Some frame
+  pub is_frame : IsFrame frame
+  pub tables : AllByRecursion (λ t. IfSome t IsSound) known.tables
+
+-- A plan of bytes that begin with a file's first header (B.2.1): it is one that `Plan` keeps; its components have
+-- tables; the header is no longer than the bytes, and determines the plan whatever follows it; a frame and tables are
+-- known after it.
+pub record HasOpened (scans : Scans) (bytes : List ℕ) (plan : PlanFields) : Type 0 where
   pub is_plan : IsPlan plan
   pub tables : AllByRecursion HasTables plan.components
   pub within : plan.header_length ≤ length bytes
-  pub alone : (rest : List ℕ) → Accepts (take plan.header_length bytes ++ rest) plan
+  pub alone : (rest : List ℕ) → Opens scans (take plan.header_length bytes ++ rest) plan
+  pub known : IsKnown plan.known
+
+-- the same of a file of one scan
+abbrev pub HasPlan : List ℕ → PlanFields → Type 0
+HasPlan bytes plan = HasOpened One bytes plan
 
 -- every accepted header has such a plan
 abbrev pub AcceptedHasPlan : Type 0
 AcceptedHasPlan =
+    (scans : Scans) (bytes : List ℕ) (plan : PlanFields) → AreBytes bytes
+    → Opens scans bytes plan → HasOpened scans bytes plan
+
+-- a file's one scan has all of the frame's components, so that none follows
+abbrev pub OneIsLast : Type 0
+OneIsLast =
     (bytes : List ℕ) (plan : PlanFields) → AreBytes bytes → Accepts bytes plan
-    → HasPlan bytes plan
+    → are_all_coded plan.known plan.known.frame ≡ true
+
+-- a header of a file of one scan is one of a file of several, and says the same
+abbrev pub OneIsSeveral : Type 0
+OneIsSeveral =
+    (bytes : List ℕ) (plan : PlanFields) → Accepts bytes plan → Opens Several bytes plan
+
+-- A plan of the header of a further scan, which is at a place: also, the header says it at place 0, the frame stays,
+-- the scan has no component that a scan before had, and its components and blocks are counted with those before.
+pub record HasNextPlan (plan : PlanFields) (bytes : List ℕ) (place : ℕ) (next : PlanFields)
+    : Type 0 where
+  pub is_plan : IsPlan next
+  pub tables : AllByRecursion HasTables next.components
+  pub within : next.header_length ≤ length (drop place bytes)
+  pub alone : (rest : List ℕ)
+      → AcceptsNext plan (take next.header_length (drop place bytes) ++ rest) 0 next
+  pub known : IsKnown next.known
+  pub frame : next.known.frame ≡ plan.known.frame
+  pub fresh : list_any (is_coded plan.known.coded) (map (λ c. c.index) next.components) ≡ false
+  pub coded : next.known.coded
+      ≡ coded_after plan.known.coded (map (λ c. c.index) next.components)
+  pub blocks : next.known.blocks ≡ plan.known.blocks + next.blocks
+
+-- every such header has one
+abbrev pub NextHasPlan : Type 0
+NextHasPlan =
+    (plan : PlanFields) (bytes : List ℕ) (place : ℕ) (next : PlanFields)
+    → AreBytes bytes → IsKnown plan.known → AcceptsNext plan bytes place next
+    → HasNextPlan plan bytes place next

@@ -1,11 +1,11 @@
 -- Statement: the frame of a header (ITU-T T.81, B.2.2).
-use Rattle.std.specs.Prelude.{ℕ, ◌+◌, ◌*◌, ◌/◌, ◌%◌, ◌≤◌, Bool, not, List, [], ◌∷◌, length, drop, map, sum_by, flat_map, get_or, ◌==◌, ◌&&◌, ◌||◌, nat_lt, nat_le, Option, Some, None, if◌then◌else◌, IsTrue}
+use Rattle.std.specs.Prelude.{ℕ, ◌+◌, ◌*◌, ◌/◌, ◌%◌, ◌≤◌, Bool, not, List, [], ◌∷◌, length, drop, map, sum_by, get_or, ◌==◌, ◌&&◌, ◌||◌, nat_lt, nat_le, Option, Some, None, if◌then◌else◌, IsTrue}
 use Rattle.std.specs.List.{list_all}
 use Rattle.jpeg_marker.specs.declared.refusal.HeaderRefusal.{HeaderRefusal}
 use Rattle.jpeg_marker.specs.declared.refusal.HeaderRefusal.TheVariants.{LengthBad, FrameTwice, PrecisionBad, SizeZero, ComponentsBad}
 use Rattle.jpeg_marker.specs.declared.parameters.FrameComponent.{FrameComponent}
 use Rattle.jpeg_marker.specs.HeaderRefusals.{or_else}
-use Rattle.jpeg_marker.specs.MarkerSegments.{Segment, number_at, last_of}
+use Rattle.jpeg_marker.specs.MarkerSegments.{Segment, number_at}
 use Rattle.jpeg_marker.specs.HuffmanTables.{distinct}
 
 -- lines, samples in a line, and the components in their order
@@ -13,6 +13,10 @@ pub record FrameFields : Type 0 where
   pub height : ℕ
   pub width : ℕ
   pub parts : List FrameComponent
+
+-- what is kept after the last part (own)
+abbrev pub no_part : FrameComponent
+no_part = record { id = 0; h = 0; v = 0 }
 
 -- three bytes for a component: its identifier, its sampling factors, and a selector that isn't looked at
 abbrev pub parts_of : List ℕ → List FrameComponent
@@ -33,10 +37,6 @@ frame_at body = record {
 -- the frame that a segment gives, if it is one of a frame
 abbrev pub frames_in : Segment → List FrameFields
 frames_in s = if s.code == 0xc0 then frame_at s.body ∷ [] else []
-
--- the frame of the one segment that has one
-abbrev pub frame_of : List Segment → Option FrameFields
-frame_of segments = last_of (flat_map frames_in segments)
 
 -- sampling factors from 1 to 4 (B.2.2)
 abbrev pub is_sampled : FrameComponent → Bool

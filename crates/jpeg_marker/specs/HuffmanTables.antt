@@ -1,5 +1,5 @@
 -- Statement: the tables that segments define (ITU-T T.81, B.2.4.2).
-use Rattle.std.specs.Prelude.{ℕ, zero, suc, ◌+◌, ◌*◌, ◌/◌, ◌%◌, ◌^◌, ◌≡◌, ◌≤◌, Bool, true, not, List, [], ◌∷◌, length, take, drop, sum, filter, flat_map, replicate, ◌==◌, ◌&&◌, Option, option_map, if◌then◌else◌, nat_eq}
+use Rattle.std.specs.Prelude.{ℕ, zero, suc, ◌+◌, ◌*◌, ◌/◌, ◌%◌, ◌^◌, ◌≡◌, ◌≤◌, Bool, true, not, List, [], ◌∷◌, length, take, drop, sum, filter, map, flat_map, replicate, ◌==◌, ◌&&◌, Option, if◌then◌else◌, nat_eq}
 use Rattle.std.specs.List.{list_any, IsDistinct}
 use Rattle.jpeg_marker.specs.MarkerSegments.{Segment, last_of}
 
@@ -45,14 +45,10 @@ tables_of segments = flat_map tables_in segments
 abbrev pub is_of : ℕ → ℕ → Table → Bool
 is_of class number t = t.class == class && t.number == number
 
--- the last table of a class and number
-abbrev pub latest : ℕ → ℕ → List Table → Option TableFields
-latest class number tables =
-    option_map (λ t. t.fields) (last_of (filter (is_of class number) tables))
-
--- the table of a class and number after these segments: a later one replaces an earlier one
-abbrev pub table_of : List Segment → ℕ → ℕ → Option TableFields
-table_of segments class number = latest class number (tables_of segments)
+-- the last table of a class and number, after one that was there before, if any
+abbrev pub latest : Option TableFields → ℕ → ℕ → List Table → Option TableFields
+latest before class number tables =
+    last_of before (map (λ t. t.fields) (filter (is_of class number) tables))
 
 -- no value occurs twice
 abbrev pub distinct : List ℕ → Bool

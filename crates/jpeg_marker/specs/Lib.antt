@@ -15,3 +15,5 @@ pub mod TableFaults
 pub mod TableInside
 pub mod HuffmanTables
 pub mod HeaderWalks
+pub mod Walks
+pub mod FirstWalks

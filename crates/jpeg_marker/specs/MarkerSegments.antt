@@ -1,5 +1,5 @@
 -- Statement: marker segments and the bytes that spell them (ITU-T T.81, B.1.1). Clauses are the standard's.
-use Rattle.std.specs.Prelude.{ℕ, ◌+◌, ◌*◌, ◌/◌, ◌%◌, ◌^◌, ◌<◌, Bool, List, [], ◌∷◌, ◌++◌, length, replicate, flat_map, ◌==◌, ◌||◌, nat_le, ◌&&◌, Option, Some, None, fold, IsTrue}
+use Rattle.std.specs.Prelude.{ℕ, ◌+◌, ◌*◌, ◌/◌, ◌%◌, ◌^◌, ◌<◌, Bool, List, [], ◌∷◌, ◌++◌, length, replicate, flat_map, ◌==◌, ◌||◌, nat_le, ◌&&◌, Option, Some, fold, IsTrue}
 
 -- A marker segment: how many further bytes of 0xff fill the place before its marker (B.1.1.2), the
 -- marker's code, and what its length counts, without the two bytes of the length (B.1.1.4).
@@ -44,6 +44,6 @@ pub record IsWhole (s : Segment) : Type 0 where
   pub known : IsTrue (is_known s.code)
   pub fits : length s.body + 2 < 2 ^ 16
 
--- the last of a list
-abbrev pub last_of : {A : Type 0} → List A → Option A
-last_of xs = fold (λ _ x. Some x) None xs
+-- the last of a list, after one that was there before, if any
+abbrev pub last_of : {A : Type 0} → Option A → List A → Option A
+last_of before xs = fold (λ _ x. Some x) before xs

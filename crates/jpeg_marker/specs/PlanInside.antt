@@ -13,6 +13,7 @@ plan_fields p = record {
   interval = p.interval;
   header_length = p.header_length;
   blocks = p.blocks;
+  known = p.known;
 }
 
 -- there is no component after the last one, so that the components determine what is kept
@@ -31,4 +32,5 @@ plan_inside p = record {
   interval = p.interval;
   header_length = p.header_length;
   blocks = p.blocks;
+  known = p.known;
 }

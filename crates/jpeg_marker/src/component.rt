@@ -7,6 +7,7 @@ use crate::table::RawTable;
 /// A component of the frame, with the tables that code it (ITU-T T.81, B.2.2, B.2.3).
 #[derive(Clone, Copy)]
 pub struct Component {
+    pub(crate) index: u8,
     pub(crate) id: u8,
     pub(crate) h: u8,
     pub(crate) v: u8,
@@ -20,12 +21,20 @@ impl Component {
         ensures { result ≡ no_component }
     {
         Component {
+            index: 0,
             id: 0,
             h: 0,
             v: 0,
             dc: RawTable::empty(),
             ac: RawTable::empty(),
         }
+    }
+
+    /// The index among the frame's components, from 0.
+    pub fn index(&self) -> u8
+        ensures { result ≡ self.now.index }
+    {
+        self.index
     }
 
     /// The identifier.

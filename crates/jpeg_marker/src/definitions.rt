@@ -1,12 +1,10 @@
 // What the segments before a scan say (ITU-T T.81, B.2.4).
-ghost use Rattle.std.specs.Prelude.{ℕ, ◌≡◌, ◌≢◌, ◌≤◌, ◌<◌, ◌+◌, ◌^◌, ◌++◌, ◌∷◌, [], List, length, OnOk, Some};
+ghost use Rattle.std.specs.Prelude.{ℕ, ◌≡◌, ◌<◌, ◌+◌, ◌^◌, ◌∷◌, [], length, OnOk, Some};
 ghost use Rattle.jpeg_marker.specs.HeaderRefusals.{fault_in};
-ghost use Rattle.jpeg_marker.specs.MarkerSegments.{Segment};
-ghost use Rattle.jpeg_marker.specs.HeldTables.{table_in};
-ghost use Rattle.jpeg_marker.specs.GoodSegments.{body_fault, interval_fault};
+ghost use Rattle.jpeg_marker.specs.GoodSegments.{segment_fault, interval_fault, known_after};
 ghost use Rattle.jpeg_marker.specs.Frames.{frame_at, frame_fault};
 ghost use Rattle.jpeg_marker.specs.MarkerSegments.{number_at};
-ghost use Rattle.jpeg_marker.specs.HeaderWalks.{Knows};
+ghost use Rattle.jpeg_marker.specs.Walks.{nothing_known};
 
 use crate::frame::{Frame, read_frame};
 use crate::number::number_at;
@@ -14,35 +12,48 @@ use crate::refusal::HeaderRefusal;
 use crate::table::RawTable;
 use crate::tables::read_tables;
 
-/// The frame, the tables of both classes, four numbers to a class, and the restart interval.
-#[derive(Drop)]
+/// What headers say up to a place: the frame, the tables of both classes, four numbers to a class, and the restart
+/// interval; and of the scans up to there, which components they had and how many blocks.
+#[derive(Clone, Copy)]
 pub(crate) struct Definitions {
     pub(crate) frame: Option<Frame>,
     pub(crate) tables: [Option<RawTable>; 8],
     pub(crate) interval: u16,
+    // By the component's index in the frame.
+    pub(crate) coded: [bool; 4],
+    pub(crate) blocks: u32,
 }
 
 impl Definitions {
-    /// Before any segment.
+    /// What is known before any segment.
     pub(crate) fn new() -> Definitions
-        ensures { Knows result [] }
+        ensures { result ≡ nothing_known }
     {
         Definitions {
             frame: None,
             tables: [None; 8],
             interval: 0,
+            coded: [false; 4],
+            blocks: 0,
         }
+    }
+
+    /// A copy.
+    pub(crate) fn again(&self) -> Definitions
+        ensures same { result ≡ self.now }
+        ensures kept { result ≡ known_after self.now [] }
+    {
+        // Says to the proof how many tables are kept.
+        let _tables = &self.tables[..];
+        *self
     }
 
     /// Adds what a segment says that is no scan's. Its length is at place `at`.
     pub(crate) fn take(&mut self, code: u8, body: &[u8], at: usize) -> Result<(), HeaderRefusal>
-        requires other { code ≢ 0xda }
         requires room { at + 2 + length body.now < 2 ^ 64 }
-        ensures fault { fault_in result
-            ≡ body_fault self.old.frame (table_in self.old.tables) at code body.now }
-        ensures kept { OnOk result ((before : List Segment) (fill : ℕ) → Knows self.old before
-            → Knows self.new (before
-            ++ record { fill = fill; code = code; body = body.now } ∷ [])) }
+        ensures fault { fault_in result ≡ segment_fault self.old at code body.now }
+        ensures kept { OnOk result ((fill : ℕ) → self.new ≡ known_after self.old
+            (record { fill = fill; code = code; body = body.now } ∷ [])) }
     {
         match code {
             0xc0 => take_frame(&mut self.frame, body, at),

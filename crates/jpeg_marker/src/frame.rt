@@ -6,7 +6,7 @@ use crate::table::distinct;
 use std::marker::Model;
 
 /// A frame: lines, samples in a line, and one to four components.
-#[derive(Drop)]
+#[derive(Clone, Copy)]
 pub(crate) struct Frame {
     height: u16,
     width: u16,
@@ -16,14 +16,19 @@ pub(crate) struct Frame {
 
 impl Model for Frame {
     ghost use Rattle.jpeg_marker.specs.Frames.{FrameFields};
+    ghost use Rattle.std.specs.Prelude.{refl};
 
     ghost Value = { FrameFields };
 
-    ghost use Rattle.jpeg_marker.specs.FrameInside.{frame_fields, IsFrameInside};
+    ghost use Rattle.jpeg_marker.specs.FrameInside.{frame_fields, IsFrameInside, frame_inside};
 
     ghost view = { frame_fields };
 
     ghost invariant = { IsFrameInside };
+
+    ghost inverse = { frame_inside };
+
+    ghost inverse_ok = { λ a h. let e = h.room in Prim.rw (e, ← h.blank) refl };
 }
 
 impl Frame {
@@ -50,11 +55,11 @@ impl Frame {
     }
 }
 
-ghost use Rattle.std.specs.Prelude.{ℕ, ◌≡◌, ◌≤◌, ◌+◌, ◌*◌, ◌∷◌, [], length, take, map, sum_by, slice_index, drop, IfOk, OnOk, Option, None};
+ghost use Rattle.std.specs.Prelude.{ℕ, ◌≡◌, ◌≤◌, ◌+◌, ◌-◌, ◌*◌, ◌++◌, length, take, replicate, map, sum_by, slice_index, drop, IfOk, OnOk, Option, None};
 ghost use Rattle.std.specs.List.{list_all};
 ghost use Rattle.jpeg_marker.specs.MarkerSegments.{number_at};
 ghost use Rattle.jpeg_marker.specs.HeaderRefusals.{fault_in};
-ghost use Rattle.jpeg_marker.specs.Frames.{frame_at, frame_fault, numbers_fault, parts_of, is_sampled, area, fit_an_mcu, are_components};
+ghost use Rattle.jpeg_marker.specs.Frames.{no_part, frame_at, frame_fault, numbers_fault, parts_of, is_sampled, area, fit_an_mcu, are_components};
 
 /// Parses a frame header (SOF0). `body` is what follows the length field, which is at place `at`.
 pub(crate) fn read_frame(body: &[u8], at: usize) -> Result<Frame, HeaderRefusal>
@@ -113,6 +118,8 @@ fn list_parts(fields: &[u8]) -> Listed
     ensures ids { take result.count result.ids ≡ map (λ p. p.id) (parts_of fields.now) }
     ensures few { 3 * result.count ≤ length fields.now }
     ensures all { length fields.now ≤ 3 * result.count + 2 }
+    ensures blank { result.parts
+        ≡ take result.count result.parts ++ replicate (4 - result.count) no_part }
 {
     let mut parts = [FrameComponent { id: 0, h: 0, v: 0 }; 4];
     let mut ids = [0; 4];

@@ -1,54 +1,65 @@
-// How many MCUs and blocks a frame has (ITU-T T.81, A.1.1, A.2).
+// How many MCUs and blocks a scan has (ITU-T T.81, A.1.1, A.2).
 ghost use Rattle.std.specs.Prelude.{◌≡◌, ◌≤◌, ◌<◌, ◌*◌, ◌^◌, length, IsTrue};
+ghost use Rattle.std.specs.List.{AllByRecursion};
 ghost use Rattle.jpeg_marker.specs.Frames.{IsFrame};
-ghost use Rattle.jpeg_marker.specs.Plans.{largest, cover, across_of, down_of, blocks_in_mcu, blocks_of};
+ghost use Rattle.jpeg_marker.specs.Plans.{IsWithin, largest, sampled, cover, across_of, down_of, blocks_in_mcu};
 
 use crate::frame::{Frame, blocks_in};
 use crate::parameters::FrameComponent;
 
-/// MCUs in a row.
-pub(crate) fn across(frame: &Frame) -> u32
-    requires { IsFrame frame.now }
-    ensures value { result ≡ across_of frame.now }
+/// MCUs in a row of a scan of these components.
+pub(crate) fn across(frame: &Frame, scan: &[FrameComponent]) -> u32
+    requires frame { IsFrame frame.now }
+    requires within { AllByRecursion (IsWithin frame.now.parts) scan.now }
+    ensures value { result ≡ across_of frame.now scan.now }
     ensures few { result ≤ 8192 }
     ensures some { 1 ≤ result }
 {
-    let parts = frame.parts();
-    let blocks = if parts.len() == 1 {
-        1
+    let most = largest_h(frame.parts());
+    if scan.len() == 1 {
+        cover(sampled(frame.width(), scan[0].h, most), 1)
     } else {
-        largest_h(parts)
-    };
-    cover(frame.width(), blocks)
+        cover(frame.width(), most)
+    }
 }
 
-/// Rows of MCUs.
-pub(crate) fn down(frame: &Frame) -> u32
-    requires { IsFrame frame.now }
-    ensures value { result ≡ down_of frame.now }
+/// Rows of MCUs of a scan of these components.
+pub(crate) fn down(frame: &Frame, scan: &[FrameComponent]) -> u32
+    requires frame { IsFrame frame.now }
+    requires within { AllByRecursion (IsWithin frame.now.parts) scan.now }
+    ensures value { result ≡ down_of frame.now scan.now }
     ensures few { result ≤ 8192 }
     ensures some { 1 ≤ result }
 {
-    let parts = frame.parts();
-    let blocks = if parts.len() == 1 {
-        1
+    let most = largest_v(frame.parts());
+    if scan.len() == 1 {
+        cover(sampled(frame.height(), scan[0].v, most), 1)
     } else {
-        largest_v(parts)
-    };
-    cover(frame.height(), blocks)
+        cover(frame.height(), most)
+    }
 }
 
-/// Blocks in an MCU.
-pub(crate) fn blocks_in_mcu(frame: &Frame) -> u32
-    ensures value { result ≡ blocks_in_mcu frame.now.parts }
+/// Blocks in an MCU of these components.
+pub(crate) fn blocks_in_mcu(scan: &[FrameComponent]) -> u32
+    requires few { length scan.now ≤ 4 }
+    requires fit { blocks_in_mcu scan.now ≤ 10 }
+    ensures value { result ≡ blocks_in_mcu scan.now }
     ensures few { result ≤ 10 }
 {
-    let parts = frame.parts();
-    if parts.len() == 1 {
-        1
-    } else {
-        blocks_in(parts)
-    }
+    if scan.len() == 1 { 1 } else { blocks_in(scan) }
+}
+
+// Samples of a component in a line or column of this many samples of the picture, if its sampling factor is `factor`
+// and the largest one is `most`.
+fn sampled(samples: u16, factor: u8, most: u8) -> u16
+    requires some { 1 ≤ samples }
+    requires factor { 1 ≤ factor }
+    requires most { factor ≤ most }
+    ensures value { result ≡ sampled samples factor most }
+    ensures some { 1 ≤ result }
+{
+    let most = u32::from(most);
+    ((u32::from(samples) * u32::from(factor) + (most - 1)) / most) as u16
 }
 
 // MCUs that cover these samples, each as wide, or as high, as that many blocks of eight samples.

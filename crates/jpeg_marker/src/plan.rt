@@ -1,14 +1,16 @@
 // What a header says as a whole.
 use crate::component::Component;
+use crate::definitions::Definitions;
 use crate::frame::Frame;
 use crate::grid::{across, blocks_in_mcu, down};
+use crate::parameters::FrameComponent;
 use std::marker::Model;
 
-// The most blocks of a scan (own).
+// The most blocks of all scans of a file (own).
 const MOST_BLOCKS: u32 = 16_777_216;
 
-/// What a header says (ITU-T T.81, B.2): the components with their tables, the grid of MCUs, and the
-/// restart interval.
+/// What a header says (ITU-T T.81, B.2): the scan's components with their tables, its grid of MCUs, the restart
+/// interval, and what `read_next` has to know.
 #[derive(Clone, Copy)]
 pub struct Plan {
     components: [Component; 4],
@@ -18,6 +20,7 @@ pub struct Plan {
     interval: u16,
     header_length: usize,
     blocks: u32,
+    known: Definitions,
 }
 
 impl Model for Plan {
@@ -38,46 +41,74 @@ impl Model for Plan {
 }
 
 impl Plan {
-    ghost use Rattle.std.specs.Prelude.{◌≡◌, ◌↔◌, ◌≤◌, ◌-◌, ◌*◌, ◌++◌, length, take, map, replicate, IsSome, IfSome};
-    ghost use Rattle.jpeg_marker.specs.Plans.{IsPlan, part_of, plan_with, most_blocks, blocks_of};
+    ghost use Rattle.std.specs.Prelude.{◌≡◌, ◌↔◌, ◌≤◌, ◌+◌, ◌-◌, ◌*◌, ◌++◌, length, take, map, replicate, IsSome, IfSome};
+    ghost use Rattle.jpeg_marker.specs.Frames.{IsFrame};
+    ghost use Rattle.jpeg_marker.specs.Plans.{IsPlan, IsChoice, parts_at, part_of, plan_with, most_blocks, blocks_of, are_all_coded};
     ghost use Rattle.jpeg_marker.specs.Components.{no_component};
 
-    /// The plan of a frame with these components, of which none follows the last, if it doesn't have too
-    /// many blocks.
+    /// The plan of a scan of these components of the frame, after what is known, unless it has too many blocks with
+    /// those of the scans before.
     pub(crate) fn new(
+        known: &Definitions,
         frame: &Frame,
+        indexes: &[u8],
+        parts: &[FrameComponent],
         components: [Component; 4],
-        interval: u16,
         header_length: usize,
     ) -> Option<Plan>
-        requires theirs { map part_of (take (length frame.now.parts) components) ≡ frame.now.parts }
+        requires frame { IsFrame frame.now }
+        requires choice { IsChoice frame.now.parts indexes.now }
+        requires chosen { parts.now ≡ parts_at frame.now.parts indexes.now }
+        requires theirs { map part_of (take (length parts.now) components) ≡ parts.now }
+        requires numbered { map (λ c. c.index) (take (length parts.now) components) ≡ indexes.now }
         requires blank { components
-            ≡ take (length frame.now.parts) components
-            ++ replicate (4 - length frame.now.parts) no_component }
-        ensures some { IsSome result ↔ (blocks_of frame.now ≤ most_blocks) }
+            ≡ take (length parts.now) components
+            ++ replicate (4 - length parts.now) no_component }
+        ensures some { IsSome result
+            ↔ (known.now.blocks + blocks_of frame.now parts.now ≤ most_blocks) }
         ensures value { IfSome result (λ plan. plan
-            ≡ plan_with frame.now interval header_length
-            (take (length frame.now.parts) components)) }
+            ≡ plan_with known.now frame.now header_length (take (length parts.now) components)) }
     {
-        let count = frame.parts().len();
-        let across = across(frame);
-        let down = down(frame);
-        let blocks = across * down * blocks_in_mcu(frame);
-        if blocks > MOST_BLOCKS {
+        let count = parts.len();
+        let across = across(frame, parts);
+        let down = down(frame, parts);
+        let blocks = across * down * blocks_in_mcu(parts);
+        if blocks > MOST_BLOCKS || known.blocks > MOST_BLOCKS - blocks {
             return None;
         }
+        let mut after = *known;
+        after.coded = coded_after(&known.coded, indexes);
+        after.blocks += blocks;
         Some(Plan {
             components,
             count,
             across,
             down,
-            interval,
+            interval: known.interval,
             header_length,
             blocks,
+            known: after,
         })
     }
 
-    /// The components, in the frame's order.
+    /// What is known after the scan.
+    pub(crate) fn known(&self) -> &Definitions
+        ensures { result.now ≡ self.now.known }
+    {
+        &self.known
+    }
+
+    /// Whether the scans up to this one had all of the frame's components, so that none follows.
+    pub fn is_last(&self) -> bool
+        ensures { result ≡ are_all_coded self.now.known self.now.known.frame }
+    {
+        match &self.known.frame {
+            Some(frame) => are_all_coded(&self.known.coded, frame.parts().len()),
+            None => false,
+        }
+    }
+
+    /// The scan's components, in the frame's order.
     pub fn components(&self) -> &[Component]
         ensures value { result.now ≡ self.now.components }
         ensures kept { IsPlan self.now }
@@ -99,7 +130,7 @@ impl Plan {
         self.down
     }
 
-    /// MCUs of the whole grid.
+    /// MCUs of the scan's whole grid.
     pub fn mcus(&self) -> u32
         ensures value { result ≡ self.now.across * self.now.down }
         ensures some { 1 ≤ result }
@@ -122,11 +153,40 @@ impl Plan {
         self.header_length
     }
 
-    /// Blocks of the whole grid.
+    /// Blocks of the scan's whole grid.
     pub fn blocks(&self) -> u32
         ensures value { result ≡ self.now.blocks }
         ensures kept { IsPlan self.now }
     {
         self.blocks
     }
+}
+
+ghost use Rattle.std.specs.Prelude.{◌≡◌, ◌≤◌, take, IsTrue};
+ghost use Rattle.std.specs.List.{list_all};
+ghost use Rattle.jpeg_marker.specs.Plans.{are_indexes, coded_after};
+
+// Which components scans had, after one more with those of these indexes.
+fn coded_after(coded: &[bool; 4], indexes: &[u8]) -> [bool; 4]
+    requires { IsTrue (are_indexes 0 4 indexes.now) }
+    ensures { result ≡ coded_after coded.now indexes.now }
+{
+    let mut all = *coded;
+    for index in indexes {
+        all[usize::from(*index)] = true;
+    }
+    all
+}
+
+// Whether scans had each of the first `count` components.
+fn are_all_coded(coded: &[bool; 4], count: usize) -> bool
+    requires { count ≤ 4 }
+    ensures { result ≡ list_all (λ coded. coded) (take count coded.now) }
+{
+    for i in 0..count {
+        if !coded[i] {
+            return false;
+        }
+    }
+    true
 }

@@ -26,13 +26,13 @@ pub enum HeaderRefusal {
     TableBad { place: usize },
     /// A scan before the frame.
     NoFrame,
-    /// The scan leaves components out.
+    /// The scan of a file of one scan leaves components out, or a scan has a component that a scan before had.
     MultiScan,
-    /// The scan's parameters aren't those of a sequential scan of all components.
+    /// The scan's parameters aren't those of a sequential scan of some of the frame's components, in its order.
     ScanParams,
     /// A table that the scan names isn't there.
     NoTable,
-    /// More than 16,777,216 blocks.
+    /// More than 16,777,216 blocks, those of the scans before among them.
     TooManyBlocks,
 }
 

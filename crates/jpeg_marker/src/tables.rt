@@ -1,9 +1,9 @@
 // A segment of tables (ITU-T T.81, B.2.4.2).
-ghost use Rattle.std.specs.Prelude.{ℕ, ◌≡◌, ◌≤◌, ◌<◌, ◌+◌, ◌*◌, ◌/◌, ◌%◌, ◌^◌, ◌++◌, List, length, take, sum, IfOk, OnOk};
+ghost use Rattle.std.specs.Prelude.{◌≡◌, ◌≤◌, ◌<◌, ◌+◌, ◌*◌, ◌/◌, ◌%◌, ◌^◌, length, take, sum, IfOk, OnOk};
 ghost use Rattle.jpeg_marker.specs.HeaderRefusals.{fault_in};
-ghost use Rattle.jpeg_marker.specs.HuffmanTables.{Table, fields_at, tables_after};
+ghost use Rattle.jpeg_marker.specs.HuffmanTables.{fields_at, tables_after};
 ghost use Rattle.jpeg_marker.specs.TableFaults.{table_fault, tables_fault};
-ghost use Rattle.jpeg_marker.specs.HeldTables.{Holds};
+ghost use Rattle.jpeg_marker.specs.HeldTables.{tables_kept};
 
 use crate::refusal::HeaderRefusal;
 use crate::table::RawTable;
@@ -26,8 +26,7 @@ pub(crate) fn read_tables(
 ) -> Result<(), HeaderRefusal>
     requires { at + 2 + length body.now < 2 ^ 64 }
     ensures fault { fault_in result ≡ tables_fault at (at + 2) 0 body.now }
-    ensures kept { OnOk result ((before : List Table) → Holds tables.old before
-        → Holds tables.new (before ++ tables_after 0 body.now)) }
+    ensures kept { OnOk result (tables.new ≡ tables_kept tables.old (tables_after 0 body.now)) }
 {
     let mut place = at + 2;
     let mut rest = body;

@@ -1,5 +1,5 @@
 -- The header of a sample is one that is taken, and what it says.
-use Rattle.std.proofs.Common.{◌≡◌, ℕ, ◌+◌, ◌*◌, ◌/◌, ◌^◌, ◌<◌, ◌≤◌, Bool, true, false, List, [], ◌∷◌, ◌++◌, length, flat_map, refl, ap, ap₂, ◌∙◌, arith}
+use Rattle.std.proofs.Common.{◌≡◌, ℕ, ◌+◌, ◌*◌, ◌/◌, ◌^◌, ◌<◌, ◌≤◌, Bool, true, false, List, [], ◌∷◌, ◌++◌, length, flat_map, refl, ap, ap₂, ◌∙◌, arith, zero-add}
 use Rattle.std.specs.Prelude.{◌==◌, ◌||◌, nat_lt, Option, Some, None, if◌then◌else◌}
 use Rattle.std.specs.List.{AllByRecursion, list_all}
 use Rattle.std.proofs.lemmas.Bool.{and_parts, ltb-true}
@@ -8,17 +8,23 @@ use Rattle.bit_list.specs.Bits.{IsByte}
 use Rattle.huff_table.proofs.Pairs.{all-append}
 use Rattle.jpeg_marker.specs.declared.refusal.HeaderRefusal.{HeaderRefusal}
 use Rattle.jpeg_marker.specs.declared.refusal.HeaderRefusal.TheVariants.{SizeZero, TooManyBlocks}
+use Rattle.jpeg_marker.specs.Walks.{Walk}
+use Rattle.jpeg_marker.specs.FirstWalks.{only_walk}
 use Rattle.jpeg_marker.specs.HeaderPlan.{Accepts, plan_of}
 use Rattle.jpeg_marker.specs.HeaderRefusals.{or_else}
 use Rattle.jpeg_marker.specs.MarkerSegments.{Segment, is_known, number_at, segment_text, two_bytes}
 use Rattle.jpeg_marker.specs.Plans.{PlanFields, most_blocks}
 use Rattle.jpeg_marker.specs.GoodSegments.{ArePassed, IsGood, fault_of, length_place}
 use Rattle.sample_jpeg.specs.declared.extent.Extent.{Extent}
-use Rattle.sample_jpeg.specs.SampleHeader.{IsExtent, sample_header, sample_plan, sample_component, segments_before, segment, frame_segment, table_segment, scan_segment, dc_table, ac_table}
+use Rattle.sample_jpeg.specs.SampleHeader.{IsExtent, sample_header, sample_plan, sample_known, sample_component, segments_before, segment, frame_segment, table_segment, scan_segment, dc_table, ac_table}
+
+-- the walk over the header of a file of one scan
+abbrev one : Walk
+one = only_walk
 
 -- a segment that passes these tests
 good : (before : List Segment) (s : Segment) → is_known s.code ≡ true → nat_lt (length s.body + 2) (2 ^ 16) ≡ true
-    → fault_of before (length_place before s) s ≡ None → IsGood before s
+    → fault_of one before (length_place one before s) s ≡ None → IsGood one before s
 good before s known fits checked =
     record { whole = record { known = known; fits = ltb-true _ _ fits }; checked = checked }
 
@@ -44,7 +50,7 @@ size_fault is_zero = or_else (if is_zero then Some SizeZero else None) None
 
 -- the frame passes
 frame_checked : (e : Extent) → IsExtent e
-    → fault_of [] (length_place [] (frame_segment e)) (frame_segment e) ≡ None
+    → fault_of one [] (length_place one [] (frame_segment e)) (frame_segment e) ≡ None
 frame_checked e is =
     let high : 1 ≤ number_at (two_bytes (8 * e.rows)) = let h = is.high in omega arith in
     let wide : 1 ≤ number_at (two_bytes (8 * e.columns)) = let w = is.wide in omega arith in
@@ -54,7 +60,7 @@ frame_checked e is =
 small_product : (x y : ℕ) → x ≤ 256 → y ≤ 256 → x * y * 3 ≤ 4194304
 small_product x y p q = grind arith
 
-few_blocks : (x y : ℕ) → x ≤ 256 → y ≤ 256 → nat_lt most_blocks (x * y * 3) ≡ false
+few_blocks : (x y : ℕ) → x ≤ 256 → y ≤ 256 → nat_lt most_blocks (0 + x * y * 3) ≡ false
 few_blocks x y p q = let h = small_product x y p q in grind (arith, nat_tests)
 
 -- what the number of blocks is checked for
@@ -63,9 +69,9 @@ block_fault is_large = or_else None (or_else None (if is_large then Some TooMany
 
 -- the scan passes after such a frame and the tables
 scan_checked : (columns rows : ℕ) → columns ≤ 256 → rows ≤ 256
-    → block_fault (nat_lt most_blocks (blocks_again columns * blocks_again rows * 3)) ≡ None
+    → block_fault (nat_lt most_blocks (0 + blocks_again columns * blocks_again rows * 3)) ≡ None
 scan_checked columns rows narrow low =
-    ap₂ (λ (across down : ℕ). block_fault (nat_lt most_blocks (across * down * 3)))
+    ap₂ (λ (across down : ℕ). block_fault (nat_lt most_blocks (0 + across * down * 3)))
     (cover_again columns) (cover_again rows)
     ∙ ap block_fault (few_blocks columns rows narrow low)
 
@@ -75,7 +81,7 @@ extent restarts columns rows = record { restarts = restarts; columns = columns; 
 
 -- the segments before the scan's pass, with an interval or without one
 passed_at : (restarts : Bool) (columns rows : ℕ) → IsExtent (extent restarts columns rows)
-    → ArePassed (segments_before (extent restarts columns rows))
+    → ArePassed one (segments_before (extent restarts columns rows))
 passed_at true columns rows is = record {
   good = (
     good _ _ refl refl (frame_checked (extent true columns rows) is),
@@ -93,33 +99,48 @@ passed_at false columns rows is = record {
 
 -- and the scan's passes after them
 scan_good : (restarts : Bool) (columns rows : ℕ) → IsExtent (extent restarts columns rows)
-    → IsGood (segments_before (extent restarts columns rows)) scan_segment
+    → IsGood one (segments_before (extent restarts columns rows)) scan_segment
 scan_good true columns rows is = good _ _ refl refl (scan_checked columns rows is.narrow is.low)
 scan_good false columns rows is = good _ _ refl refl (scan_checked columns rows is.narrow is.low)
 
 -- a plan of these numbers
-abbrev plan_by : ℕ → ℕ → ℕ → ℕ → PlanFields
-plan_by header_length interval across down = record {
-  components = sample_component 1 ∷ sample_component 2 ∷ sample_component 3 ∷ [];
+abbrev plan_by : ℕ → ℕ → ℕ → ℕ → ℕ → ℕ → ℕ → PlanFields
+plan_by header_length interval across down height width total = record {
+  components = sample_component 0 ∷ sample_component 1 ∷ sample_component 2 ∷ [];
   across = across;
   down = down;
   interval = interval;
   header_length = header_length;
   blocks = across * down * 3;
+  known = sample_known height width interval total;
 }
 
+-- the sizes that the frame says, and the blocks in all
+said_again : (whole interval columns rows : ℕ)
+    → Some (plan_by whole interval columns rows (number_at (two_bytes (8 * rows))) (number_at (two_bytes (8 * columns))) (0 + columns * rows * 3))
+    ≡ Some (plan_by whole interval columns rows (8 * rows) (8 * columns) (columns * rows * 3))
+said_again whole interval columns rows =
+    ap₂ (λ (high wide : ℕ). Some (plan_by whole interval columns rows high wide (0 + columns * rows * 3))) (number_again (8 * rows)) (number_again (8 * columns))
+    ∙ ap (λ (total : ℕ). Some (plan_by whole interval columns rows (8 * rows) (8 * columns) total)) (zero-add (columns * rows * 3))
+
 -- what the header says
-says_at : (restarts : Bool) (columns rows : ℕ) → plan_of (segments_before (extent restarts columns rows)) scan_segment
+says_at : (restarts : Bool) (columns rows : ℕ) → plan_of one (segments_before (extent restarts columns rows)) scan_segment
     ≡ Some (sample_plan (extent restarts columns rows))
 unfolding sample_header
 says_at true columns rows =
     let whole = length (sample_header (extent true columns rows)) in
-    ap₂ (λ (across down : ℕ). Some (plan_by whole (number_at (two_bytes columns)) across down))
+    let high = number_at (two_bytes (8 * rows)) in
+    let wide = number_at (two_bytes (8 * columns)) in
+    ap₂ (λ (across down : ℕ). Some (plan_by whole (number_at (two_bytes columns)) across down high wide (0 + across * down * 3)))
     (cover_again columns) (cover_again rows)
-    ∙ ap (λ (interval : ℕ). Some (plan_by whole interval columns rows)) (number_again columns)
+    ∙ ap (λ (interval : ℕ). Some (plan_by whole interval columns rows high wide (0 + columns * rows * 3))) (number_again columns)
+    ∙ said_again whole columns columns rows
 says_at false columns rows =
     let whole = length (sample_header (extent false columns rows)) in
-    ap₂ (λ (across down : ℕ). Some (plan_by whole 0 across down)) (cover_again columns) (cover_again rows)
+    let high = number_at (two_bytes (8 * rows)) in
+    let wide = number_at (two_bytes (8 * columns)) in
+    ap₂ (λ (across down : ℕ). Some (plan_by whole 0 across down high wide (0 + across * down * 3))) (cover_again columns) (cover_again rows)
+    ∙ said_again whole 0 columns rows
 
 -- it is taken, whatever follows, and says what the plan has
 pub sample_accepts : (e : Extent) (rest : List ℕ) → IsExtent e → Accepts (sample_header e ++ rest) (sample_plan e)

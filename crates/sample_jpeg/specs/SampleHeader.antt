@@ -1,12 +1,14 @@
 -- Statement: the header of a sample (docs/SAMPLE.md, The file; ITU-T T.81, B.2): a frame of three components without
 -- subsampling, one table of each class with every symbol that a baseline scan may need, and, if the sample has
 -- restarts, an interval of one row of MCUs.
-use Rattle.std.specs.Prelude.{ℕ, ◌*◌, ◌-◌, ◌%◌, ◌≤◌, Bool, ◌&&◌, ◌||◌, ◌==◌, nat_le, if◌then◌else◌, List, [], ◌∷◌, ◌++◌, filter, length, replicate}
+use Rattle.std.specs.Prelude.{ℕ, ◌+◌, ◌*◌, ◌-◌, ◌%◌, ◌≤◌, Bool, true, false, ◌&&◌, ◌||◌, ◌==◌, nat_le, if◌then◌else◌, List, [], ◌∷◌, ◌++◌, filter, length, replicate, Some, None}
 use Rattle.std.specs.List.{range_with_len}
 use Rattle.jpeg_marker.specs.HuffmanTables.{TableFields}
 use Rattle.jpeg_marker.specs.MarkerSegments.{Segment, header_text, two_bytes}
 use Rattle.jpeg_marker.specs.Plans.{PlanFields}
 use Rattle.jpeg_marker.specs.declared.component.Component.{Component}
+use Rattle.jpeg_marker.specs.declared.definitions.Definitions.{Definitions}
+use Rattle.jpeg_marker.specs.declared.parameters.FrameComponent.{FrameComponent}
 use Rattle.sample_jpeg.specs.declared.extent.Extent.{Extent}
 
 -- the picture that a seed gives: an odd one has restarts (own)
@@ -63,19 +65,46 @@ scan_segment = segment 0xda (3 ∷ 1 ∷ 0 ∷ 2 ∷ 0 ∷ 3 ∷ 0 ∷ 0 ∷ 63 
 unfoldable pub sample_header : Extent → List ℕ
 sample_header e = header_text (segments_before e ++ scan_segment ∷ [])
 
--- a component with its tables
+-- a component of an index with its tables
 abbrev pub sample_component : ℕ → Component
-sample_component id = record { id = id; h = 1; v = 1; dc = dc_table; ac = ac_table }
+sample_component index = record {
+  index = index;
+  id = index + 1;
+  h = 1;
+  v = 1;
+  dc = dc_table;
+  ac = ac_table;
+}
+
+-- what the frame says of it
+abbrev pub sample_part : ℕ → FrameComponent
+sample_part index = record { id = index + 1; h = 1; v = 1 }
+
+-- what is known after the scan: the frame, the two tables, and that all components were coded
+abbrev pub sample_known : ℕ → ℕ → ℕ → ℕ → Definitions
+sample_known height width interval blocks = record {
+  frame = Some (record {
+    height = height;
+    width = width;
+    parts = sample_part 0 ∷ sample_part 1 ∷ sample_part 2 ∷ [];
+  });
+  tables = Some dc_table ∷ replicate 3 None ++ Some ac_table ∷ replicate 3 None;
+  interval = interval;
+  coded = replicate 3 true ++ false ∷ [];
+  blocks = blocks;
+}
 
 -- what the header says: an MCU is a block of each component (A.2.3)
 abbrev pub sample_plan : Extent → PlanFields
 sample_plan e = record {
-  components = sample_component 1 ∷ sample_component 2 ∷ sample_component 3 ∷ [];
+  components = sample_component 0 ∷ sample_component 1 ∷ sample_component 2 ∷ [];
   across = e.columns;
   down = e.rows;
   interval = if e.restarts then e.columns else 0;
   header_length = length (sample_header e);
   blocks = e.columns * e.rows * 3;
+  known = sample_known (8 * e.rows) (8 * e.columns) (if e.restarts then e.columns else 0)
+      (e.columns * e.rows * 3);
 }
 
 -- from 1 to 256 blocks across and down

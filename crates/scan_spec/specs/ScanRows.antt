@@ -42,7 +42,7 @@ blank = replicate 64 (pos 0) ∷ []
 
 -- a component by its sampling factors
 abbrev pub component : ℕ → ℕ → Component
-component h v = record { id = 0; h = h; v = v; dc = no_table; ac = no_table }
+component h v = record { index = 0; id = 0; h = h; v = v; dc = no_table; ac = no_table }
 
 -- how many pad bits each interval has
 abbrev pub counts : Shape → List Mcu → List ℕ

@@ -1,5 +1,5 @@
-use Rattle.std.proofs.Common.{◌≡◌, ◌+◌, ◌*◌, ◌++◌, length, take, map}
-use Rattle.jpeg_marker.specs.Frames.{parts_of}
+use Rattle.std.proofs.Common.{◌≡◌, ◌+◌, ◌-◌, ◌*◌, ◌++◌, length, take, map, replicate}
+use Rattle.jpeg_marker.specs.Frames.{parts_of, no_part}
 use Rattle.jpeg_marker.proofs.frame.list_parts.Given as goal
 
 abbrev pub invariant-loop-rest : goal.invariant-loop-rest
@@ -8,6 +8,7 @@ invariant-loop-rest l = record {
   parts : take l.count l.parts ++ parts_of l.rest ≡ parts_of l.fields;
   ids : take l.count l.ids ≡ map (λ p. p.id) (take l.count l.parts);
   parts_size : length l.parts ≡ 4;
+  blank : l.parts ≡ take l.count l.parts ++ replicate (4 - l.count) no_part;
   ids_size : length l.ids ≡ 4;
 }
 

@@ -1,4 +1,4 @@
-use Rattle.std.proofs.Common.{◌≡◌, ◌+◌, ◌-◌, ◌∷◌, length, get_or, take, drop, arith, ap, sym, refl, ◌∙◌}
+use Rattle.std.proofs.Common.{rules, ◌≡◌, ◌+◌, ◌-◌, ◌∷◌, length, get_or, take, drop, arith, ap, sym, refl, ◌∙◌}
 use Rattle.std.proofs.lemmas.List.{take_all, length-drop}
 use Rattle.jpeg_marker.specs.TableFaults.{tables_fault}
 use Rattle.jpeg_marker.proofs.SegmentTexts.{prefix_is}
@@ -6,7 +6,7 @@ use Rattle.jpeg_marker.proofs.TableLists.{tables_fault-more, Held-start, Held-mo
 use Rattle.jpeg_marker.proofs.tables.read_tables.Goals as goal
 
 pub loop-rest-init : goal.loop-rest-init
-loop-rest-init c = record { fault = refl; room = refl; held = Held-start _ _ }
+loop-rest-init c = record { fault = refl; room = refl; held = Held-start _ _ (search rules) }
 
 pub loop-rest-preserved : goal.loop-rest-preserved
 loop-rest-preserved c =

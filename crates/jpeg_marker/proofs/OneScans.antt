@@ -1,0 +1,101 @@
+-- A file of one scan as one of several.
+use Rattle.std.proofs.Common.{◌≡◌, ℕ, zero, suc, ◌+◌, ◌*◌, ◌≤◌, zero-add, Bool, true, false, ◌||◌, not, List, [], ◌∷◌, ◌++◌, length, map, take, replicate, Option, Some, None, refl, ap, sym, ◌∙◌, arith, subst, cond, eqb, ltb}
+use Rattle.std.specs.List.{list_all}
+use Rattle.jpeg_marker.specs.declared.refusal.HeaderRefusal.{HeaderRefusal}
+use Rattle.jpeg_marker.specs.declared.refusal.HeaderRefusal.TheVariants.{LengthBad, MultiScan, ScanParams}
+use Rattle.jpeg_marker.specs.declared.parameters.FrameComponent.{FrameComponent}
+use Rattle.jpeg_marker.specs.declared.component.Component.{Component}
+use Rattle.jpeg_marker.specs.declared.definitions.Definitions.{Definitions}
+use Rattle.jpeg_marker.specs.declared.scans.Scans.TheVariants.{One, Several}
+use Rattle.jpeg_marker.specs.HeaderRefusals.{or_else}
+use Rattle.jpeg_marker.specs.MarkerSegments.{Segment}
+use Rattle.jpeg_marker.specs.Frames.{FrameFields}
+use Rattle.jpeg_marker.specs.Plans.{order_fault, range_fault, plan_fault, scan_components, scan_fault, scan_count, scan_selectors, indexes_from, indexes_fault, leaves_out, coded_after, are_all_coded}
+use Rattle.jpeg_marker.specs.Walks.{first_walk}
+use Rattle.jpeg_marker.specs.GoodSegments.{known_after, length_place, IsGood, AreGoodAfter}
+use Rattle.jpeg_marker.specs.AcceptedPlans.{OneIsLast, OneIsSeveral}
+use Rattle.jpeg_marker.proofs.Choices.{Rising, rising_few}
+use Rattle.jpeg_marker.proofs.HeadersTaken.{accepted_has_all}
+
+or_else_more : (a b c : Option HeaderRefusal) → (a ≡ None → b ≡ None) → or_else a c ≡ None → or_else b c ≡ None
+or_else_more (Some r) b c f h = cc
+or_else_more None b c f h = rw (f refl) h
+
+skipped : (a b : Bool) (x y : HeaderRefusal) (rest : Option HeaderRefusal) → cond a (Some x) (cond b (Some y) rest) ≡ None → cond a (Some x) rest ≡ None
+skipped true b x y rest h = cc
+skipped false true x y rest h = cc
+skipped false false x y rest h = h
+
+order_more : (coded : List Bool) (parts : List FrameComponent) (at : ℕ) (body : List ℕ) → order_fault One coded parts at body ≡ None → order_fault Several coded parts at body ≡ None
+order_more coded parts at body h =
+    skipped (ltb (length body) 1 || not (eqb (length body) (4 + 2 * scan_count body))) (leaves_out One (scan_count body) (length parts)) (LengthBad at) MultiScan
+    (cond (eqb (scan_count body) 0 || ltb (length parts) (scan_count body)) (Some ScanParams) (indexes_fault coded (indexes_from 0 parts (scan_selectors body)))) h
+
+scan_more : (known : Definitions) (frame : Option FrameFields) (at : ℕ) (body : List ℕ) → scan_fault One known frame at body ≡ None → scan_fault Several known frame at body ≡ None
+scan_more known None at body h = cc
+scan_more known (Some f) at body h =
+    or_else_more (order_fault One known.coded f.parts at body) (order_fault Several known.coded f.parts at body) (or_else (range_fault body) (plan_fault known.blocks f (scan_components known f body))) (order_more known.coded f.parts at body) h
+
+chosen : (b : Bool) (x u y : Option HeaderRefusal) → (x ≡ None → u ≡ None) → cond b x y ≡ None → cond b u y ≡ None
+chosen true x u y f h = f h
+chosen false x u y f h = h
+
+good_more : (before : List Segment) (s : Segment) → IsGood (first_walk One) before s → IsGood (first_walk Several) before s
+good_more before s good = record {
+  whole = good.whole;
+  checked =
+      let known = known_after (first_walk One).known before in
+      let at = length_place (first_walk One) before s in
+      chosen (eqb s.code 218) (scan_fault One known known.frame at s.body) (scan_fault Several known known.frame at s.body) _ (scan_more known known.frame at s.body) good.checked;
+}
+
+are_good_more : (before segments : List Segment) → AreGoodAfter (first_walk One) before segments → AreGoodAfter (first_walk Several) before segments
+are_good_more before [] good = tt
+are_good_more before (s ∷ segments) good = (good_more before s good.0, are_good_more (before ++ s ∷ []) segments good.1)
+
+pub one_is_several : OneIsSeveral
+one_is_several bytes plan is = record {
+  before = is.before;
+  scan = is.scan;
+  rest = is.rest;
+  header = record {
+    passed = record { good = are_good_more [] is.before is.header.passed.good; no_scan = is.header.passed.no_scan };
+    good = good_more is.before is.scan is.header.good;
+    last = is.header.last;
+  };
+  text = is.text;
+  says = is.says;
+}
+
+-- so many indexes are all
+numbers : ℕ → ℕ → List ℕ
+numbers from zero = []
+numbers from (suc n) = from ∷ numbers (from + 1) n
+
+rising_all : (from : ℕ) (is : List ℕ) → Rising from (from + length is) is → is ≡ numbers from (length is)
+unfolding numbers
+rising_all from [] h = refl
+rising_all from (i ∷ is) h =
+    let few = rising_few (i + 1) (from + suc (length is)) is (let b = h.1 in omega arith) h.2 in
+    let first : i ≡ from = (let a = h.0 in omega arith) in
+    let rest = rising_all (from + 1) is (subst (λ (b : ℕ). Rising (from + 1) b is) (omega arith) (subst (λ (n : ℕ). Rising (n + 1) (from + suc (length is)) is) first h.2)) in
+    rw first (ap (λ (others : List ℕ). from ∷ others) rest)
+
+all_coded : (n : ℕ) → n ≤ 4 → list_all (λ coded. coded) (take n (coded_after (replicate 4 false) (numbers 0 n))) ≡ true
+unfolding numbers
+all_coded zero h = refl
+all_coded (suc zero) h = refl
+all_coded (suc (suc zero)) h = refl
+all_coded (suc (suc (suc zero))) h = refl
+all_coded (suc (suc (suc (suc zero)))) h = refl
+all_coded (suc (suc (suc (suc (suc n))))) h = absurd (omega arith)
+
+pub one_is_last : OneIsLast
+one_is_last bytes plan all is =
+    let has = accepted_has_all bytes plan all is in
+    let n = length has.frame.parts in
+    let indexes = map (λ (c : Component). c.index) plan.components in
+    let are : indexes ≡ numbers 0 n = rising_all 0 indexes (subst (λ (m : ℕ). Rising 0 m indexes) (sym has.long ∙ sym (zero-add (length indexes))) has.rising) ∙ ap (numbers 0) has.long in
+    ap (λ (frame : Option FrameFields). are_all_coded plan.known frame) has.there
+    ∙ ap (λ (coded : List Bool). list_all (λ b. b) (take n coded)) (has.coded ∙ ap (coded_after (replicate 4 false)) are)
+    ∙ all_coded n has.few
