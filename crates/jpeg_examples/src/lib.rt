@@ -6,6 +6,8 @@ mod blocks;
 #[cfg(test)]
 mod code_words;
 #[cfg(test)]
+mod further_headers;
+#[cfg(test)]
 mod marker_segments;
 #[cfg(test)]
 mod plans;
