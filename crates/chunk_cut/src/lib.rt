@@ -3,8 +3,8 @@
 //!     bytes --read_header--> plan --find_rows--> where each row starts
 //!     chunk --its rows--> segments --encode_all--> streams --write_box--> container of version 3
 //!
-//! A `ChunkCutter` reads a file's scan once, and cuts each chunk from it. Which rows a chunk has is `chunk_spec`'s, what
-//! its container stands for `container_spec`'s.
+//! A `ChunkCutter` reads a file's scan once, and cuts each chunk from it. Which rows a chunk has is `chunk_spec`'s,
+//! what its container stands for `container_spec`'s.
 #![tactic(auto)]
 
 mod cutter;

@@ -72,7 +72,7 @@ pub fn prepare_alone(alloc: Global, bytes: &[u8]) -> Result<ReadyAlone<'_>, Prep
 }
 
 /// Writes what `run` writes, and answers what it answers, on the calling thread. Nothing in it waits, so it returns, on
-/// any container. It allocates nothing.
+/// any container, if the calls of the sink and of the gate return. It allocates nothing.
 ///
 /// At each moment, also while the call is under way, what was written is a prefix of the bytes that the container
 /// stands for, since the sink need take nothing else.

@@ -15,8 +15,8 @@ pub enum DecodeError {
     /// padded bits are all the same, or with 0 for an interval that pads none. All bytes are written.
     #[error("PadSpelling")]
     PadSpelling,
-    /// 47: a chunk's segments have fewer bytes than it says. Its part of the header is written, and its bytes of theirs;
-    /// nothing of the trailer.
+    /// 47: a chunk's segments have fewer bytes than it says. Its part of the header is written, and its bytes of
+    /// theirs; nothing of the trailer.
     #[error("ChunkShort")]
     ChunkShort,
 }

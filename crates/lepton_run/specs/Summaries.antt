@@ -5,11 +5,11 @@ use Rattle.box_format.specs.declared.version.Version.TheVariants.{Second}
 use Rattle.container_spec.specs.Files.{IsContainerOf}
 use Rattle.sample_jpeg.specs.SampleFile.{sample_file}
 
--- the most segments that a sample is encoded in, and the workers that decode it
+-- the most segments that a sample is encoded in
 abbrev pub sample_segments : ℕ
 sample_segments = 8
 
--- and the workers that decode it
+-- the most workers that decode it
 abbrev pub sample_workers : ℕ
 sample_workers = 4
 
@@ -17,8 +17,8 @@ sample_workers = 4
 abbrev pub entry : List ℕ → ℕ → List ℕ
 entry word number = word ++ (decimal number ++ 10 ∷ [])
 
--- the lines: how many bytes the file has, how many its container, its segments, the workers that decode it, and how
--- many bytes they restore
+-- the lines: how many bytes the file has, how many its container, its segments, the workers that decode it at most, and
+-- how many bytes they restore
 abbrev pub summary_of : ℕ → ℕ → ℕ → ℕ → List ℕ
 summary_of file made segments restored =
     entry (codes "file ") file

@@ -17,8 +17,8 @@ pub fn decode_undoes_encode()
         → Answers (Decode workers) made (Made file) }
 {}
 
-/// Each chunk of a file is decoded alone: of the container that `chunk` makes, decode makes that slice of the file, with
-/// any number of workers. The chunks of a size one after another are the file.
+/// Each chunk of a file is decoded alone: of the container that `chunk` makes, decode makes that slice of the file,
+/// with any number of workers. The chunks of a size one after another are the file.
 pub fn chunks_are_decoded_alone()
     ensures slice { (index size segments workers : ℕ) (file made : List ℕ) → 0 < segments
         → segments ≤ (layout_of Third).most

@@ -7,8 +7,9 @@
 //!                               sample:  number --> file --> container --> file again --> five lines --> sink
 //!                                                                            ending --> stderr, status
 //!
-//! `run` carries the theorem as clauses of its own. The arguments, the container of a file, that of a chunk, the file of
-//! a container and the file of a number are crates below. Here are the order of the answers, the statuses and the lines.
+//! `run` carries the theorem as clauses of its own. The arguments, the container of a file, that of a chunk, the file
+//! of a container and the file of a number are crates below. Here are the order of the answers, the statuses and the
+//! lines.
 #![tactic(auto)]
 
 mod commands;

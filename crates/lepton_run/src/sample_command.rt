@@ -83,8 +83,8 @@ fn encoded<R: Threads + Sync>(rt: &R, alloc: Global, file: &[u8]) -> Result<Vec<
     }
 }
 
-// How many bytes the decoder says that it restored: as many as the file has. The sink keeps none of them; what it counts
-// tells no clause anything, and isn't looked at.
+// How many bytes the decoder says that it restored: as many as the file has. The sink keeps none of them; what it
+// counts tells no clause anything, and isn't looked at.
 fn restored<R: Threads + Wait + Sync, G: Gate + Sync>(
     rt: &R,
     alloc: Global,

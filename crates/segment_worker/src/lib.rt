@@ -7,10 +7,10 @@
 //!     alone    for each segment in order:                 begin, step --> piece --write_all--> sink
 //!
 //! What a call of the board does is `output_board`'s, and what a segment's stream gives `segment_code`'s. Who runs in
-//! which thread is not handled here (see `lepton_decode`): `work` and `emit` are right with any number of workers, in any
-//! order of their calls.
-//! Of each piece what a window lets through is written (see `byte_window`), and all that came is counted.
-//! `emit_alone` writes what `emit` does with no board, on one thread. Nothing in it waits, so it is proved to return.
+//! which thread is not handled here (see `lepton_decode`): `work` and `emit` are right with any number of workers, in
+//! any order of their calls. Of each piece what a window lets through is written (see `byte_window`), and all that came
+//! is counted. `emit_alone` writes what `emit` does with no board, on one thread. Nothing in it waits, so it
+//! returns if the sink's calls return.
 #![tactic(auto)]
 
 mod alone;
