@@ -1,5 +1,5 @@
 -- A container has one spelling.
-use Rattle.std.proofs.Common.{◌≡◌, ◌<◌, ◌≤◌, ◌+◌, ◌-◌, ◌==◌, ◌||◌, ◌&&◌, not, Bool, true, false, ℕ, List, ◌++◌, length, take, drop, map, nat_lt, flat_map, refl, sym, ap, ap₂, ◌∙◌, arith, subst, inl, inr, length-append}
+use Rattle.std.proofs.Common.{◌≡◌, ◌<◌, ◌≤◌, ◌+◌, ◌*◌, ◌-◌, ◌==◌, ◌||◌, ◌&&◌, not, Bool, true, false, if◌then◌else◌, ℕ, List, [], ◌∷◌, ◌++◌, length, take, drop, map, nat_lt, flat_map, refl, sym, ap, ap₂, ◌∙◌, arith, subst, inl, inr, length-append}
 use Rattle.std.specs.Prelude.{slice_index, bytes_eq, sum, Option, Some, None, IfSome, is_some}
 use Rattle.std.proofs.lemmas.Bool.{le-ltb, lt-ltb, eq-eqb, ne_eqb, eqb-true, ltb-true, or_from, and_right}
 use Rattle.std.proofs.lemmas.List.{take_at, drop_at, drop-drop}
@@ -9,39 +9,41 @@ use Rattle.jpeg_marker.proofs.HeaderLaws as header_laws
 use Rattle.scan_spec.specs.Slots.{Shape, shape_of}
 use Rattle.handover.specs.Handovers.{HandoverFields}
 use Rattle.scan_spec.specs.Pads.{PadBits, Same, Listed}
-use Rattle.box_format.specs.Versions.{layout_of, version_in, is_version}
+use Rattle.box_format.specs.Versions.{layout_of, version_in, is_version, decoded}
 use Rattle.cut_spec.specs.Cuts.{Cut}
 use Rattle.box_format.specs.Parts.{BoxParts, IsBox, IsBoxOf, IsCut, IsChunkIn, header_part, rows_most, magic, pad_byte, list_bytes, can_pad, records, box_bytes, bad_start, box_cut}
-use Rattle.box_format.specs.Raws.{Raw, raw_of, parts_of, chunk_in, numbers, parted, handover_at, front_room, record_place, list_place, list_long, pads_in, stream_length, stream_lengths, segments_in, header_length, header_place, trailer_length, trailer_place, streams_place, named_end}
-use Rattle.box_format.specs.BoxChecks.{PassesChecks, FailsAfter, early_fault, late_fault, are_wrong, is_bad_chunk, is_bad_pad}
+use Rattle.box_format.specs.Raws.{Raw, raw_of, parts_of, chunk_in, places_in, place_in, scan_end, record_room, numbers, parted, handover_at, front_room, record_place, list_place, list_long, pads_in, stream_length, stream_lengths, segments_in, header_length, header_place, trailer_length, trailer_place, streams_place, named_end}
+use Rattle.box_format.specs.BoxChecks.{PassesChecks, FailsAfter, early_fault, late_fault, are_bad_places, are_wrong, is_bad_chunk, is_bad_pad}
 use Rattle.box_format.specs.BoxLaws.{IsRead, BoxPasses, OneBox, OneBoxRefusal, NeverBoth, MigratedIsBox}
 use Rattle.box_format.specs.Whole.{IsWhole, header_in, trailer_in, list_in}
 use Rattle.box_format.specs.declared.chunk.Chunk.{Chunk}
 use Rattle.box_format.specs.declared.version.Version.{Version}
-use Rattle.box_format.specs.declared.version.Version.TheVariants.{Third}
 use Rattle.box_format.specs.declared.refusal.BoxRefusal.{BoxRefusal}
 use Rattle.box_format.specs.declared.refusal.BoxRefusal.TheVariants.{BoxHeader}
-use Rattle.box_format.proofs.Fronts.{Fits, most_more, front_low, version_is, is_one, byte_high, pads_again, pads_good, none_listed}
+use Rattle.box_format.proofs.Fronts.{Fits, most_more, front_low, version_is, pads_again, pads_good, none_listed}
+pub use Rattle.box_format.proofs.Fronts.{all_read}
+use Rattle.box_format.proofs.Places.{not_bad_places, place_fits}
 use Rattle.box_format.proofs.Passed.{IsEarly, IsLate, early_of, early_none, late_none}
 pub use Rattle.box_format.proofs.PassedBox.{passed_is_box}
-use Rattle.box_format.proofs.Written.{IsLaid, AreRead, laid_box, records_read, records_long, streams_again, streams_long}
+use Rattle.box_format.proofs.Written.{IsLaid, AreRead, laid_box, room_is, room_with, records_read, records_long, places_again, streams_again, streams_long}
 
 -- ---- a container's checks pass
 
-pub parts_same : (v : Version) (c : Option Chunk) (p : PadBits) (h t : List ℕ)
-    (hs : List HandoverFields) (ss : List (List ℕ)) (b : BoxParts)
-    → v ≡ b.version → c ≡ b.chunk → p ≡ b.pads → h ≡ b.header → t ≡ b.trailer → hs ≡ b.handovers
-    → ss ≡ b.streams
+pub parts_same : (v : Version) (c : Option Chunk) (ps : Option (List ℕ)) (p : PadBits)
+    (h t : List ℕ) (hs : List HandoverFields) (ss : List (List ℕ)) (b : BoxParts)
+    → v ≡ b.version → c ≡ b.chunk → ps ≡ b.places → p ≡ b.pads → h ≡ b.header → t ≡ b.trailer
+    → hs ≡ b.handovers → ss ≡ b.streams
     → ◌≡◌ {A = BoxParts} (record {
       version = v;
       chunk = c;
+      places = ps;
       pads = p;
       header = h;
       trailer = t;
       handovers = hs;
       streams = ss;
     }) b
-parts_same v c p h t hs ss b d k e f g i j = rw (d, k, e, f, g, i, j) refl
+parts_same v c ps p h t hs ss b d k q e f g i j = rw (d, k, q, e, f, g, i, j) refl
 
 some_if : (cut : Cut) → (nat_lt cut.from cut.to ≡ true → 0 < cut.segments)
     → (nat_lt cut.from cut.to && cut.segments == 0) ≡ false
@@ -97,18 +99,23 @@ fits down header trailer (Some c) is = record {
   to = is.to_fits;
 }
 
-module _ (newest : Version) (plan : PlanFields) (b : BoxParts) (bytes : List ℕ)
-    (read_is : IsRead newest b.version) (laid : IsLaid bytes b) (is : IsBox plan b) where
+module _ (versions : List Version) (plan : PlanFields) (b : BoxParts) (bytes : List ℕ)
+    (read_is : IsRead versions b.version) (laid : IsLaid bytes b) (is : IsBox plan b) where
   abbrev joined : List ℕ
   joined = flat_map (λ stream. stream) b.streams
 
   abbrev listed : List ℕ
   listed = list_bytes b.pads
 
-  read : AreRead bytes 0 b.handovers b.streams (listed ++ (b.header ++ (b.trailer ++ joined)))
+  room : record_room bytes ≡ room_with b.places
+  room = ap (λ v. (layout_of v).room) laid.version ∙ room_is b.version b.places is.placed
+
+  read : AreRead bytes 0 b.places b.handovers b.streams
+      (listed ++ (b.header ++ (b.trailer ++ joined)))
   read =
       let zero : record_place bytes 0 ≡ front_room bytes = omega arith in
-      records_read bytes (listed ++ (b.header ++ (b.trailer ++ joined))) 0 b.handovers b.streams
+      records_read bytes (listed ++ (b.header ++ (b.trailer ++ joined))) 0 b.places b.handovers
+      b.streams room (place_fits (length b.header) (length b.handovers) b.places is.places)
       (ap (λ (p : ℕ). drop p bytes) zero ∙ laid.after) is.streams is.each is.streams_fit
 
   at_list : drop (list_place bytes) bytes ≡ listed ++ (b.header ++ (b.trailer ++ joined))
@@ -157,13 +164,22 @@ module _ (newest : Version) (plan : PlanFields) (b : BoxParts) (bytes : List ℕ
   all_streams : parted (stream_lengths bytes) (drop (streams_place bytes) bytes) ≡ b.streams
   all_streams = ap₂ parted lengths_again at_streams ∙ streams_again b.streams
 
+  places_read : places_in bytes ≡ b.places
+  places_read =
+      ap₂ (λ (v : Version) (n : ℕ). if (layout_of v).placed
+      then Some (map (place_in bytes) (numbers 0 n) ++ scan_end bytes ∷ []) else None)
+      laid.version laid.segments
+      ∙ places_again bytes b.version b.places (length b.header) (length b.handovers) is.placed
+      is.places read.places_are laid.end
+
   parts_again : parts_of (raw_of bytes) ≡ b
   unfolding raw_of
   parts_again =
-      parts_same (version_in bytes) (chunk_in bytes)
+      parts_same (version_in bytes) (chunk_in bytes) (places_in bytes)
       (pads_in (slice_index bytes 5) (list_in bytes)) _ _ _ _ b
-      laid.version laid.chunk (ap₂ pads_in laid.pad list_again_is ∙ pads_again b.pads) header_again
-      trailer_again handovers_again all_streams
+      laid.version laid.chunk places_read
+      (ap₂ pads_in laid.pad list_again_is ∙ pads_again b.pads) header_again trailer_again
+      handovers_again all_streams
 
   end_is : length bytes ≡ named_end bytes
   end_is =
@@ -174,12 +190,13 @@ module _ (newest : Version) (plan : PlanFields) (b : BoxParts) (bytes : List ℕ
         laid.header,
         laid.trailer,
         laid.list,
-        length-append (records b.handovers b.streams)
+        ap₂ (λ (m n : ℕ). m * n) room laid.segments,
+        length-append (records b.places 0 b.handovers b.streams)
             (listed ++ (b.header ++ (b.trailer ++ joined))),
         length-append listed (b.header ++ (b.trailer ++ joined)),
         length-append b.header (b.trailer ++ joined),
         length-append b.trailer joined,
-        records_long b.handovers b.streams is.streams is.each,
+        records_long b.places 0 b.handovers b.streams is.streams is.each,
         streams_long b.streams,
         ap sum lengths_again,
       )
@@ -187,12 +204,11 @@ module _ (newest : Version) (plan : PlanFields) (b : BoxParts) (bytes : List ℕ
   whole : IsWhole bytes
   whole = let e = end_is in record { fields = omega arith; ends = omega arith }
 
-  early : IsEarly newest bytes
+  early : IsEarly versions bytes
   early = record {
     begins = ap (λ (l : List ℕ). bytes_eq l magic) laid.begins;
-    versions = and_right (nat_lt 4 (length bytes)) (not (is_version newest (slice_index bytes 4)))
-        (ap (λ (n : ℕ). not (is_version newest n)) laid.versions
-        ∙ ap not (is_one newest b.version read_is));
+    version = and_right (nat_lt 4 (length bytes)) (not (is_version versions (slice_index bytes 4)))
+        (ap (λ (n : ℕ). not (is_version versions n)) laid.versions ∙ ap not read_is);
     whole = whole;
   }
 
@@ -223,6 +239,8 @@ module _ (newest : Version) (plan : PlanFields) (b : BoxParts) (bytes : List ℕ
             ∙ ap (λ (c : Option Chunk). bad_start (shape_of plan)
             (box_cut plan c (length b.handovers)) 0 b.handovers) laid.chunk
             ∙ is.starts;
+        places = ap₂ are_bad_places laid.header places_read
+            ∙ not_bad_places (length b.header) (length b.handovers) b.places is.places;
         end = omega arith;
       }
 
@@ -230,57 +248,56 @@ module _ (newest : Version) (plan : PlanFields) (b : BoxParts) (bytes : List ℕ
   unfolding raw_of
   header_taken = subst (λ (l : List ℕ). Accepts l plan) (sym header_again) is.header
 
-  passes : PassesChecks newest plan bytes
+  passes : PassesChecks versions plan bytes
   passes = record {
-    early = early_none newest bytes early;
+    early = early_none versions bytes early;
     header = header_taken;
     late = late_none plan bytes whole late;
   }
 
 pub box_passes : BoxPasses
-box_passes newest plan b read is =
-    let laid = laid_box b is.chunked (fits plan.down b.header b.trailer b.chunk is.chunk)
+box_passes versions plan b read is =
+    let laid = laid_box b is.chunked is.placed
+    (fits plan.down b.header b.trailer b.chunk is.chunk)
+    (place_fits (length b.header) (length b.handovers) b.places is.places (length b.handovers))
     is.header_fits is.trailer_fits is.list_fits
     (none_listed (layout_of b.version).listed (shape_of plan) b.pads is.pads) in (
-      passes newest plan b (box_bytes b) read laid is,
-      parts_again newest plan b (box_bytes b) read laid is,
+      passes versions plan b (box_bytes b) read laid is,
+      parts_again versions plan b (box_bytes b) read laid is,
     )
 
--- what passes the checks of who reads fewer versions passes those of who reads all
-pub widened : (newest : Version) (bytes : List ℕ) → early_fault newest bytes ≡ None
-    → early_fault Third bytes ≡ None
-widened newest bytes e =
-    let early = early_of newest bytes e in
+-- what passes the checks of who reads some versions passes those of who decodes
+pub widened : (versions : List Version) (bytes : List ℕ) → early_fault versions bytes ≡ None
+    → early_fault decoded bytes ≡ None
+widened versions bytes e =
+    let early = early_of versions bytes e in
     let long = early.whole.fields in
     let low = front_low (version_in bytes) in
     let more : nat_lt 4 (length bytes) ≡ true = lt-ltb 4 (length bytes) (omega (arith, long, low)) in
-    let said = (version_is newest (nat_lt 4 (length bytes)) (slice_index bytes 4) more
-    early.versions).0 in
-    early_none Third bytes (record {
+    let said = (version_is versions (nat_lt 4 (length bytes)) (slice_index bytes 4) more
+    early.version).0 in
+    early_none decoded bytes (record {
       begins = early.begins;
-      versions = and_right (nat_lt 4 (length bytes)) (not (is_version Third (slice_index bytes 4)))
-          (ap (λ (n : ℕ). not (is_version Third n)) said
-          ∙ ap not (is_one Third (version_in bytes) (byte_high (version_in bytes))));
+      version = and_right (nat_lt 4 (length bytes))
+          (not (is_version decoded (slice_index bytes 4)))
+          (ap (λ (n : ℕ). not (is_version decoded n)) said
+          ∙ ap not (all_read (version_in bytes)));
       whole = early.whole;
     })
 
 -- ---- so bytes say one thing
 
-checked : (newest : Version) (plan : PlanFields) (b : BoxParts) (bytes : List ℕ)
-    → IsRead newest b.version → IsBoxOf plan b bytes
-    → PassesChecks newest plan bytes × (parts_of (raw_of bytes) ≡ b)
-checked newest plan b bytes read is =
-    let P : List ℕ → Type 0 = λ l. PassesChecks newest plan l × (parts_of (raw_of l) ≡ b) in
-    subst P (sym is.text) (box_passes newest plan b read is.box)
-
--- all versions are read by who reads the last one
-pub all_read : (v : Version) → IsRead Third v
-all_read v = byte_high v
+checked : (versions : List Version) (plan : PlanFields) (b : BoxParts) (bytes : List ℕ)
+    → IsRead versions b.version → IsBoxOf plan b bytes
+    → PassesChecks versions plan bytes × (parts_of (raw_of bytes) ≡ b)
+checked versions plan b bytes read is =
+    let P : List ℕ → Type 0 = λ l. PassesChecks versions plan l × (parts_of (raw_of l) ≡ b) in
+    subst P (sym is.text) (box_passes versions plan b read is.box)
 
 pub one_box : OneBox
 one_box plan other a b bytes p q =
-    let x = checked Third plan a bytes (all_read a.version) p in
-    let y = checked Third other b bytes (all_read b.version) q in
+    let x = checked decoded plan a bytes (all_read a.version) p in
+    let y = checked decoded other b bytes (all_read b.version) q in
     (header_laws.one_plan (raw_of bytes).header plan other x.0.header y.0.header, sym x.1 ∙ y.1)
 
 some_is_one : {A : Type 0} (x y : A) → Some x ≡ Some y → x ≡ y
@@ -299,11 +316,11 @@ one_after raw refusal other (inr p) (inr q) =
     some_is_one refusal other (sym p.2 ∙ ap (λ plan. late_fault plan raw) same ∙ q.2)
 
 pub one_box_refusal : OneBoxRefusal
-one_box_refusal newest bytes refusal other (inl p) (inl q) =
+one_box_refusal versions bytes refusal other (inl p) (inl q) =
     some_is_one refusal other (sym p ∙ q)
-one_box_refusal newest bytes refusal other (inl p) (inr q) = let e = q.0 in cc
-one_box_refusal newest bytes refusal other (inr p) (inl q) = let e = p.0 in cc
-one_box_refusal newest bytes refusal other (inr p) (inr q) =
+one_box_refusal versions bytes refusal other (inl p) (inr q) = let e = q.0 in cc
+one_box_refusal versions bytes refusal other (inr p) (inl q) = let e = p.0 in cc
+one_box_refusal versions bytes refusal other (inr p) (inr q) =
     one_after (raw_of bytes) refusal other p.1 q.1
 
 apart_after : (raw : Raw) (plan : PlanFields) (refusal : BoxRefusal) → Accepts raw.header plan
@@ -317,11 +334,11 @@ apart_after raw plan refusal taken none (inr p) =
     cc
 
 pub never_both : NeverBoth
-never_both newest bytes plan b refusal read is (inl p) =
-    let e = (checked newest plan b bytes read is).0.early in
+never_both versions bytes plan b refusal read is (inl p) =
+    let e = (checked versions plan b bytes read is).0.early in
     cc
-never_both newest bytes plan b refusal read is (inr p) =
-    let x = (checked newest plan b bytes read is).0 in
+never_both versions bytes plan b refusal read is (inr p) =
+    let x = (checked versions plan b bytes read is).0 in
     apart_after (raw_of bytes) plan refusal x.header x.late p.1
 
 -- ---- the second version says all that the first one does
@@ -332,13 +349,17 @@ pads_more listed shape (Same pad) e = refl
 pads_more true shape (Listed bytes) e = e
 pads_more false shape (Listed bytes) e = cc
 
-whole_of : (c : Option Chunk) → is_some c ≡ false → c ≡ None
-whole_of None e = refl
-whole_of (Some c) e = cc
+none_of : {A : Type 0} (o : Option A) → is_some o ≡ false → o ≡ None
+none_of None e = refl
+none_of (Some x) e = cc
 
 pub no_chunk : (plan : PlanFields) (b : BoxParts) → (layout_of b.version).chunked ≡ false
     → IsBox plan b → b.chunk ≡ None
-no_chunk plan b whole is = whole_of b.chunk (is.chunked ∙ whole)
+no_chunk plan b whole is = none_of b.chunk (is.chunked ∙ whole)
+
+pub no_places : (plan : PlanFields) (b : BoxParts) → (layout_of b.version).placed ≡ false
+    → IsBox plan b → b.places ≡ None
+no_places plan b unplaced is = none_of b.places (is.placed ∙ unplaced)
 
 pub migrated_is : MigratedIsBox
 migrated_is plan b whole is =
@@ -351,6 +372,8 @@ migrated_is plan b whole is =
       cut = is.cut;
       chunked = is.chunked ∙ whole;
       chunk = is.chunk;
+      placed = refl;
+      places = tt;
       pads = pads_more (layout_of b.version).listed (shape_of plan) b.pads is.pads;
       streams = is.streams;
       each = is.each;

@@ -1,15 +1,16 @@
 -- What holds of the layouts of all versions, and of pad bytes.
-use Rattle.std.proofs.Common.{◌≡◌, ◌≤◌, ◌<◌, ◌^◌, ◌==◌, ◌||◌, ◌&&◌, not, Bool, true, false, ℕ, zero, suc, List, [], ◌∷◌, length, nat_lt, if◌then◌else◌, refl, sym, ap, ◌∙◌, arith}
-use Rattle.std.proofs.lemmas.Bool.{ltb-false, lt-ltb, le-ltb, ne_eqb, or_parts, and_parts, false≢true}
+use Rattle.std.proofs.Common.{◌≡◌, ◌≤◌, ◌<◌, ◌^◌, ◌==◌, ◌||◌, ◌&&◌, not, Bool, true, false, ℕ, zero, suc, List, [], ◌∷◌, length, nat_lt, if◌then◌else◌, refl, sym, ap, ◌∙◌, arith, inl, inr}
+use Rattle.std.proofs.lemmas.Bool.{ltb-false, lt-ltb, eqb-true, ne_eqb, or_parts, or_cases, and_parts, false≢true}
 use Rattle.scan_spec.specs.Slots.{Shape}
 use Rattle.scan_spec.specs.Pads.{PadBits, Same, Listed, is_long_for, list_room}
-use Rattle.box_format.specs.Versions.{layout_of, most_segments, version_byte, version_of, is_version}
+use Rattle.box_format.specs.Versions.{layout_of, most_segments, version_byte, version_of, is_version, decoded}
 use Rattle.box_format.specs.Parts.{pad_byte, list_bytes, is_list, can_pad}
 use Rattle.box_format.specs.Raws.{pads_in}
 use Rattle.box_format.specs.BoxChecks.{is_bad_pad}
+use Rattle.box_format.specs.BoxLaws.{IsRead}
 use Rattle.box_format.specs.declared.chunk.Chunk.{Chunk}
 use Rattle.box_format.specs.declared.version.Version.{Version}
-use Rattle.box_format.specs.declared.version.Version.TheVariants.{First, Second, Third}
+use Rattle.box_format.specs.declared.version.Version.TheVariants.{First, Second, Third, Fifth}
 
 -- ---- layouts
 
@@ -17,21 +18,25 @@ pub front_low : (v : Version) → 15 ≤ (layout_of v).front
 front_low First = omega arith
 front_low Second = omega arith
 front_low Third = omega arith
+front_low Fifth = omega arith
 
-pub front_high : (v : Version) → (layout_of v).front ≤ 51
-front_high First = omega arith
-front_high Second = omega arith
-front_high Third = omega arith
+pub room_low : (v : Version) → 22 ≤ (layout_of v).room
+room_low First = omega arith
+room_low Second = omega arith
+room_low Third = omega arith
+room_low Fifth = omega arith
 
 pub most_few : (v : Version) → (layout_of v).most ≤ 64
 most_few First = omega arith
 most_few Second = omega arith
 most_few Third = omega arith
+most_few Fifth = omega arith
 
 pub most_more : (v : Version) → (layout_of v).most ≤ most_segments
 most_more First = omega arith
 most_more Second = omega arith
 most_more Third = omega arith
+most_more Fifth = omega arith
 
 -- ---- chunks
 
@@ -45,55 +50,44 @@ pub record Fits (c : Chunk) : Type 0 where
 
 -- ---- the byte of a version
 
-pub byte_low : (v : Version) → 1 ≤ version_byte v
-byte_low First = omega arith
-byte_low Second = omega arith
-byte_low Third = omega arith
-
-pub byte_high : (v : Version) → version_byte v ≤ 3
-byte_high First = omega arith
-byte_high Second = omega arith
-byte_high Third = omega arith
-
 false_not : (b : Bool) → not b ≡ false → b ≡ true
 false_not true e = refl
 false_not false e = cc
 
-true_not : (b : Bool) → not b ≡ true → b ≡ false
-true_not true e = cc
-true_not false e = refl
+-- a version is that of its byte
+same_version : (v : Version) → version_of (version_byte v) ≡ v
+same_version First = refl
+same_version Second = refl
+same_version Third = refl
+same_version Fifth = refl
 
-read_byte : (newest : Version) (n : ℕ) → is_version newest n ≡ true → n ≤ version_byte newest
-read_byte newest n e =
-    let parts = and_parts (not (n == 0)) (not (nat_lt (version_byte newest) n)) e in
-    ltb-false (version_byte newest) n (true_not (nat_lt (version_byte newest) n) parts.1)
-
-one_of : (newest : Version) (n : ℕ) → is_version newest n ≡ true → n ≡ version_byte (version_of n)
-one_of newest zero e = absurd (false≢true e)
-one_of newest (suc zero) e = refl
-one_of newest (suc (suc zero)) e = refl
-one_of newest (suc (suc (suc zero))) e = refl
-one_of newest (suc (suc (suc (suc n)))) e =
-    let few = read_byte newest (suc (suc (suc (suc n)))) e in
-    let high = byte_high newest in
-    absurd (omega (arith, few, high))
+one_of : (versions : List Version) (n : ℕ) → is_version versions n ≡ true
+    → n ≡ version_byte (version_of n)
+one_of [] n e = absurd (false≢true e)
+one_of (v ∷ versions) n e =
+    elim (or_cases (version_byte v == n) (is_version versions n) e) [
+      | inl here ↦ let same = eqb-true (version_byte v) n here in
+          sym same ∙ ap version_byte (sym (same_version v))
+          ∙ ap (λ k. version_byte (version_of k)) same
+      | inr later ↦ one_of versions n later
+    ]
 
 -- a byte that is taken says a version that is read
-pub version_is : (newest : Version) (there : Bool) (n : ℕ)
-    → there ≡ true → (there && not (is_version newest n)) ≡ false
-    → (n ≡ version_byte (version_of n)) × (version_byte (version_of n) ≤ version_byte newest)
-version_is newest false n e f = cc
-version_is newest true n e f =
-    let said = false_not (is_version newest n) f in
-    let same = one_of newest n said in
-    let few = read_byte newest n said in
-    (same, omega (arith, same, few))
+pub version_is : (versions : List Version) (there : Bool) (n : ℕ)
+    → there ≡ true → (there && not (is_version versions n)) ≡ false
+    → (n ≡ version_byte (version_of n)) × IsRead versions (version_of n)
+version_is versions false n e f = cc
+version_is versions true n e f =
+    let said = false_not (is_version versions n) f in
+    let same = one_of versions n said in
+    (same, ap (is_version versions) (sym same) ∙ said)
 
-pub is_one : (newest v : Version) → version_byte v ≤ version_byte newest
-    → is_version newest (version_byte v) ≡ true
-is_one newest First few = ap not (le-ltb (version_byte newest) 1 few)
-is_one newest Second few = ap not (le-ltb (version_byte newest) 2 few)
-is_one newest Third few = ap not (le-ltb (version_byte newest) 3 few)
+-- each version is decoded
+pub all_read : (v : Version) → IsRead decoded v
+all_read First = refl
+all_read Second = refl
+all_read Third = refl
+all_read Fifth = refl
 
 -- ---- pad bytes
 

@@ -8,6 +8,7 @@ pub mod Passed
 pub mod RawParts
 pub mod ByteParts
 pub mod PartedLists
+pub mod Places
 pub mod PassedBox
 pub mod Spelled
 pub mod Written

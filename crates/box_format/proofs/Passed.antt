@@ -8,12 +8,12 @@ use Rattle.jpeg_marker.specs.Plans.{PlanFields}
 use Rattle.scan_spec.specs.Slots.{shape_of}
 use Rattle.box_format.specs.Versions.{layout_of, version_in, is_version}
 use Rattle.box_format.specs.Parts.{magic}
-use Rattle.box_format.specs.Raws.{raw_of, chunk_in, handover_at, segments_in, list_place, header_place, header_length, named_end}
-use Rattle.box_format.specs.BoxChecks.{early_fault, late_fault, is_cut, are_wrong, is_bad_chunk, is_bad_pad, or_else, where_failed}
+use Rattle.box_format.specs.Raws.{raw_of, chunk_in, places_in, handover_at, segments_in, list_place, header_place, header_length, named_end}
+use Rattle.box_format.specs.BoxChecks.{early_fault, late_fault, is_cut, are_bad_places, are_wrong, is_bad_chunk, is_bad_pad, or_else, where_failed}
 use Rattle.box_format.specs.Whole.{IsWhole, header_in, trailer_in, list_in, rows_cut, field_fault, bad_segment, record_fault}
 use Rattle.box_format.specs.declared.version.Version.{Version}
 use Rattle.box_format.specs.declared.refusal.BoxRefusal.{BoxRefusal}
-use Rattle.box_format.specs.declared.refusal.BoxRefusal.TheVariants.{BoxMagic, BoxVersion, BoxCut, HeaderLong, BoxSegments, BoxChunk, BoxPad, HandoverBad, BoxLong}
+use Rattle.box_format.specs.declared.refusal.BoxRefusal.TheVariants.{BoxMagic, BoxVersion, BoxCut, HeaderLong, BoxSegments, BoxChunk, BoxPad, HandoverBad, BoxPlaces, BoxLong}
 use Rattle.box_format.proofs.Lists.{length_values}
 
 -- the most segments of a version
@@ -34,6 +34,10 @@ abbrev pub bad_chunk : PlanFields → List ℕ → Bool
 bad_chunk plan bytes =
     is_bad_chunk plan.down (header_in bytes) (trailer_in bytes) (chunk_in bytes)
 
+-- whether the places can't be those of this header
+abbrev pub bad_places : List ℕ → Bool
+bad_places bytes = are_bad_places (header_length bytes) (places_in bytes)
+
 -- three tests in a row that don't fail
 pub three_passed : (a b c : Bool) (r s t : BoxRefusal)
     → cond a (Some r) (cond b (Some s) (cond c (Some t) None)) ≡ None
@@ -48,9 +52,9 @@ not_false true e = refl
 not_false false e = cc
 
 -- what the checks before the header say
-pub record IsEarly (newest : Version) (bytes : List ℕ) : Type 0 where
+pub record IsEarly (versions : List Version) (bytes : List ℕ) : Type 0 where
   pub begins : bytes_eq (take 4 bytes) magic ≡ true
-  pub versions : (nat_lt 4 (length bytes) && not (is_version newest (slice_index bytes 4)))
+  pub version : (nat_lt 4 (length bytes) && not (is_version versions (slice_index bytes 4)))
       ≡ false
   pub whole : IsWhole bytes
 
@@ -63,16 +67,16 @@ whole_of bytes e =
       ends = ltb-false (length bytes) (named_end bytes) parts.1;
     }
 
-pub early_of : (newest : Version) (bytes : List ℕ) → early_fault newest bytes ≡ None
-    → IsEarly newest bytes
+pub early_of : (versions : List Version) (bytes : List ℕ) → early_fault versions bytes ≡ None
+    → IsEarly versions bytes
 unfolding early_fault
-early_of newest bytes e =
+early_of versions bytes e =
     let parts = three_passed (not (bytes_eq (take 4 bytes) magic))
-    (nat_lt 4 (length bytes) && not (is_version newest (slice_index bytes 4)))
+    (nat_lt 4 (length bytes) && not (is_version versions (slice_index bytes 4)))
     (is_cut bytes) BoxMagic BoxVersion BoxCut e in
     record {
       begins = not_false (bytes_eq (take 4 bytes) magic) parts.0;
-      versions = parts.1;
+      version = parts.1;
       whole = whole_of bytes parts.2;
     }
 
@@ -132,6 +136,7 @@ pub record IsLate (plan : PlanFields) (bytes : List ℕ) : Type 0 where
   pub chunk : bad_chunk plan bytes ≡ false
   pub pad : bad_pad plan bytes ≡ false
   pub starts : bad_segment plan bytes ≡ None
+  pub places : bad_places bytes ≡ false
   pub end : length bytes ≤ named_end bytes
 
 pub late_of : (plan : PlanFields) (bytes : List ℕ) → IsWhole bytes
@@ -150,7 +155,10 @@ late_of plan bytes whole e =
     let last = or_none (where_failed (bad_chunk plan bytes) BoxChunk)
     (where_failed (bad_pad plan bytes) BoxPad) more.1 in
     let records = or_none (option_map (λ i. HandoverBad i) (bad_segment plan bytes))
-    (where_failed (nat_lt (named_end bytes) (length bytes)) BoxLong) parts.1 in
+    (or_else (where_failed (bad_places bytes) BoxPlaces)
+    (where_failed (nat_lt (named_end bytes) (length bytes)) BoxLong)) parts.1 in
+    let ends = or_none (where_failed (bad_places bytes) BoxPlaces)
+    (where_failed (nat_lt (named_end bytes) (length bytes)) BoxLong) records.1 in
     record {
       header = ltb-false plan.header_length (header_length bytes)
           (passes (nat_lt plan.header_length (header_length bytes)) (HeaderLong plan.header_length)
@@ -159,8 +167,9 @@ late_of plan bytes whole e =
       chunk = passes (bad_chunk plan bytes) BoxChunk last.0;
       pad = passes (bad_pad plan bytes) BoxPad last.1;
       starts = none_mapped (bad_segment plan bytes) records.0;
+      places = passes (bad_places bytes) BoxPlaces ends.0;
       end = ltb-false (named_end bytes) (length bytes)
-          (passes (nat_lt (named_end bytes) (length bytes)) BoxLong records.1);
+          (passes (nat_lt (named_end bytes) (length bytes)) BoxLong ends.1);
     }
 
 -- and the other way round
@@ -168,33 +177,35 @@ three_none : (a b c : Bool) (r s t : BoxRefusal) → a ≡ false → b ≡ false
     → cond a (Some r) (cond b (Some s) (cond c (Some t) None)) ≡ None
 three_none a b c r s t e f g = rw (e, f, g) refl
 
-pub early_none : (newest : Version) (bytes : List ℕ) → IsEarly newest bytes
-    → early_fault newest bytes ≡ None
+pub early_none : (versions : List Version) (bytes : List ℕ) → IsEarly versions bytes
+    → early_fault versions bytes ≡ None
 unfolding early_fault
-early_none newest bytes early =
+early_none versions bytes early =
     let begins : not (bytes_eq (take 4 bytes) magic) ≡ false = ap not early.begins in
     let whole : is_cut bytes ≡ false =
     or_from (nat_lt (length bytes) (list_place bytes)) (nat_lt (length bytes) (named_end bytes))
     (le-ltb (length bytes) (list_place bytes) early.whole.fields)
     (le-ltb (length bytes) (named_end bytes) early.whole.ends) in
     three_none (not (bytes_eq (take 4 bytes) magic))
-    (nat_lt 4 (length bytes) && not (is_version newest (slice_index bytes 4)))
-    (is_cut bytes) BoxMagic BoxVersion BoxCut begins early.versions whole
+    (nat_lt 4 (length bytes) && not (is_version versions (slice_index bytes 4)))
+    (is_cut bytes) BoxMagic BoxVersion BoxCut begins early.version whole
 
-six_none : (a b k c d : Bool) (o : Option ℕ) (r s v t u : BoxRefusal) → a ≡ false → b ≡ false
-    → k ≡ false → c ≡ false → o ≡ None → d ≡ false
+seven_none : (a b k c p d : Bool) (o : Option ℕ) (r s v t w u : BoxRefusal) → a ≡ false
+    → b ≡ false → k ≡ false → c ≡ false → o ≡ None → p ≡ false → d ≡ false
     → or_else (or_else (where_failed a r) (or_else (where_failed b s)
     (or_else (where_failed k v) (where_failed c t))))
-    (or_else (option_map (λ i. HandoverBad i) o) (where_failed d u)) ≡ None
-six_none a b k c d o r s v t u e f j g h i = rw (e, f, j, g, h, i) refl
+    (or_else (option_map (λ i. HandoverBad i) o)
+    (or_else (where_failed p w) (where_failed d u))) ≡ None
+seven_none a b k c p d o r s v t w u e f j g h q i = rw (e, f, j, g, h, q, i) refl
 
 pub late_none : (plan : PlanFields) (bytes : List ℕ) → IsWhole bytes → IsLate plan bytes
     → late_fault plan (raw_of bytes) ≡ None
 late_none plan bytes whole late =
     late_is plan bytes whole
-    ∙ six_none (nat_lt plan.header_length (header_length bytes)) (bad_count plan bytes)
-    (bad_chunk plan bytes) (bad_pad plan bytes) (nat_lt (named_end bytes) (length bytes))
-    (bad_segment plan bytes) (HeaderLong plan.header_length) BoxSegments BoxChunk BoxPad BoxLong
+    ∙ seven_none (nat_lt plan.header_length (header_length bytes)) (bad_count plan bytes)
+    (bad_chunk plan bytes) (bad_pad plan bytes) (bad_places bytes)
+    (nat_lt (named_end bytes) (length bytes)) (bad_segment plan bytes)
+    (HeaderLong plan.header_length) BoxSegments BoxChunk BoxPad BoxPlaces BoxLong
     (le-ltb plan.header_length (header_length bytes) late.header) late.segments late.chunk
-    late.pad late.starts
+    late.pad late.starts late.places
     (le-ltb (named_end bytes) (length bytes) late.end)

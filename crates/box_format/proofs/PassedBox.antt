@@ -14,17 +14,18 @@ use Rattle.handover.specs.Handovers.{HandoverFields, IsHandover}
 use Rattle.cut_spec.specs.Cuts.{Cut}
 use Rattle.scan_spec.specs.Pads.{PadBits}
 use Rattle.box_format.specs.Versions.{layout_of, version_in}
-use Rattle.box_format.specs.Parts.{BoxParts, IsBox, IsCut, IsChunkIn, header_part, rows_most, list_bytes, list_length, chunk_bytes, records, box_bytes, bad_start, box_cut}
-use Rattle.box_format.specs.Raws.{raw_of, chunk_in, numbers, handover_at, front_room, record_place, segments_in, list_place, list_long, header_place, header_length, trailer_place, trailer_length, streams_place, stream_length, stream_lengths, parted}
+use Rattle.box_format.specs.Parts.{BoxParts, IsBox, IsCut, IsChunkIn, ArePlaces, header_part, rows_most, list_bytes, list_length, chunk_bytes, place_bytes, records, box_bytes, bad_start, box_cut}
+use Rattle.box_format.specs.Raws.{raw_of, chunk_in, places_in, numbers, handover_at, front_room, record_place, segments_in, list_place, list_long, header_place, header_length, trailer_place, trailer_length, streams_place, stream_length, stream_lengths, parted}
 use Rattle.box_format.specs.BoxLaws.{PassedIsBox}
 use Rattle.box_format.specs.BoxChecks.{are_wrong, is_bad_chunk}
 use Rattle.box_format.specs.Whole.{IsWhole, list_in}
 use Rattle.box_format.specs.declared.chunk.Chunk.{Chunk}
 use Rattle.box_format.specs.declared.version.Version.{Version}
-use Rattle.box_format.specs.declared.version.Version.TheVariants.{First, Second, Third}
+use Rattle.box_format.specs.declared.version.Version.TheVariants.{First, Second, Third, Fifth}
 use Rattle.box_format.proofs.Lists.{length_values}
-use Rattle.box_format.proofs.ByteParts.{all_take, all_drop, peel, four_spelled, eight_spelled, four_small, eight_small}
+use Rattle.box_format.proofs.ByteParts.{all_take, all_drop, peel, four_at, eight_at, four_spelled, four_small, eight_small}
 use Rattle.box_format.proofs.PartedLists.{parted_count, parted_lengths, parted_joined, parted_bytes, all_values}
+use Rattle.box_format.proofs.Places.{places_at, places_there, places_good, end_spelled}
 use Rattle.box_format.proofs.Fronts.{Fits, front_low, list_again, pad_can, version_is}
 use Rattle.box_format.proofs.Passed.{IsEarly, IsLate, most_in, early_of, late_of, header_is}
 use Rattle.box_format.proofs.RawParts.{is_sound_at}
@@ -123,9 +124,9 @@ all_lengths : (P : ℕ → Type 0) (streams : List (List ℕ))
 all_lengths P [] h = tt
 all_lengths P (s ∷ streams) h = (h.0, all_lengths P streams h.1)
 
-pub tail_is : (a c r l h t s : List ℕ)
-    → a ++ (c ++ (r ++ (l ++ (h ++ (t ++ s))))) ≡ a ++ c ++ r ++ l ++ h ++ t ++ s
-tail_is a c r l h t s = simp append_assoc
+pub tail_is : (a c p r l h t s : List ℕ)
+    → a ++ (c ++ (p ++ (r ++ (l ++ (h ++ (t ++ s)))))) ≡ a ++ c ++ p ++ r ++ l ++ h ++ t ++ s
+tail_is a c p r l h t s = simp append_assoc
 
 small_list : (bytes : List ℕ) (listed : Bool) → AllByRecursion IsByte bytes
     → (if listed then big_number 4 (drop 15 bytes) else 0) < 2 ^ 32
@@ -147,6 +148,7 @@ chunk_there : (bytes : List ℕ) (v : Version) → is_some (chunk_at v bytes) �
 chunk_there bytes First = refl
 chunk_there bytes Second = refl
 chunk_there bytes Third = refl
+chunk_there bytes Fifth = refl
 
 chunk_small : (bytes : List ℕ) (v : Version) → AllByRecursion IsByte bytes
     → IfSome (chunk_at v bytes) Fits
@@ -159,34 +161,19 @@ chunk_small bytes Third are = record {
   from = four_small (drop 43 bytes) (all_drop IsByte 43 bytes are);
   to = four_small (drop 47 bytes) (all_drop IsByte 47 bytes are);
 }
-
--- the field at a place, and what follows it
-four_at : (bytes : List ℕ) (place : ℕ) → AllByRecursion IsByte bytes → place + 4 ≤ length bytes
-    → drop place bytes ≡ big_bytes 4 (big_number 4 (drop place bytes)) ++ drop (place + 4) bytes
-four_at bytes place are long =
-    peel 4 place bytes
-    ∙ ap (λ (l : List ℕ). l ++ drop (place + 4) bytes)
-    (four_spelled (drop place bytes) (omega (arith, long, length-drop place bytes))
-    (all_drop IsByte place bytes are))
-
-eight_at : (bytes : List ℕ) (place : ℕ) → AllByRecursion IsByte bytes → place + 8 ≤ length bytes
-    → drop place bytes ≡ big_bytes 8 (big_number 8 (drop place bytes)) ++ drop (place + 8) bytes
-eight_at bytes place are long =
-    peel 8 place bytes
-    ∙ ap (λ (l : List ℕ). l ++ drop (place + 8) bytes)
-    (eight_spelled (drop place bytes) (omega (arith, long, length-drop place bytes))
-    (all_drop IsByte place bytes are))
+chunk_small bytes Fifth are = tt
 
 joined_five : (a b c d e f : List ℕ)
     → a ++ (b ++ (c ++ (d ++ (e ++ f)))) ≡ (a ++ (b ++ (c ++ (d ++ e)))) ++ f
 joined_five a b c d e f = simp append_assoc
 
--- the fields of the pad list's length and of the chunk, in a version that has them
+-- the fields of the pad list's length, of the chunk and of the scan's end, where there are these
 list_field : (bytes : List ℕ) (v : Version) (list : List ℕ) → AllByRecursion IsByte bytes
     → (layout_of v).front ≤ length bytes
     → (if (layout_of v).listed then big_number 4 (drop 15 bytes) else 0) ≡ length list
     → drop 15 bytes ≡ list_length (layout_of v).listed list
-    ++ (chunk_bytes (chunk_at v bytes) ++ drop (layout_of v).front bytes)
+    ++ (chunk_bytes (chunk_at v bytes)
+    ++ (place_bytes (places_at v bytes) (segments_in bytes) ++ drop (layout_of v).front bytes))
 list_field bytes First list are long e = refl
 list_field bytes Second list are long e =
     four_at bytes 15 are (omega (arith, long))
@@ -206,9 +193,14 @@ list_field bytes Third list are long e =
     ∙ ap (λ (l : List ℕ). big_bytes 4 (row 43) ++ l) (four_at bytes 47 are (omega (arith, long))))))
     ∙ joined_five (big_bytes 8 (number 19)) (big_bytes 8 (number 27)) (big_bytes 8 (number 35))
     (big_bytes 4 (row 43)) (big_bytes 4 (row 47)) (drop 51 bytes))
+list_field bytes Fifth list are long e =
+    four_at bytes 15 are (omega (arith, long))
+    ∙ ap₂ (λ (n : ℕ) (l : List ℕ). big_bytes 4 n ++ l) e
+    (eight_at bytes 19 are (omega (arith, long))
+    ∙ ap (λ (l : List ℕ). l ++ drop 27 bytes) (sym (end_spelled bytes)))
 
-module _ (newest : Version) (plan : PlanFields) (bytes : List ℕ)
-    (are : AllByRecursion IsByte bytes) (early : IsEarly newest bytes) (late : IsLate plan bytes)
+module _ (versions : List Version) (plan : PlanFields) (bytes : List ℕ)
+    (are : AllByRecursion IsByte bytes) (early : IsEarly versions bytes) (late : IsLate plan bytes)
   where
     abbrev header : List ℕ
     header = take (header_length bytes) (drop (header_place bytes) bytes)
@@ -229,6 +221,7 @@ module _ (newest : Version) (plan : PlanFields) (bytes : List ℕ)
     parts = record {
       version = version_in bytes;
       chunk = chunk_in bytes;
+      places = places_in bytes;
       pads = pads;
       header = header;
       trailer = trailer;
@@ -275,8 +268,6 @@ module _ (newest : Version) (plan : PlanFields) (bytes : List ℕ)
     text_is =
         let all = length_values (handover_at bytes) 0 (segments_in bytes) in
         let z : 0 + segments_in bytes ≡ segments_in bytes = omega arith in
-        let place : record_place bytes (0 + segments_in bytes) ≤ length bytes =
-        let h = early.whole.fields in omega arith in
         let front : front_room bytes ≤ length bytes =
         let h = early.whole.fields in omega arith in
         let low = front_low (version_in bytes) in
@@ -288,10 +279,12 @@ module _ (newest : Version) (plan : PlanFields) (bytes : List ℕ)
         (all_drop IsByte 11 bytes are) ∙ ap (big_bytes 4) (sym (trailer_is bytes early.whole)) in
         let field = list_field bytes (version_in bytes) (list_bytes pads) are front list_count in
         let zero : front_room bytes ≡ record_place bytes 0 = omega arith in
+        let put = records (places_in bytes) 0 handovers streams in
         let third =
         ap (λ (p : ℕ). drop p bytes) zero
-        ∙ records_spelled bytes 0 (segments_in bytes) streams are place lengths_are
-        ∙ ap (λ (k : ℕ). records handovers streams ++ drop (record_place bytes k) bytes) z in
+        ∙ records_spelled bytes 0 (segments_in bytes) streams are (omega arith) early.whole.fields
+        lengths_are
+        ∙ ap (λ (k : ℕ). put ++ drop (record_place bytes k) bytes) z in
         let last = sym (parted_joined (stream_lengths bytes) (drop (streams_place bytes) bytes)
         (omega (arith, length-drop (streams_place bytes) bytes))) in
         let sixth = peel (trailer_length bytes) (trailer_place bytes) bytes
@@ -300,18 +293,22 @@ module _ (newest : Version) (plan : PlanFields) (bytes : List ℕ)
         ∙ ap (λ (l : List ℕ). header ++ l) sixth in
         let listed = peel (list_long bytes) (list_place bytes) bytes
         ∙ ap₂ (λ (l m : List ℕ). l ++ m) list_is fifth in
-        let fourth = third ∙ ap (λ (l : List ℕ). records handovers streams ++ l) listed in
+        let fourth = third ∙ ap (λ (l : List ℕ). put ++ l) listed in
         let head : ℕ → List ℕ → List ℕ = fronted (version_in bytes) pads in
         let named = list_length (layout_of (version_in bytes)).listed (list_bytes pads) in
         let chunk = chunk_bytes (chunk_in bytes) in
-        front_is newest bytes plan early late.pad
+        let end = place_bytes (places_in bytes) (segments_in bytes) in
+        let end_is : end ≡ place_bytes (places_in bytes) (length handovers) =
+        ap (place_bytes (places_in bytes)) (sym all) in
+        front_is versions bytes plan early late.pad
         ∙ ap₂ (λ (k : ℕ) (l : List ℕ). head k l) (sym all) (peel 4 7 bytes)
         ∙ ap₂ (λ (a l : List ℕ). head (length handovers) (a ++ l)) first (peel 4 11 bytes)
         ∙ ap₂ (λ (a l : List ℕ). head (length handovers) (big_bytes 4 (length header) ++ (a ++ l)))
-        second (field ∙ ap (λ (l : List ℕ). named ++ (chunk ++ l)) fourth)
+        second (field ∙ ap₂ (λ (e l : List ℕ). named ++ (chunk ++ (e ++ l))) end_is fourth)
         ∙ ap (λ (l : List ℕ). head (length handovers)
         (big_bytes 4 (length header) ++ (big_bytes 4 (length trailer) ++ l)))
-        (tail_is named chunk (records handovers streams) (list_bytes pads) header trailer
+        (tail_is named chunk (place_bytes (places_in bytes) (length handovers)) put
+        (list_bytes pads) header trailer
         (flat_map (λ stream. stream) streams))
 
     box_is : Accepts header plan → IsBox plan parts
@@ -337,6 +334,10 @@ module _ (newest : Version) (plan : PlanFields) (bytes : List ℕ)
           cut = subst (λ n. IsCut (box_cut plan (chunk_in bytes) n)) (sym all) count.0;
           chunked = chunk_there bytes (version_in bytes);
           chunk = chunk;
+          placed = places_there bytes (version_in bytes);
+          places = subst (λ k. IfSome (places_in bytes) (ArePlaces (length header) k)) (sym all)
+              (subst (λ k. IfSome (places_in bytes) (ArePlaces k (segments_in bytes))) (sym long)
+              (places_good bytes (version_in bytes) (header_length bytes) are late.places));
           pads = pad_can (layout_of (version_in bytes)).listed (shape_of plan) (slice_index bytes 5)
               (list_in bytes) late.pad;
           streams = parted_count (stream_lengths bytes) (drop (streams_place bytes) bytes)
@@ -361,15 +362,15 @@ module _ (newest : Version) (plan : PlanFields) (bytes : List ℕ)
 
 pub passed_is_box : PassedIsBox
 unfolding raw_of
-passed_is_box newest plan bytes are passes =
-    let early = early_of newest bytes passes.early in
+passed_is_box versions plan bytes are passes =
+    let early = early_of versions bytes passes.early in
     let late = late_of plan bytes early.whole passes.late in
     let long = early.whole.fields in
     let low = front_low (version_in bytes) in
     let more : nat_lt 4 (length bytes) ≡ true = lt-ltb 4 (length bytes) (omega (arith, long, low)) in (
       record {
-        box = box_is newest plan bytes are early late passes.header;
-        text = text_is newest plan bytes are early late;
+        box = box_is versions plan bytes are early late passes.header;
+        text = text_is versions plan bytes are early late;
       },
-      (version_is newest (nat_lt 4 (length bytes)) (slice_index bytes 4) more early.versions).1,
+      (version_is versions (nat_lt 4 (length bytes)) (slice_index bytes 4) more early.version).1,
     )

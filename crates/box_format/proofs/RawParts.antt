@@ -1,16 +1,18 @@
 -- The parts that are looked up, each by its number.
-use Rattle.std.proofs.Common.{◌≡◌, ◌<◌, ◌+◌, ℕ, List, [], length, take, drop, map, get_or, refl, sym, ap, ◌∙◌, arith, true}
-use Rattle.std.specs.Prelude.{sum, None}
+use Rattle.std.proofs.Common.{◌≡◌, ◌<◌, ◌≤◌, ◌+◌, if◌then◌else◌, ℕ, List, [], length, take, drop, map, get_or, refl, sym, ap, ◌∙◌, arith, true, nat_lt}
+use Rattle.std.specs.Prelude.{sum, Some, None, option_map, slice_index}
 use Rattle.std.proofs.lemmas.Bool.{and_parts}
 use Rattle.std.proofs.lemmas.List.{drop-drop}
 use Rattle.jpeg_marker.specs.Plans.{PlanFields}
 use Rattle.scan_spec.specs.Slots.{shape_of}
 use Rattle.handover.specs.Handovers.{HandoverFields}
 use Rattle.handover.specs.HandoverBytes.{is_handover}
-use Rattle.box_format.specs.Raws.{raw_of, numbers, handover_at, header_length, header_place, segments_in, stream_length, streams_place}
+use Rattle.box_format.specs.Raws.{raw_of, numbers, place_in, scan_end, handover_at, header_length, header_place, segments_in, stream_length, streams_place}
+use Rattle.box_format.specs.Versions.{layout_of, version_in}
 use Rattle.box_format.specs.Whole.{bad_segment, rows_cut}
 use Rattle.box_format.proofs.Lists.{length_values, value_at, part_at}
 use Rattle.box_format.proofs.FirstBad.{each_starts}
+use Rattle.box_format.proofs.Places.{one_listed, places_kept}
 
 -- as many handovers as segments
 pub handovers_count : (bytes : List ℕ) → length (raw_of bytes).handovers ≡ segments_in bytes
@@ -38,6 +40,16 @@ stream_seen bytes i below =
     (drop (sum (map (stream_length bytes) (numbers 0 i))) (drop (streams_place bytes) bytes))) z
     ∙ ap (take (stream_length bytes i))
     (drop-drop (sum (map (stream_length bytes) (numbers 0 i))) (streams_place bytes) bytes)
+
+-- a place, in a version that has places
+pub place_seen : (bytes : List ℕ) (i : ℕ) → (layout_of (version_in bytes)).placed ≡ true
+    → i ≤ segments_in bytes
+    → option_map (λ places. slice_index places i) (raw_of bytes).places
+    ≡ Some (if nat_lt i (segments_in bytes) then place_in bytes i else scan_end bytes)
+unfolding raw_of
+place_seen bytes i placed within =
+    ap (option_map (λ places. slice_index places i)) (places_kept bytes placed)
+    ∙ ap (λ (n : ℕ). Some n) (one_listed bytes i within)
 
 -- a record that a segment can start from
 pub is_sound_at : (plan : PlanFields) (bytes : List ℕ) (i : ℕ) → bad_segment plan bytes ≡ None

@@ -5,23 +5,23 @@ use Rattle.jpeg_marker.specs.HeaderPlan.{Accepts, Refuses as HeaderRefuses}
 use Rattle.jpeg_marker.specs.declared.refusal.HeaderRefusal.{HeaderRefusal}
 use Rattle.scan_spec.specs.Slots.{Shape, shape_of}
 use Rattle.cut_spec.specs.Cuts.{Cut}
-use Rattle.box_format.specs.Versions.{layout_of, is_version, newest_decoded}
-use Rattle.box_format.specs.Parts.{magic, is_list, bad_start, box_cut, header_part, rows_most}
+use Rattle.box_format.specs.Versions.{layout_of, is_version, decoded}
+use Rattle.box_format.specs.Parts.{magic, is_list, are_rising, bad_start, box_cut, header_part, rows_most}
 use Rattle.box_format.specs.Raws.{Raw, raw_of, list_place, named_end}
 use Rattle.box_format.specs.declared.chunk.Chunk.{Chunk}
 use Rattle.box_format.specs.declared.version.Version.{Version}
 use Rattle.box_format.specs.declared.refusal.BoxRefusal.{BoxRefusal}
-use Rattle.box_format.specs.declared.refusal.BoxRefusal.TheVariants.{BoxMagic, BoxVersion, BoxCut, BoxHeader, HeaderLong, BoxSegments, BoxChunk, BoxPad, HandoverBad, BoxLong}
+use Rattle.box_format.specs.declared.refusal.BoxRefusal.TheVariants.{BoxMagic, BoxVersion, BoxCut, BoxHeader, HeaderLong, BoxSegments, BoxChunk, BoxPad, HandoverBad, BoxPlaces, BoxLong}
 
 -- the bytes end within the fields, or before the end that these name
 abbrev pub is_cut : List ℕ → Bool
 is_cut bytes = nat_lt (length bytes) (list_place bytes) || nat_lt (length bytes) (named_end bytes)
 
--- the checks before the header, in their order, of who reads versions up to the newest one
-unfoldable pub early_fault : Version → List ℕ → Option BoxRefusal
-early_fault newest bytes =
+-- the checks before the header, in their order, of who reads these versions
+unfoldable pub early_fault : List Version → List ℕ → Option BoxRefusal
+early_fault versions bytes =
     if not (bytes_eq (take 4 bytes) magic) then Some BoxMagic
-    else if nat_lt 4 (length bytes) && not (is_version newest (slice_index bytes 4))
+    else if nat_lt 4 (length bytes) && not (is_version versions (slice_index bytes 4))
     then Some BoxVersion
     else if is_cut bytes then Some BoxCut
     else None
@@ -58,6 +58,13 @@ is_bad_pad listed shape pad list =
     if listed && pad == 2 then not (is_list shape list)
     else nat_lt 1 pad || nat_lt 0 (length list)
 
+-- whether places can't be those of a header of so many bytes: the first one isn't its end, or one is below the one
+-- before
+abbrev pub are_bad_places : ℕ → Option (List ℕ) → Bool
+are_bad_places header None = false
+are_bad_places header (Some places) =
+    not (slice_index places 0 == header) || not (are_rising places)
+
 -- the checks after a header that is accepted, in their order
 unfoldable pub late_fault : PlanFields → Raw → Option BoxRefusal
 late_fault plan raw =
@@ -70,7 +77,8 @@ late_fault plan raw =
     raw.list) BoxPad)
     (or_else (option_map (λ i. HandoverBad i)
     (bad_start (shape_of plan) cut 0 raw.handovers))
-    (where_failed (nat_lt 0 (length raw.rest)) BoxLong)))))
+    (or_else (where_failed (are_bad_places (length raw.header) raw.places) BoxPlaces)
+    (where_failed (nat_lt 0 (length raw.rest)) BoxLong))))))
 
 -- the header is refused, or it is accepted and a later check fails
 abbrev pub FailsAfter : Raw → BoxRefusal → Type 0
@@ -78,18 +86,19 @@ FailsAfter raw refusal =
     ((inner : HeaderRefusal) × HeaderRefuses raw.header inner × (refusal ≡ BoxHeader inner))
     ⊎ ((plan : PlanFields) × Accepts raw.header plan × (late_fault plan raw ≡ Some refusal))
 
--- the first check that fails, of who reads versions up to the newest one
-abbrev pub IsRefusedBy : Version → List ℕ → BoxRefusal → Type 0
-IsRefusedBy newest bytes refusal =
-    (early_fault newest bytes ≡ Some refusal)
-    ⊎ ((early_fault newest bytes ≡ None) × FailsAfter (raw_of bytes) refusal)
+-- the first check that fails, of who reads these versions
+abbrev pub IsRefusedBy : List Version → List ℕ → BoxRefusal → Type 0
+IsRefusedBy versions bytes refusal =
+    (early_fault versions bytes ≡ Some refusal)
+    ⊎ ((early_fault versions bytes ≡ None) × FailsAfter (raw_of bytes) refusal)
 
 -- and of who decodes
 abbrev pub IsRefusedBox : List ℕ → BoxRefusal → Type 0
-IsRefusedBox = IsRefusedBy newest_decoded
+IsRefusedBox = IsRefusedBy decoded
 
 -- no check fails
-pub record PassesChecks (newest : Version) (plan : PlanFields) (bytes : List ℕ) : Type 0 where
-  pub early : early_fault newest bytes ≡ None
+pub record PassesChecks (versions : List Version) (plan : PlanFields)
+    (bytes : List ℕ) : Type 0 where
+  pub early : early_fault versions bytes ≡ None
   pub header : Accepts (raw_of bytes).header plan
   pub late : late_fault plan (raw_of bytes) ≡ None

@@ -1,32 +1,32 @@
 -- Law: what holds of all containers (own).
-use Rattle.std.specs.Prelude.{ℕ, ◌≡◌, ◌≤◌, false, List}
+use Rattle.std.specs.Prelude.{ℕ, ◌≡◌, true, false, List}
 use Rattle.std.specs.List.{AllByRecursion}
 use Rattle.bit_list.specs.Bits.{IsByte}
 use Rattle.jpeg_marker.specs.Plans.{PlanFields}
 use Rattle.box_format.specs.Parts.{BoxParts, IsBox, IsBoxOf, box_bytes, migrated, relaid}
 use Rattle.box_format.specs.Raws.{raw_of, parts_of}
 use Rattle.box_format.specs.BoxChecks.{IsRefusedBy, PassesChecks}
-use Rattle.box_format.specs.Versions.{layout_of, version_byte}
+use Rattle.box_format.specs.Versions.{layout_of, version_byte, is_version}
 use Rattle.box_format.specs.declared.refusal.BoxRefusal.{BoxRefusal}
 use Rattle.box_format.specs.declared.version.Version.{Version}
 use Rattle.box_format.specs.declared.version.Version.TheVariants.{First, Second}
 
--- a version is read
-abbrev pub IsRead : Version → Version → Type 0
-IsRead newest version = version_byte version ≤ version_byte newest
+-- a version is one of these
+abbrev pub IsRead : List Version → Version → Type 0
+IsRead versions version = is_version versions (version_byte version) ≡ true
 
 -- a container's checks pass if its version is read, and its fields are its parts
 abbrev pub BoxPasses : Type 0
 BoxPasses =
-    (newest : Version) (plan : PlanFields) (b : BoxParts) → IsRead newest b.version → IsBox plan b
-    → PassesChecks newest plan (box_bytes b) × (parts_of (raw_of (box_bytes b)) ≡ b)
+    (versions : List Version) (plan : PlanFields) (b : BoxParts) → IsRead versions b.version → IsBox plan b
+    → PassesChecks versions plan (box_bytes b) × (parts_of (raw_of (box_bytes b)) ≡ b)
 
 -- and bytes whose checks pass are the container of their fields
 abbrev pub PassedIsBox : Type 0
 PassedIsBox =
-    (newest : Version) (plan : PlanFields) (bytes : List ℕ) → AllByRecursion IsByte bytes
-    → PassesChecks newest plan bytes
-    → IsBoxOf plan (parts_of (raw_of bytes)) bytes × IsRead newest (raw_of bytes).version
+    (versions : List Version) (plan : PlanFields) (bytes : List ℕ) → AllByRecursion IsByte bytes
+    → PassesChecks versions plan bytes
+    → IsBoxOf plan (parts_of (raw_of bytes)) bytes × IsRead versions (raw_of bytes).version
 
 -- so a container has one plan and one list of parts
 abbrev pub OneBox : Type 0
@@ -37,18 +37,19 @@ OneBox =
 -- other bytes have one refusal
 abbrev pub OneBoxRefusal : Type 0
 OneBoxRefusal =
-    (newest : Version) (bytes : List ℕ) (refusal other : BoxRefusal)
-    → IsRefusedBy newest bytes refusal → IsRefusedBy newest bytes other → refusal ≡ other
+    (versions : List Version) (bytes : List ℕ) (refusal other : BoxRefusal)
+    → IsRefusedBy versions bytes refusal → IsRefusedBy versions bytes other → refusal ≡ other
 
 -- and no bytes are both
 abbrev pub NeverBoth : Type 0
 NeverBoth =
-    (newest : Version) (bytes : List ℕ) (plan : PlanFields) (b : BoxParts) (refusal : BoxRefusal)
-    → IsRead newest b.version → IsBoxOf plan b bytes → IsRefusedBy newest bytes refusal → ⊥
+    (versions : List Version) (bytes : List ℕ) (plan : PlanFields) (b : BoxParts) (refusal : BoxRefusal)
+    → IsRead versions b.version → IsBoxOf plan b bytes → IsRefusedBy versions bytes refusal → ⊥
 
 -- a container of the second version is migrated already
 abbrev pub SecondStays : Type 0
-SecondStays = (b : BoxParts) → b.version ≡ Second → migrated b ≡ b
+SecondStays =
+    (plan : PlanFields) (b : BoxParts) → IsBox plan b → b.version ≡ Second → migrated b ≡ b
 
 -- the parts of a container that has no chunk are those of one of the second version too
 abbrev pub MigratedIsBox : Type 0

@@ -7,10 +7,11 @@ use Rattle.scan_spec.specs.ScanRows.{ones}
 use Rattle.handover.specs.Handovers.{start}
 use Rattle.scan_spec.specs.Pads.{Same, Listed}
 use Rattle.box_format.specs.Parts.{BoxParts, box_bytes, migrated}
+use Rattle.box_format.specs.Versions.{decoded, migratable}
 use Rattle.box_format.specs.Raws.{numbers, raw_of, parts_of}
 use Rattle.box_format.specs.BoxChecks.{early_fault, late_fault}
-use Rattle.box_format.specs.declared.version.Version.TheVariants.{First, Second, Third}
-use Rattle.box_format.specs.declared.refusal.BoxRefusal.TheVariants.{BoxMagic, BoxVersion, BoxCut, BoxSegments, BoxChunk, BoxPad, HandoverBad, BoxLong, HeaderLong}
+use Rattle.box_format.specs.declared.version.Version.TheVariants.{First, Second, Third, Fifth}
+use Rattle.box_format.specs.declared.refusal.BoxRefusal.TheVariants.{BoxMagic, BoxVersion, BoxCut, BoxSegments, BoxChunk, BoxPad, HandoverBad, BoxPlaces, BoxLong, HeaderLong}
 
 -- a header of one component with one code word in each table, eight columns wide
 abbrev pub grey_header : ℕ → List ℕ
@@ -63,6 +64,7 @@ abbrev pub least_parts : BoxParts
 least_parts = record {
   version = First;
   chunk = None;
+  places = None;
   pads = Same true;
   header = grey_header 8;
   trailer = image_end;
@@ -75,6 +77,7 @@ abbrev pub byteless_parts : BoxParts
 byteless_parts = record {
   version = First;
   chunk = None;
+  places = None;
   pads = Same true;
   header = grey_header 16;
   trailer = image_end;
@@ -140,6 +143,7 @@ abbrev pub chunk_parts : BoxParts
 chunk_parts = record {
   version = Third;
   chunk = Some (record { place = 72; length = 3; skip = 1; from = 3; to = 4 });
+  places = None;
   pads = Same true;
   header = ones_header;
   trailer = image_end;
@@ -155,13 +159,25 @@ chunk_box =
     ++ 0 ∷ 0 ∷ 0 ∷ 3 ∷ 0 ∷ 0 ∷ 0 ∷ 4 ∷ []
     ++ 0xfc ∷ 6 ∷ replicate 12 0 ++ replicate 7 0 ++ 3 ∷ ones_header ++ 0xff ∷ 0xd9 ∷ zeros
 
+-- the two segments with their places: the first one has none
+abbrev pub placed_parts : BoxParts
+placed_parts = record byteless_parts { version = Fifth; places = Some (69 ∷ 69 ∷ 70 ∷ []) }
+
+-- their container, byte for byte
+abbrev pub placed_box : List ℕ
+placed_box =
+    0x4c ∷ 0x50 ∷ 0x53 ∷ 0x47 ∷ 5 ∷ 1 ∷ 2 ∷ 0 ∷ 0 ∷ 0 ∷ 0x45 ∷ 0 ∷ 0 ∷ 0 ∷ 2 ∷ 0 ∷ 0 ∷ 0 ∷ 0 ∷ []
+    ++ replicate 7 0 ++ 0x46 ∷ replicate 14 0 ++ replicate 7 0 ++ 3 ∷ replicate 7 0 ++ 0x45 ∷ []
+    ++ 0 ∷ 2 ∷ replicate 12 0 ++ replicate 7 0 ++ 3 ∷ replicate 7 0 ++ 0x45 ∷ grey_header 16
+    ++ 0xff ∷ 0xd9 ∷ zeros ++ zeros
+
 -- bytes and parts, both ways
 abbrev pub laid_out : Type 0
 laid_out =
     (length least_box ≡ 111)
     × (box_bytes least_parts ≡ least_box)
     × (parts_of (raw_of least_box) ≡ least_parts)
-    × (early_fault Third least_box ≡ None)
+    × (early_fault decoded least_box ≡ None)
     × (late_fault (grey_plan 1) (raw_of least_box) ≡ None)
     × (length byteless_box ≡ 136)
     × (parts_of (raw_of byteless_box) ≡ byteless_parts)
@@ -169,7 +185,7 @@ laid_out =
     × (length second_box ≡ 115)
     × (box_bytes (migrated least_parts) ≡ second_box)
     × (parts_of (raw_of second_box) ≡ migrated least_parts)
-    × (early_fault Third second_box ≡ None)
+    × (early_fault decoded second_box ≡ None)
     × (late_fault (grey_plan 1) (raw_of second_box) ≡ None)
     × (slice_index mixed_box 5 ≡ 2)
     × (slice_index mixed_box 63 ≡ 0x80)
@@ -179,14 +195,16 @@ laid_out =
 -- containers that are refused before a header is looked for
 abbrev pub early : Type 0
 early =
-    (early_fault Third [] ≡ Some BoxMagic)
-    × (early_fault Third (slice_set least_box 0 0x4d) ≡ Some BoxMagic)
-    × (early_fault Third (take 3 least_box) ≡ Some BoxMagic)
-    × (early_fault Third (take 4 least_box) ≡ Some BoxCut)
-    × (early_fault Third (slice_set least_box 4 0x07) ≡ Some BoxVersion)
-    × (early_fault Third (take 110 least_box) ≡ Some BoxCut)
-    × (early_fault Third (slice_set least_box 4 2) ≡ Some BoxCut)
-    × (early_fault Second (slice_set second_box 4 3) ≡ Some BoxVersion)
+    (early_fault decoded [] ≡ Some BoxMagic)
+    × (early_fault decoded (slice_set least_box 0 0x4d) ≡ Some BoxMagic)
+    × (early_fault decoded (take 3 least_box) ≡ Some BoxMagic)
+    × (early_fault decoded (take 4 least_box) ≡ Some BoxCut)
+    × (early_fault decoded (slice_set least_box 4 0x07) ≡ Some BoxVersion)
+    × (early_fault decoded (slice_set least_box 4 0x04) ≡ Some BoxVersion)
+    × (early_fault decoded (slice_set least_box 4 0x00) ≡ Some BoxVersion)
+    × (early_fault decoded (take 110 least_box) ≡ Some BoxCut)
+    × (early_fault decoded (slice_set least_box 4 2) ≡ Some BoxCut)
+    × (early_fault migratable (slice_set second_box 4 3) ≡ Some BoxVersion)
 
 -- and after one that is accepted
 abbrev pub late : Type 0
@@ -213,9 +231,9 @@ chunks =
     (length chunk_box ≡ 149)
     × (box_bytes chunk_parts ≡ chunk_box)
     × (parts_of (raw_of chunk_box) ≡ chunk_parts)
-    × (early_fault Third chunk_box ≡ None)
-    × (early_fault Second chunk_box ≡ Some BoxVersion)
-    × (early_fault Third (take 148 chunk_box) ≡ Some BoxCut)
+    × (early_fault decoded chunk_box ≡ None)
+    × (early_fault migratable chunk_box ≡ Some BoxVersion)
+    × (early_fault decoded (take 148 chunk_box) ≡ Some BoxCut)
     × (fault chunk_box ≡ None)
     × (fault (slice_set chunk_box 46 5) ≡ Some BoxChunk)
     × (fault (slice_set chunk_box 50 5) ≡ Some BoxChunk)
@@ -228,8 +246,31 @@ chunks =
     × (fault (slice_set chunk_box 5 2) ≡ Some BoxPad)
     × (fault (chunk_box ++ 0 ∷ []) ≡ Some BoxLong)
 
+-- a container with places: they begin where the header ends, and none is below the one before. How many bytes a segment
+-- has isn't looked at here
+abbrev pub places : Type 0
+places =
+    let fault = λ (bytes : List ℕ). late_fault (grey_plan 2) (raw_of bytes) in
+    (length placed_box ≡ 164)
+    × (box_bytes placed_parts ≡ placed_box)
+    × (parts_of (raw_of placed_box) ≡ placed_parts)
+    × (early_fault decoded placed_box ≡ None)
+    × (early_fault migratable placed_box ≡ Some BoxVersion)
+    × (early_fault decoded (take 163 placed_box) ≡ Some BoxCut)
+    × (fault placed_box ≡ None)
+    × (fault (slice_set placed_box 56 0x44) ≡ Some BoxPlaces)
+    × (fault (slice_set placed_box 56 0x46) ≡ Some BoxPlaces)
+    × (fault (slice_set placed_box 86 0x44) ≡ Some BoxPlaces)
+    × (fault (slice_set placed_box 86 0x47) ≡ Some BoxPlaces)
+    × (fault (slice_set placed_box 26 0x44) ≡ Some BoxPlaces)
+    × (fault (slice_set placed_box 86 0x46) ≡ None)
+    × (fault (slice_set placed_box 26 0x50) ≡ None)
+    × (fault (slice_set (slice_set placed_box 56 0x44) 57 1) ≡ Some (HandoverBad 1))
+    × (fault (slice_set placed_box 56 0x44 ++ 0 ∷ []) ≡ Some BoxPlaces)
+    × (fault (placed_box ++ 0 ∷ []) ≡ Some BoxLong)
+
 -- every proper prefix of a container is refused for its first bytes, or as cut
 abbrev pub prefixes : Type 0
 prefixes =
-    map (λ n. early_fault Third (take n least_box)) (numbers 0 111)
+    map (λ n. early_fault decoded (take n least_box)) (numbers 0 111)
     ≡ replicate 4 (Some BoxMagic) ++ replicate 107 (Some BoxCut)

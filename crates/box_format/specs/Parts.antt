@@ -1,5 +1,5 @@
 -- Statement: a container by its parts, and its bytes by offset (docs/FORMAT.md, The container).
-use Rattle.std.specs.Prelude.{ℕ, ◌<◌, ◌≤◌, ◌≡◌, ◌^◌, Bool, ◌&&◌, ◌||◌, not, ◌==◌, true, if◌then◌else◌, List, [], ◌∷◌, ◌++◌, length, take, drop, flat_map, ◌+◌, ◌-◌, unsigned_abs, slice_index_or, pos, Option, Some, None, IfSome, is_some}
+use Rattle.std.specs.Prelude.{ℕ, ◌<◌, ◌≤◌, ◌≡◌, ◌^◌, Bool, ◌&&◌, ◌||◌, not, ◌==◌, true, if◌then◌else◌, List, [], ◌∷◌, ◌++◌, length, take, drop, flat_map, ◌+◌, ◌-◌, unsigned_abs, nat_lt, slice_index, slice_index_or, pos, Option, Some, None, IfSome, is_some}
 use Rattle.std.specs.List.{list_all, list_any, AllByRecursion}
 use Rattle.byteorder.specs.Endian.{big_bytes}
 use Rattle.byte_window.specs.Slices.{Cover, slice}
@@ -17,11 +17,13 @@ use Rattle.box_format.specs.declared.chunk.Chunk.{Chunk}
 use Rattle.box_format.specs.declared.version.Version.{Version}
 use Rattle.box_format.specs.declared.version.Version.TheVariants.{Second}
 
--- a version, the chunk if it has a chunk of a file, the pad bits, the header, the trailer or the chunk's part of it,
--- and for each segment what it starts from and its stream
+-- a version, the chunk if it has a chunk of a file, the places in the file if it keeps them, of each segment's first
+-- byte and after these of the scan's end, the pad bits, the header, the trailer or the chunk's part of it, and for each
+-- segment what it starts from and its stream
 pub record BoxParts : Type 0 where
   pub version : Version
   pub chunk : Option Chunk
+  pub places : Option (List ℕ)
   pub pads : PadBits
   pub header : List ℕ
   pub trailer : List ℕ
@@ -57,20 +59,27 @@ chunk_bytes (Some c) =
     big_bytes 8 c.place ++ (big_bytes 8 c.length ++ (big_bytes 8 c.skip
     ++ (big_bytes 4 c.from ++ big_bytes 4 c.to)))
 
--- a record for each segment: its handover, and its stream's length
-abbrev pub records : List HandoverFields → List (List ℕ) → List ℕ
-records [] streams = []
-records (h ∷ handovers) [] = []
-records (h ∷ handovers) (stream ∷ streams) =
-    handover_bytes h ++ big_bytes 8 (length stream) ++ records handovers streams
+-- one of the places, if they are kept
+abbrev pub place_bytes : Option (List ℕ) → ℕ → List ℕ
+place_bytes None i = []
+place_bytes (Some places) i = big_bytes 8 (slice_index places i)
 
--- the container: fields, records, pad list, header, trailer, streams
+-- a record for each segment from number i on: its handover, its stream's length, and its place, if places are kept
+abbrev pub records : Option (List ℕ) → ℕ → List HandoverFields → List (List ℕ) → List ℕ
+records places i [] streams = []
+records places i (h ∷ handovers) [] = []
+records places i (h ∷ handovers) (stream ∷ streams) =
+    handover_bytes h ++ (big_bytes 8 (length stream) ++ place_bytes places i)
+    ++ records places (i + 1) handovers streams
+
+-- the container: fields with the place of the scan's end, records, pad list, header, trailer, streams
 unfoldable pub box_bytes : BoxParts → List ℕ
 box_bytes b =
     magic ++ version_byte b.version ∷ pad_byte b.pads ∷ length b.handovers
     ∷ big_bytes 4 (length b.header) ++ big_bytes 4 (length b.trailer)
     ++ list_length (layout_of b.version).listed (list_bytes b.pads) ++ chunk_bytes b.chunk
-    ++ records b.handovers b.streams ++ list_bytes b.pads
+    ++ place_bytes b.places (length b.handovers)
+    ++ records b.places 0 b.handovers b.streams ++ list_bytes b.pads
     ++ b.header ++ b.trailer ++ flat_map (λ stream. stream) b.streams
 
 -- whether a component has blocks in the scan
@@ -141,6 +150,20 @@ pub record IsCut (cut : Cut) : Type 0 where
   pub some : cut.from < cut.to → 0 < cut.segments
   pub rows : cut.segments ≤ cut.to - cut.from
 
+-- whether no place is below the one before
+abbrev pub are_rising : List ℕ → Bool
+are_rising [] = true
+are_rising (place ∷ []) = true
+are_rising (place ∷ next ∷ places) = not (nat_lt next place) && are_rising (next ∷ places)
+
+-- the places of so many segments and of the scan's end: the first one is the header's end, and none is below the one
+-- before
+pub record ArePlaces (header segments : ℕ) (places : List ℕ) : Type 0 where
+  pub count : length places ≡ segments + 1
+  pub first : slice_index places 0 ≡ header
+  pub rising : are_rising places ≡ true
+  pub fit : AllByRecursion (λ place. place < 2 ^ 64) places
+
 -- whether a list has a bit for each interval, and bits of 0 after them
 abbrev pub is_list : Shape → List ℕ → Bool
 is_list shape bytes =
@@ -160,6 +183,8 @@ pub record IsBox (plan : PlanFields) (b : BoxParts) : Type 0 where
   pub cut : IsCut (box_cut plan b.chunk (length b.handovers))
   pub chunked : is_some b.chunk ≡ (layout_of b.version).chunked
   pub chunk : IfSome b.chunk (IsChunkIn plan.down b.header b.trailer)
+  pub placed : is_some b.places ≡ (layout_of b.version).placed
+  pub places : IfSome b.places (ArePlaces (length b.header) (length b.handovers))
   pub pads : can_pad (layout_of b.version).listed (shape_of plan) b.pads ≡ true
   pub streams : length b.streams ≡ length b.handovers
   pub each : AllByRecursion IsHandover b.handovers
@@ -179,9 +204,9 @@ pub record IsBoxOf (plan : PlanFields) (b : BoxParts) (bytes : List ℕ) : Type 
   pub box : IsBox plan b
   pub text : bytes ≡ box_bytes b
 
--- the same parts in the second version
+-- the same parts in the second version, which keeps no places
 abbrev pub migrated : BoxParts → BoxParts
-migrated b = record b { version = Second }
+migrated b = record b { version = Second; places = None }
 
 -- the bytes of a container of the first version as those of one of the second: the version's byte is changed, and a
 -- length of 0 for the pad list follows the trailer's length

@@ -1,6 +1,6 @@
 -- Statement: the fields of bytes that may be a container, by their offsets, before any check (docs/FORMAT.md, The
 -- container).
-use Rattle.std.specs.Prelude.{ℕ, zero, suc, ◌+◌, ◌*◌, not, ◌==◌, if◌then◌else◌, List, [], ◌∷◌, take, drop, map, sum, slice_index, Option, Some, None}
+use Rattle.std.specs.Prelude.{ℕ, zero, suc, ◌+◌, ◌*◌, not, ◌==◌, if◌then◌else◌, List, [], ◌∷◌, ◌++◌, take, drop, map, sum, slice_index, Option, Some, None}
 use Rattle.byteorder.specs.Endian.{big_number}
 use Rattle.handover.specs.Handovers.{HandoverFields}
 use Rattle.handover.specs.HandoverBytes.{handover_in}
@@ -10,10 +10,11 @@ use Rattle.box_format.specs.Versions.{layout_of, version_in}
 use Rattle.box_format.specs.declared.chunk.Chunk.{Chunk}
 use Rattle.box_format.specs.declared.version.Version.{Version}
 
--- the version, the chunk, the pad byte, the pad list, the parts, and what follows them
+-- the version, the chunk, the places, the pad byte, the pad list, the parts, and what follows them
 pub record Raw : Type 0 where
   pub version : Version
   pub chunk : Option Chunk
+  pub places : Option (List ℕ)
   pub pad : ℕ
   pub list : List ℕ
   pub handovers : List HandoverFields
@@ -27,17 +28,17 @@ abbrev pub numbers : ℕ → ℕ → List ℕ
 numbers from zero = []
 numbers from (suc count) = from ∷ numbers (from + 1) count
 
--- the bytes of a record
-abbrev pub record_room : ℕ
-record_room = 22
-
 -- the bytes of the fields before the records
 abbrev pub front_room : List ℕ → ℕ
 front_room bytes = (layout_of (version_in bytes)).front
 
+-- the bytes of a record
+abbrev pub record_room : List ℕ → ℕ
+record_room bytes = (layout_of (version_in bytes)).room
+
 -- where the record of segment i starts; after the last record starts the pad list
 abbrev pub record_place : List ℕ → ℕ → ℕ
-record_place bytes i = front_room bytes + record_room * i
+record_place bytes i = front_room bytes + record_room bytes * i
 
 -- how many segments there are, 0 where that byte is missing
 abbrev pub segments_in : List ℕ → ℕ
@@ -75,6 +76,21 @@ stream_length bytes i = big_number 8 (drop (record_place bytes i + 14) bytes)
 abbrev pub stream_lengths : List ℕ → List ℕ
 stream_lengths bytes = map (stream_length bytes) (numbers 0 (segments_in bytes))
 
+-- the place of a segment's first byte, in a version that has places
+abbrev pub place_in : List ℕ → ℕ → ℕ
+place_in bytes i = big_number 8 (drop (record_place bytes i + 22) bytes)
+
+-- and that of the scan's end
+abbrev pub scan_end : List ℕ → ℕ
+scan_end bytes = big_number 8 (drop 19 bytes)
+
+-- all of them
+abbrev pub places_in : List ℕ → Option (List ℕ)
+places_in bytes =
+    if (layout_of (version_in bytes)).placed
+    then Some (map (place_in bytes) (numbers 0 (segments_in bytes)) ++ scan_end bytes ∷ [])
+    else None
+
 -- where the pad list starts
 abbrev pub list_place : List ℕ → ℕ
 list_place bytes = record_place bytes (segments_in bytes)
@@ -109,6 +125,7 @@ unfoldable pub raw_of : List ℕ → Raw
 raw_of bytes = record {
   version = version_in bytes;
   chunk = chunk_in bytes;
+  places = places_in bytes;
   pad = slice_index bytes 5;
   list = take (list_long bytes) (drop (list_place bytes) bytes);
   handovers = map (handover_at bytes) (numbers 0 (segments_in bytes));
@@ -127,6 +144,7 @@ abbrev pub parts_of : Raw → BoxParts
 parts_of raw = record {
   version = raw.version;
   chunk = raw.chunk;
+  places = raw.places;
   pads = pads_in raw.pad raw.list;
   header = raw.header;
   trailer = raw.trailer;

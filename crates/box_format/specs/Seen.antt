@@ -1,18 +1,18 @@
 -- View: what contracts see of a container that was read, and what one is written from (own).
-use Rattle.std.specs.Prelude.{ℕ, ◌+◌, length, map, sum, Option, Some, None}
+use Rattle.std.specs.Prelude.{ℕ, ◌+◌, List, length, map, sum, Option, Some, None, option_map}
 use Rattle.std.specs.List.{AllByRecursion}
 use Rattle.bit_list.specs.Bits.{IsByte}
 use Rattle.jpeg_marker.specs.Plans.{PlanFields}
 use Rattle.scan_spec.specs.Pads.{pads_given}
-use Rattle.box_format.specs.Versions.{layout_of}
+use Rattle.box_format.specs.Versions.{layout_of, decoded}
 use Rattle.box_format.specs.Parts.{BoxParts, list_bytes}
-use Rattle.box_format.specs.Raws.{record_room, raw_of, parts_of}
+use Rattle.box_format.specs.Raws.{raw_of, parts_of}
 use Rattle.box_format.specs.BoxChecks.{PassesChecks}
 use Rattle.box_format.specs.declared.chunk.Chunk.{Chunk}
 use Rattle.box_format.specs.declared.view.BoxView.TheInside.{Inside}
 use Rattle.box_format.specs.declared.parts.Parts.{Parts}
 use Rattle.box_format.specs.declared.version.Version.{Version}
-use Rattle.box_format.specs.declared.version.Version.TheVariants.{Second, Third}
+use Rattle.box_format.specs.declared.version.Version.TheVariants.{Second, Third, Fifth}
 
 -- the header's plan, and the parts
 pub record BoxSeen : Type 0 where
@@ -25,19 +25,21 @@ seen_of v = record { plan = v.plan; parts = parts_of (raw_of v.bytes.now) }
 
 -- the bytes are a container with this plan
 pub record IsView (v : Inside) : Type 0 where
-  pub checks : PassesChecks Third v.plan v.bytes.now
+  pub checks : PassesChecks decoded v.plan v.bytes.now
   pub bytes : AllByRecursion IsByte v.bytes.now
 
--- the version that is written: the third one for a chunk, else the second one
-abbrev pub version_for : Option Chunk → Version
-version_for None = Second
-version_for (Some chunk) = Third
+-- the version that is written: the third one for a chunk, the fifth one with places, else the second one
+abbrev pub version_for : Option Chunk → Option (List ℕ) → Version
+version_for (Some chunk) places = Third
+version_for None (Some places) = Fifth
+version_for None None = Second
 
 -- the parts that a container is written from
 abbrev pub parts_given : Parts → BoxParts
 parts_given p = record {
-  version = version_for p.chunk;
+  version = version_for p.chunk (option_map (λ places. places.now) p.places);
   chunk = p.chunk;
+  places = option_map (λ places. places.now) p.places;
   pads = pads_given p.pad;
   header = p.header.now;
   trailer = p.trailer.now;
@@ -49,4 +51,4 @@ parts_given p = record {
 abbrev pub room_of : BoxParts → ℕ
 room_of b =
     (layout_of b.version).front + length (list_bytes b.pads) + length b.header + length b.trailer
-    + sum (map (λ stream. record_room + length stream) b.streams)
+    + sum (map (λ stream. (layout_of b.version).room + length stream) b.streams)

@@ -7,10 +7,10 @@ use Rattle.scan_spec.specs.Slots.{Shape, shape_of}
 use Rattle.box_format.specs.Versions.{layout_of, version_in}
 use Rattle.cut_spec.specs.Cuts.{Cut}
 use Rattle.box_format.specs.Parts.{bad_start, box_cut, is_unused_zero}
-use Rattle.box_format.specs.Raws.{list_place, list_long, chunk_in, header_length, header_place, trailer_length, trailer_place, named_end, segments_in, handover_at, numbers}
-use Rattle.box_format.specs.BoxChecks.{or_else, where_failed, are_wrong, is_bad_chunk, is_bad_pad}
+use Rattle.box_format.specs.Raws.{list_place, list_long, chunk_in, places_in, header_length, header_place, trailer_length, trailer_place, named_end, segments_in, handover_at, numbers}
+use Rattle.box_format.specs.BoxChecks.{or_else, where_failed, are_wrong, is_bad_chunk, is_bad_pad, are_bad_places}
 use Rattle.box_format.specs.declared.refusal.BoxRefusal.{BoxRefusal}
-use Rattle.box_format.specs.declared.refusal.BoxRefusal.TheVariants.{HeaderLong, BoxSegments, BoxChunk, BoxPad, HandoverBad, BoxLong}
+use Rattle.box_format.specs.declared.refusal.BoxRefusal.TheVariants.{HeaderLong, BoxSegments, BoxChunk, BoxPad, HandoverBad, BoxPlaces, BoxLong}
 
 -- no part ends after the bytes
 pub record IsWhole (bytes : List ℕ) : Type 0 where
@@ -59,4 +59,5 @@ bad_segment plan bytes =
 abbrev pub record_fault : PlanFields → List ℕ → Option BoxRefusal
 record_fault plan bytes =
     or_else (option_map (λ i. HandoverBad i) (bad_segment plan bytes))
-    (where_failed (nat_lt (named_end bytes) (length bytes)) BoxLong)
+    (or_else (where_failed (are_bad_places (header_length bytes) (places_in bytes)) BoxPlaces)
+    (where_failed (nat_lt (named_end bytes) (length bytes)) BoxLong))

@@ -1,16 +1,16 @@
 // The checks on bytes that may be a container, but for the header's own.
-ghost use Rattle.std.specs.Prelude.{◌≡◌, ◌&&◌, ◌+◌, ◌==◌, ◌<◌, ◌≤◌, ◌^◌, bytes_eq, length, nat_lt, not, slice_index, take};
-ghost use Rattle.box_format.specs.BoxChecks.{are_wrong, early_fault, is_bad_chunk, is_cut, late_fault, where_failed};
+ghost use Rattle.std.specs.Prelude.{◌≡◌, ◌&&◌, ◌+◌, ◌++◌, ◌∷◌, [], ◌==◌, ◌<◌, ◌≤◌, ◌^◌, bytes_eq, length, map, nat_lt, not, slice_index, take, true};
+ghost use Rattle.box_format.specs.BoxChecks.{are_bad_places, are_wrong, early_fault, is_bad_chunk, is_cut, late_fault, where_failed};
 ghost use Rattle.box_format.specs.Versions.{is_version, layout_of, version_in};
-ghost use Rattle.box_format.specs.Parts.{header_part, magic};
-ghost use Rattle.box_format.specs.Raws.{named_end, raw_of};
+ghost use Rattle.box_format.specs.Parts.{are_rising, header_part, magic};
+ghost use Rattle.box_format.specs.Raws.{header_length, named_end, numbers, place_in, places_in, raw_of, scan_end, segments_in};
 ghost use Rattle.box_format.specs.declared.refusal.BoxRefusal.TheVariants.{BoxLong};
 ghost use Rattle.box_format.specs.Whole.{IsWhole, field_fault, record_fault, rows_cut};
 
 use crate::chunk::{Chunk, rows_of};
 use crate::fields::{
-    byte_in, chunk_in, header_in, header_length, list_in, list_place, named_end, segments_in,
-    trailer_in, version_in,
+    byte_in, chunk_in, header_in, header_length, list_in, list_place, named_end, place_in,
+    segments_in, trailer_in, version_in,
 };
 use crate::pad_lists::is_bad_pad;
 use crate::refusal::BoxRefusal;
@@ -21,14 +21,14 @@ use jpeg_marker::Plan;
 /// The bytes that a container begins with.
 pub(crate) const MAGIC: [u8; 4] = [0x4c, 0x50, 0x53, 0x47];
 
-/// The first check before the header's that fails, where versions up to the newest one are read.
+/// The first check before the header's that fails, where these versions are read.
 #[tactic(auto, unfolding(crate::specs::BoxChecks::early_fault))]
-pub(crate) fn early_fault(bytes: &[u8], newest: Version) -> Option<BoxRefusal>
-    ensures { result ≡ early_fault newest bytes.now }
+pub(crate) fn early_fault(bytes: &[u8], versions: &[Version]) -> Option<BoxRefusal>
+    ensures { result ≡ early_fault versions.now bytes.now }
 {
     if !has_magic(bytes) {
         Some(BoxRefusal::BoxMagic)
-    } else if has_other_version(bytes, newest) {
+    } else if has_other_version(bytes, versions) {
         Some(BoxRefusal::BoxVersion)
     } else if is_cut(bytes) {
         Some(BoxRefusal::BoxCut)
@@ -45,18 +45,18 @@ fn has_magic(bytes: &[u8]) -> bool
 }
 
 // Whether the byte of the version is there, and says none.
-fn has_other_version(bytes: &[u8], newest: Version) -> bool
+fn has_other_version(bytes: &[u8], versions: &[Version]) -> bool
     ensures { result
-        ≡ (nat_lt 4 (length bytes.now) && not (is_version newest (slice_index bytes.now 4))) }
+        ≡ (nat_lt 4 (length bytes.now) && not (is_version versions.now (slice_index bytes.now 4))) }
 {
-    bytes.len() > 4 && !is_version(newest, byte_in(bytes, 4))
+    bytes.len() > 4 && !is_version(versions, byte_in(bytes, 4))
 }
 
-// Whether a byte says a version, up to the newest one.
-fn is_version(newest: Version, byte: u8) -> bool
-    ensures { result ≡ is_version newest byte }
+// Whether a byte says one of these versions.
+fn is_version(versions: &[Version], byte: u8) -> bool
+    ensures { result ≡ is_version versions.now byte }
 {
-    byte != 0 && byte <= newest.byte()
+    versions.iter().any(|version| version.byte() == byte)
 }
 
 // Whether the bytes end within the fields, or before the end that these name.
@@ -145,8 +145,37 @@ fn record_fault(bytes: &[u8], plan: &Plan) -> Option<BoxRefusal>
 {
     match bad_segment(bytes, plan) {
         Some(segment) => Some(BoxRefusal::HandoverBad { segment }),
+        None if are_bad_places(bytes) => Some(BoxRefusal::BoxPlaces),
         None => after_end(bytes),
     }
+}
+
+// Whether the places don't begin where the header ends, or one is below the one before.
+fn are_bad_places(bytes: &[u8]) -> bool
+    requires { IsWhole bytes.now }
+    ensures { result ≡ are_bad_places (header_length bytes.now) (places_in bytes.now) }
+{
+    version_in(bytes).is_placed()
+        && (place_in(bytes, 0) != u64::from(header_length(bytes)) || !are_rising(bytes))
+}
+
+// Whether no place is below the one before.
+fn are_rising(bytes: &[u8]) -> bool
+    requires whole { IsWhole bytes.now }
+    requires placed { (layout_of (version_in bytes.now)).placed ≡ true }
+    ensures { result ≡ are_rising (map (place_in bytes.now) (numbers 0 (segments_in bytes.now))
+        ++ scan_end bytes.now ∷ []) }
+{
+    let segments = segments_in(bytes);
+    let mut place = place_in(bytes, 0);
+    for i in 0..segments {
+        let next = place_in(bytes, i + 1);
+        if next < place {
+            return false;
+        }
+        place = next;
+    }
+    true
 }
 
 // That bytes follow the last stream, if they do.

@@ -1,16 +1,13 @@
 // The numbers that a container's fields have, and where its parts start.
-ghost use Rattle.std.specs.Prelude.{◌≡◌, ◌+◌, ◌*◌, ◌^◌, ◌≤◌, length, take, drop, map, sum, slice_index};
+ghost use Rattle.std.specs.Prelude.{◌≡◌, ◌+◌, ◌*◌, ◌^◌, ◌<◌, ◌≤◌, if◌then◌else◌, true, nat_lt, length, take, drop, map, sum, slice_index};
 ghost use Rattle.byteorder.specs.Endian.{big_number};
-ghost use Rattle.box_format.specs.Raws.{chunk_in, front_room, header_length, header_place, list_long, list_place, named_end, numbers, record_place, segments_in, stream_length, streams_place, trailer_length, trailer_place};
-ghost use Rattle.box_format.specs.Versions.{version_in};
+ghost use Rattle.box_format.specs.Raws.{chunk_in, front_room, header_length, header_place, list_long, list_place, named_end, numbers, place_in, record_place, scan_end, segments_in, stream_length, streams_place, trailer_length, trailer_place};
+ghost use Rattle.box_format.specs.Versions.{layout_of, version_in};
 ghost use Rattle.box_format.specs.Whole.{IsWhole, header_in, list_in, trailer_in};
 
 use crate::chunk::Chunk;
 use crate::version::Version;
 use byteorder::{BigEndian, ByteOrder};
-
-/// The bytes of a record.
-pub(crate) const RECORD: usize = 22;
 
 /// The byte at a place, 0 where it is missing.
 pub(crate) fn byte_in(bytes: &[u8], place: usize) -> u8
@@ -29,6 +26,7 @@ pub(crate) fn version_in(bytes: &[u8]) -> Version
     match byte_in(bytes, 4) {
         2 => Version::Second,
         3 => Version::Third,
+        5 => Version::Fifth,
         _ => Version::First,
     }
 }
@@ -43,15 +41,16 @@ pub(crate) fn segments_in(bytes: &[u8]) -> u8
 /// Where the record of a segment starts; after the last record starts the pad list.
 pub(crate) fn record_place(bytes: &[u8], segment: u8) -> usize
     ensures value { result ≡ record_place bytes.now segment }
-    ensures within { result ≤ 51 + 22 * segment }
+    ensures within { result ≤ 51 + 30 * segment }
 {
-    version_in(bytes).front() + RECORD * usize::from(segment)
+    let version = version_in(bytes);
+    version.front() + version.record_room() * usize::from(segment)
 }
 
 /// Where the pad list starts.
 pub(crate) fn list_place(bytes: &[u8]) -> usize
     ensures value { result ≡ list_place bytes.now }
-    ensures within { result ≤ 5661 }
+    ensures within { result ≤ 7701 }
 {
     record_place(bytes, segments_in(bytes))
 }
@@ -101,18 +100,53 @@ pub(crate) fn chunk_in(bytes: &[u8]) -> Option<Chunk>
     })
 }
 
+/// A place, in a version that has places: of a segment's first byte, and after those of all segments of the scan's end.
+pub(crate) fn place_in(bytes: &[u8], segment: u8) -> u64
+    requires placed { (layout_of (version_in bytes.now)).placed ≡ true }
+    requires fields { list_place bytes.now ≤ length bytes.now }
+    requires segment { segment ≤ segments_in bytes.now }
+    ensures { result ≡ (if nat_lt segment (segments_in bytes.now)
+        then place_in bytes.now segment else scan_end bytes.now) }
+{
+    if segment < segments_in(bytes) {
+        segment_place(bytes, segment)
+    } else {
+        scan_end(bytes)
+    }
+}
+
+// The place of a segment's first byte, in a version that has places.
+fn segment_place(bytes: &[u8], segment: u8) -> u64
+    requires placed { (layout_of (version_in bytes.now)).placed ≡ true }
+    requires fields { list_place bytes.now ≤ length bytes.now }
+    requires segment { segment < segments_in bytes.now }
+    ensures { result ≡ place_in bytes.now segment }
+{
+    BigEndian::read_u64(&bytes[record_place(bytes, segment) + 22..])
+}
+
+// The place of the scan's end, in a version that has places.
+fn scan_end(bytes: &[u8]) -> u64
+    requires placed { (layout_of (version_in bytes.now)).placed ≡ true }
+    requires fields { front_room bytes.now ≤ length bytes.now }
+    ensures { result ≡ scan_end bytes.now }
+{
+    BigEndian::read_u64(&bytes[19..])
+}
+
 /// Where the header starts.
 pub(crate) fn header_place(bytes: &[u8]) -> usize
     requires { front_room bytes.now ≤ length bytes.now }
     ensures value { result ≡ header_place bytes.now }
-    ensures within { result ≤ 5661 + 2 ^ 32 }
+    ensures within { result ≤ 7701 + 2 ^ 32 }
 {
     list_place(bytes) + list_length(bytes) as usize
 }
 
 /// The length of a segment's stream.
 pub(crate) fn stream_length(bytes: &[u8], segment: u8) -> u64
-    requires { record_place bytes.now (segment + 1) ≤ length bytes.now }
+    requires fields { list_place bytes.now ≤ length bytes.now }
+    requires segment { segment < segments_in bytes.now }
     ensures { result ≡ stream_length bytes.now segment }
 {
     BigEndian::read_u64(&bytes[record_place(bytes, segment) + 14..])
@@ -186,9 +220,10 @@ pub(crate) fn stream_in(bytes: &[u8], segment: u8) -> &[u8]
     stream
 }
 
-/// The record of a segment without the length of its stream.
+/// The record of a segment without the length of its stream and its place.
 pub(crate) fn record_in(bytes: &[u8], segment: u8) -> [u8; 14]
-    requires { record_place bytes.now (segment + 1) ≤ length bytes.now }
+    requires fields { list_place bytes.now ≤ length bytes.now }
+    requires segment { segment < segments_in bytes.now }
     ensures { result ≡ take 14 (drop (record_place bytes.now segment) bytes.now) }
 {
     let mut record = [0; 14];

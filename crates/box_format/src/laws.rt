@@ -1,6 +1,6 @@
 // What holds of all containers, and the definitions computed on worked ones.
 ghost use Rattle.box_format.specs.BoxLaws.{BoxPasses, PassedIsBox, OneBox, OneBoxRefusal, NeverBoth, MigratedIsBox, RelaidIsMigrated, SecondStays};
-ghost use Rattle.box_format.specs.BoxRows.{laid_out, early, late, chunks, prefixes};
+ghost use Rattle.box_format.specs.BoxRows.{laid_out, early, late, chunks, places, prefixes};
 
 /// A container has one plan and one list of parts, other bytes have one refusal, and no bytes are both. The parts of
 /// each are those of one of the second version, whose bytes differ in two fields.
@@ -21,5 +21,6 @@ pub fn rows_of_containers()
     ensures early { early }
     ensures late { late }
     ensures chunks { chunks }
+    ensures places { places }
     ensures prefixes { prefixes }
 {}

@@ -3,8 +3,9 @@
 //!     LPSG | 1 | pad | K | lengths of header and trailer | K records | header | trailer | K streams
 //!     LPSG | 2 | pad | K | these, and of a pad list | K records | pad list | header | trailer | K streams
 //!     LPSG | 3 | pad | K | these | chunk | K records | pad list | header | trailer's part | K streams
+//!     LPSG | 5 | pad | K | these | the scan's end | K records with places | pad list | header | trailer | K streams
 //!
-//! A record has what a segment starts from and the length of its stream. A container of version 1 or 2 has one
+//! A record has what a segment starts from and the length of its stream. A container of version 1, 2 or 5 has one
 //! spelling: what can be said in one way only is checked. Every check that fails has a refusal of its own. Not handled
 //! here: what a stream stands for (see `container_spec`).
 #![tactic(auto)]
@@ -27,7 +28,7 @@ pub use chunk::{Chunk, rows_of};
 pub use laws::{containers_have_one_spelling, rows_of_containers};
 pub use migrating::migrate;
 pub use parts::Parts;
-pub use reading::{read_box, read_box_up_to};
+pub use reading::{read_box, read_box_of};
 pub use refusal::{BoxRefusal, Migrate};
 pub use version::Version;
 pub use view::BoxView;

@@ -1,15 +1,14 @@
 // From a container to the same one in version 2.
-ghost use Rattle.std.specs.Prelude.{◌≡◌, ◌≤◌, false, IfOk, IsErrOf, length};
+ghost use Rattle.std.specs.Prelude.{◌≡◌, ◌≤◌, true, IfOk, IsErrOf, length};
 ghost use Rattle.jpeg_marker.specs.Plans.{PlanFields};
 ghost use Rattle.box_format.specs.BoxChecks.{IsRefusedBy};
 ghost use Rattle.box_format.specs.Parts.{BoxParts, IsBoxOf, box_bytes, migrated, relaid};
-ghost use Rattle.box_format.specs.Versions.{layout_of};
+ghost use Rattle.box_format.specs.Versions.{is_version, migratable, version_byte};
 ghost use Rattle.box_format.specs.declared.refusal.BoxRefusal.{BoxRefusal};
-ghost use Rattle.box_format.specs.declared.version.Version.TheVariants.{Second};
 
-use crate::reading::read_box_up_to;
+use crate::reading::read_box_of;
 use crate::refusal::Migrate;
-use crate::version::Version;
+use crate::version::{MIGRATABLE, Version};
 use crate::view::BoxView;
 use growth::{NoMemory, extend_from_slice, from_slice, push, with_capacity};
 use std::alloc::Global;
@@ -18,24 +17,24 @@ use std::alloc::Global;
 /// version 2, itself. It stands for the same; what its streams stand for isn't looked at.
 pub fn migrate(alloc: Global, bytes: &[u8]) -> Result<Vec<u8>, Migrate>
     ensures made { IfOk result (λ made. (plan : PlanFields) × (b : BoxParts)
-        × IsBoxOf plan b bytes.now × ((layout_of b.version).chunked ≡ false)
+        × IsBoxOf plan b bytes.now × (is_version migratable (version_byte b.version) ≡ true)
         × (made.items ≡ box_bytes (migrated b))) }
     ensures refused { (refusal : BoxRefusal) → IsErrOf result (Migrate.Box refusal)
-        → IsRefusedBy Second bytes.now refusal }
+        → IsRefusedBy migratable bytes.now refusal }
 {
-    let view = read_box_up_to(bytes, Version::Second)?;
+    let view = read_box_of(bytes, &MIGRATABLE)?;
     Ok(migrated(alloc, &view)?)
 }
 
 // The bytes of a container, in version 2.
 fn migrated(alloc: Global, view: &BoxView) -> Result<Vec<u8>, NoMemory>
-    requires { (layout_of view.now.parts.version).chunked ≡ false }
+    requires { is_version migratable (version_byte view.now.parts.version) ≡ true }
     ensures { IfOk result (λ made. made.items ≡ box_bytes (migrated view.now.parts)) }
 {
     match view.version() {
         Version::First => relaid(alloc, view.bytes),
         Version::Second => from_slice(alloc, view.bytes),
-        Version::Third => unreachable!(),
+        Version::Third | Version::Fifth => unreachable!(),
     }
 }
 

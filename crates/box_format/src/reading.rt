@@ -7,7 +7,7 @@ ghost use Rattle.box_format.specs.BoxLaws.{IsRead};
 use crate::checks::{early_fault, late_fault};
 use crate::fields::header_in;
 use crate::refusal::BoxRefusal;
-use crate::version::Version;
+use crate::version::{DECODED, Version};
 use crate::view::BoxView;
 use jpeg_marker::read_header;
 
@@ -17,16 +17,16 @@ pub fn read_box(bytes: &[u8]) -> Result<BoxView<'_>, BoxRefusal>
     ensures taken { IfOk result (λ view. IsBoxOf view.plan view.parts bytes.now) }
     ensures refused { IfErr result (λ refusal. IsRefusedBox bytes.now refusal) }
 {
-    read_box_up_to(bytes, Version::Third)
+    read_box_of(bytes, &DECODED)
 }
 
-/// Reads a container of a version up to the newest one: 31 is the refusal of those after it.
-pub fn read_box_up_to(bytes: &[u8], newest: Version) -> Result<BoxView<'_>, BoxRefusal>
+/// Reads a container of one of these versions: 31 is the refusal of the others.
+pub fn read_box_of<'a>(bytes: &'a [u8], versions: &[Version]) -> Result<BoxView<'a>, BoxRefusal>
     ensures taken { IfOk result (λ view. IsBoxOf view.plan view.parts bytes.now) }
-    ensures version { IfOk result (λ view. IsRead newest view.parts.version) }
-    ensures refused { IfErr result (λ refusal. IsRefusedBy newest bytes.now refusal) }
+    ensures version { IfOk result (λ view. IsRead versions.now view.parts.version) }
+    ensures refused { IfErr result (λ refusal. IsRefusedBy versions.now bytes.now refusal) }
 {
-    if let Some(refusal) = early_fault(bytes, newest) {
+    if let Some(refusal) = early_fault(bytes, versions) {
         return Err(refusal);
     }
     let plan = match read_header(header_in(bytes)) {

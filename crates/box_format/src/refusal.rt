@@ -7,7 +7,7 @@ use jpeg_marker::HeaderRefusal;
 pub enum BoxRefusal {
     /// 30: the bytes don't begin with `LPSG`.
     BoxMagic,
-    /// 31: the version is none that is read: `decode` reads versions 1 to 3, `migrate` versions 1 and 2.
+    /// 31: the version is none that is read: `decode` reads versions 1, 2, 3 and 5, `migrate` versions 1 and 2.
     BoxVersion,
     /// 32: the bytes end within the fields, or before the end that these name.
     BoxCut,
@@ -25,6 +25,8 @@ pub enum BoxRefusal {
     BoxPad,
     /// 36: this segment can't start from what its record has.
     HandoverBad { segment: u8 },
+    /// 53: the first place isn't the header's length, or a place is below the one before.
+    BoxPlaces,
     /// 37: bytes follow the last stream.
     BoxLong,
 }

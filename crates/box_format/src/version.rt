@@ -1,4 +1,4 @@
-// The versions of a container.
+// The versions of a container, and what their fields have.
 ghost use Rattle.std.specs.Prelude.{◌≡◌, ◌≤◌};
 ghost use Rattle.box_format.specs.Versions.{layout_of, version_byte};
 
@@ -11,18 +11,32 @@ pub enum Version {
     Second,
     /// 3: a chunk of a file, with the pad bits of the whole file, as version 2 has them.
     Third,
+    /// 5: as version 2, with the place in the file of each segment's first byte.
+    Fifth,
 }
+
+/// The versions that `decode` reads.
+pub(crate) const DECODED: [Version; 4] = [
+    Version::First,
+    Version::Second,
+    Version::Third,
+    Version::Fifth,
+];
+
+/// The versions that `migrate` reads.
+pub(crate) const MIGRATABLE: [Version; 2] = [Version::First, Version::Second];
 
 impl Version {
     /// The byte that says it.
     pub(crate) fn byte(self) -> u8
         ensures value { result ≡ version_byte self }
-        ensures few { result ≤ 3 }
+        ensures few { result ≤ 5 }
     {
         match self {
             Version::First => 1,
             Version::Second => 2,
             Version::Third => 3,
+            Version::Fifth => 5,
         }
     }
 
@@ -34,6 +48,20 @@ impl Version {
             Version::First => 15,
             Version::Second => 19,
             Version::Third => 51,
+            Version::Fifth => 27,
+        }
+    }
+
+    /// The bytes of a record.
+    pub(crate) fn record_room(self) -> usize
+        ensures value { result ≡ (layout_of self).room }
+        ensures few { result ≤ 30 }
+    {
+        match self {
+            Version::First => 22,
+            Version::Second => 22,
+            Version::Third => 22,
+            Version::Fifth => 30,
         }
     }
 
@@ -45,6 +73,7 @@ impl Version {
             Version::First => false,
             Version::Second => true,
             Version::Third => true,
+            Version::Fifth => true,
         }
     }
 
@@ -56,6 +85,19 @@ impl Version {
             Version::First => false,
             Version::Second => false,
             Version::Third => true,
+            Version::Fifth => false,
+        }
+    }
+
+    /// Whether the places of the segments and of the scan's end are kept.
+    pub(crate) fn is_placed(self) -> bool
+        ensures { result ≡ (layout_of self).placed }
+    {
+        match self {
+            Version::First => false,
+            Version::Second => false,
+            Version::Third => false,
+            Version::Fifth => true,
         }
     }
 
@@ -67,6 +109,7 @@ impl Version {
             Version::First => 16,
             Version::Second => 64,
             Version::Third => 64,
+            Version::Fifth => 64,
         }
     }
 }

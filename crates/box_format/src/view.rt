@@ -1,5 +1,5 @@
 // A container that was read.
-ghost use Rattle.std.specs.Prelude.{◌≡◌, ◌≤◌, ◌<◌, ◌^◌, length, get_or, [], true};
+ghost use Rattle.std.specs.Prelude.{◌≡◌, ◌≤◌, ◌<◌, ◌^◌, length, get_or, [], true, option_map, slice_index};
 ghost use Rattle.handover.specs.Handovers.{start};
 ghost use Rattle.scan_spec.specs.Pads.{is_long_for, pads_given};
 ghost use Rattle.scan_spec.specs.Slots.{shape_of};
@@ -8,7 +8,7 @@ ghost use Rattle.box_format.specs.Versions.{layout_of, most_segments};
 
 use crate::chunk::Chunk;
 use crate::fields::{
-    byte_in, chunk_in, header_in, list_in, record_in, segments_in, stream_in, trailer_in,
+    byte_in, chunk_in, header_in, list_in, place_in, record_in, segments_in, stream_in, trailer_in,
     version_in,
 };
 use crate::version::Version;
@@ -68,6 +68,19 @@ impl<'a> BoxView<'a> {
         match byte_in(self.bytes, 5) {
             2 => Pads::Each(list_in(self.bytes)),
             pad => Pads::All(pad != 0),
+        }
+    }
+
+    /// A place in the file, in a container that keeps them: of a segment's first byte, and after those of all segments
+    /// of the scan's end.
+    pub fn place(&self, segment: u8) -> Option<u64>
+        requires { segment ≤ length self.now.parts.handovers }
+        ensures { result ≡ option_map (λ places. slice_index places segment) self.now.parts.places }
+    {
+        if version_in(self.bytes).is_placed() {
+            Some(place_in(self.bytes, segment))
+        } else {
+            None
         }
     }
 

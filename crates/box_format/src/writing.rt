@@ -1,16 +1,15 @@
 // From parts to the bytes of a container.
-ghost use Rattle.std.specs.Prelude.{◌≡◌, ◌-◌, ◌^◌, min, ◌∷◌, [], ◌++◌, length, map, flat_map, IfOk, OnOk, Some};
+ghost use Rattle.std.specs.Prelude.{◌≡◌, ◌-◌, ◌^◌, ◌<◌, ◌≤◌, min, ◌∷◌, [], ◌++◌, length, map, flat_map, IfOk, IfSome, OnOk, Some};
 ghost use Rattle.byteorder.specs.Endian.{big_bytes};
 ghost use Rattle.handover.specs.HandoverBytes.{handover_bytes};
 ghost use Rattle.jpeg_marker.specs.Plans.{PlanFields};
 ghost use Rattle.scan_spec.specs.Pads.{pads_given};
-ghost use Rattle.box_format.specs.Parts.{IsBox, box_bytes, chunk_bytes, list_bytes, magic, pad_byte, records};
+ghost use Rattle.box_format.specs.Parts.{IsBox, box_bytes, chunk_bytes, list_bytes, magic, pad_byte, place_bytes, records};
 ghost use Rattle.box_format.specs.Versions.{version_byte};
-ghost use Rattle.box_format.specs.Seen.{parts_given, room_of, version_for};
+ghost use Rattle.box_format.specs.Seen.{parts_given, room_of};
 
 use crate::checks::MAGIC;
 use crate::chunk::Chunk;
-use crate::fields::RECORD;
 use crate::parts::Parts;
 use crate::version::Version;
 use growth::{NoMemory, extend_from_slice, push, with_capacity};
@@ -18,8 +17,8 @@ use handover::Handover;
 use scan_spec::Pads;
 use std::alloc::Global;
 
-/// Writes the container of these parts: of a chunk in version 3, else in version 2. They must be those of a container:
-/// their checks pass. The one error is out of memory.
+/// Writes the container of these parts: of a chunk in version 3, with places in version 5, else in version 2. They must
+/// be those of a container: their checks pass. The one error is out of memory.
 pub fn write_box(alloc: Global, parts: &Parts) -> Result<Vec<u8>, NoMemory>
     requires { (plan : PlanFields) × IsBox plan (parts_given parts.now) }
     ensures { IfOk result (λ bytes. bytes.items ≡ box_bytes (parts_given parts.now)) }
@@ -28,7 +27,7 @@ pub fn write_box(alloc: Global, parts: &Parts) -> Result<Vec<u8>, NoMemory>
     let list = list_of(&parts.pad);
     put_front(
         &mut bytes,
-        version_for(parts.chunk),
+        version_for(parts),
         pad_byte(&parts.pad),
         parts.handovers.len() as u8,
     )?;
@@ -39,7 +38,8 @@ pub fn write_box(alloc: Global, parts: &Parts) -> Result<Vec<u8>, NoMemory>
         list.len() as u32,
     )?;
     put_chunk(&mut bytes, parts.chunk)?;
-    put_records(&mut bytes, parts.handovers, parts.streams)?;
+    put_place(&mut bytes, parts, parts.handovers.len())?;
+    put_records(&mut bytes, parts)?;
     extend_from_slice(&mut bytes, list)?;
     extend_from_slice(&mut bytes, parts.header)?;
     extend_from_slice(&mut bytes, parts.trailer)?;
@@ -51,24 +51,28 @@ pub fn write_box(alloc: Global, parts: &Parts) -> Result<Vec<u8>, NoMemory>
 fn room(parts: &Parts) -> usize
     ensures { result ≡ min (2 ^ 64 - 1) (room_of (parts_given parts.now)) }
 {
-    let mut room = version_for(parts.chunk)
+    let version = version_for(parts);
+    let mut room = version
         .front()
         .saturating_add(list_of(&parts.pad).len())
         .saturating_add(parts.header.len())
         .saturating_add(parts.trailer.len());
     for stream in parts.streams {
-        room = room.saturating_add(RECORD.saturating_add(stream.len()));
+        room = room.saturating_add(version.record_room().saturating_add(stream.len()));
     }
     room
 }
 
 // The version that is written.
-fn version_for(chunk: Option<Chunk>) -> Version
-    ensures { result ≡ version_for chunk }
+fn version_for(parts: &Parts) -> Version
+    ensures { result ≡ (parts_given parts.now).version }
 {
-    match chunk {
-        Some(_) => Version::Third,
-        None => Version::Second,
+    if parts.chunk.is_some() {
+        Version::Third
+    } else if parts.places.is_some() {
+        Version::Fifth
+    } else {
+        Version::Second
     }
 }
 
@@ -138,18 +142,39 @@ fn put_chunk_fields(bytes: &mut Vec<u8>, chunk: &Chunk) -> Result<(), NoMemory>
     Ok(())
 }
 
-// A record for each segment.
-fn put_records(
-    bytes: &mut Vec<u8>,
-    handovers: &[Handover],
-    streams: &[Vec<u8>],
-) -> Result<(), NoMemory>
-    requires { length handovers.now ≡ length streams.now }
+// One of the places, if they are kept.
+fn put_place(bytes: &mut Vec<u8>, parts: &Parts, i: usize) -> Result<(), NoMemory>
+    requires { IfSome (parts_given parts.now).places (λ places. i < length places) }
     ensures { OnOk result (bytes.new.items
-        ≡ bytes.old.items ++ records handovers.now (map (λ v. v.items) streams.now)) }
+        ≡ bytes.old.items ++ place_bytes (parts_given parts.now).places i) }
 {
-    for (i, handover) in handovers.iter().enumerate() {
-        put_record(bytes, handover, streams[i].len() as u64)?;
+    match parts.places {
+        Some(places) => put_place_field(bytes, places, i),
+        None => Ok(()),
+    }
+}
+
+// The field of one of the places.
+fn put_place_field(bytes: &mut Vec<u8>, places: &[u64], i: usize) -> Result<(), NoMemory>
+    requires { i < length places.now }
+    ensures { OnOk result (bytes.new.items
+        ≡ bytes.old.items ++ place_bytes (Some places.now) i) }
+{
+    extend_from_slice(bytes, &places[i].to_be_bytes())
+}
+
+// A record for each segment.
+fn put_records(bytes: &mut Vec<u8>, parts: &Parts) -> Result<(), NoMemory>
+    requires streams { length parts.now.handovers.now ≡ length parts.now.streams.now }
+    requires places { IfSome (parts_given parts.now).places
+        (λ places. length parts.now.handovers.now ≤ length places) }
+    ensures { OnOk result (bytes.new.items
+        ≡ bytes.old.items ++ records (parts_given parts.now).places 0 parts.now.handovers.now
+        (map (λ v. v.items) parts.now.streams.now)) }
+{
+    for (i, handover) in parts.handovers.iter().enumerate() {
+        put_record(bytes, handover, parts.streams[i].len() as u64)?;
+        put_place(bytes, parts, i)?;
     }
     Ok(())
 }

@@ -1,5 +1,5 @@
 -- The parts of a chunk's container.
-use Rattle.std.proofs.Common.{◌≡◌, ℕ, zero, suc, ◌+◌, ◌-◌, ◌*◌, ◌/◌, ◌^◌, ◌==◌, ◌<◌, ◌≤◌, Bool, true, false, if◌then◌else◌, List, length, take, map, refl, sym, ap, ◌∙◌, arith, length-append}
+use Rattle.std.proofs.Common.{◌≡◌, ℕ, ◌+◌, ◌-◌, ◌*◌, ◌/◌, ◌^◌, ◌==◌, ◌<◌, ◌≤◌, Bool, true, false, if◌then◌else◌, List, length, take, map, refl, sym, ap, ◌∙◌, arith, length-append}
 use Rattle.std.specs.List.{AllByRecursion}
 use Rattle.std.proofs.Math.Nat.{mul-le-mul_right, mul-le-mul_left}
 use Rattle.std.proofs.lemmas.List.{length-drop}
@@ -20,6 +20,7 @@ use Rattle.box_format.specs.Raws.{numbers}
 use Rattle.box_format.specs.Versions.{layout_of}
 use Rattle.box_format.specs.declared.chunk.Chunk.{Chunk}
 use Rattle.box_format.specs.declared.version.Version.TheVariants.{Second, Third}
+use Rattle.box_format.proofs.PartedLists.{all_values}
 use Rattle.container_spec.specs.Files.{IsContainerOf, parts_of_file, told_pads}
 use Rattle.container_spec.specs.ScanStream.{grid_of, blocks_of}
 use Rattle.container_spec.specs.SegmentLaws.{Suits}
@@ -33,16 +34,6 @@ use Rattle.container_spec.proofs.StreamSizes.{stream_short, blocks_long}
 use Rattle.container_spec.proofs.StreamsOfBlocks.{blocks_stream_bytes}
 use Rattle.chunk_cut.specs.ChunksOfFiles.{IsChunkOf, parted, cut_start, cut_stream, parts_of_chunk}
 use Rattle.chunk_spec.proofs.ChunkParts.{done_by, chunk_is_long, rows_are_in_grid}
-
--- what holds of each of some items
-all_mapped : {A : Type 0} (P : A → Type 0) (f : ℕ → A) (count i : ℕ)
-    → ((j : ℕ) → i ≤ j → j < i + count → P (f j)) → AllByRecursion P (map f (numbers i count))
-all_mapped P f zero i each = tt
-all_mapped P f (suc count) i each = (
-  each i (omega arith) (omega arith),
-  all_mapped P f count (i + 1)
-      (λ j after within. each j (omega (arith, after)) (omega (arith, within))),
-)
 
 -- ---- the chunk's fields
 
@@ -325,10 +316,12 @@ module _ (most size i : ℕ) (made file : List ℕ) (some : 0 < most)
         };
         chunked = refl;
         chunk = chunk_is;
+        placed = refl;
+        places = tt;
         pads = file_box.pads;
         streams = mapped_long stream 0 segments ∙ sym many;
-        each = all_mapped IsHandover start segments 0
-            (λ j after within. handovers_are j (omega (arith, within)));
+        each = all_values IsHandover start 0 segments
+            (λ j within. handovers_are (0 + j) (omega (arith, within)));
         starts = ap (λ n. bad_start (shape_of is.plan) (box_cut is.plan box.chunk n) 0
             (map start (numbers 0 segments))) many
             ∙ none_bad (shape_of is.plan) cut start segments 0
@@ -340,14 +333,14 @@ module _ (most size i : ℕ) (made file : List ℕ) (some : 0 < most)
         trailer_fits = let part = trailer_few in let all = trailer_fits in omega (arith, part, all);
         list_fits = file_box.list_fits;
         list_bytes_are = file_box.list_bytes_are;
-        streams_fit = all_mapped (λ l. length l < 2 ^ 64) stream segments 0
-            (λ j after within. stream_fits j (omega (arith, within)));
+        streams_fit = all_values (λ l. length l < 2 ^ 64) stream 0 segments
+            (λ j within. stream_fits (0 + j) (omega (arith, within)));
         header_bytes = file_box.header_bytes;
         trailer_bytes = all_drop IsByte (place - length header - length is.is.scan)
             (take (end - length header - length is.is.scan) is.trailer)
             (all_take IsByte (end - length header - length is.is.scan) is.trailer
             file_box.trailer_bytes);
-        stream_bytes = all_mapped (AllByRecursion IsByte) stream segments 0
-            (λ j after within. blocks_stream_bytes (grid_of is.plan)
-            (blocks_of (mcus_between is.mcus (cut_at j) (cut_at (j + 1)))));
+        stream_bytes = all_values (AllByRecursion IsByte) stream 0 segments
+            (λ j within. blocks_stream_bytes (grid_of is.plan)
+            (blocks_of (mcus_between is.mcus (cut_at (0 + j)) (cut_at (0 + j + 1)))));
       }

@@ -1,46 +1,17 @@
 -- How long the container of a chunk of a file can be.
-use Rattle.std.proofs.Common.{◌≡◌, ℕ, zero, suc, ◌+◌, ◌*◌, ◌-◌, ◌<◌, ◌≤◌, List, [], ◌∷◌, ◌++◌, length, map, ap, arith, length-append, zero-add}
-use Rattle.std.specs.Prelude.{flat_map, Some}
-use Rattle.std.specs.List.{AllByRecursion}
+use Rattle.std.proofs.Common.{◌≡◌, ℕ, zero, suc, ◌+◌, ◌*◌, ◌-◌, ◌<◌, ◌≤◌, List, length, map, ap, arith, zero-add}
+use Rattle.std.specs.Prelude.{flat_map}
 use Rattle.std.proofs.Math.Nat.{mul-le-mul_right}
-use Rattle.byteorder.specs.Endian.{big_bytes}
 use Rattle.scan_spec.specs.Slots.{shape_of}
 use Rattle.cut_spec.specs.Cuts.{Cut, first_mcu}
-use Rattle.chunk_spec.specs.Chunks.{FileParts, chunk_from, chunk_to}
-use Rattle.handover.specs.Handovers.{HandoverFields, IsHandover}
-use Rattle.handover.specs.HandoverBytes.{handover_bytes}
-use Rattle.handover.proofs.FieldBytes.{fields_again}
-use Rattle.box_format.specs.declared.chunk.Chunk.{Chunk}
-use Rattle.box_format.specs.declared.version.Version.TheVariants.{Third}
-use Rattle.box_format.specs.Parts.{BoxParts, box_bytes, records, list_bytes}
+use Rattle.chunk_spec.specs.Chunks.{FileParts}
+use Rattle.box_format.specs.Parts.{BoxParts}
 use Rattle.box_format.specs.Raws.{numbers}
+use Rattle.container_spec.proofs.ContainerSizes.{box_long}
 use Rattle.container_spec.proofs.StreamSizes.{streams_short}
 use Rattle.chunk_cut.specs.ChunkLaws.{ChunkIsShort}
 use Rattle.chunk_cut.specs.ChunksOfFiles.{cut_stream}
-use Rattle.chunk_cut.proofs.ChunkBoxes.{chunk_fields, box, parts, cut, cut_rises, cut_within, stream_long, all_blocks, file_long, trailer_few, list_long, mcus_few, box_is}
-
--- 22 bytes for each record
-records_long : (hs : List HandoverFields) (ss : List (List ℕ)) → AllByRecursion IsHandover hs
-    → length (records hs ss) ≤ 22 * length hs
-records_long [] ss each = omega arith
-records_long (h ∷ hs) [] each = omega arith
-records_long (h ∷ hs) (s ∷ ss) each =
-    let fourteen = (fields_again h each.0).0 in
-    let rest = records_long hs ss each.1 in
-    let tail = records hs ss in
-    let fields = length-append (handover_bytes h) (big_bytes 8 (length s)) in
-    let all = length-append (handover_bytes h ++ big_bytes 8 (length s)) tail in
-    omega (arith, fourteen, rest, fields, all)
-
--- the container of a chunk, by its parts
-box_long : (parts : BoxParts) (c : Chunk) → AllByRecursion IsHandover parts.handovers
-    → length (box_bytes (record parts { version = Third; chunk = Some c }))
-    ≤ 51 + length (list_bytes parts.pads) + 22 * length parts.handovers + length parts.header
-    + length parts.trailer + length (flat_map (λ stream. stream) parts.streams)
-unfolding box_bytes
-box_long parts c each =
-    let few = records_long parts.handovers parts.streams each in
-    simp length-append (omega (arith, few))
+use Rattle.chunk_cut.proofs.ChunkBoxes.{box, parts, cut, cut_rises, cut_within, stream_long, all_blocks, file_long, trailer_few, list_long, mcus_few, box_is}
 
 -- the streams of MCUs between cuts, of which none lies after `all` MCUs; there may be no stream
 streams_few : (stream : ℕ → List ℕ) (d : ℕ → ℕ) (n all count : ℕ)
@@ -70,8 +41,7 @@ chunk_is_short most size i made file some allowed is short =
     (stream_long most size i made file some is)
     (λ has. cut_within most size i made file some is count has (omega arith)) in
     let is_box = box_is most size i made file some is allowed in
-    let long =
-    box_long b (chunk_fields f (chunk_from size i) (chunk_to (length file) size i)) is_box.each in
+    let long = box_long b is_box.each in
     let text = ap length is.spelled in
     let few = is_box.few in
     let blocks = all_blocks most size i made file some is in

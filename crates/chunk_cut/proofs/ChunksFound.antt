@@ -1,13 +1,13 @@
 -- A chunk's parts, as they are found by where the rows of a file start.
 use Rattle.std.proofs.Common.{◌≡◌, ℕ, zero, suc, ◌+◌, ◌-◌, ◌*◌, ◌<◌, ◌≤◌, ◌^◌, Bool, true, false, List, length, take, drop, get_or, map, inl, inr, refl, sym, ap, ap₂, subst, ◌∙◌, append_assoc, arith, ◌∷◌, [], ◌++◌}
-use Rattle.std.specs.Prelude.{◌==◌, nat_lt, max, min, if◌then◌else◌, Some}
+use Rattle.std.specs.Prelude.{◌==◌, nat_lt, max, min, if◌then◌else◌, Some, None}
 use Rattle.std.specs.List.{AllByRecursion}
 use Rattle.std.proofs.lemmas.Bool.{cases_lt}
 use Rattle.std.proofs.lemmas.Bool.Decides.{nat_tests}
 use Rattle.std.proofs.lemmas.List.{length-take-le, map-id}
 use Rattle.byte_window.specs.Slices.{Cover, slice, has_place, with_part, cover}
 use Rattle.bit_list.specs.Bits.{IsByte}
-use Rattle.jpeg_marker.specs.Plans.{PlanFields, IsPlan}
+use Rattle.jpeg_marker.specs.Plans.{PlanFields}
 use Rattle.jpeg_marker.specs.AcceptedPlans.{HasPlan}
 use Rattle.jpeg_marker.proofs.HeadersTaken.{accepted_has_plan}
 use Rattle.handover.specs.Handovers.{HandoverFields, start}
@@ -32,7 +32,7 @@ use Rattle.container_spec.proofs.CutsOfPlans.{mcus_within, each_has_mcus}
 use Rattle.container_spec.proofs.Numbered.{mapped_at, mapped_long, mapped_same}
 use Rattle.segment_code.specs.FileStarts.{StartsFields}
 use Rattle.segment_code.specs.Starting.{AreStarts}
-use Rattle.chunk_cut.specs.ChunksOfFiles.{IsChunkOf, cut_start, cut_stream, parted, parts_of_chunk}
+use Rattle.chunk_cut.specs.ChunksOfFiles.{IsChunkOf, cut_start, parted, parts_of_chunk}
 use Rattle.chunk_cut.specs.Found.{chunk_found, handovers_found, place_of, rows_found}
 use Rattle.chunk_cut.proofs.ChunkBoxes.{box_is, chunk_fields}
 
@@ -251,6 +251,7 @@ module _ (plan : PlanFields) (bytes : List ℕ) (starts : StartsFields)
           → ◌≡◌ {A = BoxParts} (record {
             version = Third;
             chunk = Some at;
+            places = None;
             pads = pads;
             header = header;
             trailer = after;

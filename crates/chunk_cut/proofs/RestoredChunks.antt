@@ -1,5 +1,5 @@
 -- A chunk's container stands for the chunk.
-use Rattle.std.proofs.Common.{◌≡◌, ℕ, ◌+◌, ◌-◌, ◌<◌, ◌≤◌, Bool, true, false, if◌then◌else◌, List, [], ◌++◌, length, take, drop, map, get_or, Ok, Some, inl, inr, refl, sym, ap, ap₂, subst, ◌∙◌, arith, append_assoc, zero-add}
+use Rattle.std.proofs.Common.{◌≡◌, ℕ, ◌+◌, ◌-◌, ◌<◌, ◌≤◌, Bool, true, false, if◌then◌else◌, List, [], ◌++◌, length, take, drop, map, get_or, Ok, Some, None, inl, inr, refl, sym, ap, ap₂, subst, ◌∙◌, arith, append_assoc, zero-add}
 use Rattle.std.specs.Prelude.{slice_get, nat_lt, flat_map}
 use Rattle.std.proofs.lemmas.Bool.{cases_lt}
 use Rattle.std.proofs.lemmas.Bool.Decides.{nat_tests}
@@ -28,6 +28,7 @@ use Rattle.container_spec.specs.Files.{told_pads}
 use Rattle.container_spec.specs.Meanings.{Meaning, Restored, outputs_of, joined, meaning_by, meaning_of}
 use Rattle.container_spec.proofs.JoinedSegments.{all_sum, good_join, joined_good}
 use Rattle.container_spec.proofs.Numbered.{mapped_long, mapped_at, mapped_same, got_at, got_none}
+use Rattle.container_spec.proofs.PutsAlike.{segment_alike}
 use Rattle.container_spec.proofs.SlicesMeant.{slice_output, slice_sum}
 use Rattle.container_spec.proofs.SpotsAlike.{handovers_alike}
 use Rattle.chunk_cut.specs.ChunksOfFiles.{IsChunkOf, chunk_of, cut_start, cut_stream}
@@ -36,7 +37,6 @@ use Rattle.chunk_spec.proofs.ChunkParts.{done_by, chunk_is_slice, chunk_is_long}
 use Rattle.chunk_spec.proofs.ChunkJoins.{segments_are_the_rows}
 use Rattle.chunk_cut.proofs.ChunkBoxes as boxes
 use Rattle.chunk_cut.proofs.ChunkBoxes.{chunk_fields, same_header, same_most}
-use Rattle.chunk_cut.proofs.PutsAlike.{segment_alike}
 
 -- segment i of n in a container, with this stream and start
 abbrev segment_with : PlanFields → BoxParts → ℕ → ℕ → List ℕ → HandoverFields → SegmentFields
@@ -52,6 +52,7 @@ segment_with plan b n i stream start =
       from = first_mcu cut i;
       count = first_mcu cut (i + 1) - first_mcu cut i;
       next = slice_get b.handovers (i + 1);
+      kept = None;
     }
 
 -- with its own
@@ -137,7 +138,7 @@ module _ (most size i : ℕ) (made file : List ℕ) (some : 0 < most)
   segment_is : (j : ℕ) → j < count
       → segment_at is.plan box count j
       ≡ segment_between shape (grid_of is.plan) told is.mcus j (d j) (d (j + 1)) (handed j)
-      (slice_get box.handovers (j + 1))
+      (slice_get box.handovers (j + 1)) None
   segment_is j within =
       let stream : ℕ → List ℕ =
       cut_stream is.plan parts (boxes.cut most size i made file some is) in
@@ -158,11 +159,11 @@ module _ (most size i : ℕ) (made file : List ℕ) (some : 0 < most)
       let suits = boxes.suits most size i made file some is in
       ap segment_output (segment_is j within)
       ∙ slice_output shape (grid_of is.plan) told is.mcus is.is.scan j (d j) (d (j + 1))
-      (slice_get box.handovers (j + 1)) suits is.is.is.grid text
+      (slice_get box.handovers (j + 1)) None suits is.is.is.grid text
       (boxes.cut_rises most size i made file some is j within)
       (boxes.cut_within most size i made file some is (j + 1) (omega (arith, within))
       (omega (arith, within)))
-      (next_start (j + 1))
+      (next_start (j + 1)) tt
       ∙ ap (λ (bytes : List ℕ). let o : Output = (bytes, Good (sum_at j)) in o)
       (segment_alike shape is.mcus pads (pad_at is.pads) is.is.scan (d j) (d (j + 1))
       suits.shape_is is.is.is.grid text is.is.is.text)

@@ -1,6 +1,5 @@
 -- Rows: worked chunks of a file, by the parts of their containers (own).
-use Rattle.std.specs.Prelude.{ℕ, ◌≡◌, true, List, [], ◌∷◌, replicate, length, Some}
-use Rattle.scan_spec.specs.Pads.{Same}
+use Rattle.std.specs.Prelude.{ℕ, ◌≡◌, true, [], ◌∷◌, replicate, length, Some}
 use Rattle.scan_spec.specs.ScanRows.{blank}
 use Rattle.chunk_spec.specs.Chunks.{FileParts, chunk_from, chunk_to}
 use Rattle.box_format.specs.BoxRows.{chunk_parts, image_end, ones_header, ones_plan}

@@ -1,5 +1,5 @@
 -- Statement: the container of a chunk of a file (docs/FORMAT.md, Chunks).
-use Rattle.std.specs.Prelude.{ℕ, ◌≡◌, ◌+◌, ◌-◌, ◌<◌, ◌^◌, Bool, List, length, take, map, Some}
+use Rattle.std.specs.Prelude.{ℕ, ◌≡◌, ◌+◌, ◌-◌, ◌<◌, ◌^◌, Bool, List, length, take, map, Some, None}
 use Rattle.std.specs.List.{AllByRecursion}
 use Rattle.byte_window.specs.Slices.{slice}
 use Rattle.bit_list.specs.Bits.{IsByte}
@@ -65,6 +65,7 @@ parts_of_chunk plan pads f a b most =
         from = rows.from;
         to = rows.to;
       });
+      places = None;
       pads = pads;
       header = f.header;
       trailer = trailer_part f a b;

@@ -106,6 +106,7 @@ impl<'a> ChunkCutter<'a> {
             alloc,
             &Parts {
                 chunk: Some(chunk),
+                places: None,
                 pad: self.starts.pad(),
                 header,
                 trailer,

@@ -1,5 +1,5 @@
 // Worked containers. Bytes that are none are in `tests/rows`.
-ghost use Rattle.std.specs.Prelude.{◌≡◌, map, IfOk};
+ghost use Rattle.std.specs.Prelude.{◌≡◌, map, option_map, IfOk, IfSome};
 ghost use Rattle.box_format.specs.Parts.{box_bytes};
 ghost use Rattle.box_format.specs.Seen.{version_for};
 
@@ -141,6 +141,7 @@ fn is_read(bytes: &[u8], version: Version, said: ((u8, u8), u8, usize, &[u8])) -
         return false;
     }
     view.version() == version
+        && view.place(segments).is_none()
         && are_told(&view.pad(), pads)
         && view.header().len() == header
         && view.plan().header_length() == header
@@ -165,6 +166,7 @@ fn is_written(rt: &impl Abort, alloc: Global, bytes: &[u8]) -> bool {
         Version::First => false,
         Version::Second => again(alloc, &view).expect(rt, "memory").as_slice() == bytes,
         Version::Third => again(alloc, &view).expect(rt, "memory").as_slice() == bytes,
+        Version::Fifth => again(alloc, &view).expect(rt, "memory").as_slice() == bytes,
     }
 }
 
@@ -197,6 +199,87 @@ fn has_chunk(bytes: &[u8], chunk: Chunk) -> bool {
     match read_box(bytes) {
         Ok(view) => view.version() == Version::Third && view.chunk() == Some(chunk),
         Err(_) => false,
+    }
+}
+
+// A container of two segments with places. The first segment has no byte: both places are 69, and the scan ends at 70.
+const PLACED: &[u8] = b"LPSG\x05\x01\x02\0\0\0\x45\0\0\0\x02\0\0\0\0\0\0\0\0\0\0\0\x46\
+    \0\0\0\0\0\0\0\0\0\0\0\0\0\0\0\0\0\0\0\0\0\x03\0\0\0\0\0\0\0\x45\
+    \0\x02\0\0\0\0\0\0\0\0\0\0\0\0\0\0\0\0\0\0\0\x03\0\0\0\0\0\0\0\x45\
+    \xff\xd8\xff\xc0\0\x0b\x08\0\x10\0\x08\x01\x01\x11\0\
+    \xff\xc4\0\x14\0\x01\0\0\0\0\0\0\0\0\0\0\0\0\0\0\0\0\
+    \xff\xc4\0\x14\x10\x01\0\0\0\0\0\0\0\0\0\0\0\0\0\0\0\0\
+    \xff\xda\0\x08\x01\x01\0\0\x3f\0\xff\xd9\0\0\0\0\0\0";
+
+#[test]
+fn places_are_read_and_written(rt: HostRuntime) {
+    assert!(rt; PLACED.len() == 164 && has_places(PLACED, 69, 69, 70));
+    assert!(rt; has_length(PLACED, 72));
+    assert!(rt; is_written(&rt, rt.alloc(), PLACED));
+    let refusal = BoxRefusal::BoxVersion;
+    assert!(rt; is_refused(rt.alloc(), PLACED, refusal));
+}
+
+// Whether the bytes are a container of two segments with these places, whose scan ends at this place.
+fn has_places(bytes: &[u8], first: u64, second: u64, end: u64) -> bool {
+    let Ok(view) = read_box(bytes) else {
+        return false;
+    };
+    view.segments() == 2
+        && view.version() == Version::Fifth
+        && view.place(0) == Some(first)
+        && view.place(1) == Some(second)
+        && view.place(2) == Some(end)
+}
+
+fn has_length(bytes: &[u8], wanted: u64) -> bool {
+    match read_box(bytes) {
+        Ok(view) => file_length(&view) == Some(wanted),
+        Err(_) => false,
+    }
+}
+
+// The length of the file of a container with places, without decoding it: the scan's end and the trailer's length.
+fn file_length(view: &BoxView) -> Option<u64> {
+    let trailer = view.trailer().len() as u64;
+    view.place(view.segments())?.checked_add(trailer)
+}
+
+// The offset of a byte of this container, a value for it, and the refusal of the container that has it.
+const CHANGED: &[(usize, u8, Option<BoxRefusal>)] = &[
+    // As it is.
+    (56, 0x45, None),
+    // The first place isn't the header's length.
+    (56, 0x44, Some(BoxRefusal::BoxPlaces)),
+    (56, 0x46, Some(BoxRefusal::BoxPlaces)),
+    // The second place is below the first one, or above the scan's end; or the scan's end is below it.
+    (86, 0x44, Some(BoxRefusal::BoxPlaces)),
+    (86, 0x47, Some(BoxRefusal::BoxPlaces)),
+    (26, 0x44, Some(BoxRefusal::BoxPlaces)),
+    // How many bytes a segment has isn't looked at here.
+    (86, 0x46, None),
+    (26, 0x50, None),
+];
+
+#[test]
+fn places_rise_from_the_header(rt: HostRuntime) {
+    for (at, byte, refusal) in CHANGED {
+        assert!(rt;
+            refusal_with(&rt, rt.alloc(), *at, *byte) == *refusal,
+            "{byte} at {at}"
+        );
+    }
+}
+
+// The refusal of the container with places, if it is refused, with this byte at this offset.
+fn refusal_with(rt: &impl Abort, alloc: Global, at: usize, byte: u8) -> Option<BoxRefusal> {
+    let mut bytes = Vec::from_slice(alloc, PLACED).expect(rt, "memory");
+    if at < bytes.len() {
+        bytes[at] = byte;
+    }
+    match read_box(&bytes) {
+        Ok(_) => None,
+        Err(refusal) => Some(refusal),
     }
 }
 
@@ -255,14 +338,17 @@ fn joined(rt: &impl Abort, alloc: Global, front: &[u8], rest: &[&[u8]]) -> Vec<u
 
 // The container of what was read.
 fn again(alloc: Global, view: &BoxView) -> Result<Vec<u8>, AllocError>
-    requires { view.now.parts.version ≡ version_for view.now.parts.chunk }
+    requires { view.now.parts.version
+        ≡ version_for view.now.parts.chunk view.now.parts.places }
     ensures { IfOk result (λ bytes. bytes.items ≡ box_bytes view.now.parts) }
 {
     let _ = view.plan();
+    let places = places_of(alloc, view)?;
     let handovers = handovers_of(alloc, view)?;
     let streams = streams_of(alloc, view)?;
     let parts = Parts {
         chunk: view.chunk(),
+        places: kept_in(view, places.as_slice()),
         pad: view.pad(),
         header: view.header(),
         trailer: view.trailer(),
@@ -270,6 +356,30 @@ fn again(alloc: Global, view: &BoxView) -> Result<Vec<u8>, AllocError>
         streams: streams.as_slice(),
     };
     Ok(write_box(alloc, &parts)?)
+}
+
+// The places that are kept; zeros if none are.
+fn places_of(alloc: Global, view: &BoxView) -> Result<Vec<u64>, AllocError>
+    ensures { IfOk result (λ all. IfSome view.now.parts.places (λ places. all.items ≡ places)) }
+{
+    let _ = view.plan();
+    let mut all = Vec::new(alloc);
+    let places = view.segments() + 1;
+    for i in 0..places {
+        all.push(view.place(i).unwrap_or(0))?;
+    }
+    Ok(all)
+}
+
+// These places if any are kept, else none.
+fn kept_in<'a>(view: &BoxView, places: &'a [u64]) -> Option<&'a [u64]>
+    requires { IfSome view.now.parts.places (λ kept. places.now ≡ kept) }
+    ensures { option_map (λ kept. kept.now) result ≡ view.now.parts.places }
+{
+    match view.place(0) {
+        Some(_) => Some(places),
+        None => None,
+    }
 }
 
 fn handovers_of(alloc: Global, view: &BoxView) -> Result<Vec<Handover>, AllocError>

@@ -34,8 +34,14 @@ const FRONT_OF_LISTED: &[u8] = b"LPSG\x02\x02\x01\0\0\0\x4c\0\0\0\x02\0\0\0\x01"
 
 const FRONT_OF_SIXTY_FOUR: &[u8] = b"LPSG\x02\x01\x40\0\0\0\x45\0\0\0\x02\0\0\0\0";
 
-// A record: nothing begun, two, three, four or six bits, one restart marker or two before; and a stream of three bytes, or of the
-// five that four blocks take, or of eight.
+// The same in version 5, without the scan's end: with a header of 69 bytes and two segments, and with one of 75 bytes
+// and three segments.
+const FRONT_OF_TWO_PLACES: &[u8] = b"LPSG\x05\x01\x02\0\0\0\x45\0\0\0\x02\0\0\0\0";
+
+const FRONT_OF_THREE_PLACES: &[u8] = b"LPSG\x05\x01\x03\0\0\0\x4b\0\0\0\x02\0\0\0\0";
+
+// A record: nothing begun, two, three, four or six bits, one restart marker or two before; and a stream of three bytes,
+// or of the five that four blocks take, or of eight.
 const START: &[u8] = b"\0\0\0\0\0\0\0\0\0\0\0\0\0\0\0\0\0\0\0\0\0\x03";
 
 const START_OF_EIGHT: &[u8] = b"\0\0\0\0\0\0\0\0\0\0\0\0\0\0\0\0\0\0\0\0\0\x08";
@@ -53,6 +59,22 @@ const SIX_BITS: &[u8] = b"\0\x06\0\0\0\0\0\0\0\0\0\0\0\0\0\0\0\0\0\0\0\x03";
 const ONE_MARKER: &[u8] = b"\0\0\0\0\0\0\0\0\0\0\0\0\0\x01\0\0\0\0\0\0\0\x03";
 
 const TWO_MARKERS: &[u8] = b"\0\0\0\0\0\0\0\0\0\0\0\0\0\x02\0\0\0\0\0\0\0\x03";
+
+// A place in the file: of the scan's end, which is the last field of version 5, or of a segment's first byte, which
+// ends a record there.
+const AT_69: &[u8] = b"\0\0\0\0\0\0\0\x45";
+
+const AT_70: &[u8] = b"\0\0\0\0\0\0\0\x46";
+
+const AT_71: &[u8] = b"\0\0\0\0\0\0\0\x47";
+
+const AT_75: &[u8] = b"\0\0\0\0\0\0\0\x4b";
+
+const AT_78: &[u8] = b"\0\0\0\0\0\0\0\x4e";
+
+const AT_81: &[u8] = b"\0\0\0\0\0\0\0\x51";
+
+const AT_82: &[u8] = b"\0\0\0\0\0\0\0\x52";
 
 // Headers of one component, 8 by 8, 8 by 16 and 8 by 32 samples, with one code word in each table; and of one of 8 by
 // 24, or 8 by 16, with a restart after each MCU.
@@ -132,6 +154,7 @@ enum End {
     WriteFault(u64),
     Seam { segment: u8 },
     StreamBad { segment: u8 },
+    PlaceBad { segment: u8, found: u64, kept: u64 },
     OtherFault,
     NotBegun,
     PadSpelling,
@@ -317,6 +340,158 @@ const PADS: &[Row] = &[
     ),
 ];
 
+// Two segments with their places, of which the first has no byte; and three segments with theirs.
+const PLACES: &[Row] = &[
+    (
+        &[
+            FRONT_OF_TWO_PLACES,
+            AT_70,
+            START,
+            AT_69,
+            TWO_BITS,
+            AT_69,
+            HIGHER,
+            TRAILER,
+            ZEROS,
+            ZEROS,
+        ],
+        100,
+        &[],
+        End::Whole(72),
+        &[HIGHER, b"\x0f", TRAILER],
+    ),
+    (
+        &[
+            FRONT_OF_THREE_PLACES,
+            AT_82,
+            START,
+            AT_75,
+            ONE_MARKER,
+            AT_78,
+            TWO_MARKERS,
+            AT_81,
+            WITH_RESTARTS,
+            TRAILER,
+            ZEROS,
+            ZEROS,
+            ZEROS,
+        ],
+        100,
+        &[],
+        End::Whole(84),
+        FILE_OF_THREE,
+    ),
+];
+
+const BAD_PLACES: &[Row] = &[
+    // Segment 0 has no byte, and the places keep one for it.
+    (
+        &[
+            FRONT_OF_TWO_PLACES,
+            AT_70,
+            START,
+            AT_69,
+            TWO_BITS,
+            AT_70,
+            HIGHER,
+            TRAILER,
+            ZEROS,
+            ZEROS,
+        ],
+        100,
+        &[],
+        End::PlaceBad {
+            segment: 0,
+            found: 0,
+            kept: 1,
+        },
+        &[HIGHER],
+    ),
+    // Segment 1 has one byte, and the places keep two for it, or none.
+    (
+        &[
+            FRONT_OF_TWO_PLACES,
+            AT_71,
+            START,
+            AT_69,
+            TWO_BITS,
+            AT_69,
+            HIGHER,
+            TRAILER,
+            ZEROS,
+            ZEROS,
+        ],
+        100,
+        &[],
+        End::PlaceBad {
+            segment: 1,
+            found: 1,
+            kept: 2,
+        },
+        &[HIGHER, b"\x0f"],
+    ),
+    (
+        &[
+            FRONT_OF_TWO_PLACES,
+            AT_69,
+            START,
+            AT_69,
+            TWO_BITS,
+            AT_69,
+            HIGHER,
+            TRAILER,
+            ZEROS,
+            ZEROS,
+        ],
+        100,
+        &[],
+        End::PlaceBad {
+            segment: 1,
+            found: 1,
+            kept: 0,
+        },
+        &[HIGHER, b"\x0f"],
+    ),
+    // A fault beside a wrong place is first: a handover that isn't the one that is reached, and a stream that isn't the
+    // one of the bits that are read from it.
+    (
+        &[
+            FRONT_OF_TWO_PLACES,
+            AT_70,
+            START,
+            AT_69,
+            THREE_BITS,
+            AT_70,
+            HIGHER,
+            TRAILER,
+            ZEROS,
+            ZEROS,
+        ],
+        100,
+        &[],
+        End::Seam { segment: 0 },
+        &[HIGHER],
+    ),
+    (
+        &[
+            FRONT_OF_TWO_PLACES,
+            AT_70,
+            START,
+            AT_69,
+            TWO_BITS,
+            AT_70,
+            HIGHER,
+            TRAILER,
+            OTHER_END,
+            ZEROS,
+        ],
+        100,
+        &[],
+        End::StreamBad { segment: 0 },
+        &[HIGHER],
+    ),
+];
+
 // The header is the first call of the sink, the segment's byte the second, and the trailer the third.
 const FAILED_WRITES: &[Row] = &[
     (
@@ -443,6 +618,11 @@ fn end_at(segment: u8, cause: StreamCause) -> End {
     match cause {
         StreamCause::Seam { .. } => End::Seam { segment },
         StreamCause::StreamBad => End::StreamBad { segment },
+        StreamCause::PlaceBad { found, kept } => End::PlaceBad {
+            segment,
+            found,
+            kept,
+        },
         _ => End::OtherFault,
     }
 }
@@ -462,6 +642,18 @@ fn bytes_before_a_fault_are_written(rt: HostRuntime) -> Result<(), Fail> {
 #[test]
 fn pad_bits_have_one_spelling(rt: HostRuntime) -> Result<(), Fail> {
     come_out(&rt, rt.alloc(), PADS)?;
+    Ok(())
+}
+
+#[test]
+fn files_with_places_come_back(rt: HostRuntime) -> Result<(), Fail> {
+    come_out(&rt, rt.alloc(), PLACES)?;
+    Ok(())
+}
+
+#[test]
+fn places_are_held_to_the_bytes(rt: HostRuntime) -> Result<(), Fail> {
+    come_out(&rt, rt.alloc(), BAD_PLACES)?;
     Ok(())
 }
 

@@ -374,9 +374,11 @@ fn are_coded_apart<R: Threads + Sync>(
     let first = encode_segment(alloc, &plan, bytes, &starts, first, 1, 0)?;
     let second = Some(rows_between(5, 7));
     let second = encode_segment(alloc, &plan, bytes, &starts, second, 1, 0)?;
+    if both.len() != 2 {
+        return Ok(false);
+    }
     Ok(
         row_of(&plan, chunk, 2, 1) == 5
-            && both.len() == 2
             && both[0].as_slice() == first.as_slice()
             && both[1].as_slice() == second.as_slice()
             && first.as_slice() != second.as_slice(),

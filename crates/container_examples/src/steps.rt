@@ -31,6 +31,9 @@ const FRONT_WITH_LIST: &[u8] = b"LPSG\x02\x02\x02\0\0\0\x4b\0\0\0\0\0\0\0\x01";
 
 const FRONT_OF_ONES: &[u8] = b"LPSG\x02\x02\x01\0\0\0\x47\0\0\0\0\0\0\0\x01";
 
+// In version 5, with a header of 69 bytes, two segments, and a scan that ends at place 70.
+const FRONT_WITH_PLACES: &[u8] = b"LPSG\x05\x01\x02\0\0\0\x45\0\0\0\0\0\0\0\0\0\0\0\0\0\0\0\x46";
+
 // A header of 75 bytes.
 const LONGER_FRONT: &[u8] = b"LPSG\x01\x01\x01\0\0\0\x4b\0\0\0\0";
 
@@ -56,6 +59,11 @@ const FIVE: &[u8] = b"\0\0\0\0\0\0\0\x05";
 const SIX: &[u8] = b"\0\0\0\0\0\0\0\x06";
 
 const SEVEN: &[u8] = b"\0\0\0\0\0\0\0\x07";
+
+// The place of a segment's first byte.
+const AT_69: &[u8] = b"\0\0\0\0\0\0\0\x45";
+
+const AT_70: &[u8] = b"\0\0\0\0\0\0\0\x46";
 
 // One component, 8, 16, 32 or 16,000 by 8 samples, with one code word in each table: a block of zeros is `00`.
 const EIGHT_HIGH: &[u8] = b"\xff\xd8\xff\xc0\0\x0b\x08\0\x08\0\x08\x01\x01\x11\0";
@@ -219,6 +227,46 @@ const ROWS: &[Row] = &[
         (1, b"\x0f", 1),
     ),
     (
+        "places, and the second segment first",
+        &[
+            FRONT_WITH_PLACES,
+            START,
+            THREE,
+            AT_69,
+            TWO_BITS,
+            THREE,
+            AT_69,
+            SIXTEEN_HIGH,
+            DC,
+            AC,
+            SCAN,
+            ZEROS,
+            ZEROS,
+        ],
+        (1, b"\x0f", 1),
+        (0, b"", 0),
+    ),
+    (
+        "a second place that is a byte late",
+        &[
+            FRONT_WITH_PLACES,
+            START,
+            THREE,
+            AT_69,
+            TWO_BITS,
+            THREE,
+            AT_70,
+            SIXTEEN_HIGH,
+            DC,
+            AC,
+            SCAN,
+            ZEROS,
+            ZEROS,
+        ],
+        (0, b"", 48),
+        (1, b"\x0f", 48),
+    ),
+    (
         "an interval of ones and one of zeros",
         &[
             FRONT_WITH_LIST,
@@ -301,6 +349,7 @@ fn number(cause: StreamCause) -> u8 {
         StreamCause::NoCode => 43,
         StreamCause::Seam { .. } => 44,
         StreamCause::StreamBad => 45,
+        StreamCause::PlaceBad { .. } => 48,
     }
 }
 

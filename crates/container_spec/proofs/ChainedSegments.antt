@@ -70,14 +70,21 @@ module _ (plan : PlanFields) (b : BoxParts) (few : (shape_of plan).mcus ≤ 2 ^ 
   abbrev all_from : ℕ → ℕ → Joined
   all_from i count = joined (map (λ j. segment_output (segment_in plan (whole b) j)) (numbers i count))
 
-  -- the MCUs of `count` segments from segment i on, which start at a spot: their bytes, and of each segment what it starts
-  -- from and its stream
+  -- the first k segments' bytes are what the MCUs before the next one put
+  abbrev AreBytesOf : ℕ → Spot → List Mcu → ℕ → Type 0
+  AreBytesOf i spot mcus k =
+      (at : Spot)
+      × (mcus_put form bits spot (take (cut (i + k) - cut i) mcus) ≡ Ok ((all_from i k).bytes, at))
+
+  -- the MCUs of `count` segments from segment i on, which start at a spot: their bytes, those of the first k segments,
+  -- and of each segment what it starts from and its stream
   pub record Chained (i count : ℕ) (spot : Spot) : Type 0 where
     pub mcus : List Mcu
     pub end : Spot
     pub long : length mcus + cut i ≡ cut (i + count)
     pub all : AllByRecursion (IsMcu form.slots) mcus
     pub text : mcus_put form bits spot mcus ≡ Ok ((all_from i count).bytes, end)
+    pub through : (k : ℕ) → k ≤ count → AreBytesOf i spot mcus k
     pub padded : (all_from i count).padded ≡ mcus_sum form b.pads spot mcus
     pub handovers : (j : ℕ) → i ≤ j → j < i + count
         → get_or b.handovers j start
@@ -87,6 +94,15 @@ module _ (plan : PlanFields) (b : BoxParts) (few : (shape_of plan).mcus ≤ 2 ^ 
         ≡ blocks_stream (grid_of plan)
         (blocks_of (take (cut (j + 1) - cut j) (drop (cut j - cut i) mcus)))
 
+  -- before the first segment there are none
+  none_before : (i : ℕ) (spot : Spot) (mcus : List Mcu) → AreBytesOf i spot mcus 0
+  unfolding mcus_put
+  none_before i spot mcus =
+      let same : i + 0 ≡ i = omega arith in
+      let e = ap cut same in
+      let none : cut (i + 0) - cut i ≡ 0 = omega (arith, e) in
+      (spot, ap (λ n. mcus_put form bits spot (take n mcus)) none)
+
   no_segments : (i : ℕ) (spot : Spot) → Chained i 0 spot
   unfolding mcus_put
   no_segments i spot = record {
@@ -95,10 +111,14 @@ module _ (plan : PlanFields) (b : BoxParts) (few : (shape_of plan).mcus ≤ 2 ^ 
     long = zero-add (cut i) ∙ (let e : i + 0 ≡ i = omega arith in ap cut (sym e));
     all = tt;
     text = refl;
+    through = λ k few. none_through k few;
     padded = refl;
     handovers = λ j after within. absurd (omega (arith, after, within));
     streams = λ j after within. absurd (omega (arith, after, within));
-  }
+  } where
+    none_through : (k : ℕ) → k ≤ 0 → AreBytesOf i spot [] k
+    none_through zero few = none_before i spot []
+    none_through (suc k) few = absurd (omega (arith, few))
 
   rise : (i j : ℕ) → i ≤ j → j ≤ length b.handovers → cut i ≤ cut j
   rise i j order within =
@@ -111,7 +131,7 @@ module _ (plan : PlanFields) (b : BoxParts) (few : (shape_of plan).mcus ≤ 2 ^ 
   module _ (i count : ℕ) (spot : Spot) (bytes : List ℕ)
       (within : i + suc count ≤ length b.handovers)
       (good : Ending i spot bytes) (more : Chained (i + 1) count good.end) where
-    past : (j : ℕ) → i + 1 ≤ j → j < i + suc count
+    past : (j : ℕ) → i + 1 ≤ j → j ≤ i + suc count
         → length good.mcus + (cut j - cut (i + 1)) ≡ cut j - cut i
     past j after before =
         let first = rise i (i + 1) (omega arith) (omega (arith, within)) in
@@ -130,7 +150,8 @@ module _ (plan : PlanFields) (b : BoxParts) (few : (shape_of plan).mcus ≤ 2 ^ 
         ∙ ap spot_in
         (sym (put_past form bits good.mcus (take k more.mcus) spot good.end bytes good.text))
         ∙ ap (λ xs. spot_in (mcus_put form bits spot xs))
-        (sym (take_past good.mcus more.mcus (cut j - cut i) k (past j after before))))
+        (sym (take_past good.mcus more.mcus (cut j - cut i) k
+        (past j after (omega (arith, before))))))
 
     later_stream : (j : ℕ) → i + 1 ≤ j → j < i + suc count
         → get_or b.streams j []
@@ -140,7 +161,7 @@ module _ (plan : PlanFields) (b : BoxParts) (few : (shape_of plan).mcus ≤ 2 ^ 
         more.streams j after (omega (arith, before))
         ∙ ap (λ xs. blocks_stream (grid_of plan) (blocks_of (take (cut (j + 1) - cut j) xs)))
         (sym (drop_past good.mcus more.mcus (cut j - cut i) (cut j - cut (i + 1))
-        (past j after before)))
+        (past j after (omega (arith, before)))))
 
     first_handover : (j : ℕ) → j ≡ i → get_or b.handovers i start ≡ handover_of form spot
         → get_or b.handovers j start
@@ -169,13 +190,36 @@ module _ (plan : PlanFields) (b : BoxParts) (few : (shape_of plan).mcus ≤ 2 ^ 
         (blocks_of (take (cut (n + 1) - cut n) (drop (cut n - cut i) (good.mcus ++ more.mcus)))))
         (sym e)
 
+    -- one segment, and then others
+    one_more : (padded : PadSum) (k : ℕ)
+        → segment_output (segment_in plan (whole b) i) ≡ (bytes, Good padded)
+        → all_from i (suc k) ≡ joined_with bytes (Good padded) (all_from (i + 1) k)
+    one_more padded k out = ap (λ (o : Output). joined_with o.0 o.1 (all_from (i + 1) k)) out
+
+    through_more : (padded : PadSum) (k : ℕ)
+        → segment_output (segment_in plan (whole b) i) ≡ (bytes, Good padded) → k ≤ suc count
+        → AreBytesOf i spot (good.mcus ++ more.mcus) k
+    through_more padded zero out few = none_before i spot (good.mcus ++ more.mcus)
+    through_more padded (suc k) out few =
+        let rest = more.through k (omega (arith, few)) in
+        let n = cut ((i + 1) + k) - cut (i + 1) in
+        let same : (i + 1) + k ≡ i + suc k = omega arith in
+        let e = ap cut same in
+        let long = past ((i + 1) + k) (omega arith) (omega (arith, few)) in
+        let there : length good.mcus + n ≡ cut (i + suc k) - cut i = omega (arith, e, long) in (
+          rest.0,
+          ap (mcus_put form bits spot)
+              (take_past good.mcus more.mcus (cut (i + suc k) - cut i) n there)
+              ∙ put_past form bits good.mcus (take n more.mcus) spot good.end bytes good.text
+              ∙ ap (prefixed_put bytes) rest.1
+              ∙ ap (λ (x : Joined). Ok (x.bytes, rest.0)) (sym (one_more padded k out)),
+        )
+
     chain_more : (padded : PadSum) → segment_output (segment_in plan (whole b) i) ≡ (bytes, Good padded)
         → padded ≡ mcus_sum form b.pads spot good.mcus
         → get_or b.handovers i start ≡ handover_of form spot → Chained i (suc count) spot
     chain_more padded out padded_is at =
-        let all : all_from i (suc count) ≡ joined_with bytes (Good padded)
-        (all_from (i + 1) count) =
-        ap (λ (o : Output). joined_with o.0 o.1 (all_from (i + 1) count)) out in
+        let all = one_more padded count out in
         let first = rise i (i + 1) (omega arith) (omega (arith, within)) in
         let e : (i + 1) + count ≡ i + suc count = omega arith in
         record {
@@ -189,6 +233,7 @@ module _ (plan : PlanFields) (b : BoxParts) (few : (shape_of plan).mcus ≤ 2 ^ 
           text = put_past form bits good.mcus more.mcus spot good.end bytes good.text
               ∙ ap (prefixed_put bytes) more.text
               ∙ ap (λ (x : Joined). Ok (x.bytes, more.end)) (sym all);
+          through = λ k few. through_more padded k out few;
           padded =
               ap (λ (x : Joined). x.padded) all ∙ ap₂ pads_with padded_is more.padded
               ∙ sym (sums_parts good.mcus more.mcus form b.pads spot good.end bytes good.text);

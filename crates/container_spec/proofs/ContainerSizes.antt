@@ -8,7 +8,7 @@ use Rattle.handover.specs.Handovers.{HandoverFields, IsHandover}
 use Rattle.handover.specs.HandoverBytes.{handover_bytes}
 use Rattle.handover.proofs.FieldBytes.{fields_again}
 use Rattle.box_format.specs.declared.chunk.Chunk.{Chunk}
-use Rattle.box_format.specs.Parts.{BoxParts, box_bytes, chunk_bytes, records, list_bytes, list_length}
+use Rattle.box_format.specs.Parts.{BoxParts, box_bytes, chunk_bytes, place_bytes, records, list_bytes, list_length}
 use Rattle.box_format.specs.Versions.{layout_of}
 use Rattle.box_format.proofs.Fronts.{most_few}
 use Rattle.container_spec.specs.ScanStream.{stream_of}
@@ -18,17 +18,27 @@ use Rattle.container_spec.proofs.FileParts.{segments, cut, cuts, file_long, stre
 use Rattle.container_spec.proofs.Numbered.{mapped_long}
 use Rattle.container_spec.proofs.StreamSizes.{streams_short}
 
-records_long : (hs : List HandoverFields) (ss : List (List ℕ)) → AllByRecursion IsHandover hs
-    → length (records hs ss) ≤ 22 * length hs
-records_long [] ss each = omega arith
-records_long (h ∷ hs) [] each = omega arith
-records_long (h ∷ hs) (s ∷ ss) each =
+-- a place has eight bytes
+place_long : (places : Option (List ℕ)) (i : ℕ) → length (place_bytes places i) ≤ 8
+place_long None i = omega arith
+place_long (Some places) i = omega arith
+
+pub records_long : (places : Option (List ℕ)) (i : ℕ) (hs : List HandoverFields)
+    (ss : List (List ℕ)) → AllByRecursion IsHandover hs
+    → length (records places i hs ss) ≤ 30 * length hs
+records_long places i [] ss each = omega arith
+records_long places i (h ∷ hs) [] each = omega arith
+records_long places i (h ∷ hs) (s ∷ ss) each =
     let fourteen = (fields_again h each.0).0 in
-    let rest = records_long hs ss each.1 in
-    let tail = records hs ss in
-    let fields = length-append (handover_bytes h) (big_bytes 8 (length s)) in
-    let all = length-append (handover_bytes h ++ big_bytes 8 (length s)) tail in
-    omega (arith, fourteen, rest, fields, all)
+    let rest = records_long places (i + 1) hs ss each.1 in
+    let place = place_long places i in
+    let tail = records places (i + 1) hs ss in
+    let numbers = length-append (big_bytes 8 (length s)) (place_bytes places i) in
+    let fields =
+    length-append (handover_bytes h) (big_bytes 8 (length s) ++ place_bytes places i) in
+    let all =
+    length-append (handover_bytes h ++ (big_bytes 8 (length s) ++ place_bytes places i)) tail in
+    omega (arith, fourteen, rest, place, numbers, fields, all)
 
 named_long : (listed : Bool) (list : List ℕ) → length (list_length listed list) ≤ 4
 named_long true list = omega arith
@@ -38,16 +48,17 @@ chunk_long : (c : Option Chunk) → length (chunk_bytes c) ≤ 32
 chunk_long None = omega arith
 chunk_long (Some c) = omega arith
 
-box_long : (b : BoxParts) → AllByRecursion IsHandover b.handovers
+pub box_long : (b : BoxParts) → AllByRecursion IsHandover b.handovers
     → length (box_bytes b)
-    ≤ 51 + length (list_bytes b.pads) + 22 * length b.handovers + length b.header
+    ≤ 59 + length (list_bytes b.pads) + 30 * length b.handovers + length b.header
     + length b.trailer + length (flat_map (λ stream. stream) b.streams)
 unfolding box_bytes
 box_long b each =
-    let few = records_long b.handovers b.streams each in
+    let few = records_long b.places 0 b.handovers b.streams each in
+    let end = place_long b.places (length b.handovers) in
     let named = named_long (layout_of b.version).listed (list_bytes b.pads) in
     let chunk = chunk_long b.chunk in
-    simp length-append (omega (arith, few, named, chunk))
+    simp length-append (omega (arith, few, end, named, chunk))
 
 pub container_is_short : ContainerIsShort
 container_is_short version most made file some allowed is short =

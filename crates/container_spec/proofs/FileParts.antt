@@ -1,5 +1,5 @@
 -- The parts of a file's container.
-use Rattle.std.proofs.Common.{◌≡◌, ℕ, zero, suc, ◌+◌, ◌-◌, ◌*◌, ◌/◌, ◌^◌, ◌<◌, ◌≤◌, Bool, true, false, ◌==◌, not, ◌&&◌, if◌then◌else◌, List, [], ◌++◌, length, take, drop, map, refl, sym, ap, ◌∙◌, subst, arith, append-nil, length-append}
+use Rattle.std.proofs.Common.{◌≡◌, ℕ, ◌+◌, ◌-◌, ◌*◌, ◌/◌, ◌^◌, ◌<◌, ◌≤◌, Bool, true, false, ◌==◌, not, ◌&&◌, if◌then◌else◌, List, [], ◌++◌, length, take, drop, map, refl, sym, ap, ◌∙◌, subst, arith, append-nil, length-append}
 use Rattle.std.specs.Prelude.{min}
 use Rattle.std.specs.List.{AllByRecursion}
 use Rattle.std.proofs.Math.Nat.{mul-le-mul_right, div-le_self}
@@ -15,34 +15,27 @@ use Rattle.scan_spec.specs.Scans.{padded, pad_counts, pad_at, intervals_of}
 use Rattle.scan_spec.specs.Slots.{Shape, shape_of}
 use Rattle.scan_spec.proofs.PadSpelling.{list_is_clean}
 use Rattle.scan_spec.proofs.PadsAlike.{are_long, intervals_are}
-use Rattle.scan_spec.proofs.PlanShapes.{slots_count}
+use Rattle.scan_spec.proofs.PlanShapes.{slots_count, accepted_is_shape}
 use Rattle.handover.specs.Handovers.{HandoverFields, IsHandover}
 use Rattle.cut_spec.specs.RowHandovers.{mcus_between}
-use Rattle.box_format.specs.Parts.{IsBox, cut_in, bad_start, list_bytes}
+use Rattle.box_format.specs.Parts.{IsBox, ArePlaces, cut_in, bad_start, list_bytes}
 use Rattle.box_format.specs.Versions.{layout_of}
 use Rattle.box_format.specs.declared.version.Version.{Version}
 use Rattle.box_format.specs.Raws.{numbers}
+use Rattle.box_format.proofs.PartedLists.{all_values}
 use Rattle.container_spec.specs.ScanStream.{grid_of, blocks_of, stream_of}
-use Rattle.container_spec.specs.Files.{IsContainerOf, segment_mcus, segment_start, parts_of_file, told_pads}
+use Rattle.container_spec.specs.Files.{IsContainerOf, segment_mcus, segment_start, segment_place, parts_of_file, told_pads}
 use Rattle.container_spec.specs.SegmentLaws.{Suits}
 use Rattle.container_spec.proofs.CutsOfPlans.{AreCuts, starts_at, plan_cuts, cut_within}
+use Rattle.container_spec.proofs.McuSizes.{IsSmall}
 use Rattle.container_spec.proofs.Numbered.{mapped_long}
+use Rattle.container_spec.proofs.PlacesOfFiles.{placed_if, are_if, are_places}
 use Rattle.container_spec.proofs.PlanGrids.{plan_suits}
 use Rattle.container_spec.proofs.ScanBytes.{completed}
 use Rattle.container_spec.proofs.SlicesMeant.{all_take, all_drop, blocks_are, between_are, between_long}
 use Rattle.container_spec.proofs.StartsOfSegments.{handover_at_is, starts_there, none_bad}
 use Rattle.container_spec.proofs.StreamSizes.{stream_short, blocks_long}
 use Rattle.container_spec.proofs.StreamsOfBlocks.{blocks_stream_bytes}
-
--- what holds of each of some items
-all_mapped : {A : Type 0} (P : A → Type 0) (f : ℕ → A) (count i : ℕ)
-    → ((j : ℕ) → i ≤ j → j < i + count → P (f j)) → AllByRecursion P (map f (numbers i count))
-all_mapped P f zero i each = tt
-all_mapped P f (suc count) i each = (
-  each i (omega arith) (omega arith),
-  all_mapped P f count (i + 1)
-      (λ j after within. each j (omega (arith, after)) (omega (arith, within))),
-)
 
 -- the list of pad bits: bytes, and at most one for eight of them
 record IsFew (count : ℕ) (bytes : List ℕ) : Type 0 where
@@ -84,6 +77,10 @@ module _ (version : Version) (most : ℕ) (made file : List ℕ) (some : 0 < mos
 
   pub cuts : AreCuts cut segments (is.plan.across * is.plan.down)
   cuts = plan_cuts is.plan segments some_segments
+
+  pub small : IsSmall (shape_of is.plan)
+  small =
+      record { is = suits.shape_is; few = (accepted_is_shape file is.plan is.bytes is.is.header).1 }
 
   pub mcus_few : is.plan.across * is.plan.down ≤ most_blocks
   mcus_few = few_mcus is.plan plan_is
@@ -193,6 +190,17 @@ module _ (version : Version) (most : ℕ) (made file : List ℕ) (some : 0 < mos
       let few_bytes = list_is.long in
       omega (arith, each, count, number, few_bytes, some_mcus)
 
+  -- the places of the segments and of the scan's end
+  abbrev pub file_places : List ℕ
+  file_places = map (segment_place is.plan is.mcus is.pads most) (numbers 0 (segments + 1))
+
+  places_are : (handovers : ℕ) → segments ≡ handovers
+      → ArePlaces (length (take is.plan.header_length file)) handovers file_places
+  places_are handovers many =
+      rw (header_long, ← many) (are_places (shape_of is.plan) (pad_at is.pads) is.mcus is.is.scan
+      cut segments is.plan.header_length small is.is.is.grid is.is.is.text cuts is.header_fits
+      mcus_few)
+
   pub box_is : most ≤ (layout_of version).most
       → IsBox is.plan (parts_of_file version is.plan is.mcus is.pads
       (take is.plan.header_length file) is.trailer most)
@@ -211,10 +219,13 @@ module _ (version : Version) (most : ℕ) (made file : List ℕ) (some : 0 < mos
         };
         chunked = sym is.whole;
         chunk = tt;
+        placed = placed_if (layout_of version).placed file_places;
+        places = are_if (ArePlaces (length (take is.plan.header_length file)) _)
+            (layout_of version).placed file_places (places_are _ (sym many));
         pads = is.can;
         streams = mapped_long stream 0 segments ∙ sym many;
-        each = all_mapped IsHandover start segments 0
-            (λ j after within. handovers_are j (omega (arith, within)));
+        each = all_values IsHandover start 0 segments
+            (λ j within. handovers_are (0 + j) (omega (arith, within)));
         starts = ap (λ n. bad_start (shape_of is.plan) (cut_in is.plan n) 0
             (map start (numbers 0 segments))) many
             ∙ none_bad (shape_of is.plan) (cut_in is.plan segments) start segments 0
@@ -226,11 +237,11 @@ module _ (version : Version) (most : ℕ) (made file : List ℕ) (some : 0 < mos
         trailer_fits = is.trailer_fits;
         list_fits = let l = list_long in let m = few in omega (arith, l, m);
         list_bytes_are = list_is.are;
-        streams_fit = all_mapped (λ l. length l < 2 ^ 64) stream segments 0
-            (λ j after within. stream_fits j (omega (arith, within)));
+        streams_fit = all_values (λ l. length l < 2 ^ 64) stream 0 segments
+            (λ j within. stream_fits (0 + j) (omega (arith, within)));
         header_bytes = all_take IsByte is.plan.header_length file is.bytes;
         trailer_bytes = trailer_bytes;
-        stream_bytes = all_mapped (AllByRecursion IsByte) stream segments 0
-            (λ j after within. blocks_stream_bytes (grid_of is.plan)
-            (blocks_of (segment_mcus is.plan is.mcus most j)));
+        stream_bytes = all_values (AllByRecursion IsByte) stream 0 segments
+            (λ j within. blocks_stream_bytes (grid_of is.plan)
+            (blocks_of (segment_mcus is.plan is.mcus most (0 + j))));
       }

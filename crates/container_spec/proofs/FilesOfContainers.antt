@@ -1,6 +1,6 @@
 -- What stands for a file is its container.
-use Rattle.std.proofs.Common.{◌≡◌, ℕ, ◌+◌, ◌-◌, ◌^◌, ◌≤◌, ◌<◌, Bool, true, false, None, not, ◌==◌, ◌/◌, List, [], ◌∷◌, ◌++◌, length, take, drop, map, inl, inr, refl, sym, ap, subst, ◌∙◌, arith, append_assoc, zero-add}
-use Rattle.std.specs.Prelude.{min}
+use Rattle.std.proofs.Common.{◌≡◌, ℕ, ◌+◌, ◌-◌, ◌^◌, ◌≤◌, ◌<◌, Bool, true, false, if◌then◌else◌, Option, Some, None, not, ◌==◌, ◌/◌, List, [], ◌∷◌, ◌++◌, length, take, drop, map, inl, inr, refl, sym, ap, subst, ◌∙◌, arith, append_assoc, zero-add}
+use Rattle.std.specs.Prelude.{min, slice_index, IfSome, is_some}
 use Rattle.std.specs.List.{AllByRecursion, list_all}
 use Rattle.std.proofs.lemmas.Bool.{and_parts, eqb-true}
 use Rattle.std.proofs.lemmas.List.{take_at, drop_at}
@@ -15,7 +15,7 @@ use Rattle.scan_spec.specs.Pads.{PadBits, Same, Listed, bit_for, intervals_sum, 
 use Rattle.scan_spec.specs.Scans.{AreMcus, IsScan, pad_counts, pad_at, intervals_of}
 use Rattle.scan_spec.specs.ScanLaws.{bytes_in}
 use Rattle.scan_spec.specs.Slots.{Shape, shape_of}
-use Rattle.scan_spec.specs.Spots.{first_spot, mcus_put, spot_in}
+use Rattle.scan_spec.specs.Spots.{first_spot, mcus_put, count_in, spot_in, bytes_done}
 use Rattle.scan_spec.specs.FileParts.{IsFileOf}
 use Rattle.scan_spec.proofs.PadSpelling.{CanTell, kept, kept_are, kept_agree, told_again}
 use Rattle.scan_spec.proofs.PadsAlike.{pads_alike, intervals_are}
@@ -24,22 +24,25 @@ use Rattle.handover.specs.declared.pads.PadSum.{PadSum}
 use Rattle.handover.specs.Handovers.{HandoverFields, start}
 use Rattle.cut_spec.specs.Cuts.{first_mcu}
 use Rattle.cut_spec.specs.RowHandovers.{handover_of, handover_at, mcus_between}
-use Rattle.box_format.specs.Parts.{BoxParts, IsBox, box_bytes, cut_in, can_pad, is_list, list_bytes}
+use Rattle.box_format.specs.Parts.{BoxParts, ArePlaces, IsBox, box_bytes, cut_in, can_pad, is_list, list_bytes}
 use Rattle.box_format.specs.Versions.{layout_of, version_byte, version_in, version_of}
 use Rattle.box_format.specs.declared.version.Version.{Version}
-use Rattle.box_format.specs.declared.version.Version.TheVariants.{First, Second, Third}
+use Rattle.box_format.specs.declared.version.Version.TheVariants.{First, Second, Third, Fifth}
 use Rattle.box_format.specs.Raws.{numbers}
 use Rattle.box_format.proofs.BoxLawsProved.{no_chunk}
 use Rattle.container_spec.specs.ScanStream.{grid_of, blocks_of, blocks_stream, stream_of}
 use Rattle.container_spec.specs.SegmentLaws.{Suits}
-use Rattle.container_spec.specs.Meanings.{Meaning, outputs_of, joined, meaning_of}
-use Rattle.container_spec.specs.Files.{IsContainerOf, parts_of_file, told_pads}
+use Rattle.container_spec.specs.Segments.{segment_output}
+use Rattle.container_spec.specs.Meanings.{Meaning, segment_in, outputs_of, joined, meaning_of}
+use Rattle.container_spec.specs.Files.{IsContainerOf, parts_of_file, places_of_file, told_pads}
 use Rattle.container_spec.specs.MeaningLaws.{RestoredIsContainer}
 use Rattle.container_spec.proofs.ChainedSegments.{Chained, chained}
 use Rattle.container_spec.proofs.CutsOfPlans.{AreCuts, starts_at, plan_cuts}
 use Rattle.container_spec.proofs.Numbered.{mapped_is}
 use Rattle.container_spec.proofs.PaddedMcus.{scan_sum}
+use Rattle.container_spec.proofs.PlacesOfContainers.{place_is}
 use Rattle.container_spec.proofs.PlanGrids.{plan_suits}
+use Rattle.container_spec.proofs.PutsAlike.{done_alike as same_done}
 use Rattle.container_spec.proofs.ReachedSegments.{Reached, whole}
 use Rattle.container_spec.proofs.RestoredMeanings.{IsRestored, first_start, is_restored}
 use Rattle.container_spec.proofs.ScanBytes.{put_are_bytes}
@@ -65,6 +68,7 @@ version_again : (v : Version) → version_of (version_byte v) ≡ v
 version_again First = refl
 version_again Second = refl
 version_again Third = refl
+version_again Fifth = refl
 
 version_said : (b : BoxParts) → version_in (box_bytes b) ≡ b.version
 unfolding box_bytes
@@ -87,11 +91,27 @@ can_tell listed shape count (Listed bytes) e all can =
     }
 
 -- parts by what a file determines
-same_parts : (b : BoxParts) (pads : PadBits) (header : List ℕ) (handovers : List HandoverFields)
-    (streams : List (List ℕ)) → b.pads ≡ pads → b.header ≡ header → b.handovers ≡ handovers
-    → b.streams ≡ streams
-    → b ≡ record b { pads = pads; header = header; handovers = handovers; streams = streams }
-same_parts b pads header handovers streams d e f g = rw (← d, ← e, ← f, ← g) refl
+same_parts : (b : BoxParts) (places : Option (List ℕ)) (pads : PadBits) (header : List ℕ)
+    (handovers : List HandoverFields) (streams : List (List ℕ)) → b.places ≡ places
+    → b.pads ≡ pads → b.header ≡ header → b.handovers ≡ handovers → b.streams ≡ streams
+    → b
+    ≡ record b {
+      places = places;
+      pads = pads;
+      header = header;
+      handovers = handovers;
+      streams = streams;
+    }
+same_parts b places pads header handovers streams c d e f g = rw (← c, ← d, ← e, ← f, ← g) refl
+
+-- places that a version keeps, or none
+kept_by : (placed : Bool) (places : Option (List ℕ)) (all : List ℕ) → is_some places ≡ placed
+    → ((some : List ℕ) → places ≡ Some some → some ≡ all)
+    → places ≡ (if placed then Some all else None)
+kept_by true (Some places) all placed each = ap (λ (l : List ℕ). Some l) (each places refl)
+kept_by true None all placed each = cc
+kept_by false (Some places) all placed each = cc
+kept_by false None all placed each = refl
 
 module _ (plan : PlanFields) (parts : BoxParts) (file : List ℕ) (is : IsBox plan (whole parts))
     (so : IsRestored (whole parts) (joined (outputs_of plan (whole parts))) file) where
@@ -242,10 +262,55 @@ module _ (plan : PlanFields) (parts : BoxParts) (file : List ℕ) (is : IsBox pl
       ∙ ap (λ n. map (streamed count) (numbers 0 n)) long
       ∙ ap (λ n. map (streamed n) (numbers 0 n)) as_many
 
+  -- the first MCUs complete as many bytes with the pad bits that are kept as with those that the container spells
+  done_alike : (n : ℕ)
+      → bytes_done shape (pad_at bits) chain.mcus n ≡ bytes_done shape pads chain.mcus n
+  done_alike n =
+      same_done shape chain.mcus (pad_at bits) pads scan n suits.shape_is are is_scan.text
+      (sym (put_whole shape pads chain.mcus suits.shape_is are) ∙ ap bytes_in chain.text)
+
+  abbrev placed : ℕ → ℕ → ℕ
+  placed n i =
+      plan.header_length + bytes_done shape (pad_at bits) chain.mcus (first_mcu (cut_in plan n) i)
+
+  kept_places : (places : List ℕ) → b.places ≡ Some places
+      → ArePlaces (length b.header) count places
+  kept_places places some =
+      subst (λ p. IfSome p (ArePlaces (length b.header) count)) some is.places
+
+  -- a place is where the bytes of the segments before leave off
+  place_there : (places : List ℕ) (k : ℕ) → b.places ≡ Some places → k ≤ count
+      → slice_index places k ≡ placed count (0 + k)
+  place_there places k some few =
+      let place =
+      place_is plan b places (length b.header) count k some (kept_places places some) few so.none in
+      let none = cuts.none in
+      let e : cut (0 + k) - cut 0 ≡ cut (0 + k) = omega (arith, none) in
+      let put = (chain.through k few).1 in
+      let same : bytes_done shape pads chain.mcus (cut (0 + k))
+      ≡ length (joined (map (λ i. segment_output (segment_in plan b i)) (numbers 0 k))).bytes =
+      ap (λ n. count_in (mcus_put shape pads first_spot (take n chain.mcus))) (sym e)
+      ∙ ap count_in put in
+      let alike = done_alike (cut (0 + k)) in
+      let whole = is.whole in
+      omega (arith, place, same, alike, whole)
+
+  places_are : b.places ≡ places_of_file (layout_of b.version).placed plan chain.mcus bits count
+  places_are =
+      kept_by (layout_of b.version).placed b.places
+      (map (placed (min count plan.down)) (numbers 0 (min count plan.down + 1))) is.placed
+      (λ places some.
+      let long = (kept_places places some).count in
+      mapped_is (placed count) places 0 0
+      (λ k within. place_there places k some (omega (arith, within, long)))
+      ∙ ap (λ n. map (placed count) (numbers 0 n)) long
+      ∙ ap (λ n. map (placed n) (numbers 0 (n + 1))) as_many)
+
   parts_are : b
       ≡ parts_of_file b.version plan chain.mcus bits (take plan.header_length file) b.trailer count
   parts_are =
-      same_parts b (told_pads plan chain.mcus bits) (take plan.header_length file) _ _ (sym told)
+      same_parts b (places_of_file (layout_of b.version).placed plan chain.mcus bits count)
+      (told_pads plan chain.mcus bits) (take plan.header_length file) _ _ places_are (sym told)
       header_is handovers_are streams_are
 
   pub container_is : (layout_of b.version).chunked ≡ false → (made : List ℕ) → made ≡ box_bytes b

@@ -3,8 +3,10 @@ pub mod PadsOfIntervals
 pub mod PaddedMcus
 pub mod PutParts
 pub mod McusPut
+pub mod PlacesKept
 pub mod SlicesMeant
 pub mod SpotsAlike
+pub mod PutsAlike
 pub mod SpotsKept
 pub mod GoodSegments
 pub mod PlanGrids
@@ -13,6 +15,8 @@ pub mod Numbered
 pub mod JoinedSegments
 pub mod StartsOfSegments
 pub mod StreamSizes
+pub mod McuSizes
+pub mod PlacesOfFiles
 pub mod FileParts
 pub mod ContainerSizes
 pub mod OneMeanings
@@ -22,6 +26,7 @@ pub mod RestoredFiles
 pub mod ScanBytes
 pub mod ReachedSegments
 pub mod ChainedSegments
+pub mod PlacesOfContainers
 pub mod RestoredMeanings
 pub mod FilesOfContainers
 pub mod ShortSegments

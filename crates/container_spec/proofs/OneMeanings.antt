@@ -6,7 +6,7 @@ use Rattle.scan_spec.proofs.FilesOnce.{one_file}
 use Rattle.box_format.specs.Parts.{BoxParts, box_bytes}
 use Rattle.box_format.specs.declared.refusal.BoxRefusal.{BoxRefusal}
 use Rattle.box_format.specs.declared.version.Version.{Version}
-use Rattle.box_format.specs.declared.version.Version.TheVariants.{Third}
+use Rattle.box_format.specs.Versions.{decoded}
 use Rattle.box_format.proofs.BoxLawsProved.{all_read, one_box, one_box_refusal, never_both}
 use Rattle.container_spec.specs.Meanings.{NoBox, meaning_of}
 use Rattle.container_spec.specs.Files.{parts_of_file}
@@ -15,11 +15,11 @@ use Rattle.container_spec.specs.MeaningLaws.{OneMeaning, OneContainer}
 pub one_meaning : OneMeaning
 one_meaning bytes a b all (inl x) (inl y) =
     x.2 ∙ ap (λ (r : BoxRefusal). record { bytes = []; verdict = NoBox r })
-    (one_box_refusal Third bytes x.0 y.0 x.1 y.1) ∙ sym y.2
+    (one_box_refusal decoded bytes x.0 y.0 x.1 y.1) ∙ sym y.2
 one_meaning bytes a b all (inl x) (inr y) =
-    absurd (never_both Third bytes y.0 y.1 x.0 (all_read y.1.version) y.2 x.1)
+    absurd (never_both decoded bytes y.0 y.1 x.0 (all_read y.1.version) y.2 x.1)
 one_meaning bytes a b all (inr x) (inl y) =
-    absurd (never_both Third bytes x.0 x.1 y.0 (all_read x.1.version) x.2 y.1)
+    absurd (never_both decoded bytes x.0 x.1 y.0 (all_read x.1.version) x.2 y.1)
 one_meaning bytes a b all (inr x) (inr y) =
     let same = one_box x.0 y.0 x.1 y.1 bytes x.2 y.2 in
     x.3 ∙ ap₂ (λ (plan : PlanFields) (parts : BoxParts). meaning_of plan parts) same.0 same.1

@@ -19,12 +19,13 @@ use Rattle.block_spec.specs.SegmentEvents.{segment_events}
 use Rattle.block_spec.specs.ReadingLaws.{HaveGiven}
 use Rattle.box_format.specs.Parts.{BoxParts}
 use Rattle.container_spec.specs.ScanStream.{grid_of, starts}
-use Rattle.container_spec.specs.Segments.{SegmentFields, Progress, Output, first_progress, stopped, mcus_output, segment_output}
+use Rattle.container_spec.specs.Segments.{SegmentFields, Progress, Output, first_progress, stopped, mcus_output, rest_output, segment_output}
 use Rattle.container_spec.specs.SegmentLaws.{Meets, IsGood, IsSpot, mcus_sum}
 use Rattle.container_spec.specs.Meanings.{Joined, segment_in, joined_with}
 use Rattle.container_spec.proofs.CutsOfPlans.{AreCuts, starts_at}
 use Rattle.container_spec.proofs.GoodSegments.{good_has_its_stream}
 use Rattle.container_spec.proofs.Numbered.{got_at}
+use Rattle.container_spec.proofs.PlacesKept.{good_with_place}
 use Rattle.container_spec.proofs.SpotsKept.{spot_kept}
 
 -- ---- outcomes
@@ -105,7 +106,8 @@ module _ (plan : PlanFields) (b : BoxParts) (few : (shape_of plan).mcus ≤ 2 ^ 
   good_there i count spot bytes padded reached ends =
       let s : SegmentFields = segment_in plan (whole b) i in
       let run =
-      started (starts s.stream) s (mcus_output s.count s (first_progress s)) bytes padded ends in
+      started (starts s.stream) s (mcus_output s.count s (first_progress s)) bytes padded
+      (good_with_place s 0 (rest_output s.count s (first_progress s)) bytes padded ends).0 in
       let from : mcus_output s.count s (at_spot spot) ≡ (bytes, Good padded) =
       ap (λ p. mcus_output s.count s (at_spot p)) (sym (spot_there i count spot reached)) ∙ run in
       good_has_its_stream s (at_spot spot) s.count bytes padded

@@ -19,19 +19,22 @@ use Rattle.cut_spec.specs.RowHandovers.{segment_bytes, handover_at}
 use Rattle.cut_spec.proofs.Slices.{joined_scan}
 use Rattle.box_format.specs.Parts.{BoxParts, cut_in}
 use Rattle.box_format.specs.Raws.{numbers}
+use Rattle.box_format.specs.Versions.{layout_of}
 use Rattle.box_format.specs.declared.version.Version.{Version}
 use Rattle.container_spec.specs.ScanStream.{grid_of, stream_of}
 use Rattle.container_spec.specs.Segments.{SegmentFields, segment_output}
-use Rattle.container_spec.specs.SegmentLaws.{IsNextStart, mcus_sum, segment_between}
+use Rattle.container_spec.specs.SegmentLaws.{AreKept, IsNextStart, mcus_sum, segment_between}
 use Rattle.container_spec.specs.Files.{IsContainerOf, segment_mcus, segment_start, parts_of_file, told_pads}
-use Rattle.container_spec.specs.Meanings.{Verdict, Restored, PadSpelled, outputs_of, joined, meaning_by, meaning_of}
+use Rattle.container_spec.specs.Meanings.{Verdict, Restored, PadSpelled, kept_in, outputs_of, joined, meaning_by, meaning_of}
 use Rattle.container_spec.specs.MeaningLaws.{ContainerIsRestored}
 use Rattle.container_spec.proofs.CutsOfPlans.{cut_within}
-use Rattle.container_spec.proofs.FileParts.{segments, cut, cuts, suits, file_is, box_is}
+use Rattle.container_spec.proofs.FileParts.{segments, cut, cuts, small, suits, file_is, file_places, box_is}
 use Rattle.container_spec.proofs.JoinedSegments.{good_join, joined_good}
 use Rattle.container_spec.proofs.Numbered.{mapped_long, mapped_at, got_at, got_none}
 use Rattle.container_spec.proofs.PaddedMcus.{scan_sum}
 use Rattle.container_spec.proofs.PaddedSlices.{sum_of_all}
+use Rattle.container_spec.proofs.PlacesOfFiles.{kept_if, slice_is_kept}
+use Rattle.container_spec.proofs.PutsAlike.{segment_alike}
 use Rattle.container_spec.proofs.SlicesMeant.{slice_output, slice_sum}
 use Rattle.container_spec.proofs.SpotsAlike.{handovers_alike}
 
@@ -55,6 +58,7 @@ segment_with plan b n i stream start =
       from = first_mcu cut i;
       count = first_mcu cut (i + 1) - first_mcu cut i;
       next = slice_get b.handovers (i + 1);
+      kept = kept_in b.places i;
     }
 
 -- with its own
@@ -120,13 +124,26 @@ module _ (version : Version) (most : ℕ) (made file : List ℕ) (some : 0 < mos
   segment_is : (i : ℕ) → i < count
       → segment_at is.plan box count i
       ≡ segment_between shape (grid_of is.plan) told is.mcus i (d i) (d (i + 1)) (handed i)
-      (slice_get box.handovers (i + 1))
+      (slice_get box.handovers (i + 1)) (kept_in box.places i)
   segment_is i within =
       let stream : ℕ → List ℕ = λ j. stream_of is.plan (segment_mcus is.plan is.mcus most j) in
       ap₂ (λ (bytes : List ℕ) (h : HandoverFields).
       segment_with is.plan box count i bytes h)
       (mapped_at stream 0 count i [] within ∙ ap stream (zero-add i))
       (mapped_at handed 0 count i start within ∙ ap handed (zero-add i))
+
+  -- a segment has as many bytes as its place and the next one are apart
+  places_kept : (i : ℕ) → i < count
+      → AreKept (segment_bytes shape pads is.mcus is.is.scan (d i) (d (i + 1)))
+      (kept_in box.places i)
+  places_kept i within =
+      let small = small version most made file some is in
+      subst (λ (bytes : List ℕ). AreKept bytes (kept_in box.places i))
+      (segment_alike shape is.mcus (pad_at is.pads) pads is.is.scan (d i) (d (i + 1)) small.is
+      is.is.is.grid is.is.is.text text)
+      (kept_if (layout_of version).placed (file_places version most made file some is) _ i
+      (slice_is_kept shape (pad_at is.pads) is.mcus is.is.scan d count is.plan.header_length small
+      is.is.is.grid is.is.is.text (cuts version most made file some is) i within))
 
   output_is : (i : ℕ) → i < count
       → segment_output (segment_at is.plan box count i)
@@ -138,9 +155,10 @@ module _ (version : Version) (most : ℕ) (made file : List ℕ) (some : 0 < mos
       let cuts = cuts version most made file some is in
       ap segment_output (segment_is i within)
       ∙ slice_output shape (grid_of is.plan) told is.mcus is.is.scan i (d i) (d (i + 1))
-      (slice_get box.handovers (i + 1)) (suits version most made file some is) is.is.is.grid text
-      (cuts.order i within) (cut_within d count shape.mcus (i + 1) cuts (omega (arith, within)))
-      (next_start (i + 1))
+      (slice_get box.handovers (i + 1)) (kept_in box.places i) (suits version most made file some is)
+      is.is.is.grid text (cuts.order i within)
+      (cut_within d count shape.mcus (i + 1) cuts (omega (arith, within))) (next_start (i + 1))
+      (places_kept i within)
 
   all_outputs : outputs_of is.plan box
       ≡ map (λ i. segment_output (segment_at is.plan box count i)) (numbers 0 count)

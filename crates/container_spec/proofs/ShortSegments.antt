@@ -1,115 +1,32 @@
 -- How many bytes a segment of a container can have.
-use Rattle.std.proofs.Common.{◌≡◌, ℕ, zero, suc, ◌+◌, ◌*◌, ◌^◌, ◌<◌, ◌≤◌, Bool, true, false, if◌then◌else◌, List, [], ◌++◌, length, take, Result, Ok, Err, Option, Some, None, refl, subst, arith, ℤ, length-append}
-use Rattle.std.specs.Prelude.{bytes_eq, ◌==◌}
+use Rattle.std.proofs.Common.{◌≡◌, ℕ, zero, suc, ◌+◌, ◌*◌, ◌^◌, ◌<◌, ◌≤◌, List, length, take, Result, Ok, Err, Option, Some, None, refl, sym, subst, arith, length-append}
+use Rattle.std.specs.Prelude.{bytes_eq}
 use Rattle.std.proofs.Math.Nat.{mul-le-mul_left}
-use Rattle.std.proofs.lemmas.List.{length-replicate, length-take}
+use Rattle.std.proofs.lemmas.List.{length-take}
 use Rattle.std.proofs.lemmas.List.Elements.{All-from_recursion}
-use Rattle.bit_list.specs.Bits.{low_bits, bytes_after, begun_after, padding, stuffed}
+use Rattle.bit_list.specs.Bits.{low_bits}
 use Rattle.jpeg_marker.proofs.HeadersTaken.{accepted_has_plan}
 use Rattle.jpeg_marker.proofs.PlanGrids.{few_mcus}
-use Rattle.scan_spec.specs.BlockBits.{Text}
-use Rattle.scan_spec.specs.Blocks.{blocks_text, dcs_after}
 use Rattle.scan_spec.specs.Pads.{bit_for}
-use Rattle.scan_spec.specs.Scans.{Mcu, IsMcu}
-use Rattle.scan_spec.specs.ScanLaws.{IsShape}
-use Rattle.scan_spec.specs.ShapeInside.{most_slots}
-use Rattle.scan_spec.specs.Slots.{Shape}
-use Rattle.scan_spec.specs.Spots.{Spot, is_closed, interval_number, marker_after, put_bits, put_text, mcu_put}
 use Rattle.scan_spec.proofs.PlanShapes.{accepted_is_shape}
-use Rattle.scan_spec.proofs.Short.{short}
 use Rattle.handover.specs.Handovers.{HandoverFields, IsHandover, start}
 use Rattle.handover.specs.HandoverBytes.{handover_bytes}
 use Rattle.handover.specs.declared.outcome.StreamCause.{StreamCause}
 use Rattle.cut_spec.specs.RowHandovers.{handover_of}
-use Rattle.scan_spec.specs.TextBounds.{block_bits, mcu_room}
-use Rattle.scan_spec.proofs.SpentBits.{begun_few, bits_spent}
+use Rattle.scan_spec.specs.TextBounds.{mcu_room}
 use Rattle.block_spec.specs.ReadingLaws.{HaveGiven}
 use Rattle.container_spec.specs.ScanStream.{blocks_stream, starts}
-use Rattle.container_spec.specs.Segments.{SegmentFields, Progress, Output, first_progress, progress_after, stream_ending, ending_by, ending, after_step, mcu_step, mcus_output}
+use Rattle.container_spec.specs.Segments.{SegmentFields, Progress, Output, first_progress, progress_after, stream_ending, ending_by, ending, after_step, mcu_step, mcus_output, rest_output}
 use Rattle.box_format.specs.Parts.{box_cut}
 use Rattle.box_format.proofs.PassedBox.{ordered, in_grid}
 use Rattle.container_spec.specs.Meanings.{segment_in}
 use Rattle.container_spec.specs.MeaningLaws.{SegmentIsShort}
 use Rattle.container_spec.proofs.CutsOfPlans.{mcus_within}
 use Rattle.container_spec.proofs.GoodSegments.{stepped}
+use Rattle.container_spec.proofs.McuSizes.{IsSmall, either, mcu_fits}
+use Rattle.container_spec.proofs.PlacesKept.{place_keeps_bytes}
 use Rattle.container_spec.proofs.PlanGrids.{plan_suits}
 use Rattle.container_spec.proofs.ReachedSegments.{none_given}
-
--- ---- one MCU
-
--- what holds of both holds of the one that a test takes
-either : {A : Type 0} (P : A → Type 0) (t : Bool) (a b : A) → P a → P b
-    → P (if t then a else b)
-either P true a b h k = h
-either P false a b h k = k
-
--- a scan whose MCUs have at most ten blocks
-record IsSmall (shape : Shape) : Type 0 where
-  pub is : IsShape shape
-  pub few : length shape.slots ≤ most_slots
-
--- the most bits of an MCU
-abbrev mcu_bits : ℕ
-mcu_bits = most_slots * block_bits
-
--- bytes that the room for an MCU holds, and a spot with less than a byte begun
-abbrev Fits : List ℕ × Spot → Type 0
-Fits made = (length made.0 ≤ mcu_room) × (length made.1.begun < 8)
-
--- a marker has two bytes
-marker_few : (shape : Shape) (count : ℕ) → length (marker_after shape count) ≤ 2
-marker_few shape count =
-    either (λ (bytes : List ℕ). length bytes ≤ 2) (count + 1 == shape.mcus) [] _
-    (omega arith) (omega arith)
-
--- fewer than eight bits are padded
-padding_few : (begun : List Bool) (bit : Bool) → length (padding begun bit) < 8
-padding_few begun bit = simp length-replicate (omega arith)
-
--- four bits at least are spent for each byte, with the zeros that are stuffed
-stuffed_few : (begun bits : List Bool) → length begun < 8
-    → 4 * length (stuffed (bytes_after begun bits)) ≤ length begun + length bits
-stuffed_few begun bits few = let spent = bits_spent begun bits [] few in omega (arith, spent)
-
--- so the bits of an MCU fit, also with pad bits and a marker
-bits_fit : (shape : Shape) (pads : ℕ → Bool) (spot : Spot) (before : List ℤ) (bits : List Bool)
-    → length bits ≤ mcu_bits → length spot.begun < 8
-    → Fits (put_bits shape pads spot before bits)
-bits_fit shape pads spot before bits few begun =
-    let rest = begun_after spot.begun bits in
-    let bit = pads (interval_number shape spot.count) in
-    let whole = bits ++ padding rest bit in
-    let marker = marker_after shape spot.count in
-    let seven = padding_few rest bit in
-    let long = length-append bits (padding rest bit) in
-    let most = stuffed_few spot.begun whole begun in
-    let two = marker_few shape spot.count in
-    let all = length-append (stuffed (bytes_after spot.begun whole)) marker in
-    let fewer = stuffed_few spot.begun bits begun in
-    either Fits (is_closed shape (spot.count + 1)) _ _
-    (omega (arith, few, begun, seven, long, most, two, all), omega arith)
-    (omega (arith, few, begun, fewer), begun_few spot.begun bits begun)
-
-text_fits : (shape : Shape) (pads : ℕ → Bool) (spot : Spot) (before : List ℤ) (text : Text)
-    (made : List ℕ × Spot) → ((bits : List Bool) → text ≡ Ok bits → length bits ≤ mcu_bits)
-    → length spot.begun < 8 → put_text shape pads spot before text ≡ Ok made → Fits made
-text_fits shape pads spot before (Ok bits) made few begun put =
-    let same : put_bits shape pads spot before bits ≡ made = cc in
-    subst Fits same (bits_fit shape pads spot before bits (few bits refl) begun)
-text_fits shape pads spot before (Err stop) made few begun put =
-    absurd (let f : Err stop ≡ Ok made = put in cc)
-
--- an MCU fits, whatever its blocks
-mcu_fits : (shape : Shape) (pads : ℕ → Bool) (spot : Spot) (mcu : Mcu) (made : List ℕ × Spot)
-    → IsSmall shape → IsMcu shape.slots mcu → length spot.begun < 8
-    → mcu_put shape pads spot mcu ≡ Ok made → Fits made
-unfolding mcu_put
-mcu_fits shape pads spot mcu made small is begun put =
-    text_fits shape pads spot (dcs_after shape.slots spot.before mcu)
-    (blocks_text shape.slots spot.before mcu) made
-    (λ bits text.
-    let most = short shape.slots spot.before mcu bits small.is.slots is.1 text in
-    let ten = small.few in omega (arith, most, is.0, ten)) begun put
 
 -- ---- all MCUs
 
@@ -182,5 +99,8 @@ segment_is_short plan b i box within =
     let high = mul-le-mul_left plan.across
     (in_grid plan b.header b.trailer b.chunk (length b.handovers) box.chunk) in
     let most = few_mcus plan has.is_plan in
-    either (λ (output : Output). length output.0 ≤ mcu_room * 2 ^ 32) (starts s.stream) _ _
-    (omega (arith, each, last, high, most)) (omega arith)
+    let output = rest_output s.count s (first_progress s) in
+    subst (λ (bytes : List ℕ). length bytes ≤ mcu_room * 2 ^ 32)
+    (sym (place_keeps_bytes s 0 output))
+    (either (λ (o : Output). length o.0 ≤ mcu_room * 2 ^ 32) (starts s.stream) _ _
+    (omega (arith, each, last, high, most)) (omega arith))

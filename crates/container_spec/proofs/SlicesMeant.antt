@@ -24,10 +24,11 @@ use Rattle.cut_spec.proofs.Slices.{each_slice}
 use Rattle.cut_spec.proofs.SpotsBegun.{handover_is_spot, spots_are_begun}
 use Rattle.block_spec.specs.Grid.{Grid}
 use Rattle.container_spec.specs.ScanStream.{blocks_of, blocks_stream, starts}
-use Rattle.container_spec.specs.Segments.{SegmentFields, Progress, Output, first_progress, stopped, with_prefix, stream_ending, ending_by, ending, mcus_output, segment_output}
-use Rattle.container_spec.specs.SegmentLaws.{Suits, IsNextStart, SegmentIsItsSlice, segment_between, progress_through, mcus_sum}
+use Rattle.container_spec.specs.Segments.{SegmentFields, Progress, Output, first_progress, stopped, with_prefix, stream_ending, ending_by, ending, mcus_output, rest_output, with_place, segment_output}
+use Rattle.container_spec.specs.SegmentLaws.{Suits, AreKept, IsNextStart, SegmentIsItsSlice, segment_between, progress_through, mcus_sum}
 use Rattle.container_spec.proofs.StreamsOfBlocks.{blocks_stream_starts, stream_gives}
 use Rattle.container_spec.proofs.McusPut.{mcus_are_put}
+use Rattle.container_spec.proofs.PlacesKept.{all_kept, place_is_good}
 
 -- ---- lists
 
@@ -124,19 +125,22 @@ none_before : (a : PadSum) → pads_with no_pads a ≡ a
 none_before a = refl
 
 pub slice_output : (shape : Shape) (grid : Grid) (pads : PadBits) (mcus : List Mcu)
-    (scan : List ℕ) (number from to : ℕ) (next : Option HandoverFields) → Suits shape grid
+    (scan : List ℕ) (number from to : ℕ) (next : Option HandoverFields) (kept : Option ℕ)
+    → Suits shape grid
     → AreMcus shape mcus → scan_bytes shape (bit_for pads) mcus ≡ Ok scan → from ≤ to
     → to ≤ shape.mcus → IsNextStart shape (bit_for pads) mcus to next
+    → AreKept (segment_bytes shape (bit_for pads) mcus scan from to) kept
     → segment_output (segment_between shape grid pads mcus number from to
-    (handover_at shape (bit_for pads) mcus from) next)
+    (handover_at shape (bit_for pads) mcus from) next kept)
     ≡ (
       segment_bytes shape (bit_for pads) mcus scan from to,
       Good (slice_sum shape pads mcus from to),
     )
-slice_output shape grid pads mcus scan number from to next suits are text order within following =
+slice_output shape grid pads mcus scan number from to next kept suits are text order within
+    following places =
     let bits = bit_for pads in
     let start = handover_at shape bits mcus from in
-    let s : SegmentFields = segment_between shape grid pads mcus number from to start next in
+    let s : SegmentFields = segment_between shape grid pads mcus number from to start next kept in
     let between = mcus_between mcus from to in
     let bytes = segment_bytes shape bits mcus scan from to in
     let end = spot_at shape bits mcus to in
@@ -148,6 +152,8 @@ slice_output shape grid pads mcus scan number from to next suits are text order 
     let at : Progress = progress_through s (first_progress s) between end in
     let first : spot_of start from ≡ spot_at shape bits mcus from =
     spot_again shape bits mcus scan from suits.shape_is are text (omega (arith, order, within)) in
+    let rest : rest_output (to - from) s (first_progress s)
+    ≡ (bytes, Good (slice_sum shape pads mcus from to)) =
     opened (starts s.stream) (mcus_output (to - from) s (first_progress s)) (stopped s StreamBad)
     (blocks_stream_starts grid (blocks_of between))
     ∙ ap (λ n. mcus_output n s (first_progress s)) (sym (between_long mcus from to order long))
@@ -155,11 +161,14 @@ slice_output shape grid pads mcus scan number from to next suits are text order 
     ∙ ap (with_prefix bytes) (good_ending s at bits mcus to refl following refl)
     ∙ ap₂ (λ (l : List ℕ) (p : PadSum). let o : Output = (l, Good p) in o) (append-nil bytes)
     (none_before (mcus_sum shape pads (spot_of start from) between)
-    ∙ ap (λ spot. mcus_sum shape pads spot between) first)
+    ∙ ap (λ spot. mcus_sum shape pads spot between) first) in
+    ap (with_place s 0) rest
+    ∙ place_is_good s 0 bytes (slice_sum shape pads mcus from to) (all_kept bytes kept places)
 
 pub segment_is_its_slice : SegmentIsItsSlice
-segment_is_its_slice shape grid pads mcus scan number from to next suits are text order within
-    next_is = (
+segment_is_its_slice shape grid pads mcus scan number from to next kept suits are text order within
+    next_is places = (
       slice_sum shape pads mcus from to,
-      slice_output shape grid pads mcus scan number from to next suits are text order within next_is,
+      slice_output shape grid pads mcus scan number from to next kept suits are text order within
+          next_is places,
     )

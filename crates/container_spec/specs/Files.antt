@@ -1,5 +1,5 @@
 -- Statement: the container of a file (docs/FORMAT.md, Segments).
-use Rattle.std.specs.Prelude.{ℕ, ◌≡◌, ◌+◌, ◌<◌, ◌^◌, Bool, true, false, List, length, take, map, None}
+use Rattle.std.specs.Prelude.{ℕ, ◌≡◌, ◌+◌, ◌<◌, ◌^◌, Bool, true, false, if◌then◌else◌, List, length, take, map, Option, Some, None}
 use Rattle.std.specs.List.{AllByRecursion}
 use Rattle.bit_list.specs.Bits.{IsByte}
 use Rattle.jpeg_marker.specs.Plans.{PlanFields}
@@ -7,6 +7,7 @@ use Rattle.scan_spec.specs.FileParts.{IsFileOf}
 use Rattle.scan_spec.specs.Slots.{shape_of}
 use Rattle.scan_spec.specs.Scans.{Mcu, intervals_of, pad_counts, pad_at}
 use Rattle.scan_spec.specs.Pads.{PadBits, bits_sum, spelling_of}
+use Rattle.scan_spec.specs.Spots.{bytes_done}
 use Rattle.handover.specs.Handovers.{HandoverFields}
 use Rattle.cut_spec.specs.Cuts.{Cut, cut_of, first_mcu}
 use Rattle.cut_spec.specs.RowHandovers.{handover_at, mcus_between}
@@ -41,6 +42,21 @@ told_pads plan mcus pads =
     let shape = shape_of plan in
     spelling_of pads (bits_sum (pad_counts shape.slots (intervals_of shape mcus)) pads)
 
+-- the place in the file of the first byte of segment i, of those that the segments before don't complete; after the
+-- last segment that of the scan's end
+abbrev pub segment_place : PlanFields → List Mcu → List Bool → ℕ → ℕ → ℕ
+segment_place plan mcus pads most i =
+    plan.header_length
+    + bytes_done (shape_of plan) (pad_at pads) mcus (first_mcu (plan_cut plan most) i)
+
+-- these places, if they are kept
+abbrev pub places_of_file : Bool → PlanFields → List Mcu → List Bool → ℕ → Option (List ℕ)
+places_of_file placed plan mcus pads most =
+    if placed
+    then Some (map (segment_place plan mcus pads most)
+    (numbers 0 ((plan_cut plan most).segments + 1)))
+    else None
+
 -- the parts of a file's container in a version, with at most `most` segments
 abbrev pub parts_of_file : Version → PlanFields → List Mcu → List Bool → List ℕ → List ℕ → ℕ
     → BoxParts
@@ -49,6 +65,7 @@ parts_of_file version plan mcus pads header trailer most =
     record {
       version = version;
       chunk = None;
+      places = places_of_file (layout_of version).placed plan mcus pads most;
       pads = told_pads plan mcus pads;
       header = header;
       trailer = trailer;

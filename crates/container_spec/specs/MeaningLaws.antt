@@ -8,7 +8,8 @@ use Rattle.scan_spec.specs.FileParts.{IsFileOf}
 use Rattle.scan_spec.specs.Pads.{bits_sum}
 use Rattle.scan_spec.specs.Scans.{Mcu, intervals_of, pad_counts}
 use Rattle.scan_spec.specs.Slots.{shape_of}
-use Rattle.box_format.specs.Versions.{layout_of, version_in}
+use Rattle.box_format.specs.BoxLaws.{IsRead}
+use Rattle.box_format.specs.Versions.{layout_of, version_in, migratable}
 use Rattle.box_format.specs.Parts.{BoxParts, IsBox, IsBoxOf, can_pad, box_bytes, migrated}
 use Rattle.box_format.specs.declared.version.Version.{Version}
 use Rattle.box_format.specs.declared.version.Version.TheVariants.{First, Second}
@@ -82,9 +83,9 @@ SegmentIsShort =
     (plan : PlanFields) (b : BoxParts) (i : ℕ) → IsBox plan b → i < length b.handovers
     → length (segment_output (segment_in plan b i)).0 ≤ mcu_room * 2 ^ 32
 
--- a container of a whole file and the same one in the second version stand for the same
+-- a container that is migrated and the same one in the second version stand for the same
 abbrev pub MigratedMeansTheSame : Type 0
 MigratedMeansTheSame =
     (plan : PlanFields) (b : BoxParts) (bytes : List ℕ) (meaning : Meaning)
-    → AllByRecursion IsByte bytes → (layout_of b.version).chunked ≡ false → IsBoxOf plan b bytes
+    → AllByRecursion IsByte bytes → IsRead migratable b.version → IsBoxOf plan b bytes
     → IsMeaning bytes meaning → IsMeaning (box_bytes (migrated b)) meaning

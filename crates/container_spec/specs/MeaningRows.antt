@@ -8,12 +8,12 @@ use Rattle.handover.specs.PadSums.{no_pads}
 use Rattle.handover.specs.declared.pads.PadSum.{PadSum}
 use Rattle.handover.specs.declared.outcome.Outcome.TheVariants.{Good, Bad}
 use Rattle.handover.specs.declared.outcome.StreamCause.{StreamCause}
-use Rattle.handover.specs.declared.outcome.StreamCause.TheVariants.{BlockCount, DcRange, DiffRange, NoCode, Seam, StreamBad}
+use Rattle.handover.specs.declared.outcome.StreamCause.TheVariants.{BlockCount, DcRange, DiffRange, NoCode, Seam, StreamBad, PlaceBad}
 use Rattle.scan_spec.specs.Pads.{Same, Listed}
 use Rattle.cut_spec.specs.SegmentRows.{begun}
 use Rattle.block_spec.specs.ReadingRows.{one_across, zeros_stream, dc_one_stream, dc_large_stream, dc_outside_stream, ones_stream}
 use Rattle.box_format.specs.Parts.{BoxParts}
-use Rattle.box_format.specs.BoxRows.{grey_header, grey_plan, ones_plan, image_end, least_parts, byteless_parts, chunk_parts}
+use Rattle.box_format.specs.BoxRows.{grey_header, grey_plan, ones_plan, image_end, least_parts, byteless_parts, chunk_parts, placed_parts}
 use Rattle.container_spec.specs.Segments.{SegmentFields, Output, segment_output}
 use Rattle.box_format.specs.declared.version.Version.TheVariants.{First, Second}
 use Rattle.container_spec.specs.Meanings.{Meaning, Verdict, Restored, PadSpelled, ChunkShort, Faulty, meaning_of}
@@ -31,6 +31,7 @@ one_of_two codes stream from start next = record {
   from = from;
   count = 1;
   next = next;
+  kept = None;
 }
 
 -- the only segment of one MCU
@@ -67,6 +68,19 @@ faults_are_told =
     × (segment_output (one_of_two level zeros_stream 0 start (Some (begun 0 3)))
     ≡ faulty [] (Seam (begun 0 2) (begun 0 3)))
 
+-- the only segment of one MCU, for whose bytes so many places are kept
+abbrev pub alone_in : ℕ → List ℕ → SegmentFields
+alone_in kept stream = record (alone stream) { kept = Some kept }
+
+-- as many places as bytes are kept, or not; the stream is looked at first
+abbrev pub places_are_counted : Type 0
+places_are_counted =
+    (segment_output (alone_in 1 zeros_stream) ≡ (0x3f ∷ [], Good ones_padded))
+    × (segment_output (alone_in 0 zeros_stream) ≡ faulty (0x3f ∷ []) (PlaceBad 1 0))
+    × (segment_output (alone_in 2 zeros_stream) ≡ faulty (0x3f ∷ []) (PlaceBad 1 2))
+    × (segment_output (alone_in 2 (0 ∷ 0 ∷ 1 ∷ [])) ≡ faulty (0x3f ∷ []) StreamBad)
+    × (segment_output (alone_in 2 ones_stream) ≡ faulty [] BlockCount)
+
 -- containers of files, and one whose segments don't meet
 abbrev pub containers_are_joined : Type 0
 containers_are_joined =
@@ -86,6 +100,7 @@ abbrev pub ones_parts : Bool → BoxParts
 ones_parts pad = record {
   version = First;
   chunk = None;
+  places = None;
   pads = Same pad;
   header = [];
   trailer = image_end;
@@ -139,3 +154,23 @@ chunks_are_slices =
       chunk = Some (record { place = 70; length = 4; skip = 0; from = 3; to = 4 });
     })
     ≡ record { bytes = 0x00 ∷ 0xff ∷ image_end; verdict = Restored })
+
+-- two segments of which the first has no byte, with these places
+abbrev pub placed : List ℕ → Meaning
+placed places = meaning_of (grey_plan 2) (record placed_parts { places = Some places })
+
+-- the file if each segment has as many bytes as places; else the first one that has not is the fault, after its bytes
+abbrev pub places_are_looked_at : Type 0
+places_are_looked_at =
+    (placed (69 ∷ 69 ∷ 70 ∷ [])
+    ≡ record { bytes = grey_header 16 ++ 0x0f ∷ image_end; verdict = Restored })
+    × (placed (69 ∷ 70 ∷ 70 ∷ [])
+    ≡ record {
+      bytes = grey_header 16;
+      verdict = Faulty (record { segment = 0; cause = PlaceBad 0 1 });
+    })
+    × (placed (69 ∷ 69 ∷ 71 ∷ [])
+    ≡ record {
+      bytes = grey_header 16 ++ 0x0f ∷ [];
+      verdict = Faulty (record { segment = 1; cause = PlaceBad 1 2 });
+    })

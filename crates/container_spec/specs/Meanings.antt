@@ -1,5 +1,5 @@
 -- Statement: what bytes stand for as a container (docs/FORMAT.md, What a container stands for).
-use Rattle.std.specs.Prelude.{ℕ, ◌≡◌, ◌⊎◌, ◌+◌, ◌-◌, nat_lt, if◌then◌else◌, List, [], ◌∷◌, ◌++◌, length, map, get_or, slice_get, Option, Some, None}
+use Rattle.std.specs.Prelude.{ℕ, ◌≡◌, ◌⊎◌, ◌+◌, ◌-◌, nat_lt, if◌then◌else◌, List, [], ◌∷◌, ◌++◌, length, map, get_or, slice_get, slice_index, Option, Some, None}
 use Rattle.byte_window.specs.declared.window.Window.{Window}
 use Rattle.byte_window.specs.Windows.{everything, window}
 use Rattle.jpeg_marker.specs.Plans.{PlanFields}
@@ -20,6 +20,11 @@ use Rattle.box_format.specs.declared.refusal.BoxRefusal.{BoxRefusal}
 use Rattle.container_spec.specs.ScanStream.{grid_of}
 use Rattle.container_spec.specs.Segments.{SegmentFields, Output, segment_output}
 
+-- how many places are kept for the bytes of segment i, if any are
+abbrev pub kept_in : Option (List ℕ) → ℕ → Option ℕ
+kept_in None i = None
+kept_in (Some places) i = Some (slice_index places (i + 1) - slice_index places i)
+
 -- segment i of a container
 abbrev pub segment_in : PlanFields → BoxParts → ℕ → SegmentFields
 segment_in plan b i =
@@ -34,6 +39,7 @@ segment_in plan b i =
       from = first_mcu cut i;
       count = first_mcu cut (i + 1) - first_mcu cut i;
       next = slice_get b.handovers (i + 1);
+      kept = kept_in b.places i;
     }
 
 -- the bytes and the outcome of each segment

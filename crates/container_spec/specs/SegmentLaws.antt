@@ -46,8 +46,8 @@ McusArePut =
 
 -- a segment of these MCUs, from one to before another
 abbrev pub segment_between : Shape → Grid → PadBits → List Mcu → ℕ → ℕ → ℕ
-    → HandoverFields → Option HandoverFields → SegmentFields
-segment_between shape grid pads mcus number from to start next = record {
+    → HandoverFields → Option HandoverFields → Option ℕ → SegmentFields
+segment_between shape grid pads mcus number from to start next kept = record {
   number = number;
   shape = shape;
   grid = grid;
@@ -57,7 +57,13 @@ segment_between shape grid pads mcus number from to start next = record {
   from = from;
   count = to - from;
   next = next;
+  kept = kept;
 }
+
+-- the places that are kept for bytes, if any are, are as many
+abbrev pub AreKept : List ℕ → Option ℕ → Type 0
+AreKept bytes None = Unit {0}
+AreKept bytes (Some kept) = length bytes ≡ kept
 
 -- what the next segment starts from, if there is one, is what is handed over there
 abbrev pub IsNextStart : Shape → (ℕ → Bool) → List Mcu → ℕ → Option HandoverFields → Type 0
@@ -70,16 +76,17 @@ pub record Suits (shape : Shape) (grid : Grid) : Type 0 where
   pub grid_is : IsGrid grid
   pub blocks : length shape.slots ≡ block_count grid.mcu
 
--- a segment of a scan stands for its slice of the scan, and ends well
+-- a segment of a scan stands for its slice of the scan, and ends well if places are kept for exactly its bytes, or none
 abbrev pub SegmentIsItsSlice : Type 0
 SegmentIsItsSlice =
     (shape : Shape) (grid : Grid) (pads : PadBits) (mcus : List Mcu) (scan : List ℕ)
-    (number from to : ℕ) (next : Option HandoverFields) → Suits shape grid
+    (number from to : ℕ) (next : Option HandoverFields) (kept : Option ℕ) → Suits shape grid
     → AreMcus shape mcus → scan_bytes shape (bit_for pads) mcus ≡ Ok scan → from ≤ to
     → to ≤ shape.mcus → IsNextStart shape (bit_for pads) mcus to next
+    → AreKept (segment_bytes shape (bit_for pads) mcus scan from to) kept
     → (padded : PadSum)
     × (segment_output (segment_between shape grid pads mcus number from to
-    (handover_at shape (bit_for pads) mcus from) next)
+    (handover_at shape (bit_for pads) mcus from) next kept)
     ≡ (segment_bytes shape (bit_for pads) mcus scan from to, Good padded))
 
 -- what is kept for the next segment is what was reached
@@ -118,3 +125,9 @@ GoodHasItsStream =
     → mcus_output left s at ≡ (bytes, Good padded)
     → (good : IsGood s at left bytes)
     × (padded ≡ pads_with at.padded (mcus_sum s.shape s.pads at.spot good.mcus))
+
+-- and has one byte for each of the places that are kept for it, if any are
+abbrev pub GoodHasItsPlaces : Type 0
+GoodHasItsPlaces =
+    (s : SegmentFields) (bytes : List ℕ) (padded : PadSum)
+    → segment_output s ≡ (bytes, Good padded) → AreKept bytes s.kept

@@ -1,6 +1,6 @@
 -- Statement: what a segment's stream stands for: bytes of the scan, and how it ends (docs/FORMAT.md, What a container
 -- stands for).
-use Rattle.std.specs.Prelude.{ℕ, zero, suc, if◌then◌else◌, List, [], ◌++◌, length, ℤ, bytes_eq, Option, Some, None, Result, Ok, Err}
+use Rattle.std.specs.Prelude.{ℕ, zero, suc, ◌+◌, ◌==◌, if◌then◌else◌, List, [], ◌++◌, length, ℤ, bytes_eq, Option, Some, None, Result, Ok, Err}
 use Rattle.scan_spec.specs.Slots.{Shape}
 use Rattle.scan_spec.specs.Scans.{Mcu}
 use Rattle.scan_spec.specs.Spots.{Spot, mcu_put}
@@ -12,7 +12,7 @@ use Rattle.handover.specs.HandoverBytes.{handover_bytes}
 use Rattle.handover.specs.PadSums.{no_pads}
 use Rattle.handover.specs.declared.pads.PadSum.{PadSum}
 use Rattle.handover.specs.declared.outcome.StreamCause.{StreamCause}
-use Rattle.handover.specs.declared.outcome.StreamCause.TheVariants.{BlockCount, DcRange, DiffRange, NoCode, Seam, StreamBad}
+use Rattle.handover.specs.declared.outcome.StreamCause.TheVariants.{BlockCount, DcRange, DiffRange, NoCode, Seam, StreamBad, PlaceBad}
 use Rattle.handover.specs.declared.outcome.Outcome.{Outcome}
 use Rattle.handover.specs.declared.outcome.Outcome.TheVariants.{Good, Bad}
 use Rattle.cut_spec.specs.RowHandovers.{handover_of, spot_of}
@@ -23,7 +23,8 @@ use Rattle.block_spec.specs.BlockReading.{and_then, blocks_read}
 use Rattle.container_spec.specs.ScanStream.{blocks_stream, starts}
 
 -- a segment: its number, the scan's shape and grid, the pad bits of the intervals, the stream, what it starts from, how
--- many MCUs come before it and how many it has, and what the next segment starts from, if there is one
+-- many MCUs come before it and how many it has, what the next segment starts from, if there is one, and how many places
+-- are kept for its bytes, if any are
 pub record SegmentFields : Type 0 where
   pub number : ℕ
   pub shape : Shape
@@ -34,6 +35,7 @@ pub record SegmentFields : Type 0 where
   pub from : ℕ
   pub count : ℕ
   pub next : Option HandoverFields
+  pub kept : Option ℕ
 
 -- between two MCUs: the segment's blocks so far, where its bytes leave off, and what was padded
 pub record Progress : Type 0 where
@@ -116,6 +118,19 @@ mcus_output (suc left) s at = after_step s (mcu_step s at) (λ next. mcus_output
 abbrev pub rest_output : ℕ → SegmentFields → Progress → Output
 rest_output left s at = if starts s.stream then mcus_output left s at else stopped s StreamBad
 
+-- how a segment of so many bytes ends whose stream ends well: if places are kept for its bytes, they have to be as many
+abbrev pub placed_ending : SegmentFields → ℕ → PadSum → Option ℕ → Outcome
+placed_ending s found padded None = Good padded
+placed_ending s found padded (Some kept) =
+    if found == kept then Good padded
+    else Bad (record { segment = s.number; cause = PlaceBad found kept })
+
+-- an output that ends so, after `before` bytes of its segment
+abbrev pub with_place : SegmentFields → ℕ → Output → Output
+with_place s before (bytes, Good padded) =
+    (bytes, placed_ending s (before + length bytes) padded s.kept)
+with_place s before (bytes, Bad fault) = (bytes, Bad fault)
+
 -- a segment's bytes and its outcome
 abbrev pub segment_output : SegmentFields → Output
-segment_output s = rest_output s.count s (first_progress s)
+segment_output s = with_place s 0 (rest_output s.count s (first_progress s))

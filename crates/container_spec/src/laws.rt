@@ -1,7 +1,7 @@
 // What holds of all segments, containers and files.
-ghost use Rattle.container_spec.specs.SegmentLaws.{McusArePut, SegmentIsItsSlice, GoodHasItsStream};
+ghost use Rattle.container_spec.specs.SegmentLaws.{McusArePut, SegmentIsItsSlice, GoodHasItsStream, GoodHasItsPlaces};
 ghost use Rattle.container_spec.specs.MeaningLaws.{OneMeaning, ContainerIsRestored, RestoredIsContainer, OneContainer, AcceptedIsNotRefused, FirstCanPad, SecondCanPad, ContainerIsShort, MigratedMeansTheSame, SegmentIsShort};
-ghost use Rattle.container_spec.specs.MeaningRows.{zeros_are_put, faults_are_told, containers_are_joined, pad_is_spelled, lists_are_spelled, chunks_are_slices};
+ghost use Rattle.container_spec.specs.MeaningRows.{zeros_are_put, faults_are_told, places_are_counted, containers_are_joined, pad_is_spelled, lists_are_spelled, chunks_are_slices, places_are_looked_at};
 
 /// MCUs that a stream gives are put, and so a segment of a scan stands for its slice of the scan.
 pub fn segments_are_slices()
@@ -9,9 +9,11 @@ pub fn segments_are_slices()
     ensures slice { SegmentIsItsSlice }
 {}
 
-/// A segment that ends well has MCUs with its bytes, and their stream is the whole of its stream.
+/// A segment that ends well has MCUs with its bytes, and their stream is the whole of its stream. If places are kept
+/// for it, it has as many bytes.
 pub fn good_segments_have_their_stream()
-    ensures { GoodHasItsStream }
+    ensures stream { GoodHasItsStream }
+    ensures places { GoodHasItsPlaces }
 {}
 
 /// A file's container stands for that file, in each version that can say its pad bits, and what stands for a file, in a
@@ -38,8 +40,10 @@ pub fn segments_are_short()
 pub fn rows_of_meanings()
     ensures zeros { zeros_are_put }
     ensures faults { faults_are_told }
+    ensures places { places_are_counted }
     ensures containers { containers_are_joined }
     ensures pads { pad_is_spelled }
     ensures lists { lists_are_spelled }
     ensures chunks { chunks_are_slices }
+    ensures looked { places_are_looked_at }
 {}

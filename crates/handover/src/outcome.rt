@@ -17,6 +17,8 @@ pub enum StreamCause {
     Seam { found: Handover, kept: Handover },
     /// 45: the stream isn't the one of the bits that were read from it.
     StreamBad,
+    /// 48: the segment has `found` bytes, where the container has `kept` places for them.
+    PlaceBad { found: u64, kept: u64 },
 }
 
 /// A segment whose stream is refused, by its number from 0, and why.

@@ -1,5 +1,5 @@
 // A container that is ready to be decoded.
-ghost use Rattle.std.specs.Prelude.{◌≡◌, ◌+◌, ◌*◌, ◌^◌, ◌<◌, ◌≤◌, IfOk, IfSome, IsErrOf, false, is_some, length, min, nat_lt};
+ghost use Rattle.std.specs.Prelude.{◌≡◌, ◌+◌, ◌*◌, ◌/◌, ◌^◌, ◌<◌, ◌≤◌, IfOk, IfSome, IsErrOf, false, is_some, length, max, min, nat_lt};
 ghost use Rattle.box_format.specs.Parts.{BoxParts, IsBoxOf};
 ghost use Rattle.jpeg_marker.specs.Plans.{PlanFields};
 ghost use Rattle.box_format.specs.BoxChecks.{IsRefusedBox};
@@ -115,6 +115,8 @@ pub fn ample_ring(bytes: &[u8]) -> usize
     ensures most { result ≤ 2 ^ 26 }
     ensures all { (plan : PlanFields) (b : BoxParts) → IsBoxOf plan b bytes.now
         → result * length b.handovers ≤ 2 * length bytes.now + 2 ^ 16 * length b.handovers }
+    ensures share { (plan : PlanFields) (b : BoxParts) → IsBoxOf plan b bytes.now
+        → min (length bytes.now / max (length b.handovers) 1 * 2) (2 ^ 26) ≤ result }
 {
     match read_box(bytes) {
         Ok(view) => ring_for(bytes.len(), usize::from(view.segments()).max(1)),
@@ -128,6 +130,7 @@ fn ring_for(length: usize, segments: usize) -> usize
     ensures least { 2 ^ 16 ≤ result }
     ensures most { result ≤ 2 ^ 26 }
     ensures all { result * segments ≤ 2 * length + 2 ^ 16 * segments }
+    ensures share { min (length / segments * 2) (2 ^ 26) ≤ result }
 {
     (length / segments)
         .saturating_mul(2)

@@ -37,6 +37,7 @@ module _ (plan : PlanFields) (bytes : List ℕ) (most : ℕ) (starts : StartsFie
       → ◌≡◌ {A = BoxParts} (record {
         version = Second;
         chunk = None;
+        places = None;
         pads = pads;
         header = header;
         trailer = trailer;

@@ -44,6 +44,7 @@ pub fn encode<R: Threads + Sync>(
         alloc,
         &Parts {
             chunk: None,
+            places: None,
             pad: starts.pad(),
             header,
             trailer,

@@ -12,7 +12,7 @@ use Rattle.container_spec.specs.Files.{IsContainerOf, parts_of_file}
 use Rattle.container_spec.proofs.ContainerSizes.{container_is_short}
 use Rattle.container_spec.proofs.FileParts.{box_is}
 use Rattle.container_spec.proofs.FilesOfContainers.{restored_is_container}
-use Rattle.container_spec.proofs.MigratedMeanings.{migrated_means_the_same}
+use Rattle.container_spec.proofs.MigratedMeanings.{migrated_means_the_same, plain}
 use Rattle.container_spec.proofs.RestoredFiles.{container_is_restored}
 use Rattle.command_words.specs.declared.command.Command.TheVariants.{Encode, Decode, Migrate}
 use Rattle.lepton_run.specs.Answers.{Answer, Answers, AnswersWithin, Made, answer_by, limit_of}
@@ -61,7 +61,7 @@ migrated_same workers bytes made answer moved short is =
     inr (record {
       short = short;
       are = subst (AllByRecursion IsByte) (sym m.4)
-          (box_are m.0 (migrated m.1) (migrated_is m.0 m.1 m.3 box));
+          (box_are m.0 (migrated m.1) (migrated_is m.0 m.1 (plain m.1.version m.3).chunked box));
       makes = (
         is.makes.0,
         subst (λ (l : List ℕ). IsMeaning l is.makes.0) (sym m.4)

@@ -1,5 +1,6 @@
 -- A container's bytes are bytes.
-use Rattle.std.proofs.Common.{ℕ, zero, suc, ◌<◌, ◌≤◌, Bool, true, false, List, [], ◌∷◌, ◌++◌, length, flat_map, ℤ, Option, Some, None, arith}
+use Rattle.std.proofs.Common.{ℕ, zero, suc, ◌+◌, ◌<◌, ◌≤◌, Bool, true, false, List, [], ◌∷◌, ◌++◌, length, flat_map, ℤ, Option, Some, None, arith}
+use Rattle.std.specs.Prelude.{slice_index}
 use Rattle.std.specs.List.{AllByRecursion}
 use Rattle.std.specs.Int.{w16, byte_at, cast_unsigned}
 use Rattle.byteorder.specs.Endian.{big_bytes}
@@ -9,11 +10,11 @@ use Rattle.jpeg_marker.specs.Plans.{PlanFields}
 use Rattle.handover.specs.Handovers.{HandoverFields, IsHandover}
 use Rattle.handover.specs.HandoverBytes.{handover_bytes}
 use Rattle.scan_spec.specs.Pads.{PadBits, Same, Listed}
-use Rattle.box_format.specs.Parts.{BoxParts, IsBox, bit_byte, box_bytes, chunk_bytes, list_bytes, list_length, magic, pad_byte, records}
+use Rattle.box_format.specs.Parts.{BoxParts, IsBox, bit_byte, box_bytes, chunk_bytes, list_bytes, list_length, magic, pad_byte, place_bytes, records}
 use Rattle.box_format.specs.Versions.{layout_of, version_byte}
 use Rattle.box_format.specs.declared.chunk.Chunk.{Chunk}
 use Rattle.box_format.specs.declared.version.Version.{Version}
-use Rattle.box_format.specs.declared.version.Version.TheVariants.{First, Second, Third}
+use Rattle.box_format.specs.declared.version.Version.TheVariants.{First, Second, Third, Fifth}
 use Rattle.box_format.proofs.Fronts.{most_few}
 
 -- the bytes of a number
@@ -51,15 +52,21 @@ handover_are h is =
     (number_are 4 h.restarts) in
     (is.byte, (number, rest))
 
-records_are : (hs : List HandoverFields) (ss : List (List ℕ)) → AllByRecursion IsHandover hs
-    → AllByRecursion IsByte (records hs ss)
-records_are [] ss each = tt
-records_are (h ∷ hs) [] each = tt
-records_are (h ∷ hs) (s ∷ ss) each =
-    all-append IsByte (handover_bytes h ++ big_bytes 8 (length s)) (records hs ss)
-    (all-append IsByte (handover_bytes h) (big_bytes 8 (length s)) (handover_are h each.0)
-    (number_are 8 (length s)))
-    (records_are hs ss each.1)
+place_are : (places : Option (List ℕ)) (i : ℕ) → AllByRecursion IsByte (place_bytes places i)
+place_are None i = tt
+place_are (Some places) i = number_are 8 (slice_index places i)
+
+records_are : (places : Option (List ℕ)) (i : ℕ) (hs : List HandoverFields) (ss : List (List ℕ))
+    → AllByRecursion IsHandover hs → AllByRecursion IsByte (records places i hs ss)
+records_are places i [] ss each = tt
+records_are places i (h ∷ hs) [] each = tt
+records_are places i (h ∷ hs) (s ∷ ss) each =
+    let long = big_bytes 8 (length s) in
+    let place = place_bytes places i in
+    all-append IsByte (handover_bytes h ++ (long ++ place)) (records places (i + 1) hs ss)
+    (all-append IsByte (handover_bytes h) (long ++ place) (handover_are h each.0)
+    (all-append IsByte long place (number_are 8 (length s)) (place_are places i)))
+    (records_are places (i + 1) hs ss each.1)
 
 bit_is : (pad : Bool) → IsByte (bit_byte pad)
 bit_is true = omega arith
@@ -73,6 +80,7 @@ version_is : (version : Version) → IsByte (version_byte version)
 version_is First = omega arith
 version_is Second = omega arith
 version_is Third = omega arith
+version_is Fifth = omega arith
 
 -- the fields before the lengths
 abbrev fields : BoxParts → List ℕ
@@ -124,7 +132,8 @@ box_are plan b is =
     let header = big_bytes 4 (length b.header) in
     let trailer = big_bytes 4 (length b.trailer) in
     let named = list_length (layout_of b.version).listed (list_bytes b.pads) in
-    let recorded = records b.handovers b.streams in
+    let end = place_bytes b.places (length b.handovers) in
+    let recorded = records b.places 0 b.handovers b.streams in
     let streams = flat_map (λ (stream : List ℕ). stream) b.streams in
     let first = both_are (fields b) header (fields_are b is.few) (number_are 4 (length b.header)) in
     let lengths = both_are (fields b ++ header) trailer first (number_are 4 (length b.trailer)) in
@@ -133,12 +142,15 @@ box_are plan b is =
     let chunk = chunk_bytes b.chunk in
     let first_fields = ((fields b ++ header) ++ trailer) ++ named in
     let chunked = both_are first_fields chunk front (chunk_are b.chunk) in
-    let entries = both_are (first_fields ++ chunk) recorded chunked
-    (records_are b.handovers b.streams is.each) in
-    let listed = both_are ((first_fields ++ chunk) ++ recorded) (list_bytes b.pads) entries is.list_bytes_are in
-    let headed = both_are (((first_fields ++ chunk) ++ recorded) ++ list_bytes b.pads) b.header listed
+    let all_fields = (first_fields ++ chunk) ++ end in
+    let placed = both_are (first_fields ++ chunk) end chunked
+    (place_are b.places (length b.handovers)) in
+    let entries = both_are all_fields recorded placed
+    (records_are b.places 0 b.handovers b.streams is.each) in
+    let listed = both_are (all_fields ++ recorded) (list_bytes b.pads) entries is.list_bytes_are in
+    let headed = both_are ((all_fields ++ recorded) ++ list_bytes b.pads) b.header listed
     is.header_bytes in
-    let ended = both_are ((((first_fields ++ chunk) ++ recorded) ++ list_bytes b.pads) ++ b.header) b.trailer headed
+    let ended = both_are (((all_fields ++ recorded) ++ list_bytes b.pads) ++ b.header) b.trailer headed
     is.trailer_bytes in
-    both_are (((((first_fields ++ chunk) ++ recorded) ++ list_bytes b.pads) ++ b.header) ++ b.trailer) streams ended
+    both_are ((((all_fields ++ recorded) ++ list_bytes b.pads) ++ b.header) ++ b.trailer) streams ended
     (streams_are b.streams is.stream_bytes)

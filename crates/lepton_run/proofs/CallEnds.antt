@@ -1,12 +1,12 @@
 -- From how words ended to what the top call promises.
-use Rattle.std.proofs.Common.{◌≡◌, ℕ, ◌<◌, ◌≤◌, ◌⊎◌, false, inl, inr, List, length, Option, Some, refl, sym, ap, subst, ◌∙◌, arith}
+use Rattle.std.proofs.Common.{◌≡◌, ℕ, ◌<◌, ◌≤◌, ◌⊎◌, true, inl, inr, List, length, Option, Some, refl, sym, ap, subst, ◌∙◌, arith}
 use Rattle.std.specs.Io.KnownBytes.{Appends}
 use Rattle.outside_core.specs.Faults.{Rose}
 use Rattle.std.specs.List.{AllByRecursion}
 use Rattle.bit_list.specs.Bits.{IsByte}
 use Rattle.jpeg_marker.specs.Plans.{PlanFields}
 use Rattle.box_format.specs.Parts.{BoxParts, IsBoxOf, box_bytes, migrated}
-use Rattle.box_format.specs.Versions.{layout_of}
+use Rattle.box_format.specs.Versions.{is_version, layout_of, migratable, version_byte}
 use Rattle.box_format.specs.declared.version.Version.{Version}
 use Rattle.box_format.specs.declared.version.Version.TheVariants.{Third}
 use Rattle.chunk_cut.specs.ChunksOfFiles.{IsChunkOf, chunk_of}
@@ -222,7 +222,7 @@ module _ {Sink Source : Type 0} (held : Sink → Option (List ℕ)) (faults : Si
       (meaning : Meaning) → Means words Migrate
       → ¬ Rose failures lost source rest → ¬ Rose faults full old new
       → left source ≡ Some bytes → length bytes ≤ limit_of Migrate → IsBoxOf plan b bytes
-      → (layout_of b.version).chunked ≡ false → IsMeaning bytes meaning
+      → is_version migratable (version_byte b.version) ≡ true → IsMeaning bytes meaning
       → ((status ≡ 0) × IsMeaning (box_bytes (migrated b)) meaning
       × Appends (held old) (held new) (box_bytes (migrated b))) ⊎ (status ≡ 5)
   migrated_of ending status is ends said bytes plan b meaning means calm still had short of

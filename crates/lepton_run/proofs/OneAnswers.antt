@@ -1,6 +1,5 @@
 -- Bytes have one answer.
-use Rattle.std.proofs.Common.{◌≡◌, ℕ, false, inl, inr, List, [], length, refl, sym, ap, ◌∙◌, subst, arith}
-use Rattle.std.proofs.lemmas.Bool.{false≢true}
+use Rattle.std.proofs.Common.{◌≡◌, ℕ, inl, inr, List, [], length, refl, sym, ap, ◌∙◌, subst, arith}
 use Rattle.std.specs.List.{AllByRecursion}
 use Rattle.bit_list.specs.Bits.{IsByte}
 use Rattle.jpeg_marker.specs.Plans.{PlanFields}
@@ -13,10 +12,8 @@ use Rattle.scan_spec.proofs.ItemsOnce.{one_outcome}
 use Rattle.scan_spec.proofs.PlanShapes.{accepted_is_shape}
 use Rattle.cut_spec.specs.Cuts.{cut_of}
 use Rattle.box_format.specs.Parts.{BoxParts, box_bytes, migrated}
-use Rattle.box_format.specs.BoxLaws.{IsRead}
-use Rattle.box_format.specs.Versions.{layout_of}
-use Rattle.box_format.specs.declared.version.Version.{Version}
-use Rattle.box_format.specs.declared.version.Version.TheVariants.{First, Second, Third}
+use Rattle.box_format.specs.Versions.{migratable}
+use Rattle.box_format.specs.declared.version.Version.TheVariants.{Second}
 use Rattle.box_format.proofs.BoxLawsProved.{one_box, one_box_refusal, never_both as box_or_refused}
 use Rattle.container_spec.specs.Meanings.{Meaning}
 use Rattle.container_spec.proofs.AcceptedFiles.{scan_apart}
@@ -88,12 +85,6 @@ one_encoded n bytes (Early TooLong) b all p q = absurd p
 one_encoded n bytes (Early NoChunk) b all p q = absurd p
 one_encoded n bytes (Late w r) b all p q = absurd p
 
--- who reads the second version reads each version of whole files
-pub read_whole : (version : Version) → (layout_of version).chunked ≡ false → IsRead Second version
-read_whole First whole = omega arith
-read_whole Second whole = omega arith
-read_whole Third whole = absurd (false≢true (sym whole))
-
 -- what migrate makes of bytes is one thing
 one_migrated : (bytes : List ℕ) (a b : Answer) → AllByRecursion IsByte bytes
     → Makes Migrate bytes a → Makes Migrate bytes b → a ≡ b
@@ -103,7 +94,7 @@ one_migrated bytes (Made a) (Made b) all p q =
 one_migrated bytes (Made a) (Early (Header r)) all p q = absurd q
 one_migrated bytes (Made a) (Early (Scan r)) all p q = absurd q
 one_migrated bytes (Made a) (Early (Box r)) all p q =
-    absurd (box_or_refused Second bytes p.0 p.1 r (read_whole p.1.version p.3) p.2 q)
+    absurd (box_or_refused migratable bytes p.0 p.1 r p.3 p.2 q)
 one_migrated bytes (Made a) (Early (Fault r)) all p q = absurd q
 one_migrated bytes (Made a) (Early PadSpelling) all p q = absurd q
 one_migrated bytes (Made a) (Early ChunkShort) all p q = absurd q
@@ -113,11 +104,11 @@ one_migrated bytes (Made a) (Late w r) all p q = absurd q
 one_migrated bytes (Early (Header r)) b all p q = absurd p
 one_migrated bytes (Early (Scan r)) b all p q = absurd p
 one_migrated bytes (Early (Box r)) (Made b) all p q =
-    absurd (box_or_refused Second bytes q.0 q.1 r (read_whole q.1.version q.3) q.2 p)
+    absurd (box_or_refused migratable bytes q.0 q.1 r q.3 q.2 p)
 one_migrated bytes (Early (Box r)) (Early (Header s)) all p q = absurd q
 one_migrated bytes (Early (Box r)) (Early (Scan s)) all p q = absurd q
 one_migrated bytes (Early (Box r)) (Early (Box s)) all p q =
-    ap (λ (x : Refusal). Early x) (ap Box (one_box_refusal Second bytes r s p q))
+    ap (λ (x : Refusal). Early x) (ap Box (one_box_refusal migratable bytes r s p q))
 one_migrated bytes (Early (Box r)) (Early (Fault s)) all p q = absurd q
 one_migrated bytes (Early (Box r)) (Early PadSpelling) all p q = absurd q
 one_migrated bytes (Early (Box r)) (Early ChunkShort) all p q = absurd q

@@ -11,7 +11,7 @@ use Rattle.scan_spec.specs.Slots.{shape_of}
 use Rattle.scan_spec.specs.declared.refusal.ScanRefusal.{ScanRefusal}
 use Rattle.box_format.specs.BoxChecks.{IsRefusedBy}
 use Rattle.box_format.specs.Parts.{BoxParts, IsBoxOf, box_bytes, migrated}
-use Rattle.box_format.specs.Versions.{layout_of}
+use Rattle.box_format.specs.Versions.{is_version, migratable, version_byte}
 use Rattle.box_format.specs.declared.version.Version.TheVariants.{Second}
 use Rattle.container_spec.specs.Files.{IsContainerOf}
 use Rattle.container_spec.specs.Limits.{most_of_a_container, most_of_a_file}
@@ -101,8 +101,8 @@ DecodeMakes bytes answer =
 abbrev pub MigrateMakes : List ℕ → Answer → Type 0
 MigrateMakes bytes (Made made) =
     (plan : PlanFields) × (b : BoxParts) × IsBoxOf plan b bytes
-    × ((layout_of b.version).chunked ≡ false) × (made ≡ box_bytes (migrated b))
-MigrateMakes bytes (Early (Box refusal)) = IsRefusedBy Second bytes refusal
+    × (is_version migratable (version_byte b.version) ≡ true) × (made ≡ box_bytes (migrated b))
+MigrateMakes bytes (Early (Box refusal)) = IsRefusedBy migratable bytes refusal
 MigrateMakes bytes other = ⊥
 
 -- what `chunk` makes of a file: the container of its chunk with this number, of chunks of this size; or it refuses the

@@ -6,7 +6,7 @@ use Rattle.jpeg_marker.specs.declared.refusal.HeaderRefusal.TheVariants.{NotJpeg
 use Rattle.scan_spec.specs.declared.refusal.ScanRefusal.{ScanRefusal}
 use Rattle.scan_spec.specs.declared.refusal.ScanRefusal.TheVariants.{ScanCut, CodeBad, SymbolBad, RunPast, LooseZeros, DcRange, MarkerInScan, RestartBad, MixedPad}
 use Rattle.box_format.specs.declared.refusal.BoxRefusal.{BoxRefusal}
-use Rattle.box_format.specs.declared.refusal.BoxRefusal.TheVariants.{BoxMagic, BoxVersion, BoxCut, BoxHeader, HeaderLong, BoxSegments, BoxChunk, BoxPad, HandoverBad, BoxLong}
+use Rattle.box_format.specs.declared.refusal.BoxRefusal.TheVariants.{BoxMagic, BoxVersion, BoxCut, BoxHeader, HeaderLong, BoxSegments, BoxChunk, BoxPad, HandoverBad, BoxPlaces, BoxLong}
 use Rattle.handover.specs.declared.outcome.StreamCause.{StreamCause}
 use Rattle.handover.specs.declared.outcome.StreamCause.TheVariants as causes
 use Rattle.lepton_run.specs.declared.refusal.Refusal.{Refusal}
@@ -93,6 +93,7 @@ box_words (HandoverBad segment) = codes "36 HandoverBad"
 box_words BoxLong = codes "37 BoxLong"
 box_words (HeaderLong place) = codes "38 HeaderLong"
 box_words BoxChunk = codes "39 BoxChunk"
+box_words BoxPlaces = codes "53 BoxPlaces"
 
 -- what it holds: the header's refusal, the place or the segment
 abbrev pub box_fields : BoxRefusal → List ℕ
@@ -106,8 +107,9 @@ box_fields (HandoverBad segment) = codes " segment " ++ decimal segment
 box_fields BoxLong = []
 box_fields (HeaderLong place) = codes " at " ++ decimal place
 box_fields BoxChunk = []
+box_fields BoxPlaces = []
 
--- number and name of the cause of a segment's fault; the handovers of a seam are left out
+-- number and name of the cause of a segment's fault; the handovers of a seam are left out, and the numbers of places
 abbrev pub cause_words : StreamCause → List ℕ
 cause_words causes.BlockCount = codes "40 BlockCount"
 cause_words causes.DcRange = codes "41 DcRange"
@@ -115,6 +117,7 @@ cause_words causes.DiffRange = codes "42 DiffRange"
 cause_words causes.NoCode = codes "43 NoCode"
 cause_words (causes.Seam found kept) = codes "44 Seam"
 cause_words causes.StreamBad = codes "45 StreamBad"
+cause_words (causes.PlaceBad found kept) = codes "48 PlaceBad"
 
 -- number and name of a refusal, and what it holds
 abbrev pub refusal_text : Refusal → List ℕ

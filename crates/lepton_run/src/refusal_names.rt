@@ -82,6 +82,7 @@ pub(crate) fn box_words(refusal: BoxRefusal) -> &'static [u8]
         BoxRefusal::BoxLong => b"37 BoxLong",
         BoxRefusal::HeaderLong { .. } => b"38 HeaderLong",
         BoxRefusal::BoxChunk => b"39 BoxChunk",
+        BoxRefusal::BoxPlaces => b"53 BoxPlaces",
     }
 }
 
@@ -97,5 +98,6 @@ pub(crate) fn cause_words(cause: StreamCause) -> &'static [u8]
         StreamCause::NoCode => b"43 NoCode",
         StreamCause::Seam { .. } => b"44 Seam",
         StreamCause::StreamBad => b"45 StreamBad",
+        StreamCause::PlaceBad { .. } => b"48 PlaceBad",
     }
 }

@@ -1,5 +1,5 @@
 // The top call.
-ghost use Rattle.std.specs.Prelude.{◌≡◌, ◌≢◌, ◌⊎◌, ◌+◌, ◌<◌, ◌≤◌, ℕ, List, Some, false, String, string_bytes, map, length};
+ghost use Rattle.std.specs.Prelude.{◌≡◌, ◌≢◌, ◌⊎◌, ◌+◌, ◌<◌, ◌≤◌, ℕ, List, Some, true, String, string_bytes, map, length};
 ghost use Rattle.std.specs.Io.KnownBytes.{Appends};
 ghost use Rattle.outside_core.specs.Faults.{Rose};
 ghost use Rattle.outside_core.specs.Takes.{TakesAll};
@@ -7,7 +7,7 @@ ghost use Rattle.jpeg_marker.specs.Plans.{PlanFields};
 ghost use Rattle.container_spec.specs.Files.{IsContainerOf};
 ghost use Rattle.container_spec.specs.Meanings.{Meaning, IsMeaning};
 ghost use Rattle.box_format.specs.Parts.{BoxParts, IsBoxOf, box_bytes, migrated};
-ghost use Rattle.box_format.specs.Versions.{layout_of};
+ghost use Rattle.box_format.specs.Versions.{is_version, layout_of, migratable, version_byte};
 ghost use Rattle.box_format.specs.declared.version.Version.{Version};
 ghost use Rattle.box_format.specs.declared.version.Version.TheVariants.{Third};
 ghost use Rattle.chunk_cut.specs.ChunksOfFiles.{IsChunkOf, chunk_of};
@@ -158,7 +158,7 @@ pub fn run<R: Threads + Wait + Sync, S: Source, K: Sink + Send, N: Sink + Send, 
         → Means (map string_bytes words.now) Migrate
         → ¬ Rose S.faults S.full source.old source.new → ¬ Rose K.faults K.full sink.old sink.new
         → S.left source.old ≡ Some bytes → length bytes ≤ limit_of Migrate
-        → IsBoxOf plan b bytes → (layout_of b.version).chunked ≡ false → IsMeaning bytes meaning
+        → IsBoxOf plan b bytes → is_version migratable (version_byte b.version) ≡ true → IsMeaning bytes meaning
         → ((status_at result ≡ 0) × IsMeaning (box_bytes (migrated b)) meaning
         × Appends (K.held sink.old) (K.held sink.new) (box_bytes (migrated b)))
         ⊎ (status_at result ≡ 5) }

@@ -9,7 +9,7 @@ use Rattle.box_format.specs.Parts.{BoxParts, IsBoxOf}
 use Rattle.box_format.specs.BoxChecks.{IsRefusedBox}
 use Rattle.box_format.specs.declared.chunk.Chunk.{Chunk}
 use Rattle.box_format.specs.declared.refusal.BoxRefusal.{BoxRefusal}
-use Rattle.box_format.specs.declared.version.Version.TheVariants.{Third}
+use Rattle.box_format.specs.Versions.{decoded}
 use Rattle.box_format.proofs.BoxLawsProved.{all_read, one_box, never_both}
 use Rattle.box_format.specs.Raws.{numbers}
 use Rattle.container_spec.specs.Segments.{segment_output}
@@ -96,7 +96,7 @@ none_left plan b i n first file all is =
 pub not_refused : (bytes file : List ℕ) (refusal : BoxRefusal) → StandsFor bytes file
     → IsRefusedBox bytes refusal → ⊥
 not_refused bytes file refusal x refused =
-    never_both Third bytes x.0 x.1 refusal (all_read x.1.version) x.2 refused
+    never_both decoded bytes x.0 x.1 refusal (all_read x.1.version) x.2 refused
 
 -- its file, by its parts
 pub shown_bytes : (bytes file : List ℕ) (plan : PlanFields) (b : BoxParts)

@@ -18,7 +18,7 @@ use Rattle.box_format.specs.Parts.{BoxParts, IsBox, bad_start, box_cut, box_rows
 use Rattle.box_format.proofs.PassedBox.{ordered, in_grid}
 use Rattle.container_spec.proofs.CutsOfPlans.{each_has_mcus}
 use Rattle.container_spec.specs.ScanStream.{grid_of}
-use Rattle.container_spec.specs.Meanings.{segment_in}
+use Rattle.container_spec.specs.Meanings.{kept_in, segment_in}
 use Rattle.container_spec.specs.SegmentLaws.{Suits}
 use Rattle.segment_code.specs.BegunSegments.{segment_with}
 use Rattle.segment_code.proofs.GridsOfPlans.{has_grid}
@@ -157,17 +157,21 @@ module _ (plan : PlanFields) (b : BoxParts) (i row count : ℕ)
 
   -- its parts are those of the container
   pub same_segment : (stream : List ℕ) (h : HandoverFields) (next : Option HandoverFields)
-      (pads : PadBits) → stream ≡ get_or b.streams i [] → h ≡ get_or b.handovers i start
-      → next ≡ slice_get b.handovers (i + 1) → pads ≡ b.pads
-      → segment_with plan i stream h row count next pads ≡ segment_in plan b i
-  same_segment stream h next pads stream_is h_is next_is pads_is =
+      (kept : Option ℕ) (pads : PadBits) → stream ≡ get_or b.streams i []
+      → h ≡ get_or b.handovers i start → next ≡ slice_get b.handovers (i + 1)
+      → kept ≡ kept_in b.places i → pads ≡ b.pads
+      → segment_with plan i stream h row count next kept pads ≡ segment_in plan b i
+  same_segment stream h next kept pads stream_is h_is next_is kept_is pads_is =
       let cut = box_cut plan b.chunk (length b.handovers) in
       let counted = is.counted in
       let count_is : count ≡ first_mcu cut (i + 1) - first_mcu cut i = omega (arith, counted) in
-      ap₂ (λ (l : List ℕ) (g : HandoverFields). segment_with plan i l g row count next pads)
+      ap₂ (λ (l : List ℕ) (g : HandoverFields). segment_with plan i l g row count next kept pads)
       stream_is h_is
       ∙ ap₂ (λ (r c : ℕ). segment_with plan i (get_or b.streams i []) (get_or b.handovers i start)
-      r c next pads) is.is_row count_is
-      ∙ ap₂ (λ (n : Option HandoverFields) (p : PadBits). segment_with plan i (get_or b.streams i [])
-      (get_or b.handovers i start) (row_of cut i) (first_mcu cut (i + 1) - first_mcu cut i) n p)
-      next_is pads_is
+      r c next kept pads) is.is_row count_is
+      ∙ ap₂ (λ (n : Option HandoverFields) (k : Option ℕ). segment_with plan i (get_or b.streams i [])
+      (get_or b.handovers i start) (row_of cut i) (first_mcu cut (i + 1) - first_mcu cut i) n k pads)
+      next_is kept_is
+      ∙ ap (λ (p : PadBits). segment_with plan i (get_or b.streams i []) (get_or b.handovers i start)
+      (row_of cut i) (first_mcu cut (i + 1) - first_mcu cut i) (slice_get b.handovers (i + 1))
+      (kept_in b.places i) p) pads_is

@@ -202,6 +202,7 @@ module _ (old : DecoderSeen) (s : SegmentFields) (at : Progress) (is : IsWithin 
               number = is.holds.number;
               still = less;
               next = is.holds.next;
+              kept = is.holds.kept;
               shape = ap (λ (w : ScanWriter). w.shape) put.3 ∙ is.holds.shape;
               pads = ap (λ (w : ScanWriter). w.pads) put.3 ∙ is.holds.pads;
               spot = refl;

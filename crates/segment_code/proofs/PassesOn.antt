@@ -5,14 +5,14 @@ use Rattle.std.specs.List.{AllByRecursion}
 use Rattle.std.proofs.lemmas.List.{append_cancel_left, length-append, map-append}
 use Rattle.bit_list.specs.Bits.{IsByte}
 use Rattle.coef_block.specs.Block.{IsBlock}
-use Rattle.jpeg_marker.specs.Plans.{PlanFields, IsPlan}
+use Rattle.jpeg_marker.specs.Plans.{PlanFields}
 use Rattle.jpeg_marker.specs.HeaderPlan.{Accepts}
 use Rattle.jpeg_marker.proofs.HeadersTaken.{accepted_has_plan}
 use Rattle.huff_table.specs.ComponentTables.{tables_of}
 use Rattle.huff_table.specs.declared.plan_codes.ComponentCodes.{ComponentCodes}
 use Rattle.scan_spec.specs.Items.{Refuses}
 use Rattle.scan_spec.specs.Pads.{spelling_of}
-use Rattle.scan_spec.specs.Scans.{Mcu, pad_at}
+use Rattle.scan_spec.specs.Scans.{Mcu}
 use Rattle.scan_spec.specs.Slots.{Shape, shape_of}
 use Rattle.scan_spec.specs.ScanCalls.{ScanReader, reader_at, resume_place}
 use Rattle.scan_spec.specs.ScanLaws.{zigzag_of}
@@ -20,8 +20,7 @@ use Rattle.scan_spec.specs.ScanReading.{Standing}
 use Rattle.scan_spec.specs.BlockBits.{in_zigzag}
 use Rattle.scan_spec.specs.declared.refusal.ScanRefusal.{ScanRefusal}
 use Rattle.scan_spec.proofs.BitsTaken.{both_fine}
-use Rattle.handover.specs.Handovers.{HandoverFields}
-use Rattle.cut_spec.specs.Cuts.{Cut, first_mcu, row_of}
+use Rattle.cut_spec.specs.Cuts.{first_mcu, row_of}
 use Rattle.cut_spec.specs.HandedOver.{spot_in}
 use Rattle.cut_spec.specs.RowHandovers.{handover_of, markers_before, mcus_between}
 use Rattle.cut_spec.proofs.SegmentsRead.{first_are_read}

@@ -1,21 +1,22 @@
 -- How a segment ends after its last MCU.
-use Rattle.std.proofs.Common.{◌≡◌, ℕ, Bool, true, false, if◌then◌else◌, List, [], refl, sym, ap, ap₂, subst, ◌∙◌}
-use Rattle.std.specs.Prelude.{◌↔◌, IsTrue, bytes_eq, Option, Some, None, is_some}
+use Rattle.std.proofs.Common.{◌≡◌, ℕ, Bool, true, false, if◌then◌else◌, List, [], refl, sym, ap, ap₂, subst, ◌∙◌, add-zero}
+use Rattle.std.specs.Prelude.{◌==◌, ◌↔◌, IsTrue, bytes_eq, Option, Some, None, is_some}
 use Rattle.std.proofs.lemmas.Slice.Eq.{bytes_eq-Decides}
 use Rattle.bool_coder.specs.DecoderSeen.{Reads}
 use Rattle.bool_coder.specs.BoolStream.{coded, stream}
 use Rattle.adapt_bins.specs.Events.{bools_of}
 use Rattle.handover.specs.Handovers.{HandoverFields}
 use Rattle.handover.specs.HandoverBytes.{handover_bytes}
-use Rattle.handover.specs.declared.outcome.Outcome.TheVariants.{Good}
+use Rattle.handover.specs.declared.outcome.Outcome.TheVariants.{Good, Bad}
+use Rattle.handover.specs.declared.outcome.Outcome.{Outcome}
 use Rattle.handover.specs.declared.outcome.StreamCause.{StreamCause}
-use Rattle.handover.specs.declared.outcome.StreamCause.TheVariants.{Seam, StreamBad}
+use Rattle.handover.specs.declared.outcome.StreamCause.TheVariants.{Seam, StreamBad, PlaceBad}
 use Rattle.cut_spec.specs.RowHandovers.{handover_of}
 use Rattle.block_spec.specs.SegmentEvents.{segment_events}
 use Rattle.container_spec.specs.ScanStream.{blocks_stream}
-use Rattle.container_spec.specs.Segments.{SegmentFields, Progress, Output, stopped, stream_ending, ending_by, ending}
+use Rattle.container_spec.specs.Segments.{SegmentFields, Progress, Output, stopped, stream_ending, ending_by, ending, placed_ending, with_place}
 use Rattle.segment_code.specs.Decoding.{DecoderSeen}
-use Rattle.segment_code.specs.DecodedPieces.{IsWithin, seam_in, ended_by}
+use Rattle.segment_code.specs.DecodedPieces.{IsWithin, seam_in, misplaced_in, ended_by}
 
 same_tests : (t u : Bool) → (IsTrue t → IsTrue u) → (IsTrue u → IsTrue t) → t ≡ u
 same_tests true u h k = sym (h refl)
@@ -93,30 +94,59 @@ no_cause (Some cause) b e none = cc
 pub ends_with_seam : (d : DecoderSeen) (s : SegmentFields) (left : ℕ) (at : Progress)
     (cause : Option StreamCause) → IsWithin d s left at
     → seam_in (handover_of d.writer.shape d.writer.spot) d.next ≡ cause
-    → is_some cause ≡ true → ending s at ≡ ended_by s at cause
+    → is_some cause ≡ true → with_place s d.given (ending s at) ≡ ended_by s at cause
 ends_with_seam d s left at None is e some = cc
 ends_with_seam d s left at (Some cause) is e some =
-    found_same d s left at is ∙ seam_ends s at _ d.next cause e
+    ap (with_place s d.given) (found_same d s left at is ∙ seam_ends s at _ d.next cause e)
 
 abbrev ended_exactly : SegmentFields → Progress → Bool → Output
 ended_exactly s at t = if t then ([], Good at.padded) else stopped s StreamBad
 
-abbrev by_exact : Bool → Option StreamCause
-by_exact t = if t then None else Some StreamBad
+-- the decoder tells whether the bytes are the stream, where no other start is next
+pub record IsTold (d : DecoderSeen) (test : Bool) : Type 0 where
+  pub same : seam_in (handover_of d.writer.shape d.writer.spot) d.next ≡ None
+  pub tells : (bools : List (ℕ × Bool)) → Reads bools d.coder.decoder
+      → TellsExact test d.coder.decoder.bytes bools
 
-exact_by : (t : Bool) (s : SegmentFields) (at : Progress)
-    → ended_exactly s at t ≡ ended_by s at (by_exact t)
-exact_by true s at = refl
-exact_by false s at = refl
+ends_exactly : (d : DecoderSeen) (s : SegmentFields) (left : ℕ) (at : Progress) (test t : Bool)
+    → IsWithin d s left at → IsTold d test → test ≡ t → ending s at ≡ ended_exactly s at t
+ends_exactly d s left at test t is told same =
+    found_same d s left at is ∙ no_seam s at _ d.next told.same
+    ∙ ap (ended_exactly s at) (stream_told d s left at test is told.tells ∙ same)
 
--- and else the stream tells
+-- the stream is another one
 pub ends_with_stream : (d : DecoderSeen) (s : SegmentFields) (left : ℕ) (at : Progress)
-    (test t : Bool) → IsWithin d s left at → test ≡ t
-    → seam_in (handover_of d.writer.shape d.writer.spot) d.next ≡ None
-    → ((bools : List (ℕ × Bool)) → Reads bools d.coder.decoder
-    → TellsExact test d.coder.decoder.bytes bools)
-    → ending s at ≡ ended_by s at (by_exact t)
-ends_with_stream d s left at test t is same e tells =
-    found_same d s left at is ∙ no_seam s at _ d.next e
-    ∙ ap (ended_exactly s at) (stream_told d s left at test is tells ∙ same)
-    ∙ exact_by t s at
+    (test : Bool) → IsWithin d s left at → IsTold d test → test ≡ false
+    → with_place s d.given (ending s at) ≡ ended_by s at (Some StreamBad)
+ends_with_stream d s left at test is told other =
+    ap (with_place s d.given) (ends_exactly d s left at test false is told other)
+
+-- ---- the places
+
+-- no bytes more
+abbrev no_bytes : Outcome → Output
+no_bytes outcome = ([], outcome)
+
+place_by : (t : Bool) (s : SegmentFields) (at : Progress) (cause : StreamCause)
+    → no_bytes (if t then Good at.padded else Bad (record { segment = s.number; cause = cause }))
+    ≡ ended_by s at (if t then None else Some cause)
+place_by true s at cause = refl
+place_by false s at cause = refl
+
+place_ends : (s : SegmentFields) (at : Progress) (found : ℕ) (kept : Option ℕ)
+    → no_bytes (placed_ending s found at.padded kept)
+    ≡ ended_by s at (misplaced_in found kept)
+place_ends s at found None = refl
+place_ends s at found (Some kept) = place_by (found == kept) s at (PlaceBad found kept)
+
+-- and else the places
+pub ends_with_place : (d : DecoderSeen) (s : SegmentFields) (left : ℕ) (at : Progress)
+    (test : Bool) (cause : Option StreamCause) → IsWithin d s left at → IsTold d test → test ≡ true
+    → cause ≡ misplaced_in d.given d.kept
+    → with_place s d.given (ending s at) ≡ ended_by s at cause
+ends_with_place d s left at test cause is told exact found =
+    ap (with_place s d.given) (ends_exactly d s left at test true is told exact)
+    ∙ ap (λ (n : ℕ). no_bytes (placed_ending s n at.padded s.kept)) (add-zero d.given)
+    ∙ place_ends s at d.given s.kept
+    ∙ ap (λ (kept : Option ℕ). ended_by s at (misplaced_in d.given kept)) (sym is.holds.kept)
+    ∙ ap (ended_by s at) (sym found)

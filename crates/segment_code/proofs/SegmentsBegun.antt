@@ -38,6 +38,7 @@ pub record IsBegun (d : DecoderSeen) (plan : PlanFields) (s : SegmentFields) (pa
   pub number : d.number ≡ s.number
   pub left : d.left ≡ s.count
   pub next : d.next ≡ s.next
+  pub kept : d.kept ≡ s.kept
   pub writer : d.writer ≡ writer_from (shape_of plan) pads s.start s.from
   pub started : d.started ≡ starts s.stream
   pub got : d.started ≡ true → HasGot d.coder s.stream []
@@ -45,11 +46,11 @@ pub record IsBegun (d : DecoderSeen) (plan : PlanFields) (s : SegmentFields) (pa
   pub held : HoldsUpTo d.segment []
 
 pub stands_first : (d : DecoderSeen) (plan : PlanFields) (number : ℕ) (stream : List ℕ)
-    (start : HandoverFields) (row count : ℕ) (next : Option HandoverFields) (pads : PadBits)
-    → IsBegun d plan (segment_with plan number stream start row count next pads) pads
-    → (let s = segment_with plan number stream start row count next pads in
+    (start : HandoverFields) (row count : ℕ) (next : Option HandoverFields) (kept : Option ℕ)
+    (pads : PadBits) → IsBegun d plan (segment_with plan number stream start row count next kept pads) pads
+    → (let s = segment_with plan number stream start row count next kept pads in
     StandsAt d s count (first_progress s))
-stands_first d plan number stream start row count next pads is = record {
+stands_first d plan number stream start row count next kept pads is = record {
   holds = record {
     running = is.running;
     within = is.within;
@@ -57,6 +58,7 @@ stands_first d plan number stream start row count next pads is = record {
     number = is.number;
     still = is.left;
     next = is.next;
+    kept = is.kept;
     shape = ap (λ (w : ScanWriter). w.shape) is.writer;
     pads = ap (λ (w : ScanWriter). w.pads) is.writer;
     spot = ap (λ (w : ScanWriter). w.spot) is.writer;

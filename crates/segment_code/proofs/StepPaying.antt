@@ -7,7 +7,8 @@ use Rattle.handover.specs.declared.outcome.Outcome.{Outcome}
 use Rattle.handover.specs.declared.outcome.StreamCause.{StreamCause}
 use Rattle.handover.specs.declared.outcome.StreamCause.TheVariants.{StreamBad}
 use Rattle.container_spec.specs.ScanStream.{starts}
-use Rattle.container_spec.specs.Segments.{SegmentFields, Progress, Output, stopped, with_prefix, mcu_step, mcus_output}
+use Rattle.container_spec.specs.Segments.{SegmentFields, Progress, Output, stopped, with_prefix, with_place, mcu_step, mcus_output}
+use Rattle.container_spec.proofs.PlacesKept.{place_after_prefix}
 use Rattle.segment_code.specs.Pieces.{Made, SomeOf, AllOf, made_with_prefix, made_after, piece, next_piece, output_after}
 use Rattle.segment_code.proofs.JoinedPieces.{piece_is_prefix}
 use Rattle.segment_code.specs.Decoding.{DecoderSeen, Pays, IsStep, StepPays}
@@ -90,23 +91,27 @@ fewer_or false s left at h = h
 
 pays_by : (step : Step) (made : Made) (s : SegmentFields) (left : ℕ) (out bytes : List ℕ)
     (outcome : Outcome) (old new : DecoderSeen) → old.left ≡ left → left_in made < left
-    → owed (starts s.stream) s made ≡ (bytes, outcome) → IsStep step s made out new
-    → Pays step bytes outcome out old new
+    → with_place s old.given (owed (starts s.stream) s made) ≡ (bytes, outcome)
+    → IsStep step s old.given made out new → Pays step bytes outcome out old new
 pays_by More (SomeOf b l a) s left out bytes outcome old new same less is step =
-    let rest : Output = rest_or (starts s.stream) s l a in (
-      rest.0,
-      sym (ap (λ (o : Output). o.0) is) ∙ ap (λ (x : List ℕ). x ++ rest.0) (sym step.0),
-      (let e = step.1.holds.still in omega (arith, e, same, less)),
-      (let e = step.1.holds.still in let f = step.1.some in omega (arith, e, f)),
-      step.1.holds.running,
+    let rest : Output = rest_or (starts s.stream) s l a in
+    let more : Output = with_place s new.given rest in
+    let all : with_prefix b more ≡ (bytes, outcome) =
+    ap (λ (n : ℕ). with_prefix b (with_place s n rest)) step.1
+    ∙ sym (place_after_prefix s old.given b rest) ∙ is in (
+      more.0,
+      sym (ap (λ (o : Output). o.0) all) ∙ ap (λ (x : List ℕ). x ++ more.0) (sym step.0),
+      (let e = step.2.holds.still in omega (arith, e, same, less)),
+      (let e = step.2.holds.still in let f = step.2.some in omega (arith, e, f)),
+      step.2.holds.running,
       record {
         segment = s;
         left = l;
         at = a;
-        stands = step.1;
+        stands = step.2;
         rest =
-            ap (λ (o : Outcome). let p : Output = (rest.0, o) in p)
-            (ap (λ (o : Output). o.1) is);
+            ap (λ (o : Outcome). let p : Output = (more.0, o) in p)
+            (ap (λ (o : Output). o.1) all);
       },
     )
 pays_by More (AllOf output) s left out bytes outcome old new same less is step = absurd step
@@ -133,5 +138,5 @@ step_pays step out bytes outcome old new steps owes =
     pays_by step (next_piece owes.left s owes.at) s owes.left out bytes outcome old new
     owes.stands.holds.still
     (fewer_or (starts s.stream) s owes.left owes.at owes.stands.some)
-    (sym (all_owed (starts s.stream) s owes.left owes.at) ∙ owes.rest)
+    (ap (with_place s old.given) (sym (all_owed (starts s.stream) s owes.left owes.at)) ∙ owes.rest)
     (steps s owes.left owes.at owes.stands)

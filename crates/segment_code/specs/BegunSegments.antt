@@ -8,10 +8,10 @@ use Rattle.container_spec.specs.ScanStream.{grid_of}
 use Rattle.container_spec.specs.Segments.{SegmentFields}
 
 -- a segment of a plan's scan: its number, its stream, what it starts from, its first row of MCUs, how many MCUs it has,
--- what the next segment starts from, and the pad bits
+-- what the next segment starts from, how many places are kept for its bytes, and the pad bits
 abbrev pub segment_with : PlanFields → ℕ → List ℕ → HandoverFields → ℕ → ℕ
-    → Option HandoverFields → PadBits → SegmentFields
-segment_with plan number stream start row count next pads = record {
+    → Option HandoverFields → Option ℕ → PadBits → SegmentFields
+segment_with plan number stream start row count next kept pads = record {
   number = number;
   shape = shape_of plan;
   grid = grid_of plan;
@@ -21,4 +21,5 @@ segment_with plan number stream start row count next pads = record {
   from = plan.across * row;
   count = count;
   next = next;
+  kept = kept;
 }

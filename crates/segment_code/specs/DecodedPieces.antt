@@ -1,12 +1,12 @@
 -- Steps: what happens inside one step of a decoder of segments (own).
-use Rattle.std.specs.Prelude.{ℕ, ◌≡◌, ◌+◌, ◌-◌, Bool, true, not, ◌&&◌, nat_lt, if◌then◌else◌, List, [], ◌++◌, length, bytes_eq, Option, Some, None, Result, Ok, Err}
+use Rattle.std.specs.Prelude.{ℕ, ◌≡◌, ◌+◌, ◌-◌, Bool, true, not, ◌&&◌, nat_lt, if◌then◌else◌, List, [], ◌++◌, length, bytes_eq, ◌==◌, Option, Some, None, Result, Ok, Err}
 use Rattle.bit_list.specs.Pieces.{piece_room}
 use Rattle.scan_spec.specs.TextBounds.{mcu_room}
 use Rattle.handover.specs.Handovers.{HandoverFields}
 use Rattle.handover.specs.HandoverBytes.{handover_bytes}
 use Rattle.handover.specs.declared.outcome.Outcome.TheVariants.{Good, Bad}
 use Rattle.handover.specs.declared.outcome.StreamCause.{StreamCause}
-use Rattle.handover.specs.declared.outcome.StreamCause.TheVariants.{Seam}
+use Rattle.handover.specs.declared.outcome.StreamCause.TheVariants.{Seam, PlaceBad}
 use Rattle.container_spec.specs.ScanStream.{starts}
 use Rattle.container_spec.specs.Segments.{SegmentFields, Progress, Output, stopped, with_prefix, mcu_step}
 use Rattle.segment_code.specs.Pieces.{AllOf, made_with_prefix, piece}
@@ -55,6 +55,11 @@ abbrev pub seam_in : HandoverFields → Option HandoverFields → Option StreamC
 seam_in found None = None
 seam_in found (Some kept) =
     if bytes_eq (handover_bytes found) (handover_bytes kept) then None else Some (Seam found kept)
+
+-- where places are kept for another number of bytes than was found
+abbrev pub misplaced_in : ℕ → Option ℕ → Option StreamCause
+misplaced_in found None = None
+misplaced_in found (Some kept) = if found == kept then None else Some (PlaceBad found kept)
 
 -- how a segment ends by the cause found at its end
 abbrev pub ended_by : SegmentFields → Progress → Option StreamCause → Output

@@ -2,7 +2,6 @@
 use Rattle.std.specs.Prelude.{ℕ, ◌≡◌, ◌^◌, ◌+◌, ◌-◌, ◌*◌, ◌<◌, ◌≤◌, Bool, List, length, ℤ, map}
 use Rattle.std.specs.List.{AllByRecursion}
 use Rattle.bit_list.specs.Bits.{IsByte}
-use Rattle.coef_block.specs.Block.{IsBlock}
 use Rattle.jpeg_marker.specs.HeaderPlan.{Accepts}
 use Rattle.jpeg_marker.specs.Plans.{PlanFields}
 use Rattle.huff_table.specs.ComponentTables.{tables_of}
@@ -10,7 +9,6 @@ use Rattle.huff_table.specs.declared.plan_codes.ComponentCodes.{ComponentCodes}
 use Rattle.handover.specs.Handovers.{HandoverFields}
 use Rattle.scan_spec.specs.Scans.{Mcu, pad_at}
 use Rattle.scan_spec.specs.ScanCalls.{ScanReader, reader_at, resume_place}
-use Rattle.scan_spec.specs.ScanLaws.{zigzag_of}
 use Rattle.scan_spec.specs.Slots.{shape_of}
 use Rattle.scan_spec.specs.Spots.{bytes_done}
 use Rattle.cut_spec.specs.Cuts.{Cut, first_mcu, row_of}

@@ -3,17 +3,19 @@ ghost use Rattle.std.specs.Prelude.{◌≡◌, ◌+◌, ◌-◌, ◌*◌, ◌<�
 ghost use Rattle.bit_list.specs.Pieces.{piece_room};
 ghost use Rattle.scan_spec.specs.TextBounds.{mcu_room};
 ghost use Rattle.handover.specs.declared.outcome.Outcome.{Outcome};
-ghost use Rattle.container_spec.specs.Meanings.{segment_in};
+ghost use Rattle.box_format.specs.Versions.{most_segments};
+ghost use Rattle.container_spec.specs.Meanings.{kept_in, segment_in};
 ghost use Rattle.container_spec.specs.ScanStream.{grid_of, starts};
 ghost use Rattle.container_spec.specs.SegmentLaws.{Suits};
-ghost use Rattle.container_spec.specs.Segments.{Progress, SegmentFields, ending, first_progress, segment_output};
+ghost use Rattle.container_spec.specs.Segments.{Progress, SegmentFields, ending, first_progress, segment_output, with_place};
 ghost use Rattle.scan_spec.specs.Pads.{is_long_for, pads_given};
 ghost use Rattle.scan_spec.specs.Slots.{shape_of};
 ghost use Rattle.adapt_bins.specs.GotEvents.{HasGot};
 ghost use Rattle.cut_spec.specs.RowHandovers.{handover_of, markers_before};
 ghost use Rattle.segment_code.specs.BegunSegments.{segment_with};
 ghost use Rattle.handover.specs.HandoverBytes.{handover_bytes};
-ghost use Rattle.segment_code.specs.DecodedPieces.{IsEnd, IsFilled, IsWithin, McuIsMade, ended_by, goes_on, seam_in};
+ghost use Rattle.segment_code.specs.DecodedPieces.{IsEnd, IsFilled, IsWithin, McuIsMade, ended_by, goes_on, misplaced_in, seam_in};
+ghost use Rattle.segment_code.specs.DecoderInside.{IsBounded};
 ghost use Rattle.segment_code.specs.Decoding.{Owes, Pays, StandsAt, Steps};
 ghost use Rattle.segment_code.specs.declared.step.Step.TheVariants.{Fault};
 
@@ -49,6 +51,10 @@ pub struct SegmentDecoder<'a> {
     number: u8,
     left: u32,
     next: Option<Handover>,
+    // How many places are kept for its bytes, if any are.
+    kept: Option<u64>,
+    // How many of its bytes were given.
+    given: u64,
     started: bool,
     coder: Get<'a>,
     segment: SegmentRows,
@@ -90,6 +96,8 @@ impl<'a> SegmentDecoder<'a> {
             number: 0,
             left: 0,
             next: None,
+            kept: None,
+            given: 0,
             started: false,
             coder,
             segment,
@@ -104,6 +112,7 @@ impl<'a> SegmentDecoder<'a> {
         requires count { self.old.begun < 2 ^ 32 - 1 }
         ensures stands { let s = segment_in self.old.plan view.now.parts segment in
             StandsAt self.new s s.count (first_progress s) }
+        ensures given { self.new.given ≡ 0 }
         ensures owes { let output = segment_output (segment_in self.old.plan view.now.parts segment) in
             Owes self.new output.0 output.1 }
         ensures running { self.new.running ≡ true }
@@ -119,7 +128,17 @@ impl<'a> SegmentDecoder<'a> {
         let row = row_of(plan, chunk, segments as u32, segment as u32);
         let count = mcus_in(plan, chunk, segments as u32, segment as u32);
         let next = start_after(view, segment);
-        self.begin_at(segment, stream, handover, row, count, next, view.pad());
+        let kept = kept_in(view, segment);
+        self.begin_at(
+            segment,
+            stream,
+            handover,
+            row,
+            count,
+            next,
+            kept,
+            view.pad(),
+        );
     }
 
     // Begins a segment, given its parts.
@@ -131,6 +150,7 @@ impl<'a> SegmentDecoder<'a> {
         row: u32,
         count: u32,
         next: Option<Handover>,
+        kept: Option<u64>,
         pads: Pads<'a>,
     )
         requires suits { Suits (shape_of self.old.plan) (grid_of self.old.plan) }
@@ -142,8 +162,9 @@ impl<'a> SegmentDecoder<'a> {
             ≤ self.old.plan.across * self.old.plan.down }
         requires begun { self.old.begun < 2 ^ 32 - 1 }
         requires pads { is_long_for (shape_of self.old.plan) (pads_given pads) ≡ true }
-        ensures stands { let s = segment_with self.old.plan number stream.now handover row count next
+        ensures stands { let s = segment_with self.old.plan number stream.now handover row count next kept
             (pads_given pads.entry) in StandsAt self.new s count (first_progress s) }
+        ensures given { self.new.given ≡ 0 }
         ensures few { self.new.left < 2 ^ 32 }
         ensures begun { self.new.begun ≡ self.old.begun + 1 }
         ensures plan { self.new.plan ≡ self.old.plan }
@@ -155,6 +176,8 @@ impl<'a> SegmentDecoder<'a> {
         self.number = number;
         self.left = count;
         self.next = next;
+        self.kept = kept;
+        self.given = 0;
         self.running = true;
         self.begun += 1;
     }
@@ -183,11 +206,23 @@ impl<'a> SegmentDecoder<'a> {
         if !self.started {
             return self.fault(StreamCause::StreamBad);
         }
-        match self.fill(out) {
-            Ok(()) if self.is_over() => self.end(),
-            Ok(()) => Step::More,
-            Err(cause) => self.fault(cause),
+        if let Err(cause) = self.fill(out) {
+            return self.fault(cause);
         }
+        self.count(out.len());
+        if self.is_over() {
+            self.end()
+        } else {
+            Step::More
+        }
+    }
+
+    // Counts bytes that are given.
+    fn count(&mut self, bytes: usize)
+        requires { IsBounded (self.old.given + bytes) self.old.left }
+        ensures { self.new ≡ record self.old { given = self.old.given + bytes } }
+    {
+        self.given += bytes as u64;
     }
 
     // Whether the last MCU was made.
@@ -204,6 +239,9 @@ impl<'a> SegmentDecoder<'a> {
         ensures filled { (s : SegmentFields) (left : ℕ) (at : Progress)
             → IsWithin self.old s left at → IsFilled result s left at out.new self.new }
         ensures all { OnOk result (goes_on self.new.left out.new ≡ false) }
+        ensures most { OnOk result (self.new.left ≤ self.old.left) }
+        ensures fewer { OnOk result (0 < length out.new → self.new.left < self.old.left) }
+        ensures given { self.new.given ≡ self.old.given }
         ensures number { self.new.number ≡ self.old.number }
         ensures begun { self.new.begun ≡ self.old.begun }
         ensures plan { self.new.plan ≡ self.old.plan }
@@ -230,6 +268,7 @@ impl<'a> SegmentDecoder<'a> {
         ensures made { (s : SegmentFields) (at : Progress) → IsWithin self.old s self.old.left at
             → McuIsMade s self.old.left at out.old result self.new out.new }
         ensures left { OnOk result (self.new.left + 1 ≡ self.old.left) }
+        ensures given { self.new.given ≡ self.old.given }
         ensures number { self.new.number ≡ self.old.number }
         ensures begun { self.new.begun ≡ self.old.begun }
         ensures plan { self.new.plan ≡ self.old.plan }
@@ -250,7 +289,7 @@ impl<'a> SegmentDecoder<'a> {
     // After the last MCU.
     fn end(&mut self) -> Step
         ensures step { (s : SegmentFields) (at : Progress) → IsWithin self.old s 0 at
-            → IsEnd result (ending s at) }
+            → IsEnd result (with_place s self.old.given (ending s at)) }
         ensures running { self.new.running ≡ false }
         ensures begun { self.new.begun ≡ self.old.begun }
         ensures plan { self.new.plan ≡ self.old.plan }
@@ -269,14 +308,14 @@ impl<'a> SegmentDecoder<'a> {
     // Why a segment ends badly whose MCUs all were made.
     fn last_cause(&self) -> Option<StreamCause>
         ensures { (s : SegmentFields) (at : Progress) → IsWithin self.now s 0 at
-            → ending s at ≡ ended_by s at result }
+            → with_place s self.now.given (ending s at) ≡ ended_by s at result }
     {
         let seam = self.seam();
         if seam.is_some() {
             return seam;
         }
         if self.coder.exact() {
-            None
+            self.misplaced()
         } else {
             Some(StreamCause::StreamBad)
         }
@@ -290,6 +329,17 @@ impl<'a> SegmentDecoder<'a> {
         let found = self.writer.handover();
         match self.next {
             Some(kept) if !meet(&found, &kept) => Some(StreamCause::Seam { found, kept }),
+            _ => None,
+        }
+    }
+
+    // Whether places are kept for another number of bytes than were given.
+    fn misplaced(&self) -> Option<StreamCause>
+        ensures { result ≡ misplaced_in self.now.given self.now.kept }
+    {
+        let found = self.given;
+        match self.kept {
+            Some(kept) if found != kept => Some(StreamCause::PlaceBad { found, kept }),
             _ => None,
         }
     }
@@ -342,6 +392,18 @@ fn start_after(view: &BoxView, segment: u8) -> Option<Handover>
         Some(view.handover(segment + 1))
     } else {
         None
+    }
+}
+
+// How many places are kept for a segment's bytes, if any are.
+fn kept_in(view: &BoxView, segment: u8) -> Option<u64>
+    requires segment { segment < length view.now.parts.handovers }
+    requires few { length view.now.parts.handovers ≤ most_segments }
+    ensures { result ≡ kept_in view.now.parts.places segment }
+{
+    match (view.place(segment), view.place(segment + 1)) {
+        (Some(first), Some(next)) => Some(next.saturating_sub(first)),
+        _ => None,
     }
 }
 

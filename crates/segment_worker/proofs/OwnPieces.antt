@@ -1,5 +1,5 @@
 -- A segment of the emitter's own, piece by piece.
-use Rattle.std.proofs.Common.{◌≡◌, ℕ, ◌+◌, ◌<◌, ◌≤◌, true, false, List, [], ◌++◌, length, take, drop, refl, sym, ap, subst, ◌∙◌, arith, append-nil, Option, Some, Result, Ok, Err}
+use Rattle.std.proofs.Common.{◌≡◌, ℕ, ◌+◌, ◌<◌, ◌≤◌, true, false, List, [], ◌++◌, length, take, drop, refl, sym, ap, subst, ◌∙◌, arith, append-nil, Option, Some, Ok, Err}
 use Rattle.std.specs.Prelude.{slice_get}
 use lib.Seq.{take-add, drop-drop, length-take-le}
 use lib.ListN.{length-drop, take-append-drop}

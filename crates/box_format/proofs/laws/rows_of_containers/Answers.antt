@@ -29,7 +29,7 @@ returns-clause-laid_out c = (
 
 pub returns-clause-early : goal.returns-clause-early
 unfolding early_fault
-returns-clause-early c = (refl, refl, refl, refl, refl, refl, refl, refl)
+returns-clause-early c = (refl, refl, refl, refl, refl, refl, refl, refl, refl, refl)
 
 pub returns-clause-late : goal.returns-clause-late
 unfolding handover_bytes handover_in box_bytes raw_of late_fault
@@ -42,6 +42,28 @@ returns-clause-prefixes c = refl
 pub returns-clause-chunks : goal.returns-clause-chunks
 unfolding handover_bytes handover_in box_bytes raw_of early_fault late_fault
 returns-clause-chunks c = (
+  refl,
+  refl,
+  refl,
+  refl,
+  refl,
+  refl,
+  refl,
+  refl,
+  refl,
+  refl,
+  refl,
+  refl,
+  refl,
+  refl,
+  refl,
+  refl,
+  refl,
+)
+
+pub returns-clause-places : goal.returns-clause-places
+unfolding handover_bytes handover_in box_bytes raw_of early_fault late_fault
+returns-clause-places c = (
   refl,
   refl,
   refl,

@@ -7,3 +7,8 @@ returns-clause-all c =
     let twice = c.saturating_mul.ensures in
     let kept = c.clamp.ensures in
     all_rings c.clamp.result c.args.length c.args.segments (omega (arith, twice, kept))
+
+pub returns-clause-share : goal.returns-clause-share
+returns-clause-share c =
+    let twice = c.saturating_mul.ensures in
+    let kept = c.clamp.ensures in omega (arith, twice, kept)

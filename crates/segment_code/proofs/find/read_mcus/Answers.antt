@@ -1,12 +1,8 @@
-use Rattle.std.proofs.Common.{rules, ◌≡◌, ◌≤◌, ◌+◌, [], ◌∷◌, ◌++◌, length, map, ap, ◌∙◌, sym, subst, arith}
-use Rattle.std.specs.Prelude.{Bool, true, Option, Ok, Err, None, unwrap_or}
-use Rattle.std.proofs.lemmas.List.{length-take-le}
+use Rattle.std.proofs.Common.{◌≡◌, ◌≤◌, ◌+◌, [], ◌∷◌, ◌++◌, map, ap, ◌∙◌, sym, subst, arith}
+use Rattle.std.specs.Prelude.{Ok, Err, None}
 use Rattle.std.proofs.lemmas.Result.{err_from_is_err_and}
-use Rattle.handover.specs.PadSums.{pads_with}
 use Rattle.scan_spec.specs.BlockBits.{in_zigzag}
-use Rattle.scan_spec.specs.ScanPads.{pad_sum}
 use Rattle.scan_spec.specs.Slots.{Shape}
-use Rattle.scan_spec.specs.Spots.{is_closed}
 use Rattle.segment_code.specs.FoundPads.{pads_through}
 use Rattle.segment_code.specs.CodedMcus.{next_of}
 use Rattle.segment_code.proofs.PadsOn.{more_through, none_through}

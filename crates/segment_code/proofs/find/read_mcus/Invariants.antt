@@ -1,4 +1,4 @@
-use Rattle.std.proofs.Common.{◌≡◌, ℤ, List, length}
+use Rattle.std.proofs.Common.{◌≡◌, ℤ, List}
 use Rattle.segment_code.specs.CodedMcus.{AreReadOn}
 use Rattle.segment_code.specs.FoundPads.{pads_through}
 use Rattle.segment_code.proofs.find.read_mcus.Given as goal

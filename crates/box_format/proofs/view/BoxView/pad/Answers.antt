@@ -4,21 +4,20 @@ use Rattle.scan_spec.specs.Pads.{Listed, list_room}
 use Rattle.scan_spec.specs.Slots.{shape_of}
 use Rattle.box_format.specs.BoxChecks.{is_bad_pad}
 use Rattle.box_format.specs.Seen.{BoxSeen}
-use Rattle.box_format.specs.Versions.{layout_of, version_in}
+use Rattle.box_format.specs.Versions.{decoded, layout_of, version_in}
 use Rattle.box_format.specs.Whole.{list_in}
-use Rattle.box_format.specs.declared.version.Version.TheVariants.{Third}
 use Rattle.box_format.proofs.Fronts.{pad_can, long_again}
 use Rattle.box_format.proofs.Passed.{early_of, late_of}
 use Rattle.box_format.proofs.view.BoxView.pad.Goals as goal
 
 pub list_in-requires : goal.list_in-requires
-list_in-requires c = (early_of Third c.self.inside.bytes.now c.self.invariant.checks.early).whole
+list_in-requires c = (early_of decoded c.self.inside.bytes.now c.self.invariant.checks.early).whole
 
 pub returns-in-2-clause-long : goal.returns-in-2-clause-long
 returns-in-2-clause-long c =
     let i = c.self.inside in
     let bytes = i.bytes.now in
-    let whole = (early_of Third bytes c.self.invariant.checks.early).whole in
+    let whole = (early_of decoded bytes c.self.invariant.checks.early).whole in
     let late = late_of i.plan bytes whole c.self.invariant.checks.late in
     let listed = (layout_of (version_in bytes)).listed in
     let two : slice_index bytes 5 ≡ 2 = sym c.byte_in.ensures ∙ c.in-2.is in

@@ -1,9 +1,8 @@
 use Rattle.std.specs.Prelude.{◌≤◌}
 use Rattle.std.proofs.Common.{length, sym, ap, subst, ◌∙◌, arith}
 use Rattle.box_format.specs.Raws.{raw_of}
-use Rattle.box_format.specs.Versions.{layout_of, version_in}
+use Rattle.box_format.specs.Versions.{decoded, layout_of, version_in}
 use Rattle.box_format.specs.Seen.{BoxSeen}
-use Rattle.box_format.specs.declared.version.Version.TheVariants.{Third}
 use Rattle.box_format.proofs.Fronts.{most_more}
 use Rattle.box_format.proofs.PassedBox.{passed_is_box}
 use Rattle.box_format.proofs.RawParts.{handovers_count}
@@ -17,7 +16,7 @@ returns-clause-count c =
 pub returns-clause-of_version : goal.returns-clause-of_version
 unfolding raw_of
 returns-clause-of_version c =
-    let box = (passed_is_box Third c.self.inside.plan c.self.inside.bytes.now c.self.invariant.bytes
+    let box = (passed_is_box decoded c.self.inside.plan c.self.inside.bytes.now c.self.invariant.bytes
     c.self.invariant.checks).0.box in
     subst (λ (s : BoxSeen). c.segments_in.result ≤ (layout_of s.parts.version).most) c.self.view_is
     (subst (λ n. n ≤ (layout_of (version_in c.self.inside.bytes.now)).most)
@@ -26,7 +25,7 @@ returns-clause-of_version c =
 pub returns-clause-few : goal.returns-clause-few
 unfolding raw_of
 returns-clause-few c =
-    let box = (passed_is_box Third c.self.inside.plan c.self.inside.bytes.now c.self.invariant.bytes
+    let box = (passed_is_box decoded c.self.inside.plan c.self.inside.bytes.now c.self.invariant.bytes
     c.self.invariant.checks).0.box in
     let more = most_more (version_in c.self.inside.bytes.now) in
     let few = box.few in

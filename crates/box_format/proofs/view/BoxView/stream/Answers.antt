@@ -1,14 +1,14 @@
 use Rattle.std.proofs.Common.{◌<◌, length, get_or, [], sym, ap, ◌∙◌, arith}
 use Rattle.box_format.specs.Raws.{segments_in}
 use Rattle.box_format.specs.Seen.{BoxSeen}
-use Rattle.box_format.specs.declared.version.Version.TheVariants.{Third}
+use Rattle.box_format.specs.Versions.{decoded}
 use Rattle.box_format.proofs.Passed.{early_of}
 use Rattle.box_format.proofs.RawParts.{handovers_count, stream_seen}
 use Rattle.box_format.proofs.view.BoxView.stream.Goals as goal
 
 pub stream_in-requires-clause-whole : goal.stream_in-requires-clause-whole
 stream_in-requires-clause-whole c =
-    (early_of Third c.self.inside.bytes.now c.self.invariant.checks.early).whole
+    (early_of decoded c.self.inside.bytes.now c.self.invariant.checks.early).whole
 
 pub stream_in-requires-clause-segment : goal.stream_in-requires-clause-segment
 stream_in-requires-clause-segment c =

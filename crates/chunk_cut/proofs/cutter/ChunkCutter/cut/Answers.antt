@@ -1,7 +1,7 @@
-use Rattle.std.proofs.Common.{◌≡◌, ◌-◌, ◌≤◌, ◌∙◌, ℕ, List, map, drop, sym, ap, ap₂, subst}
+use Rattle.std.proofs.Common.{◌-◌, ◌≤◌, ◌∙◌, ℕ, List, map, drop, sym, ap, ap₂, subst}
 use Rattle.std.specs.Prelude.{min}
 use Rattle.byte_window.specs.Slices.{slice}
-use Rattle.box_format.specs.Parts.{BoxParts, IsBox, box_bytes}
+use Rattle.box_format.specs.Parts.{IsBox, box_bytes}
 use Rattle.box_format.specs.declared.chunk.Chunk.{Chunk}
 use Rattle.chunk_cut.specs.ChunksOfFiles.{IsChunkOf}
 use Rattle.chunk_cut.proofs.ChunksFound.{box, chunk_grid, found, is_box, is_chunk, rows_long}

@@ -1,10 +1,10 @@
-use Rattle.std.proofs.Common.{◌≡◌, true, refl, ap, subst, ◌∙◌}
+use Rattle.std.proofs.Common.{◌≡◌, ℕ, true, ap, subst, ◌∙◌}
 use Rattle.scan_spec.specs.Pads.{is_long_for, pads_given}
 use Rattle.scan_spec.specs.Slots.{shape_of}
 use Rattle.jpeg_marker.specs.Plans.{PlanFields}
 use Rattle.handover.specs.Handovers.{HandoverFields}
 use Rattle.container_spec.specs.Meanings.{segment_in}
-use Rattle.container_spec.specs.Segments.{SegmentFields, first_progress}
+use Rattle.container_spec.specs.Segments.{SegmentFields, first_progress, rest_output, with_place}
 use Rattle.segment_code.specs.Decoding.{StandsAt}
 use Rattle.segment_code.proofs.BoxSegments.{IsCounted, box_suits, counted_in, rows_ordered, rows_in_grid, some_mcus, within_rows, starts_there, same_segment}
 use Rattle.segment_code.proofs.decoder.SegmentDecoder.begin.Goals as goal
@@ -66,8 +66,9 @@ returns-clause-stands c =
     subst (λ (s : SegmentFields). StandsAt c.begin_at.new.self s s.count (first_progress s))
     (same_segment c.args.self.now.plan c.args.view.now.parts c.args.segment c.row_of-row.result
     c.mcus_in-count.result is c.stream-stream.result.now c.handover-handover.result
-    c.start_after-next.result (pads_given c.pad.result) c.stream-stream.ensures c.handover-handover.ensures
-    c.start_after-next.ensures c.pad.ensures.value) c.begin_at.ensures.stands
+    c.start_after-next.result c.kept_in-kept.result (pads_given c.pad.result) c.stream-stream.ensures
+    c.handover-handover.ensures c.start_after-next.ensures c.kept_in-kept.ensures c.pad.ensures.value)
+    c.begin_at.ensures.stands
 
 pub returns-clause-owes : goal.returns-clause-owes
 returns-clause-owes c =
@@ -77,5 +78,6 @@ returns-clause-owes c =
       left = s.count;
       at = first_progress s;
       stands = returns-clause-stands c;
-      rest = refl;
+      rest = ap (λ (given : ℕ). with_place s given (rest_output s.count s (first_progress s)))
+          c.begin_at.ensures.given;
     }

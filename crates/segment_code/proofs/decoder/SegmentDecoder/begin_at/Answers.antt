@@ -18,13 +18,15 @@ returns-clause-stands c =
       number = c.args.number;
       left = c.args.count;
       next = c.args.next;
+      kept = c.args.kept;
+      given = 0;
       started = c.open-self-inside.result;
       coder = c.open-self-inside.new.coder;
       segment = c.restart.new.self;
       writer = c.at-self-inside.result;
     } in
     stands_first new c.args.self.now.plan c.args.number c.args.stream.now c.args.handover c.args.row
-    c.args.count c.args.next (pads_given c.args.pads) (record {
+    c.args.count c.args.next c.args.kept (pads_given c.args.pads) (record {
       suits = c.requires.suits;
       some = c.requires.some;
       within = c.requires.within;
@@ -32,6 +34,7 @@ returns-clause-stands c =
       number = refl;
       left = refl;
       next = refl;
+      kept = refl;
       writer =
           subst (λ (plan : PlanFields). c.at-self-inside.result
           ≡ writer_from (shape_of plan) (pads_given c.args.pads) c.args.handover (plan.across * c.args.row)) same c.at-self-inside.ensures;

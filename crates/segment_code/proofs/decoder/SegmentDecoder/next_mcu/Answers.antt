@@ -35,6 +35,7 @@ invariant_of-self-in-Err-mcu c =
       blocks = ap (λ (shape : Shape). length shape.slots) keeps.0 ∙ inside.blocks
           ∙ ap (λ (g : Grid). block_count g.mcu) (sym c.get_mcu.ensures.grid);
       within = omega (arith, count, mcus, within);
+      bounded = inside.bounded;
     }
 
 pub returns-in-Err-mcu-clause-made : goal.returns-in-Err-mcu-clause-made
@@ -61,6 +62,7 @@ invariant_of-self-2 c =
     let count = keeps.1 in
     let mcus = ap (λ (shape : Shape). shape.mcus) keeps.0 in
     let some = rw (← c.self.view_is) at c.requires.left in
+    let bounded = inside.bounded in
     record {
       bins = omega (arith, room, bins);
       grid = c.get_mcu.ensures.grid ∙ inside.grid;
@@ -68,6 +70,7 @@ invariant_of-self-2 c =
       blocks = ap (λ (shape : Shape). length shape.slots) keeps.0 ∙ inside.blocks
           ∙ ap (λ (g : Grid). block_count g.mcu) (sym c.get_mcu.ensures.grid);
       within = omega (arith, count, mcus, within, some);
+      bounded = omega (arith, bounded, some);
     }
 
 pub returns-clause-made : goal.returns-clause-made

@@ -21,4 +21,5 @@ invariant_of-result c =
           ∙ c.grid_of.ensures.blocks
           ∙ ap (λ (g : Grid). block_count g.mcu) (sym c.in_ok-segment.ensures.grid);
       within = some;
+      bounded = omega arith;
     }

@@ -1,6 +1,5 @@
-use Rattle.std.proofs.Common.{◌∙◌, ap}
+use Rattle.std.proofs.Common.{◌∙◌}
 use Rattle.segment_code.specs.PassInside.{part_in, pass_in}
-use Rattle.segment_code.specs.ScanPasses.{PartFields}
 use Rattle.segment_code.proofs.PassesOn.{coded_read, few_passed, fits, then_coded, then_passed, then_refused}
 use Rattle.segment_code.proofs.pass.ScanPass.encode.Goals as goal
 

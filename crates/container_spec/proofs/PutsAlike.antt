@@ -8,7 +8,7 @@ use Rattle.scan_spec.specs.Blocks.{blocks_text, dcs_after}
 use Rattle.scan_spec.specs.Scans.{Mcu, AreMcus, no_dcs, scan_bytes}
 use Rattle.scan_spec.specs.ScanLaws.{IsShape, bytes_in}
 use Rattle.scan_spec.specs.Slots.{Shape}
-use Rattle.scan_spec.specs.Spots.{Spot, Put, first_spot, is_closed, interval_number, marker_after, put_text, mcu_put, prefixed_put, then_put, mcus_put, put_first, count_in}
+use Rattle.scan_spec.specs.Spots.{Spot, Put, first_spot, is_closed, interval_number, marker_after, put_text, mcu_put, prefixed_put, then_put, mcus_put, put_first, count_in, bytes_done}
 use Rattle.scan_spec.proofs.PutWhole.{put_whole}
 use Rattle.cut_spec.specs.RowHandovers.{segment_bytes}
 
@@ -117,8 +117,8 @@ by_text (Ok bits) shape a b spot before f g x y all later e h =
 by_text (Err stop) shape a b spot before f g x y all later e h = refl
 
 -- the first n MCUs put the same bytes if all MCUs do
-puts_alike : (mcus : List Mcu) (shape : Shape) (a b : ℕ → Bool) (spot : Spot) (all : List ℕ) (n : ℕ)
-    → bytes_in (mcus_put shape a spot mcus) ≡ Ok all
+pub puts_alike : (mcus : List Mcu) (shape : Shape) (a b : ℕ → Bool) (spot : Spot)
+    (all : List ℕ) (n : ℕ) → bytes_in (mcus_put shape a spot mcus) ≡ Ok all
     → bytes_in (mcus_put shape b spot mcus) ≡ Ok all
     → mcus_put shape a spot (take n mcus) ≡ mcus_put shape b spot (take n mcus)
 unfolding mcus_put mcu_put
@@ -131,13 +131,26 @@ puts_alike (mcu ∷ mcus) shape a b spot all (suc n) e h =
     (λ s. mcus_put shape a s (take n mcus)) (λ s. mcus_put shape b s (take n mcus)) all
     (λ s rest x y. puts_alike mcus shape a b s rest n x y) e h
 
+-- so do those of a scan
+pub firsts_alike : (shape : Shape) (mcus : List Mcu) (a b : ℕ → Bool) (scan : List ℕ) (n : ℕ)
+    → IsShape shape → AreMcus shape mcus → scan_bytes shape a mcus ≡ Ok scan
+    → scan_bytes shape b mcus ≡ Ok scan → put_first shape a mcus n ≡ put_first shape b mcus n
+firsts_alike shape mcus a b scan n is are e h =
+    puts_alike mcus shape a b first_spot scan n (put_whole shape a mcus is are ∙ e)
+    (put_whole shape b mcus is are ∙ h)
+
+-- and complete as many
+pub done_alike : (shape : Shape) (mcus : List Mcu) (a b : ℕ → Bool) (scan : List ℕ) (n : ℕ)
+    → IsShape shape → AreMcus shape mcus → scan_bytes shape a mcus ≡ Ok scan
+    → scan_bytes shape b mcus ≡ Ok scan → bytes_done shape a mcus n ≡ bytes_done shape b mcus n
+done_alike shape mcus a b scan n is are e h =
+    ap count_in (firsts_alike shape mcus a b scan n is are e h)
+
 -- and so do the MCUs from one on, up to before another
 pub segment_alike : (shape : Shape) (mcus : List Mcu) (a b : ℕ → Bool) (scan : List ℕ) (from to : ℕ)
     → IsShape shape → AreMcus shape mcus → scan_bytes shape a mcus ≡ Ok scan
     → scan_bytes shape b mcus ≡ Ok scan
     → segment_bytes shape a mcus scan from to ≡ segment_bytes shape b mcus scan from to
 segment_alike shape mcus a b scan from to is are e h =
-    let alike : (n : ℕ) → put_first shape a mcus n ≡ put_first shape b mcus n =
-    λ n. puts_alike mcus shape a b first_spot scan n (put_whole shape a mcus is are ∙ e)
-    (put_whole shape b mcus is are ∙ h) in
-    ap₂ (λ (p q : Put). drop (count_in p) (take (count_in q) scan)) (alike from) (alike to)
+    ap₂ (λ (m n : ℕ). drop m (take n scan)) (done_alike shape mcus a b scan from is are e h)
+    (done_alike shape mcus a b scan to is are e h)

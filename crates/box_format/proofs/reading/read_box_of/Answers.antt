@@ -6,11 +6,11 @@ use Rattle.box_format.proofs.BoxLawsProved.{widened}
 use Rattle.box_format.proofs.Passed.{early_of}
 use Rattle.box_format.proofs.RawParts.{raw_header}
 use Rattle.box_format.proofs.PassedBox.{passed_is_box}
-use Rattle.box_format.proofs.reading.read_box_up_to.Goals as goal
+use Rattle.box_format.proofs.reading.read_box_of.Goals as goal
 
 pub header_in-requires : goal.header_in-requires
 header_in-requires c =
-    (early_of c.args.newest c.args.bytes.now (sym c.early_fault.ensures ∙ c.in_default.is)).whole
+    (early_of c.args.versions.now c.args.bytes.now (sym c.early_fault.ensures ∙ c.in_default.is)).whole
 
 pub returns-in-Err-clause-refused : goal.returns-in-Err-clause-refused
 returns-in-Err-clause-refused c =
@@ -26,7 +26,7 @@ returns-in-Err-clause-refused c =
 
 pub late_fault-requires : goal.late_fault-requires
 late_fault-requires c =
-    (early_of c.args.newest c.args.bytes.now (sym c.early_fault.ensures ∙ c.in_default.is)).whole
+    (early_of c.args.versions.now c.args.bytes.now (sym c.early_fault.ensures ∙ c.in_default.is)).whole
 
 pub returns-in-Some-late_fault-clause-refused : goal.returns-in-Some-late_fault-clause-refused
 returns-in-Some-late_fault-clause-refused c =
@@ -43,7 +43,7 @@ returns-in-Some-late_fault-clause-refused c =
 pub invariant_of-result : goal.invariant_of-result
 invariant_of-result c = record {
   checks = record {
-    early = widened c.args.newest c.args.bytes.now (sym c.early_fault.ensures ∙ c.in_default.is);
+    early = widened c.args.versions.now c.args.bytes.now (sym c.early_fault.ensures ∙ c.in_default.is);
     header = subst (λ (l : List ℕ). Accepts l c.in-Ok.plan) (c.header_in.ensures
         ∙ raw_header c.args.bytes.now) c.in-Ok.ensures.accepted;
     late = sym c.late_fault.ensures ∙ c.in_default-late_fault.is;
@@ -53,22 +53,22 @@ invariant_of-result c = record {
 
 pub returns-clause-taken : goal.returns-clause-taken
 returns-clause-taken c =
-    let passes : PassesChecks c.args.newest c.in-Ok.plan c.args.bytes.now = record {
+    let passes : PassesChecks c.args.versions.now c.in-Ok.plan c.args.bytes.now = record {
       early = sym c.early_fault.ensures ∙ c.in_default.is;
       header = subst (λ (l : List ℕ). Accepts l c.in-Ok.plan) (c.header_in.ensures
           ∙ raw_header c.args.bytes.now) c.in-Ok.ensures.accepted;
       late = sym c.late_fault.ensures ∙ c.in_default-late_fault.is;
     } in
-    (passed_is_box c.args.newest c.in-Ok.plan c.args.bytes.now
+    (passed_is_box c.args.versions.now c.in-Ok.plan c.args.bytes.now
     (all_of c.args.bytes.now (λ i. let h = c.type_inv.bytes i in search rules)) passes).0
 
 pub returns-clause-version : goal.returns-clause-version
 returns-clause-version c =
-    let passes : PassesChecks c.args.newest c.in-Ok.plan c.args.bytes.now = record {
+    let passes : PassesChecks c.args.versions.now c.in-Ok.plan c.args.bytes.now = record {
       early = sym c.early_fault.ensures ∙ c.in_default.is;
       header = subst (λ (l : List ℕ). Accepts l c.in-Ok.plan) (c.header_in.ensures
           ∙ raw_header c.args.bytes.now) c.in-Ok.ensures.accepted;
       late = sym c.late_fault.ensures ∙ c.in_default-late_fault.is;
     } in
-    (passed_is_box c.args.newest c.in-Ok.plan c.args.bytes.now
+    (passed_is_box c.args.versions.now c.in-Ok.plan c.args.bytes.now
     (all_of c.args.bytes.now (λ i. let h = c.type_inv.bytes i in search rules)) passes).1
