@@ -209,7 +209,8 @@ fn step(value: u64, bits: u32, range: u32, prob: u8) -> (bool, u64, u32, u32)
     (bit, value, bits - shift, range << shift)
 }
 
-// The part of the range that the word lies in, and the word less where that begins.
+// The part of the range that the word lies in, and the word less where that begins. It is the upper part, that of a
+// one, if the difference isn't below 0.
 #[inline(always)]
 fn choose(value: u64, bits: u32, range: u32, prob: u8) -> (bool, u64, u32)
     requires wide { 128 ≤ range }
@@ -230,9 +231,10 @@ fn choose(value: u64, bits: u32, range: u32, prob: u8) -> (bool, u64, u32)
 {
     let split = split_of(range, prob);
     let start = u64::from(split) << bits;
-    if value >= start {
-        (true, value - start, range - split)
-    } else {
+    let (rest, is_below) = value.overflowing_sub(start);
+    if is_below {
         (false, value, split)
+    } else {
+        (true, rest, range - split)
     }
 }
