@@ -8,7 +8,7 @@ pub enum DecodeError {
     /// The sink failed after `written` bytes.
     #[error("WriteFault")]
     WriteFault { written: u64 },
-    /// 40 to 45: the first fault in the order of the segments; the bytes before it are written.
+    /// 40 to 45, 48: the first fault in the order of the segments; the bytes before it are written.
     #[error("Fault")]
     Fault(StreamFault),
     /// 46: the pad bits are spelled in another way than a file's: as 0 if no bit of 0 is padded, by a list if the

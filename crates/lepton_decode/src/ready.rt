@@ -48,7 +48,7 @@ impl<'a> Ready<'a> {
 /// Why a container can't be decoded.
 #[derive(Clone, Copy, Debug, PartialEq, Eq, Error)]
 pub enum PrepareError {
-    /// 30 to 39: the bytes are no container.
+    /// 30 to 39, 53: the bytes are no container.
     #[error("Box")]
     Box(BoxRefusal),
     #[error("NoMemory")]

@@ -96,8 +96,8 @@ DecodeMakes bytes answer =
     (meaning : Meaning) × IsMeaning bytes meaning
     × (answer ≡ answer_by meaning.bytes meaning.verdict)
 
--- what migrate makes of bytes: the same container of a whole file in version 2, whatever its streams stand for; or it
--- refuses it, as one that reads no later version
+-- what migrate makes of bytes: the same container of version 1 or 2 in version 2, whatever its streams stand for; or it
+-- refuses it, as one that reads these versions alone
 abbrev pub MigrateMakes : List ℕ → Answer → Type 0
 MigrateMakes bytes (Made made) =
     (plan : PlanFields) × (b : BoxParts) × IsBoxOf plan b bytes

@@ -151,7 +151,7 @@ fn restore_alone<K: Sink, G: Gate>(ready: &mut ReadyAlone, sink: &mut K, gate: &
     ending_by(ended)
 }
 
-// The same container in version 2, if it has a whole file, written once it is whole. It has no `Wait`, so it returns.
+// The same container in version 2, if it is of version 1 or 2, written once it is whole. It has no `Wait`, so it returns.
 fn migrate<K: Sink>(alloc: Global, bytes: &[u8], sink: &mut K) -> Ending
     requires short { length bytes.now ≤ limit_of Migrate }
     requires takes { TakesAnswers K.takes Migrate bytes.now sink.old }

@@ -16,9 +16,9 @@ pub enum Refusal {
     Header(HeaderRefusal),
     /// 16 to 24: after the header there is no scan that is accepted.
     Scan(ScanRefusal),
-    /// 30 to 39: the bytes are no container.
+    /// 30 to 39, 53: the bytes are no container.
     Box(BoxRefusal),
-    /// 40 to 45: a segment's stream has a fault; the file's bytes before it are written.
+    /// 40 to 45, 48: a segment has a fault; the file's bytes before it are written.
     Fault(StreamFault),
     /// 46: the container spells its pad bits in another way than a file's; all bytes of the file are written.
     PadSpelling,

@@ -35,15 +35,15 @@ use std::thread::Threads;
 /// | status | if | line |
 /// |---|---|---|
 /// | 0 | the container of the file or chunk, the file or chunk, or a sample's five lines were written | none |
-/// | 1 | the bytes are refused: with 40 to 47 what they stand for was written, else nothing | (a) |
+/// | 1 | the bytes are refused: with 40 to 48 what they stand for was written, else nothing | (a) |
 /// | 2 | the arguments mean no command | `lepton: words refused` |
 /// | 3 | the source failed | `lepton: read failed` |
 /// | 4 | the sink failed | `lepton: write failed` |
 /// | 5 | out of memory | `lepton: no memory` |
 ///
 /// (a) `lepton: refused `, the refusal's number and name, and the code, the place or the segment that it holds. With 40
-/// to 45 what is before the fault was written, with 46 the whole file, with 47 what there is of the chunk before its
-/// trailer.
+/// to 45 and 48 what is before the fault was written, with 46 the whole file, with 47 what there is of the chunk before
+/// its trailer.
 ///
 /// The commands are `encode` with `--segments`, `decode` with `--workers`, `migrate`, `chunk` with `--index`, `--size`
 /// and `--segments`, or `sample` with `--seed`, `--columns` and `--rows`, as `command_words` has them. The whole source
@@ -152,13 +152,14 @@ pub fn run<R: Threads + Wait + Sync, S: Source, K: Sink + Send, N: Sink + Send, 
         × Appends (K.held sink.old) (K.held sink.new) (chunk_of file size index))
         ⊎ (status_at result ≡ 5) }
 
-    // A whole file's container is migrated to the same one in version 2, whatever its streams are, and that stands for
-    // the same.
+    // A container of version 1 or 2 is migrated to the same one in version 2, whatever its streams are, and that stands
+    // for the same.
     ensures migrated { (bytes : List ℕ) (plan : PlanFields) (b : BoxParts) (meaning : Meaning)
         → Means (map string_bytes words.now) Migrate
         → ¬ Rose S.faults S.full source.old source.new → ¬ Rose K.faults K.full sink.old sink.new
         → S.left source.old ≡ Some bytes → length bytes ≤ limit_of Migrate
-        → IsBoxOf plan b bytes → is_version migratable (version_byte b.version) ≡ true → IsMeaning bytes meaning
+        → IsBoxOf plan b bytes → is_version migratable (version_byte b.version) ≡ true
+        → IsMeaning bytes meaning
         → ((status_at result ≡ 0) × IsMeaning (box_bytes (migrated b)) meaning
         × Appends (K.held sink.old) (K.held sink.new) (box_bytes (migrated b)))
         ⊎ (status_at result ≡ 5) }
