@@ -3,6 +3,7 @@ pub mod Bytes
 pub mod Carry
 pub mod FirstBits
 pub mod Line
+pub mod Tables
 pub mod PlainSteps
 pub mod ReadBack
 pub mod BoolsTaken

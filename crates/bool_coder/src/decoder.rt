@@ -15,7 +15,8 @@ ghost use Rattle.bool_coder.specs.BoolReading.{first_bits, next_bit, Starts};
 ghost use Rattle.bool_coder.specs.DecoderSeen.{Reads, seen_bit, seen_after};
 ghost use Rattle.bool_coder.specs.DecoderInside.{seen_in, IsWindow};
 
-use crate::encoder::{doublings, split_of};
+use crate::doublings::doublings;
+use crate::encoder::split_of;
 use std::marker::Model;
 
 /// The most that one bool shifts: if fewer bits are left, four bytes are fetched.
@@ -205,8 +206,8 @@ fn step(value: u64, bits: u32, range: u32, prob: u8) -> (bool, u64, u32, u32)
         ≡ seen_after (seen_in bytes fetched value bits range) prob }
 {
     let (bit, value, range) = choose(value, bits, range, prob);
-    let shift = doublings(range);
-    (bit, value, bits - shift, range << shift)
+    let (shift, range) = doublings(range);
+    (bit, value, bits - shift, range)
 }
 
 // The part of the range that the word lies in, and the word less where that begins. It is the upper part, that of a

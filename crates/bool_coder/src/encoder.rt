@@ -4,6 +4,7 @@ ghost use Rattle.std.specs.Int.Digits.{number_from_digits, AllBelowBase};
 ghost use Rattle.bool_coder.specs.BoolStream.{opening, after, split, chosen, stream};
 ghost use Rattle.bool_coder.specs.EncoderInside.{kept};
 
+use crate::doublings::doublings;
 use growth::{NoMemory, extend_from_slice};
 use std::alloc::Global;
 use std::marker::Model;
@@ -145,8 +146,8 @@ fn step(low: u64, bits: u32, range: u32, prob: u8, bit: bool) -> (u64, u32, u32)
     ensures one_carry { result.0 + result.2 ≤ 2 ^ (result.1 + 1) }
 {
     let (low, range) = choose(low, range, prob, bit);
-    let shift = doublings(range);
-    (low << shift, bits + shift, range << shift)
+    let (shift, range) = doublings(range);
+    (low << shift, bits + shift, range)
 }
 
 // The part of the word that a bool keeps, as an interval of its own.
@@ -180,18 +181,6 @@ pub(crate) fn split_of(range: u32, prob: u8) -> u32
     ensures part { result < range }
 {
     1 + (((range - 1) * u32::from(prob)) >> 8)
-}
-
-// How often a range is doubled until it is at least 128.
-#[inline(always)]
-pub(crate) fn doublings(range: u32) -> u32
-    requires some { 0 < range }
-    requires high { range ≤ 255 }
-    ensures few { result ≤ 7 }
-    ensures enough { 128 ≤ range * 2 ^ result }
-    ensures no_more { range * 2 ^ result ≤ 255 }
-{
-    range.leading_zeros() - 24
 }
 
 // `append`, so placed that the room for its answer is cleared only if it is called, and not for each bool.

@@ -12,6 +12,7 @@
 #![tactic(auto)]
 
 mod decoder;
+mod doublings;
 mod encoder;
 mod laws;
 mod plain;

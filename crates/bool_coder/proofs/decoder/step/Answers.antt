@@ -1,19 +1,15 @@
-use Rattle.std.proofs.Common.{◌≡◌, ◌*◌, ◌^◌, ◌%◌, arith}
-use Rattle.std.proofs.lemmas.Nat.{shl_whole}
+use Rattle.std.proofs.Common.{arith}
 use Rattle.bool_coder.proofs.DecoderWindow.{window_taken}
 use Rattle.bool_coder.proofs.decoder.step.Goals as goal
 
-fits : (c : goal.After-doublings-shift) → c.choose-bit.result.2 * 2 ^ c.doublings-shift.result % 4294967296 ≡ c.choose-bit.result.2 * 2 ^ c.doublings-shift.result
-fits c = shl_whole c.choose-bit.result.2 8 c.doublings-shift.result 32 (omega arith) (omega arith)
-
 pub returns-clause-window : goal.returns-clause-window
 returns-clause-window c =
-    λ bytes fetched w. rw (fits c) (window_taken bytes fetched c.args.value c.args.bits c.doublings-shift.result c.args.range c.args.prob _ _ c.choose-bit.result.0 (omega arith) (omega arith) w
+    λ bytes fetched w. rw c.doublings-shift.ensures.range (window_taken bytes fetched c.args.value c.args.bits c.doublings-shift.result.0 c.args.range c.args.prob _ _ c.choose-bit.result.0 (omega arith) (omega arith) w
     c.choose-bit.ensures.bit c.choose-bit.ensures.value c.choose-bit.ensures.range
     (record { few = c.doublings-shift.ensures.few; enough = c.doublings-shift.ensures.enough; no_more = c.doublings-shift.ensures.no_more })).0
 
 pub returns-clause-step : goal.returns-clause-step
 returns-clause-step c =
-    λ bytes fetched w. rw (fits c) (window_taken bytes fetched c.args.value c.args.bits c.doublings-shift.result c.args.range c.args.prob _ _ c.choose-bit.result.0 (omega arith) (omega arith) w
+    λ bytes fetched w. rw c.doublings-shift.ensures.range (window_taken bytes fetched c.args.value c.args.bits c.doublings-shift.result.0 c.args.range c.args.prob _ _ c.choose-bit.result.0 (omega arith) (omega arith) w
     c.choose-bit.ensures.bit c.choose-bit.ensures.value c.choose-bit.ensures.range
     (record { few = c.doublings-shift.ensures.few; enough = c.doublings-shift.ensures.enough; no_more = c.doublings-shift.ensures.no_more })).1
