@@ -27,6 +27,13 @@ pub trait Coder {
         ensures stopped { OnErr result (stopped self.new) }
         ensures same { IsTrue given → IfSome bit (λ b. IfOk result (λ r. r ≡ b)) };
 
+    /// `code`, quicker if the caller branches on the bit, and slower if it doesn't.
+    fn code_branching(&mut self, bin: usize, bit: Option<bool>) -> Result<bool, Self::Stop>
+        requires { bin < room self.old }
+        ensures coded { IfOk result (λ b. codes self.old ((bin, b) ∷ []) self.new) }
+        ensures stopped { OnErr result (stopped self.new) }
+        ensures same { IsTrue given → IfSome bit (λ b. IfOk result (λ r. r ≡ b)) };
+
     /// No events leave a state as it is.
     ghost none: { (s : Self) → codes s [] s };
 

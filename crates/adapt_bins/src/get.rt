@@ -1,9 +1,9 @@
 // From a stream to bits.
-ghost use Rattle.std.specs.Prelude.{◌≡◌, ◌<◌, ◌↔◌, [], IfOk, IfSome, IsTrue, length, replicate, List, ℕ, Bool};
+ghost use Rattle.std.specs.Prelude.{◌≡◌, ◌<◌, ◌↔◌, [], ◌∷◌, IfOk, IfSome, IsTrue, get_or, length, replicate, List, ℕ, Bool};
 ghost use Rattle.bool_coder.specs.BoolStream.{coded, stream};
-ghost use Rattle.bool_coder.specs.DecoderSeen.{Reads};
-ghost use Rattle.adapt_bins.specs.Counts.{unseen};
-ghost use Rattle.adapt_bins.specs.GotEvents.{HasGot};
+ghost use Rattle.bool_coder.specs.DecoderSeen.{Reads, seen_bit};
+ghost use Rattle.adapt_bins.specs.Counts.{unseen, prob_of};
+ghost use Rattle.adapt_bins.specs.GotEvents.{GetsEvents, HasGot};
 
 use crate::{Bins, Coder};
 use bool_coder::Decoder;
@@ -56,6 +56,17 @@ impl<'b> Get<'b> {
         self.decoder = decoder;
     }
 
+    // Reads the next bit, which is known.
+    #[inline(always)]
+    fn read(&mut self, bin: usize, bit: bool)
+        requires bin { bin < length self.old.bins }
+        requires bit { bit ≡ seen_bit self.old.decoder (prob_of (get_or self.old.bins bin unseen)) }
+        ensures { GetsEvents self.old ((bin, bit) ∷ []) self.new }
+    {
+        self.decoder.take_peeked(self.bins.prob(bin), bit);
+        self.bins.count(bin, bit);
+    }
+
     /// Whether the bytes are the stream of the bits that were read, and nothing more.
     pub fn exact(&self) -> bool
         ensures { (bools : List (ℕ × Bool)) → Reads bools self.now.decoder
@@ -92,5 +103,17 @@ impl Coder for Get<'_> {
         let bit = self.decoder.take(self.bins.prob(bin));
         self.bins.count(bin, bit);
         Ok(bit)
+    }
+
+    /// Reads the bit, with a branch on it.
+    #[inline(always)]
+    fn code_branching(&mut self, bin: usize, _bit: Option<bool>) -> Result<bool, Never> {
+        if self.decoder.peek(self.bins.prob(bin)) {
+            self.read(bin, true);
+            Ok(true)
+        } else {
+            self.read(bin, false);
+            Ok(false)
+        }
     }
 }

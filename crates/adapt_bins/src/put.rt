@@ -100,4 +100,14 @@ impl Coder for Put<'_> {
         self.bins.count(bin, bit);
         Ok(bit)
     }
+
+    /// The same, with a branch on the bit.
+    #[inline(always)]
+    fn code_branching(&mut self, bin: usize, bit: Option<bool>) -> Result<bool, NoMemory> {
+        if bit.unwrap_or(false) {
+            self.code(bin, Some(true))
+        } else {
+            self.code(bin, Some(false))
+        }
+    }
 }

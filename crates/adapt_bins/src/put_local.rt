@@ -40,4 +40,14 @@ impl Coder for PutLocal {
         self.bins.count(bin, bit);
         Ok(bit)
     }
+
+    /// The same, with a branch on the bit.
+    #[inline(always)]
+    fn code_branching(&mut self, bin: usize, bit: Option<bool>) -> Result<bool, NoMemory> {
+        if bit.unwrap_or(false) {
+            self.code(bin, Some(true))
+        } else {
+            self.code(bin, Some(false))
+        }
+    }
 }

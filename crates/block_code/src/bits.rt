@@ -96,7 +96,7 @@ pub(crate) fn code_size<C: Coder>(
 {
     let mut step = first;
     while step < steps {
-        if !coder.code(bases.step(step), is_above(size, step))? {
+        if !coder.code_branching(bases.step(step), is_above(size, step))? {
             return Ok(step);
         }
         step += 1;

@@ -110,6 +110,39 @@ impl<'a> Decoder<'a> {
         bit
     }
 
+    /// Which bool `take` reads next.
+    #[inline(always)]
+    pub fn peek(&mut self, prob: u8) -> bool
+        requires { 0 < prob }
+        ensures bit { result ≡ seen_bit self.old prob }
+        ensures same { self.new ≡ self.old }
+    {
+        let (fetched, value, bits) = fill(self.bytes, self.fetched, self.value, self.bits);
+        self.fetched = fetched;
+        self.value = value;
+        self.bits = bits;
+        is_one(value, bits, self.range, prob)
+    }
+
+    /// `take`, after `peek` with the same probability, whose bool is `bit`. If the caller branches on that bool anyway,
+    /// both together are quicker than `take`, which doesn't branch.
+    #[inline(always)]
+    pub fn take_peeked(&mut self, prob: u8, bit: bool)
+        requires prob { 0 < prob }
+        requires bit { bit ≡ seen_bit self.old prob }
+        ensures bytes { self.new.bytes ≡ self.old.bytes }
+        ensures taken { (bools : List (ℕ × Bool)) → Reads bools self.old
+            → Reads (bools ++ (prob, bit) ∷ []) self.new }
+        ensures step { self.new ≡ seen_after self.old prob }
+    {
+        let (fetched, value, bits) = fill(self.bytes, self.fetched, self.value, self.bits);
+        let (value, bits, range) = step_known(value, bits, self.range, prob, bit);
+        self.fetched = fetched;
+        self.value = value;
+        self.bits = bits;
+        self.range = range;
+    }
+
     /// Whether the bytes are the stream of the bools that were read, no byte and no bit more or less: the offset and
     /// all next bits are zero, and the byte with the last bit that was looked at is the last byte.
     pub fn exact(&self) -> bool
@@ -237,5 +270,64 @@ fn choose(value: u64, bits: u32, range: u32, prob: u8) -> (bool, u64, u32)
         (false, value, split)
     } else {
         (true, rest, range - split)
+    }
+}
+
+// Whether the word lies in the upper part of the range, that of a one.
+#[inline(always)]
+fn is_one(value: u64, bits: u32, range: u32, prob: u8) -> bool
+    requires wide { 128 ≤ range }
+    requires byte { range ≤ 255 }
+    requires short { bits < 40 }
+    requires prob { 0 < prob }
+    ensures { result ≡ nat_le (split range prob) (value / 2 ^ bits) }
+{
+    value >= u64::from(split_of(range, prob)) << bits
+}
+
+// `step`, given the bool.
+#[inline(always)]
+fn step_known(value: u64, bits: u32, range: u32, prob: u8, bit: bool) -> (u64, u32, u32)
+    requires wide { 128 ≤ range }
+    requires byte { range ≤ 255 }
+    requires enough { 7 ≤ bits }
+    requires short { bits < 40 }
+    requires prob { 0 < prob }
+    requires bit { bit ≡ nat_le (split range prob) (value / 2 ^ bits) }
+    ensures window { (bytes : List ℕ) (fetched : ℕ) → IsWindow bytes fetched value bits range
+        → IsWindow bytes fetched result.0 result.1 result.2 }
+    ensures step { (bytes : List ℕ) (fetched : ℕ) → IsWindow bytes fetched value bits range
+        → seen_in bytes fetched result.0 result.1 result.2
+        ≡ seen_after (seen_in bytes fetched value bits range) prob }
+{
+    let (value, range) = choose_known(value, bits, range, prob, bit);
+    let (shift, range) = doublings(range);
+    (value, bits - shift, range)
+}
+
+// `choose`, given the bool.
+#[inline(always)]
+fn choose_known(value: u64, bits: u32, range: u32, prob: u8, bit: bool) -> (u64, u32)
+    requires wide { 128 ≤ range }
+    requires byte { range ≤ 255 }
+    requires short { bits < 40 }
+    requires prob { 0 < prob }
+    requires bit { bit ≡ nat_le (split range prob) (value / 2 ^ bits) }
+    ensures value { result.0
+        + (chosen (record {
+          bottom = 0;
+          range = range;
+          shifts = 0;
+        }) prob bit).bottom * 2 ^ bits ≡ value }
+    ensures some { 0 < result.1 }
+    ensures part { result.1 < range }
+    ensures range { result.1
+        ≡ (chosen (record { bottom = 0; range = range; shifts = 0 }) prob bit).range }
+{
+    let split = split_of(range, prob);
+    if bit {
+        (value - (u64::from(split) << bits), range - split)
+    } else {
+        (value, split)
     }
 }
