@@ -5,6 +5,7 @@ pub mod Cursors
 pub mod Rounds
 pub mod Machine
 pub mod Putting
+pub mod TwoBytes
 pub mod Spanning
 pub mod Ahead
 pub mod Peeking

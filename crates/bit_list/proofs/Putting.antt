@@ -8,28 +8,34 @@ use Rattle.bit_list.proofs.Wholes.{Split, no_byte, all_begun, bytes_joined, begu
 use Rattle.bit_list.proofs.Stuffing.{unit_bytes, one_unit_more}
 
 -- what was written when fewer than eight bits are left
-pub put_bytes : (out final : List ℕ) (m k number code whole left rest : ℕ) (now : List Bool) → m ≤ 7 → code < 2 ^ k → whole ≡ number * 2 ^ k + code
-    → low_bits m number ≡ now → left < 8 → final ++ stuffed (bytes_after [] (low_bits left rest)) ≡ out ++ stuffed (bytes_after [] (low_bits (m + k) whole))
-    → final ≡ out ++ stuffed (bytes_after now (low_bits k code))
-put_bytes out final m k number code whole left rest now few below is view short same =
+pub put_bytes : (out final whole : List ℕ) (left rest : ℕ) → left < 8 → final ++ stuffed (bytes_after [] (low_bits left rest)) ≡ out ++ stuffed whole
+    → final ≡ out ++ stuffed whole
+put_bytes out final whole left rest short same =
     let len = length-low_bits left rest in
-    let begun = length-low_bits m number in
     let none : bytes_after [] (low_bits left rest) ≡ [] = no_byte [] (low_bits left rest) (omega arith) in
     sym (append-nil final) ∙ ap (λ (bs : List ℕ). final ++ stuffed bs) (sym none) ∙ same
-    ∙ ap (λ (n : ℕ). out ++ stuffed (bytes_after [] (low_bits (m + k) n))) is
-    ∙ ap (λ (bits : List Bool). out ++ stuffed (bytes_after [] bits)) (low_bits-join m k number code below)
-    ∙ ap (λ (bs : List ℕ). out ++ stuffed bs) (sym (bytes_joined (low_bits m number) (low_bits k code) (omega arith)))
-    ∙ ap (λ (bits : List Bool). out ++ stuffed (bytes_after bits (low_bits k code))) view
 
 -- the bits that are left
-pub put_begun : (m k number code whole left rest : ℕ) (now : List Bool) → m ≤ 7 → code < 2 ^ k → whole ≡ number * 2 ^ k + code
-    → low_bits m number ≡ now → left < 8 → begun_after [] (low_bits left rest) ≡ begun_after [] (low_bits (m + k) whole)
-    → low_bits left rest ≡ begun_after now (low_bits k code)
-put_begun m k number code whole left rest now few below is view short same =
+pub put_begun : (left rest : ℕ) (begun : List Bool) → left < 8 → begun_after [] (low_bits left rest) ≡ begun → low_bits left rest ≡ begun
+put_begun left rest begun short same =
     let len = length-low_bits left rest in
-    let begun = length-low_bits m number in
     sym (all_begun [] (low_bits left rest) (omega arith)) ∙ same
-    ∙ ap (λ (n : ℕ). begun_after [] (low_bits (m + k) n)) is
+
+-- the bits of a code after those of a byte begun are the bits of one number
+pub code_bytes : (m k number code whole : ℕ) (now : List Bool) → m ≤ 7 → code < 2 ^ k → whole ≡ number * 2 ^ k + code → low_bits m number ≡ now
+    → bytes_after [] (low_bits (m + k) whole) ≡ bytes_after now (low_bits k code)
+code_bytes m k number code whole now few below is view =
+    let begun = length-low_bits m number in
+    ap (λ (n : ℕ). bytes_after [] (low_bits (m + k) n)) is
+    ∙ ap (bytes_after []) (low_bits-join m k number code below)
+    ∙ sym (bytes_joined (low_bits m number) (low_bits k code) (omega arith))
+    ∙ ap (λ (bits : List Bool). bytes_after bits (low_bits k code)) view
+
+pub code_begun : (m k number code whole : ℕ) (now : List Bool) → m ≤ 7 → code < 2 ^ k → whole ≡ number * 2 ^ k + code → low_bits m number ≡ now
+    → begun_after [] (low_bits (m + k) whole) ≡ begun_after now (low_bits k code)
+code_begun m k number code whole now few below is view =
+    let begun = length-low_bits m number in
+    ap (λ (n : ℕ). begun_after [] (low_bits (m + k) n)) is
     ∙ ap (begun_after []) (low_bits-join m k number code below)
     ∙ sym (begun_joined (low_bits m number) (low_bits k code) (omega arith))
     ∙ ap (λ (bits : List Bool). begun_after bits (low_bits k code)) view

@@ -1,6 +1,7 @@
 // From bits to stuffed bytes.
 ghost use Rattle.std.specs.Prelude.{◌≡◌, ◌+◌, ◌-◌, ◌*◌, ◌/◌, ◌%◌, ◌^◌, ◌<◌, ◌≤◌, ◌↔◌, [], ◌∷◌, ◌++◌, length, take, replicate, IsTrue};
 ghost use Rattle.bit_list.specs.Bits.{low_bits, bytes_after, begun_after, padding, stuffed};
+ghost use Rattle.bit_list.specs.BitsInside.{IsKept};
 ghost use Rattle.bit_list.specs.Pieces.{piece_room};
 
 use crate::piece::Piece;
@@ -60,14 +61,9 @@ impl BitOut {
         ensures begun { self.new ≡ begun_after self.old (low_bits count code) }
         ensures few { length out.new ≤ length out.old + 4 }
     {
-        let mut left = self.count + count;
-        let mut number = (u32::from(self.number) << count) + u32::from(code);
-        while left >= 8 {
-            left -= 8;
-            put_byte((number >> left) as u8, out);
-            number &= (1 << left) - 1;
-        }
-        self.number = number as u8;
+        let number = (u32::from(self.number) << count) + u32::from(code);
+        let (number, left) = put_whole(number, self.count + count, out);
+        self.number = number;
         self.count = left;
     }
 
@@ -125,6 +121,53 @@ fn repeated(bit: bool, count: u8) -> u16
     ensures bits { low_bits count result ≡ replicate count bit }
 {
     if bit { (1 << count) - 1 } else { 0 }
+}
+
+// Puts the whole bytes of a number with up to 23 bits, and answers the bits that are left. If no byte is 0xff, nothing
+// branches on how many bytes there are: two are pushed, and those that aren't whole are dropped.
+#[inline(always)]
+fn put_whole(number: u32, count: u8, out: &mut Piece) -> (u8, u8)
+    requires few { count ≤ 23 }
+    requires below { number < 2 ^ count }
+    requires room { length out.old + 4 ≤ piece_room }
+    ensures bytes { out.new ≡ out.old ++ stuffed (bytes_after [] (low_bits count number)) }
+    ensures begun { low_bits result.1 result.0 ≡ begun_after [] (low_bits count number) }
+    ensures kept { IsKept 7 result.0 result.1 }
+    ensures few { length out.new ≤ length out.old + 4 }
+{
+    let bits = number << (24 - count);
+    let first = (bits >> 16) as u8;
+    let second = ((bits >> 8) & 0xff) as u8;
+    if first == 0xff || second == 0xff {
+        return put_one_by_one(number, count, out);
+    }
+    let len = out.len();
+    out.push(first);
+    out.push(second);
+    out.back_to(len + usize::from(count / 8));
+    let left = count % 8;
+    ((number & ((1 << left) - 1)) as u8, left)
+}
+
+// The same byte by byte, each with a zero after it if it is 0xff.
+#[inline(never)]
+fn put_one_by_one(number: u32, count: u8, out: &mut Piece) -> (u8, u8)
+    requires few { count ≤ 23 }
+    requires below { number < 2 ^ count }
+    requires room { length out.old + 4 ≤ piece_room }
+    ensures bytes { out.new ≡ out.old ++ stuffed (bytes_after [] (low_bits count number)) }
+    ensures begun { low_bits result.1 result.0 ≡ begun_after [] (low_bits count number) }
+    ensures kept { IsKept 7 result.0 result.1 }
+    ensures few { length out.new ≤ length out.old + 4 }
+{
+    let mut left = count;
+    let mut number = number;
+    while left >= 8 {
+        left -= 8;
+        put_byte((number >> left) as u8, out);
+        number &= (1 << left) - 1;
+    }
+    (number as u8, left)
 }
 
 // Puts a coded byte, and a zero after 0xff.

@@ -1,6 +1,6 @@
 use Rattle.std.proofs.Common.{◌≡◌, ◌+◌, ◌*◌, ◌/◌, ◌^◌, ◌<◌, ◌≤◌, [], ◌++◌, length}
 use Rattle.bit_list.specs.Bits.{low_bits, bytes_after, begun_after, stuffed}
-use Rattle.bit_list.proofs.bit_out.BitOut.put.Given as goal
+use Rattle.bit_list.proofs.bit_out.put_one_by_one.Given as goal
 
 abbrev pub invariant-loop-left : goal.invariant-loop-left
 invariant-loop-left l = record {
