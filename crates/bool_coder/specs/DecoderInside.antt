@@ -29,8 +29,8 @@ pub record IsWindow (bytes : List ℕ) (fetched value bits range : ℕ) : Type 0
 
 -- what contracts see of a decoder
 abbrev pub seen_of : Inside → Seen
-seen_of d = seen_in d.bytes.now d.fetched d.value d.bits d.range
+seen_of d = seen_in d.bytes.now d.fetched d.value d.bits (d.less + 1)
 
 -- what always holds of one
 abbrev pub IsDecoder : Inside → Type 0
-IsDecoder d = IsWindow d.bytes.now d.fetched d.value d.bits d.range
+IsDecoder d = IsWindow d.bytes.now d.fetched d.value d.bits (d.less + 1)

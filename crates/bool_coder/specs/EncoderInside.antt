@@ -14,7 +14,7 @@ kept written low bits range = record {
 
 -- nothing, once the encoder is spent
 abbrev pub interval_of : Inside → Option Interval
-interval_of e = if is_some e.spent then None else Some (kept e.written.items e.low e.bits e.range)
+interval_of e = if is_some e.spent then None else Some (kept e.written.items e.low e.bits (e.less + 1))
 
 -- the word has from 8 to 39 bits, and above them at most one carry
 pub record IsWord (written : List ℕ) (low bits range : ℕ) : Type 0 where
@@ -27,4 +27,4 @@ pub record IsWord (written : List ℕ) (low bits range : ℕ) : Type 0 where
 
 -- what holds of an encoder, a spent one too
 abbrev pub IsSound : Inside → Type 0
-IsSound e = IsWord e.written.items e.low e.bits e.range
+IsSound e = IsWord e.written.items e.low e.bits (e.less + 1)

@@ -32,7 +32,8 @@ pub struct Decoder<'a> {
     value: u64,
     // How many next bits there are.
     bits: u32,
-    range: u32,
+    // The range less one, from which a split is worked out.
+    less: u32,
 }
 
 impl<'a> Model for Decoder<'a> {
@@ -65,7 +66,7 @@ impl<'a> Decoder<'a> {
                 fetched: 1,
                 value: u64::from(bytes[0]),
                 bits: 0,
-                range: 255,
+                less: 254,
             })
         }
     }
@@ -80,7 +81,7 @@ impl<'a> Decoder<'a> {
             fetched: self.fetched,
             value: self.value,
             bits: self.bits,
-            range: self.range,
+            less: self.less,
         }
     }
 
@@ -102,11 +103,11 @@ impl<'a> Decoder<'a> {
         ensures step { self.new ≡ seen_after self.old prob }
     {
         let (fetched, value, bits) = fill(self.bytes, self.fetched, self.value, self.bits);
-        let (bit, value, bits, range) = step(value, bits, self.range, prob);
+        let (bit, value, bits, less) = step(value, bits, self.less + 1, prob);
         self.fetched = fetched;
         self.value = value;
         self.bits = bits;
-        self.range = range;
+        self.less = less;
         bit
     }
 
@@ -121,7 +122,7 @@ impl<'a> Decoder<'a> {
         self.fetched = fetched;
         self.value = value;
         self.bits = bits;
-        is_one(value, bits, self.range, prob)
+        is_one(value, bits, self.less + 1, prob)
     }
 
     /// `take`, after `peek` with the same probability, whose bool is `bit`. If the caller branches on that bool anyway,
@@ -136,11 +137,11 @@ impl<'a> Decoder<'a> {
         ensures step { self.new ≡ seen_after self.old prob }
     {
         let (fetched, value, bits) = fill(self.bytes, self.fetched, self.value, self.bits);
-        let (value, bits, range) = step_known(value, bits, self.range, prob, bit);
+        let (value, bits, less) = step_known(value, bits, self.less + 1, prob, bit);
         self.fetched = fetched;
         self.value = value;
         self.bits = bits;
-        self.range = range;
+        self.less = less;
     }
 
     /// Whether the bytes are the stream of the bools that were read, no byte and no bit more or less: the offset and
@@ -223,7 +224,7 @@ fn four_on(fetched: usize, len: usize) -> usize
     }
 }
 
-// A bool read from the word.
+// A bool read from the word, and the word, its next bits and the range less one after it.
 #[inline(always)]
 fn step(value: u64, bits: u32, range: u32, prob: u8) -> (bool, u64, u32, u32)
     requires wide { 128 ≤ range }
@@ -233,14 +234,14 @@ fn step(value: u64, bits: u32, range: u32, prob: u8) -> (bool, u64, u32, u32)
     requires prob { 0 < prob }
     ensures bit { result.0 ≡ nat_le (split range prob) (value / 2 ^ bits) }
     ensures window { (bytes : List ℕ) (fetched : ℕ) → IsWindow bytes fetched value bits range
-        → IsWindow bytes fetched result.1 result.2 result.3 }
+        → IsWindow bytes fetched result.1 result.2 (result.3 + 1) }
     ensures step { (bytes : List ℕ) (fetched : ℕ) → IsWindow bytes fetched value bits range
-        → seen_in bytes fetched result.1 result.2 result.3
+        → seen_in bytes fetched result.1 result.2 (result.3 + 1)
         ≡ seen_after (seen_in bytes fetched value bits range) prob }
 {
     let (bit, value, range) = choose(value, bits, range, prob);
-    let (shift, range) = doublings(range);
-    (bit, value, bits - shift, range)
+    let (shift, less) = doublings(range);
+    (bit, value, bits - shift, less)
 }
 
 // The part of the range that the word lies in, and the word less where that begins. It is the upper part, that of a
@@ -295,14 +296,14 @@ fn step_known(value: u64, bits: u32, range: u32, prob: u8, bit: bool) -> (u64, u
     requires prob { 0 < prob }
     requires bit { bit ≡ nat_le (split range prob) (value / 2 ^ bits) }
     ensures window { (bytes : List ℕ) (fetched : ℕ) → IsWindow bytes fetched value bits range
-        → IsWindow bytes fetched result.0 result.1 result.2 }
+        → IsWindow bytes fetched result.0 result.1 (result.2 + 1) }
     ensures step { (bytes : List ℕ) (fetched : ℕ) → IsWindow bytes fetched value bits range
-        → seen_in bytes fetched result.0 result.1 result.2
+        → seen_in bytes fetched result.0 result.1 (result.2 + 1)
         ≡ seen_after (seen_in bytes fetched value bits range) prob }
 {
     let (value, range) = choose_known(value, bits, range, prob, bit);
-    let (shift, range) = doublings(range);
-    (value, bits - shift, range)
+    let (shift, less) = doublings(range);
+    (value, bits - shift, less)
 }
 
 // `choose`, given the bool.

@@ -25,7 +25,8 @@ pub struct Encoder {
     low: u64,
     // How many bits that is, without the carry.
     bits: u32,
-    range: u32,
+    // The range less one, from which a split is worked out.
+    less: u32,
     // Why it is spent, if it is.
     spent: Option<NoMemory>,
 }
@@ -52,7 +53,7 @@ impl Encoder {
             written: Vec::new(alloc),
             low: 0,
             bits: 8,
-            range: 255,
+            less: 254,
             spent: None,
         }
     }
@@ -80,7 +81,7 @@ impl Encoder {
         if let Some(short) = self.spent {
             return Err(short);
         }
-        let (low, bits, range) = step(self.low, self.bits, self.range, prob, bit);
+        let (low, bits, less) = step(self.low, self.bits, self.less + 1, prob, bit);
         if bits < FULL {
             self.low = low;
             self.bits = bits;
@@ -94,7 +95,7 @@ impl Encoder {
                 Err(short) => {
                     self.low = 0;
                     self.bits = 8;
-                    self.range = 255;
+                    self.less = 254;
                     self.spent = Some(short);
                     return Err(short);
                 }
@@ -102,7 +103,7 @@ impl Encoder {
             self.low = low & ((1 << left) - 1);
             self.bits = left;
         }
-        self.range = range;
+        self.less = less;
         Ok(())
     }
 
@@ -117,7 +118,7 @@ impl Encoder {
             written,
             low,
             bits,
-            range: _,
+            less: _,
             spent,
         } = self;
         if let Some(short) = spent {
@@ -129,7 +130,7 @@ impl Encoder {
     }
 }
 
-// What a bool makes of the word. It adds seven bits at most.
+// What a bool makes of the word, and the range less one. It adds seven bits at most.
 #[inline(always)]
 fn step(low: u64, bits: u32, range: u32, prob: u8, bit: bool) -> (u64, u32, u32)
     requires wide { 128 ≤ range }
@@ -139,15 +140,15 @@ fn step(low: u64, bits: u32, range: u32, prob: u8, bit: bool) -> (u64, u32, u32)
     requires one_carry { low + range ≤ 2 ^ (bits + 1) }
     requires prob { 0 < prob }
     ensures coded { (written : List ℕ)
-        → kept written result.0 result.1 result.2
+        → kept written result.0 result.1 (result.2 + 1)
         ≡ after (kept written low bits range) (prob, bit) }
     ensures no_fewer { bits ≤ result.1 }
     ensures few_more { result.1 ≤ bits + 7 }
-    ensures one_carry { result.0 + result.2 ≤ 2 ^ (result.1 + 1) }
+    ensures one_carry { result.0 + (result.2 + 1) ≤ 2 ^ (result.1 + 1) }
 {
     let (low, range) = choose(low, range, prob, bit);
-    let (shift, range) = doublings(range);
-    (low << shift, bits + shift, range)
+    let (shift, less) = doublings(range);
+    (low << shift, bits + shift, less)
 }
 
 // The part of the word that a bool keeps, as an interval of its own.

@@ -10,5 +10,5 @@ returns-clause-enough c = rw c.from.ensures (tables_are c.args.range c.requires.
 pub returns-clause-no_more : goal.returns-clause-no_more
 returns-clause-no_more c = rw c.from.ensures (tables_are c.args.range c.requires.some c.requires.high).doublings.no_more
 
-pub returns-clause-range : goal.returns-clause-range
-returns-clause-range c = rw (c.from.ensures, c.from-2.ensures) (tables_are c.args.range c.requires.some c.requires.high).is
+pub returns-clause-less : goal.returns-clause-less
+returns-clause-less c = rw (c.from.ensures, c.from-2.ensures) (tables_are c.args.range c.requires.some c.requires.high).is

@@ -11,10 +11,10 @@ low_fits c = word_fits c.choose-low.result.0 c.args.bits c.choose-low.result.1 c
 
 pub returns-clause-coded : goal.returns-clause-coded
 returns-clause-coded c =
-    λ written. rw (low_fits c, c.doublings-shift.ensures.range) (kept-after written c.args.low c.args.bits c.args.range c.args.prob c.doublings-shift.result.0 c.args.bit _ _ c.requires.begun
+    λ written. rw (low_fits c, c.doublings-shift.ensures.less) (kept-after written c.args.low c.args.bits c.args.range c.args.prob c.doublings-shift.result.0 c.args.bit _ _ c.requires.begun
     c.choose-low.ensures.low c.choose-low.ensures.range
     (record { few = c.doublings-shift.ensures.few; enough = c.doublings-shift.ensures.enough; no_more = c.doublings-shift.ensures.no_more }))
 
 pub returns-clause-one_carry : goal.returns-clause-one_carry
 returns-clause-one_carry c =
-    rw (low_fits c, c.doublings-shift.ensures.range) (one_carry_more c.choose-low.result.0 c.args.bits c.choose-low.result.1 c.doublings-shift.result.0 (chosen c).2)
+    rw (low_fits c, c.doublings-shift.ensures.less) (one_carry_more c.choose-low.result.0 c.args.bits c.choose-low.result.1 c.doublings-shift.result.0 (chosen c).2)

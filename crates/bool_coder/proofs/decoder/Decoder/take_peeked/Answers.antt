@@ -1,4 +1,4 @@
-use Rattle.std.proofs.Common.{◌<◌, ap, ◌∙◌, arith, length}
+use Rattle.std.proofs.Common.{◌+◌, ◌<◌, ap, ◌∙◌, arith, length}
 use Rattle.bool_coder.specs.DecoderSeen.{Seen, seen_after}
 use Rattle.bool_coder.proofs.BoolsTaken.{Reads-more}
 use Rattle.bool_coder.proofs.decoder.Decoder.take_peeked.Goals as goal
@@ -6,8 +6,8 @@ use Rattle.bool_coder.proofs.decoder.Decoder.take_peeked.Goals as goal
 pub returns-clause-taken : goal.returns-clause-taken
 returns-clause-taken c =
     λ bools r.
-    let was = c.fill-fetched.ensures.same c.self.inside.range c.self.invariant ∙ c.self.view_is in
-    let window = c.fill-fetched.ensures.window c.self.inside.range c.self.invariant in
+    let was = c.fill-fetched.ensures.same (c.self.inside.less + 1) c.self.invariant ∙ c.self.view_is in
+    let window = c.fill-fetched.ensures.window (c.self.inside.less + 1) c.self.invariant in
     let now = c.step_known-value.ensures.step c.self.inside.bytes.now c.fill-fetched.result.0 window ∙ ap (λ s. seen_after s c.args.prob) was in
     let some : 0 < length c.args.self.now.bytes = rw (ap (λ (s : Seen). s.bytes) c.self.view_is) at c.self.invariant.some in
     rw now (Reads-more bools c.args.self.now c.args.prob c.args.bit c.requires.prob (omega arith) some r c.requires.bit)
