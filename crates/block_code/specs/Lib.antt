@@ -3,4 +3,5 @@ pub mod GridInside
 pub mod NeighbourBlocks
 pub mod SegmentInside
 pub mod SegmentUnderWay
+pub mod SumsAround
 pub mod ValueRanges

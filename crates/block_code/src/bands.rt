@@ -7,11 +7,13 @@ ghost use Rattle.block_spec.specs.BlockEvents.{inner_bins, edge_bins, edge_posit
 ghost use Rattle.block_spec.specs.Values.{values_events, nonzeros};
 ghost use Rattle.block_code.specs.BandPositions.{AreSameElsewhere, IsAcPosition};
 ghost use Rattle.block_code.specs.NeighbourBlocks.{around_of};
+ghost use Rattle.block_code.specs.SumsAround.{AreSums};
 
 use crate::coefficients::edge_count;
 use crate::counts::code_count;
-use crate::neighbours::{Neighbours, bits_of, edge_weight, inner_weight};
+use crate::neighbours::{Neighbours, bits_of};
 use crate::positions::INNER;
+use crate::sums::{Sums, edge_weight, inner_weight};
 use crate::values::{Band, code_values};
 use adapt_bins::Coder;
 use coef_block::Block;
@@ -27,6 +29,7 @@ const EDGE_COUNT_TOP: u32 = 8;
 struct InnerBand<'a> {
     class: u8,
     neighbours: Neighbours<'a>,
+    sums: &'a Sums,
 }
 
 // The natural position of an inner coefficient.
@@ -45,6 +48,7 @@ impl Band for InnerBand<'_> {
     ghost use Rattle.block_spec.specs.Around.{inner_positions};
     ghost use Rattle.block_spec.specs.BlockEvents.{inner_bins};
     ghost use Rattle.block_code.specs.NeighbourBlocks.{around_of};
+    ghost use Rattle.block_code.specs.SumsAround.{AreSums};
 
     ghost positions = { λ band. inner_positions };
 
@@ -53,7 +57,8 @@ impl Band for InnerBand<'_> {
 
     ghost count = { λ band. inner_values };
 
-    ghost holds = { λ band. band.class < 2 };
+    ghost holds = { λ band. (band.class < 2)
+        × AreSums band.sums.now (around_of band.neighbours) };
 
     #[inline(always)]
     fn count(&self) -> usize {
@@ -67,7 +72,7 @@ impl Band for InnerBand<'_> {
 
     #[inline(always)]
     fn bases(&self, place: usize, remain: u8) -> BinBases {
-        let weight = inner_weight(self.neighbours, inner_position(place));
+        let weight = inner_weight(self.neighbours, self.sums, inner_position(place));
         inner_bases(self.class, place, weight, bits_of(u32::from(remain)))
     }
 }
@@ -78,11 +83,13 @@ pub(crate) fn code_inner<C: Coder>(
     coder: &mut C,
     class: u8,
     neighbours: Neighbours,
+    sums: &Sums,
     count: u8,
     wanted: &Block,
     out: &mut Block,
 ) -> Result<(), C::Stop>
     requires class { class < 2 }
+    requires sums { AreSums sums.now (around_of neighbours) }
     requires room { bin_count ≤ C.room coder.old }
     requires count { count ≤ inner_values }
     requires wanted { IsTrue C.given → inner_count wanted.now ≡ count }
@@ -98,7 +105,11 @@ pub(crate) fn code_inner<C: Coder>(
     ensures same { IsTrue C.given → OnOk result
         (values_in inner_positions out.new ≡ values_in inner_positions wanted.now) }
 {
-    let band = InnerBand { class, neighbours };
+    let band = InnerBand {
+        class,
+        neighbours,
+        sums,
+    };
     code_values(coder, &band, count, wanted, out)
 }
 
@@ -108,6 +119,7 @@ struct EdgeBand<'a> {
     class: u8,
     column: bool,
     neighbours: Neighbours<'a>,
+    sums: &'a Sums,
 }
 
 // The natural position of an edge's coefficient.
@@ -125,6 +137,7 @@ impl Band for EdgeBand<'_> {
     ghost use Rattle.coef_context.specs.Runs.{edge_values};
     ghost use Rattle.block_spec.specs.BlockEvents.{edge_bins, edge_positions};
     ghost use Rattle.block_code.specs.NeighbourBlocks.{around_of};
+    ghost use Rattle.block_code.specs.SumsAround.{AreSums};
 
     ghost positions = { λ band. edge_positions band.column };
 
@@ -133,7 +146,8 @@ impl Band for EdgeBand<'_> {
 
     ghost count = { λ band. edge_values };
 
-    ghost holds = { λ band. band.class < 2 };
+    ghost holds = { λ band. (band.class < 2)
+        × AreSums band.sums.now (around_of band.neighbours) };
 
     #[inline(always)]
     fn count(&self) -> usize {
@@ -147,7 +161,11 @@ impl Band for EdgeBand<'_> {
 
     #[inline(always)]
     fn bases(&self, place: usize, remain: u8) -> BinBases {
-        let weight = edge_weight(self.neighbours, edge_position(self.column, place));
+        let weight = edge_weight(
+            self.neighbours,
+            self.sums,
+            edge_position(self.column, place),
+        );
         edge_bases(
             self.class,
             self.column,
@@ -166,11 +184,13 @@ pub(crate) fn code_edge<C: Coder>(
     class: u8,
     column: bool,
     neighbours: Neighbours,
+    sums: &Sums,
     inner: u8,
     wanted: &Block,
     out: &mut Block,
 ) -> Result<(), C::Stop>
     requires class { class < 2 }
+    requires sums { AreSums sums.now (around_of neighbours) }
     requires inner { inner ≤ inner_values }
     requires room { bin_count ≤ C.room coder.old }
     requires block { IsBlock out.old }
@@ -196,6 +216,7 @@ pub(crate) fn code_edge<C: Coder>(
         class,
         column,
         neighbours,
+        sums,
     };
     code_values(coder, &band, count, wanted, out)?;
     Ok(())

@@ -28,6 +28,7 @@ mod mcu_grid;
 mod neighbours;
 mod parts_code;
 mod positions;
+mod sums;
 mod value;
 mod values;
 

@@ -28,51 +28,6 @@ pub(crate) fn bits_of(n: u32) -> u8
     (32 - n.leading_zeros()) as u8
 }
 
-// The magnitude of an AC coefficient, by its natural position; 0 if the block isn't there.
-#[inline(always)]
-fn magnitude(block: Option<&Block>, position: usize) -> u32
-    requires some { 0 < position }
-    requires within { position < 64 }
-    ensures value { result ≡ magnitude (option_map (λ b. b.now) block.entry) position }
-    ensures small { result ≤ 1023 }
-{
-    match block {
-        Some(block) => u32::from(block.get(position).unsigned_abs()),
-        None => 0,
-    }
-}
-
-/// The weight of an inner coefficient, by its natural position, from 0 to 10: how many bits the mean of the magnitudes
-/// around has, of which those above and left count 13 parts of 32 each, and the diagonal one 6.
-#[inline(always)]
-#[tactic(auto, using(crate::proofs::Weights::few_bits))]
-pub(crate) fn inner_weight(neighbours: Neighbours, position: usize) -> u8
-    requires some { 0 < position }
-    requires within { position < 64 }
-    ensures value { result ≡ inner_weight (around_of neighbours.entry) position }
-    ensures small { result < weights }
-{
-    let above = magnitude(neighbours.above, position);
-    let left = magnitude(neighbours.left, position);
-    let diagonal = magnitude(neighbours.diagonal, position);
-    bits_of((13 * above + 13 * left + 6 * diagonal) / 32)
-}
-
-/// The weight of an edge's coefficient, by its natural position, from 0 to 10: how many bits the mean of the magnitudes
-/// above and left has.
-#[inline(always)]
-#[tactic(auto, using(crate::proofs::Weights::few_bits))]
-pub(crate) fn edge_weight(neighbours: Neighbours, position: usize) -> u8
-    requires some { 0 < position }
-    requires within { position < 64 }
-    ensures value { result ≡ edge_weight (around_of neighbours.entry) position }
-    ensures small { result < weights }
-{
-    let above = magnitude(neighbours.above, position);
-    let left = magnitude(neighbours.left, position);
-    bits_of((above + left) / 2)
-}
-
 /// The guess at the inner count, from 0 to 49: the mean of those above and left, rounded up; the one that is there; 0.
 #[inline(always)]
 pub(crate) fn guess(neighbours: Neighbours) -> u8

@@ -14,6 +14,7 @@ use crate::bands::{code_edge, code_inner};
 use crate::coefficients::inner_count;
 use crate::counts::code_count;
 use crate::neighbours::{Neighbours, bits_of, guess, spread};
+use crate::sums::sums_of;
 use crate::value::code_value;
 use adapt_bins::Coder;
 use coef_block::Block;
@@ -105,9 +106,10 @@ fn code_acs<C: Coder>(
     ensures block { OnOk result (IsBlock out.new) }
     ensures same { IsTrue C.given → OnOk result (HaveSameAcs out.new wanted.now) }
 {
-    code_inner(coder, class, neighbours, count, wanted, out)?;
-    code_edge(coder, class, false, neighbours, count, wanted, out)?;
-    code_edge(coder, class, true, neighbours, count, wanted, out)?;
+    let sums = sums_of(neighbours);
+    code_inner(coder, class, neighbours, &sums, count, wanted, out)?;
+    code_edge(coder, class, false, neighbours, &sums, count, wanted, out)?;
+    code_edge(coder, class, true, neighbours, &sums, count, wanted, out)?;
     Ok(())
 }
 
