@@ -11,8 +11,11 @@ inner_sum above left diagonal = 13 * above + 13 * left + 6 * diagonal
 -- what always holds of the sums, by natural position
 pub record AreSums (sums : Sums) (around : Around) : Type 0 where
   pub inner : (position : ℕ) → IsAcPosition position → slice_index sums.inner position
-      ≡ inner_sum (magnitude around.above position) (magnitude around.left position) (magnitude around.diagonal position)
+      ≡ inner_sum (magnitude around.above position) (magnitude around.left position)
+      (magnitude around.diagonal position)
   pub edge : (position : ℕ) → IsAcPosition position → slice_index sums.edge position
       ≡ magnitude around.above position + magnitude around.left position
-  pub small_inner : (position : ℕ) → IsAcPosition position → slice_index sums.inner position ≤ 32 * 1023
-  pub small_edge : (position : ℕ) → IsAcPosition position → slice_index sums.edge position ≤ 2 * 1023
+  pub small_inner : (position : ℕ) → IsAcPosition position
+      → slice_index sums.inner position ≤ 32 * 1023
+  pub small_edge : (position : ℕ) → IsAcPosition position
+      → slice_index sums.edge position ≤ 2 * 1023

@@ -76,7 +76,8 @@ fn or_zero<'a>(block: Option<&'a Block>, zero: &'a Block) -> &'a Block
 fn sums_in(above: &Block, left: &Block, diagonal: &Block) -> Sums
     ensures inner { (position : ℕ) → IsAcPosition position → slice_index result.inner position
         ≡ inner_sum (unsigned_abs (value_at above.now position))
-        (unsigned_abs (value_at left.now position)) (unsigned_abs (value_at diagonal.now position)) }
+        (unsigned_abs (value_at left.now position))
+        (unsigned_abs (value_at diagonal.now position)) }
     ensures edge { (position : ℕ) → IsAcPosition position → slice_index result.edge position
         ≡ unsigned_abs (value_at above.now position) + unsigned_abs (value_at left.now position) }
     ensures small_inner { (position : ℕ) → IsAcPosition position
@@ -100,7 +101,8 @@ fn sums_at(above: &Block, left: &Block, diagonal: &Block, position: usize) -> (u
     requires { position < 64 }
     ensures inner { 0 < position → result.0
         ≡ inner_sum (unsigned_abs (value_at above.now position))
-        (unsigned_abs (value_at left.now position)) (unsigned_abs (value_at diagonal.now position)) }
+        (unsigned_abs (value_at left.now position))
+        (unsigned_abs (value_at diagonal.now position)) }
     ensures edge { 0 < position → result.1
         ≡ unsigned_abs (value_at above.now position) + unsigned_abs (value_at left.now position) }
     ensures small_inner { 0 < position → result.0 ≤ 32 * 1023 }

@@ -14,7 +14,9 @@ kept written low bits range = record {
 
 -- nothing, once the encoder is spent
 abbrev pub interval_of : Inside → Option Interval
-interval_of e = if is_some e.spent then None else Some (kept e.written.items e.low e.bits (e.less + 1))
+interval_of e =
+    if is_some e.spent then None
+    else Some (kept e.written.items e.low e.bits (e.less + 1))
 
 -- the word has from 8 to 39 bits, and above them at most one carry
 pub record IsWord (written : List ℕ) (low bits range : ℕ) : Type 0 where
