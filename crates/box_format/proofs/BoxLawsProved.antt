@@ -9,12 +9,12 @@ use Rattle.jpeg_marker.proofs.HeaderLaws as header_laws
 use Rattle.scan_spec.specs.Slots.{Shape, shape_of}
 use Rattle.handover.specs.Handovers.{HandoverFields}
 use Rattle.scan_spec.specs.Pads.{PadBits, Same, Listed}
-use Rattle.box_format.specs.Versions.{layout_of, version_in, is_version, decoded}
+use Rattle.box_format.specs.Versions.{layout_of, version_in, is_version, decoded, IsRead}
 use Rattle.cut_spec.specs.Cuts.{Cut}
 use Rattle.box_format.specs.Parts.{BoxParts, IsBox, IsBoxOf, IsCut, IsChunkIn, header_part, rows_most, magic, pad_byte, list_bytes, can_pad, records, box_bytes, bad_start, box_cut}
 use Rattle.box_format.specs.Raws.{Raw, raw_of, parts_of, chunk_in, places_in, place_in, scan_end, record_room, numbers, parted, handover_at, front_room, record_place, list_place, list_long, pads_in, stream_length, stream_lengths, segments_in, header_length, header_place, trailer_length, trailer_place, streams_place, named_end}
 use Rattle.box_format.specs.BoxChecks.{PassesChecks, FailsAfter, early_fault, late_fault, are_bad_places, are_wrong, is_bad_chunk, is_bad_pad}
-use Rattle.box_format.specs.BoxLaws.{IsRead, BoxPasses, OneBox, OneBoxRefusal, NeverBoth, MigratedIsBox}
+use Rattle.box_format.specs.BoxLaws.{BoxPasses, OneBox, OneBoxRefusal, NeverBoth, MigratedIsBox}
 use Rattle.box_format.specs.Whole.{IsWhole, header_in, trailer_in, list_in}
 use Rattle.box_format.specs.declared.chunk.Chunk.{Chunk}
 use Rattle.box_format.specs.declared.version.Version.{Version}

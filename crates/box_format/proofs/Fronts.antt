@@ -3,11 +3,10 @@ use Rattle.std.proofs.Common.{◌≡◌, ◌≤◌, ◌<◌, ◌^◌, ◌==◌, 
 use Rattle.std.proofs.lemmas.Bool.{ltb-false, lt-ltb, eqb-true, ne_eqb, or_parts, or_cases, and_parts, false≢true}
 use Rattle.scan_spec.specs.Slots.{Shape}
 use Rattle.scan_spec.specs.Pads.{PadBits, Same, Listed, is_long_for, list_room}
-use Rattle.box_format.specs.Versions.{layout_of, most_segments, version_byte, version_of, is_version, decoded}
+use Rattle.box_format.specs.Versions.{layout_of, most_segments, version_byte, version_of, is_version, decoded, IsRead}
 use Rattle.box_format.specs.Parts.{pad_byte, list_bytes, is_list, can_pad}
 use Rattle.box_format.specs.Raws.{pads_in}
 use Rattle.box_format.specs.BoxChecks.{is_bad_pad}
-use Rattle.box_format.specs.BoxLaws.{IsRead}
 use Rattle.box_format.specs.declared.chunk.Chunk.{Chunk}
 use Rattle.box_format.specs.declared.version.Version.{Version}
 use Rattle.box_format.specs.declared.version.Version.TheVariants.{First, Second, Third, Fifth}

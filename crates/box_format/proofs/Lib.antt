@@ -14,3 +14,4 @@ pub mod Spelled
 pub mod Written
 pub mod BoxLawsProved
 pub mod Migrated
+pub mod Placed

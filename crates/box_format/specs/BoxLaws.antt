@@ -1,24 +1,21 @@
 -- Law: what holds of all containers (own).
-use Rattle.std.specs.Prelude.{ℕ, ◌≡◌, true, false, List}
+use Rattle.std.specs.Prelude.{ℕ, ◌≡◌, false, List}
 use Rattle.std.specs.List.{AllByRecursion}
 use Rattle.bit_list.specs.Bits.{IsByte}
 use Rattle.jpeg_marker.specs.Plans.{PlanFields}
 use Rattle.box_format.specs.Parts.{BoxParts, IsBox, IsBoxOf, box_bytes, migrated, relaid}
 use Rattle.box_format.specs.Raws.{raw_of, parts_of}
 use Rattle.box_format.specs.BoxChecks.{IsRefusedBy, PassesChecks}
-use Rattle.box_format.specs.Versions.{layout_of, version_byte, is_version}
+use Rattle.box_format.specs.Versions.{layout_of, IsRead}
 use Rattle.box_format.specs.declared.refusal.BoxRefusal.{BoxRefusal}
 use Rattle.box_format.specs.declared.version.Version.{Version}
 use Rattle.box_format.specs.declared.version.Version.TheVariants.{First, Second}
 
--- a version is one of these
-abbrev pub IsRead : List Version → Version → Type 0
-IsRead versions version = is_version versions (version_byte version) ≡ true
-
 -- a container's checks pass if its version is read, and its fields are its parts
 abbrev pub BoxPasses : Type 0
 BoxPasses =
-    (versions : List Version) (plan : PlanFields) (b : BoxParts) → IsRead versions b.version → IsBox plan b
+    (versions : List Version) (plan : PlanFields) (b : BoxParts) → IsRead versions b.version
+    → IsBox plan b
     → PassesChecks versions plan (box_bytes b) × (parts_of (raw_of (box_bytes b)) ≡ b)
 
 -- and bytes whose checks pass are the container of their fields
@@ -43,15 +40,16 @@ OneBoxRefusal =
 -- and no bytes are both
 abbrev pub NeverBoth : Type 0
 NeverBoth =
-    (versions : List Version) (bytes : List ℕ) (plan : PlanFields) (b : BoxParts) (refusal : BoxRefusal)
-    → IsRead versions b.version → IsBoxOf plan b bytes → IsRefusedBy versions bytes refusal → ⊥
+    (versions : List Version) (bytes : List ℕ) (plan : PlanFields) (b : BoxParts)
+    (refusal : BoxRefusal) → IsRead versions b.version → IsBoxOf plan b bytes
+    → IsRefusedBy versions bytes refusal → ⊥
 
 -- a container of the second version is migrated already
 abbrev pub SecondStays : Type 0
 SecondStays =
     (plan : PlanFields) (b : BoxParts) → IsBox plan b → b.version ≡ Second → migrated b ≡ b
 
--- the parts of a container that has no chunk are those of one of the second version too
+-- the parts of a container that has no chunk are, without its places, those of one of the second version too
 abbrev pub MigratedIsBox : Type 0
 MigratedIsBox =
     (plan : PlanFields) (b : BoxParts) → (layout_of b.version).chunked ≡ false → IsBox plan b

@@ -15,7 +15,7 @@ use Rattle.cut_spec.specs.RowHandovers.{markers_before}
 use Rattle.box_format.specs.Versions.{layout_of, version_byte}
 use Rattle.box_format.specs.declared.chunk.Chunk.{Chunk}
 use Rattle.box_format.specs.declared.version.Version.{Version}
-use Rattle.box_format.specs.declared.version.Version.TheVariants.{Second}
+use Rattle.box_format.specs.declared.version.Version.TheVariants.{Second, Fifth}
 
 -- a version, the chunk if it has a chunk of a file, the places in the file if it keeps them, of each segment's first
 -- byte and after these of the scan's end, the pad bits, the header, the trailer or the chunk's part of it, and for each
@@ -207,6 +207,14 @@ pub record IsBoxOf (plan : PlanFields) (b : BoxParts) (bytes : List ℕ) : Type 
 -- the same parts in the second version, which keeps no places
 abbrev pub migrated : BoxParts → BoxParts
 migrated b = record b { version = Second; places = None }
+
+-- the same parts in the fifth version, with these places
+abbrev pub with_places : BoxParts → List ℕ → BoxParts
+with_places b places = record b { version = Fifth; places = Some places }
+
+-- how many bytes the file has, in a container with these places: the scan's end, and the trailer
+abbrev pub file_end : BoxParts → List ℕ → ℕ
+file_end b places = slice_index places (length b.handovers) + length b.trailer
 
 -- the bytes of a container of the first version as those of one of the second: the version's byte is changed, and a
 -- length of 0 for the pad list follows the trailer's length

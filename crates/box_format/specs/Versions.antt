@@ -1,5 +1,5 @@
 -- Statement: the versions of a container, and what each of them may say (docs/FORMAT.md, The container).
-use Rattle.std.specs.Prelude.{ℕ, Bool, true, false, ◌==◌, if◌then◌else◌, List, [], ◌∷◌, slice_index}
+use Rattle.std.specs.Prelude.{ℕ, ◌≡◌, Bool, true, false, ◌==◌, if◌then◌else◌, List, [], ◌∷◌, slice_index}
 use Rattle.std.specs.List.{list_any}
 use Rattle.box_format.specs.declared.version.Version.{Version}
 use Rattle.box_format.specs.declared.version.Version.TheVariants.{First, Second, Third, Fifth}
@@ -41,12 +41,23 @@ version_byte Fifth = 5
 abbrev pub is_version : List Version → ℕ → Bool
 is_version versions byte = list_any (λ version. version_byte version == byte) versions
 
+-- a version is one of these
+abbrev pub IsRead : List Version → Version → Type 0
+IsRead versions version = is_version versions (version_byte version) ≡ true
+
 -- the versions that are decoded, and those that are migrated
 abbrev pub decoded : List Version
 decoded = First ∷ Second ∷ Third ∷ Fifth ∷ []
 
 abbrev pub migratable : List Version
 migratable = First ∷ Second ∷ []
+
+-- and those that are indexed, and those whose ranges are read
+abbrev pub indexable : List Version
+indexable = First ∷ Second ∷ Fifth ∷ []
+
+abbrev pub ranged : List Version
+ranged = Fifth ∷ []
 
 -- the version of a byte, whatever it is
 abbrev pub version_of : ℕ → Version

@@ -3,7 +3,8 @@ ghost use Rattle.box_format.specs.BoxLaws.{BoxPasses, PassedIsBox, OneBox, OneBo
 ghost use Rattle.box_format.specs.BoxRows.{laid_out, early, late, chunks, places, prefixes};
 
 /// A container has one plan and one list of parts, other bytes have one refusal, and no bytes are both. The parts of
-/// each are those of one of the second version, whose bytes differ in two fields.
+/// one that has no chunk are, without its places, those of one of the second version. If it's of the first version, the
+/// bytes of that one differ in two fields.
 pub fn containers_have_one_spelling()
     ensures passes { BoxPasses }
     ensures passed { PassedIsBox }

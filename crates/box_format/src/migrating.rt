@@ -1,9 +1,9 @@
 // From a container to the same one in version 2.
-ghost use Rattle.std.specs.Prelude.{◌≡◌, ◌≤◌, true, IfOk, IsErrOf, length};
+ghost use Rattle.std.specs.Prelude.{◌≡◌, ◌≤◌, IfOk, IsErrOf, length};
 ghost use Rattle.jpeg_marker.specs.Plans.{PlanFields};
 ghost use Rattle.box_format.specs.BoxChecks.{IsRefusedBy};
 ghost use Rattle.box_format.specs.Parts.{BoxParts, IsBoxOf, box_bytes, migrated, relaid};
-ghost use Rattle.box_format.specs.Versions.{is_version, migratable, version_byte};
+ghost use Rattle.box_format.specs.Versions.{IsRead, migratable};
 ghost use Rattle.box_format.specs.declared.refusal.BoxRefusal.{BoxRefusal};
 
 use crate::reading::read_box_of;
@@ -17,7 +17,7 @@ use std::alloc::Global;
 /// version 2, itself. It stands for the same; what its streams stand for isn't looked at.
 pub fn migrate(alloc: Global, bytes: &[u8]) -> Result<Vec<u8>, Migrate>
     ensures made { IfOk result (λ made. (plan : PlanFields) × (b : BoxParts)
-        × IsBoxOf plan b bytes.now × (is_version migratable (version_byte b.version) ≡ true)
+        × IsBoxOf plan b bytes.now × IsRead migratable b.version
         × (made.items ≡ box_bytes (migrated b))) }
     ensures refused { (refusal : BoxRefusal) → IsErrOf result (Migrate.Box refusal)
         → IsRefusedBy migratable bytes.now refusal }
@@ -28,7 +28,7 @@ pub fn migrate(alloc: Global, bytes: &[u8]) -> Result<Vec<u8>, Migrate>
 
 // The bytes of a container, in version 2.
 fn migrated(alloc: Global, view: &BoxView) -> Result<Vec<u8>, NoMemory>
-    requires { is_version migratable (version_byte view.now.parts.version) ≡ true }
+    requires { IsRead migratable view.now.parts.version }
     ensures { IfOk result (λ made. made.items ≡ box_bytes (migrated view.now.parts)) }
 {
     match view.version() {

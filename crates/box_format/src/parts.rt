@@ -8,7 +8,8 @@ use scan_spec::Pads;
 pub struct Parts<'a> {
     /// The chunk, if it has a chunk of a file.
     pub chunk: Option<Chunk>,
-    /// The places in the file, if they are kept: of each segment's first byte, and after them of the scan's end.
+    /// The places in the file, if they are kept: of each segment's first byte, and after them of the scan's end. A
+    /// chunk has none.
     pub places: Option<&'a [u64]>,
     /// The bits that fill up the last byte of each restart interval.
     pub pad: Pads<'a>,

@@ -2,7 +2,7 @@
 ghost use Rattle.std.specs.Prelude.{◌≡◌, IfOk, IfErr};
 ghost use Rattle.box_format.specs.Parts.{IsBoxOf};
 ghost use Rattle.box_format.specs.BoxChecks.{IsRefusedBox, IsRefusedBy};
-ghost use Rattle.box_format.specs.BoxLaws.{IsRead};
+ghost use Rattle.box_format.specs.Versions.{IsRead};
 
 use crate::checks::{early_fault, late_fault};
 use crate::fields::header_in;

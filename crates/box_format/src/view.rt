@@ -1,9 +1,9 @@
 // A container that was read.
-ghost use Rattle.std.specs.Prelude.{◌≡◌, ◌≤◌, ◌<◌, ◌^◌, length, get_or, [], true, option_map, slice_index};
+ghost use Rattle.std.specs.Prelude.{◌≡◌, ◌≤◌, ◌<◌, ◌^◌, length, get_or, [], true, option_map, slice_index, IfSome, IfNone, Some};
 ghost use Rattle.handover.specs.Handovers.{start};
 ghost use Rattle.scan_spec.specs.Pads.{is_long_for, pads_given};
 ghost use Rattle.scan_spec.specs.Slots.{shape_of};
-ghost use Rattle.box_format.specs.Parts.{IsBox};
+ghost use Rattle.box_format.specs.Parts.{IsBox, file_end, list_bytes};
 ghost use Rattle.box_format.specs.Versions.{layout_of, most_segments};
 
 use crate::chunk::Chunk;
@@ -64,6 +64,7 @@ impl<'a> BoxView<'a> {
     pub fn pad(&self) -> Pads<'a>
         ensures value { pads_given result ≡ self.now.parts.pads }
         ensures long { is_long_for (shape_of self.now.plan) (pads_given result) ≡ true }
+        ensures fits { length (list_bytes (pads_given result)) < 2 ^ 32 }
     {
         match byte_in(self.bytes, 5) {
             2 => Pads::Each(list_in(self.bytes)),
@@ -84,10 +85,23 @@ impl<'a> BoxView<'a> {
         }
     }
 
+    /// How many bytes the file has, in a container that keeps places: its scan's end, and its trailer. If the sum
+    /// passes 64 bits, a segment of it has fewer bytes than its places say.
+    pub fn file_length(&self) -> Option<u64>
+        ensures some { IfSome result
+            (λ n. option_map (file_end self.now.parts) self.now.parts.places ≡ Some n) }
+        ensures none { IfNone result
+            (IfSome self.now.parts.places (λ places. 2 ^ 64 ≤ file_end self.now.parts places)) }
+    {
+        let end = self.place(self.segments())?;
+        end.checked_add(self.trailer().len() as u64)
+    }
+
     /// How many segments there are, at most 16 in version 1 and 64 in the others, and at most as many as MCU rows. It
     /// is 0 only if a chunk has no row.
     pub fn segments(&self) -> u8
         ensures count { result ≡ length self.now.parts.handovers }
+        ensures streams { result ≡ length self.now.parts.streams }
         ensures of_version { result ≤ (layout_of self.now.parts.version).most }
         ensures few { result ≤ most_segments }
     {

@@ -76,8 +76,13 @@ fn version_for(parts: &Parts) -> Version
     }
 }
 
-// The fields up to the lengths.
-fn put_front(bytes: &mut Vec<u8>, version: Version, pad: u8, segments: u8) -> Result<(), NoMemory>
+/// The fields up to the lengths.
+pub(crate) fn put_front(
+    bytes: &mut Vec<u8>,
+    version: Version,
+    pad: u8,
+    segments: u8,
+) -> Result<(), NoMemory>
     ensures { OnOk result (bytes.new.items
         ≡ bytes.old.items ++ (magic ++ version_byte version ∷ pad ∷ segments ∷ [])) }
 {
@@ -88,8 +93,8 @@ fn put_front(bytes: &mut Vec<u8>, version: Version, pad: u8, segments: u8) -> Re
     Ok(())
 }
 
-// The byte of pad bits.
-fn pad_byte(pads: &Pads) -> u8
+/// The byte of pad bits.
+pub(crate) fn pad_byte(pads: &Pads) -> u8
     ensures { result ≡ pad_byte (pads_given pads.now) }
 {
     match *pads {
@@ -99,8 +104,8 @@ fn pad_byte(pads: &Pads) -> u8
     }
 }
 
-// The pad list, if there is one.
-fn list_of<'a>(pads: &Pads<'a>) -> &'a [u8]
+/// The pad list, if there is one.
+pub(crate) fn list_of<'a>(pads: &Pads<'a>) -> &'a [u8]
     ensures { result.now ≡ list_bytes (pads_given pads.now) }
 {
     match *pads {
@@ -109,8 +114,13 @@ fn list_of<'a>(pads: &Pads<'a>) -> &'a [u8]
     }
 }
 
-// The lengths of header, trailer and pad list.
-fn put_lengths(bytes: &mut Vec<u8>, header: u32, trailer: u32, list: u32) -> Result<(), NoMemory>
+/// The lengths of header, trailer and pad list.
+pub(crate) fn put_lengths(
+    bytes: &mut Vec<u8>,
+    header: u32,
+    trailer: u32,
+    list: u32,
+) -> Result<(), NoMemory>
     ensures { OnOk result (bytes.new.items
         ≡ bytes.old.items ++ (big_bytes 4 header ++ (big_bytes 4 trailer ++ big_bytes 4 list))) }
 {
@@ -154,8 +164,8 @@ fn put_place(bytes: &mut Vec<u8>, parts: &Parts, i: usize) -> Result<(), NoMemor
     }
 }
 
-// The field of one of the places.
-fn put_place_field(bytes: &mut Vec<u8>, places: &[u64], i: usize) -> Result<(), NoMemory>
+/// The field of one of the places.
+pub(crate) fn put_place_field(bytes: &mut Vec<u8>, places: &[u64], i: usize) -> Result<(), NoMemory>
     requires { i < length places.now }
     ensures { OnOk result (bytes.new.items
         ≡ bytes.old.items ++ place_bytes (Some places.now) i) }
@@ -179,8 +189,12 @@ fn put_records(bytes: &mut Vec<u8>, parts: &Parts) -> Result<(), NoMemory>
     Ok(())
 }
 
-// A segment's handover, and the length of its stream.
-fn put_record(bytes: &mut Vec<u8>, handover: &Handover, stream: u64) -> Result<(), NoMemory>
+/// A segment's handover, and the length of its stream.
+pub(crate) fn put_record(
+    bytes: &mut Vec<u8>,
+    handover: &Handover,
+    stream: u64,
+) -> Result<(), NoMemory>
     ensures { OnOk result (bytes.new.items
         ≡ bytes.old.items ++ (handover_bytes handover.now ++ big_bytes 8 stream)) }
 {

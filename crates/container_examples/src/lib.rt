@@ -4,6 +4,8 @@
 #[cfg(test)]
 mod boxes;
 #[cfg(test)]
+mod crews;
+#[cfg(test)]
 mod decoded;
 #[cfg(test)]
 mod pads;

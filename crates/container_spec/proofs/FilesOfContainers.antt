@@ -35,11 +35,13 @@ use Rattle.container_spec.specs.SegmentLaws.{Suits}
 use Rattle.container_spec.specs.Segments.{segment_output}
 use Rattle.container_spec.specs.Meanings.{Meaning, segment_in, outputs_of, joined, meaning_of}
 use Rattle.container_spec.specs.Files.{IsContainerOf, parts_of_file, places_of_file, told_pads}
+use Rattle.container_spec.specs.Indexed.{indexed, places_found}
 use Rattle.container_spec.specs.MeaningLaws.{RestoredIsContainer}
 use Rattle.container_spec.proofs.ChainedSegments.{Chained, chained}
 use Rattle.container_spec.proofs.CutsOfPlans.{AreCuts, starts_at, plan_cuts}
 use Rattle.container_spec.proofs.Numbered.{mapped_is}
 use Rattle.container_spec.proofs.PaddedMcus.{scan_sum}
+use Rattle.container_spec.proofs.PlacesFound.{found_is}
 use Rattle.container_spec.proofs.PlacesOfContainers.{place_is}
 use Rattle.container_spec.proofs.PlanGrids.{plan_suits}
 use Rattle.container_spec.proofs.PutsAlike.{done_alike as same_done}
@@ -70,7 +72,7 @@ version_again Second = refl
 version_again Third = refl
 version_again Fifth = refl
 
-version_said : (b : BoxParts) → version_in (box_bytes b) ≡ b.version
+pub version_said : (b : BoxParts) → version_in (box_bytes b) ≡ b.version
 unfolding box_bytes
 version_said b = version_again b.version
 
@@ -90,6 +92,12 @@ can_tell listed shape count (Listed bytes) e all can =
       clean = ap (λ n. list_all (λ bit. not bit) (drop n (bits_of bytes))) e ∙ parts.1;
     }
 
+-- and one that has lists
+can_list : (listed : Bool) (shape : Shape) (told : PadBits) → can_pad listed shape told ≡ true
+    → can_pad true shape told ≡ true
+can_list listed shape (Same pad) can = refl
+can_list listed shape (Listed bytes) can = (and_parts listed (is_list shape bytes) can).1
+
 -- parts by what a file determines
 same_parts : (b : BoxParts) (places : Option (List ℕ)) (pads : PadBits) (header : List ℕ)
     (handovers : List HandoverFields) (streams : List (List ℕ)) → b.places ≡ places
@@ -105,13 +113,13 @@ same_parts : (b : BoxParts) (places : Option (List ℕ)) (pads : PadBits) (heade
 same_parts b places pads header handovers streams c d e f g = rw (← c, ← d, ← e, ← f, ← g) refl
 
 -- places that a version keeps, or none
-kept_by : (placed : Bool) (places : Option (List ℕ)) (all : List ℕ) → is_some places ≡ placed
+placed_by : (placed : Bool) (places : Option (List ℕ)) (all : List ℕ) → is_some places ≡ placed
     → ((some : List ℕ) → places ≡ Some some → some ≡ all)
     → places ≡ (if placed then Some all else None)
-kept_by true (Some places) all placed each = ap (λ (l : List ℕ). Some l) (each places refl)
-kept_by true None all placed each = cc
-kept_by false (Some places) all placed each = cc
-kept_by false None all placed each = refl
+placed_by true (Some places) all placed each = ap (λ (l : List ℕ). Some l) (each places refl)
+placed_by true None all placed each = cc
+placed_by false (Some places) all placed each = cc
+placed_by false None all placed each = refl
 
 module _ (plan : PlanFields) (parts : BoxParts) (file : List ℕ) (is : IsBox plan (whole parts))
     (so : IsRestored (whole parts) (joined (outputs_of plan (whole parts))) file) where
@@ -136,7 +144,7 @@ module _ (plan : PlanFields) (parts : BoxParts) (file : List ℕ) (is : IsBox pl
   plan_is : IsPlan plan
   plan_is = (accepted_has_plan b.header plan is.header_bytes is.header).is_plan
 
-  some : 0 < length b.handovers
+  pub some : 0 < length b.handovers
   some = is.cut.some plan_is.high
 
   few : shape.mcus ≤ 2 ^ 32
@@ -278,12 +286,12 @@ module _ (plan : PlanFields) (parts : BoxParts) (file : List ℕ) (is : IsBox pl
   kept_places places some =
       subst (λ p. IfSome p (ArePlaces (length b.header) count)) some is.places
 
-  -- a place is where the bytes of the segments before leave off
-  place_there : (places : List ℕ) (k : ℕ) → b.places ≡ Some places → k ≤ count
-      → slice_index places k ≡ placed count (0 + k)
-  place_there places k some few =
-      let place =
-      place_is plan b places (length b.header) count k some (kept_places places some) few so.none in
+  -- where the bytes of the segments before leave off
+  bytes_there : (k : ℕ) → k ≤ count
+      → length b.header
+      + length (joined (map (λ i. segment_output (segment_in plan b i)) (numbers 0 k))).bytes
+      ≡ placed count (0 + k)
+  bytes_there k few =
       let none = cuts.none in
       let e : cut (0 + k) - cut 0 ≡ cut (0 + k) = omega (arith, none) in
       let put = (chain.through k few).1 in
@@ -293,11 +301,18 @@ module _ (plan : PlanFields) (parts : BoxParts) (file : List ℕ) (is : IsBox pl
       ∙ ap count_in put in
       let alike = done_alike (cut (0 + k)) in
       let whole = is.whole in
-      omega (arith, place, same, alike, whole)
+      omega (arith, same, alike, whole)
+
+  -- a place is there
+  place_there : (places : List ℕ) (k : ℕ) → b.places ≡ Some places → k ≤ count
+      → slice_index places k ≡ placed count (0 + k)
+  place_there places k some few =
+      place_is plan b places (length b.header) count k some (kept_places places some) few so.none
+      ∙ bytes_there k few
 
   places_are : b.places ≡ places_of_file (layout_of b.version).placed plan chain.mcus bits count
   places_are =
-      kept_by (layout_of b.version).placed b.places
+      placed_by (layout_of b.version).placed b.places
       (map (placed (min count plan.down)) (numbers 0 (min count plan.down + 1))) is.placed
       (λ places some.
       let long = (kept_places places some).count in
@@ -306,16 +321,27 @@ module _ (plan : PlanFields) (parts : BoxParts) (file : List ℕ) (is : IsBox pl
       ∙ ap (λ n. map (placed count) (numbers 0 n)) long
       ∙ ap (λ n. map (placed n) (numbers 0 (n + 1))) as_many)
 
-  parts_are : b
-      ≡ parts_of_file b.version plan chain.mcus bits (take plan.header_length file) b.trailer count
-  parts_are =
-      same_parts b (places_of_file (layout_of b.version).placed plan chain.mcus bits count)
-      (told_pads plan chain.mcus bits) (take plan.header_length file) _ _ places_are (sym told)
+  -- the same parts in another version, with its places
+  abbrev parts_in : Version → Option (List ℕ) → BoxParts
+  parts_in version places = record b { version = version; places = places }
+
+  parts_are : (version : Version) (places : Option (List ℕ))
+      → places ≡ places_of_file (layout_of version).placed plan chain.mcus bits count
+      → parts_in version places
+      ≡ parts_of_file version plan chain.mcus bits (take plan.header_length file) b.trailer count
+  parts_are version places are =
+      same_parts (parts_in version places)
+      (places_of_file (layout_of version).placed plan chain.mcus bits count)
+      (told_pads plan chain.mcus bits) (take plan.header_length file) _ _ are (sym told)
       header_is handovers_are streams_are
 
-  pub container_is : (layout_of b.version).chunked ≡ false → (made : List ℕ) → made ≡ box_bytes b
-      → IsContainerOf b.version count made file
-  container_is chunked made text = record {
+  container_in : (version : Version) (places : Option (List ℕ))
+      → (layout_of version).chunked ≡ false
+      → can_pad (layout_of version).listed shape b.pads ≡ true
+      → places ≡ places_of_file (layout_of version).placed plan chain.mcus bits count
+      → (made : List ℕ) → made ≡ box_bytes (parts_in version places)
+      → IsContainerOf version count made file
+  container_in version places chunked can there made text = record {
     whole = chunked;
     bytes = all_bytes;
     plan = plan;
@@ -325,12 +351,30 @@ module _ (plan : PlanFields) (parts : BoxParts) (file : List ℕ) (is : IsBox pl
     is = file_of;
     header_fits = let h = is.header_fits in let e = is.whole in omega (arith, h, e);
     trailer_fits = is.trailer_fits;
-    can = ap (can_pad (layout_of b.version).listed shape) told ∙ is.pads;
-    spelled = text ∙ ap box_bytes parts_are;
+    can = ap (can_pad (layout_of version).listed shape) told ∙ can;
+    spelled = text ∙ ap box_bytes (parts_are version places there);
   }
 
+  pub container_is : (layout_of b.version).chunked ≡ false → (made : List ℕ) → made ≡ box_bytes b
+      → IsContainerOf b.version count made file
+  container_is chunked made text =
+      container_in b.version b.places chunked is.pads places_are made text
+
+  -- with the places found it is one of the fifth version
+  found_there : places_found plan b
+      ≡ map (placed (min count plan.down)) (numbers 0 (min count plan.down + 1))
+  found_there =
+      found_is plan b (placed count) so.none bytes_there
+      ∙ ap (λ n. map (placed n) (numbers 0 (n + 1))) as_many
+
+  pub indexed_is : IsContainerOf Fifth count (box_bytes (indexed plan b)) file
+  indexed_is =
+      container_in Fifth (Some (places_found plan b)) refl
+      (can_list (layout_of b.version).listed shape b.pads is.pads)
+      (ap (λ (l : List ℕ). Some l) found_there) (box_bytes (indexed plan b)) refl
+
 -- parts without a chunk
-without : (b : BoxParts) → b.chunk ≡ None → b ≡ whole b
+pub without : (b : BoxParts) → b.chunk ≡ None → b ≡ whole b
 without b e = rw (← e) refl
 
 pub restored_is_container : RestoredIsContainer

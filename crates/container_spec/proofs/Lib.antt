@@ -32,3 +32,5 @@ pub mod FilesOfContainers
 pub mod ShortSegments
 pub mod PadsTold
 pub mod MigratedMeanings
+pub mod PlacesFound
+pub mod IndexedFiles

@@ -3,8 +3,7 @@ use Rattle.std.proofs.Common.{◌≡◌, ℕ, false, List, inl, inr, refl, ap₂
 use Rattle.std.specs.Prelude.{Option, None}
 use Rattle.jpeg_marker.specs.Plans.{PlanFields}
 use Rattle.box_format.specs.Parts.{BoxParts, migrated}
-use Rattle.box_format.specs.BoxLaws.{IsRead}
-use Rattle.box_format.specs.Versions.{layout_of, decoded, migratable}
+use Rattle.box_format.specs.Versions.{layout_of, decoded, migratable, IsRead}
 use Rattle.box_format.specs.declared.version.Version.{Version}
 use Rattle.box_format.specs.declared.version.Version.TheVariants.{First, Second, Third, Fifth}
 use Rattle.box_format.specs.declared.chunk.Chunk.{Chunk}

@@ -129,12 +129,12 @@ bad_with_place s before (made, Bad other) bytes fault e = inl e
 
 -- ---- segments
 
-kept_by : (found : ℕ) (bytes : List ℕ) (kept : Option ℕ) → found ≡ length bytes
+are_kept_by : (found : ℕ) (bytes : List ℕ) (kept : Option ℕ) → found ≡ length bytes
     → AreMany found kept → AreKept bytes kept
-kept_by found bytes None e are = tt
-kept_by found bytes (Some kept) e are = sym e ∙ are
+are_kept_by found bytes None e are = tt
+are_kept_by found bytes (Some kept) e are = sym e ∙ are
 
 pub good_has_its_places : GoodHasItsPlaces
 good_has_its_places s bytes padded e =
-    kept_by (0 + length bytes) bytes s.kept (zero-add (length bytes))
+    are_kept_by (0 + length bytes) bytes s.kept (zero-add (length bytes))
     (good_with_place s 0 (rest_output s.count s (first_progress s)) bytes padded e).1

@@ -71,10 +71,10 @@ pub record IsKept (slots : List Slot) (P : List ℤ → Type 0) : Type 0 where
   pub more : (before : List ℤ) (mcu : Mcu) → IsMcu slots mcu → P before
       → P (dcs_after slots before mcu)
 
-kept_by : (t : Bool) (P : List ℤ → Type 0) (a b : List ℕ × Spot) → P a.1.before → P b.1.before
+either_kept : (t : Bool) (P : List ℤ → Type 0) (a b : List ℕ × Spot) → P a.1.before → P b.1.before
     → P (if t then a else b).1.before
-kept_by true P a b h k = h
-kept_by false P a b h k = k
+either_kept true P a b h k = h
+either_kept false P a b h k = k
 
 kept_text : (P : List ℤ → Type 0) (shape : Shape) (pads : ℕ → Bool) (spot next : Spot)
     (before : List ℤ) (bytes : List ℕ) (text : Text) → P no_dcs → P before
@@ -82,7 +82,7 @@ kept_text : (P : List ℤ → Type 0) (shape : Shape) (pads : ℕ → Bool) (spo
 kept_text P shape pads spot next before bytes (Ok bits) none last e =
     let same : put_bits shape pads spot before bits ≡ (bytes, next) = cc in
     subst (λ (made : List ℕ × Spot). P made.1.before) same
-    (kept_by (is_closed shape (spot.count + 1)) P _ _ none last)
+    (either_kept (is_closed shape (spot.count + 1)) P _ _ none last)
 kept_text P shape pads spot next before bytes (Err stop) none last e =
     absurd (let f : Err stop ≡ Ok (bytes, next) = e in cc)
 

@@ -1,6 +1,7 @@
 pub mod ScanStream
 pub mod Segments
 pub mod Meanings
+pub mod Indexed
 pub mod Files
 pub mod Refusals
 pub mod Limits

@@ -8,13 +8,13 @@ use Rattle.scan_spec.specs.FileParts.{IsFileOf}
 use Rattle.scan_spec.specs.Pads.{bits_sum}
 use Rattle.scan_spec.specs.Scans.{Mcu, intervals_of, pad_counts}
 use Rattle.scan_spec.specs.Slots.{shape_of}
-use Rattle.box_format.specs.BoxLaws.{IsRead}
-use Rattle.box_format.specs.Versions.{layout_of, version_in, migratable}
-use Rattle.box_format.specs.Parts.{BoxParts, IsBox, IsBoxOf, can_pad, box_bytes, migrated}
+use Rattle.box_format.specs.Versions.{layout_of, version_in, migratable, IsRead}
+use Rattle.box_format.specs.Parts.{BoxParts, ArePlaces, IsBox, IsBoxOf, can_pad, box_bytes, migrated}
 use Rattle.box_format.specs.declared.version.Version.{Version}
-use Rattle.box_format.specs.declared.version.Version.TheVariants.{First, Second}
+use Rattle.box_format.specs.declared.version.Version.TheVariants.{First, Second, Fifth}
 use Rattle.container_spec.specs.Segments.{segment_output}
-use Rattle.container_spec.specs.Meanings.{Meaning, Restored, IsMeaning, segment_in}
+use Rattle.container_spec.specs.Meanings.{Meaning, Restored, IsMeaning, meaning_of, segment_in}
+use Rattle.container_spec.specs.Indexed.{indexed, places_found}
 use Rattle.container_spec.specs.Files.{IsContainerOf, told_pads}
 use Rattle.container_spec.specs.Refusals.{IsRefusedFile}
 use Rattle.container_spec.specs.Limits.{most_of_a_container, most_of_a_file}
@@ -89,3 +89,26 @@ MigratedMeansTheSame =
     (plan : PlanFields) (b : BoxParts) (bytes : List ℕ) (meaning : Meaning)
     → AllByRecursion IsByte bytes → IsRead migratable b.version → IsBoxOf plan b bytes
     → IsMeaning bytes meaning → IsMeaning (box_bytes (migrated b)) meaning
+
+-- a container that stands for a file has, with the places found, one of the fifth version that is the file's, of as
+-- many segments
+abbrev pub IndexedIsContainer : Type 0
+IndexedIsContainer =
+    (plan : PlanFields) (b : BoxParts) (bytes file : List ℕ) → AllByRecursion IsByte bytes
+    → (layout_of b.version).chunked ≡ false → IsBoxOf plan b bytes
+    → meaning_of plan b ≡ record { bytes = file; verdict = Restored }
+    → (most : ℕ) × (0 < most) × (most ≤ (layout_of Fifth).most)
+    × IsContainerOf b.version most bytes file
+    × IsContainerOf Fifth most (box_bytes (indexed plan b)) file
+
+-- one that keeps its places already stays as it is
+abbrev pub IndexedStays : Type 0
+IndexedStays =
+    (plan : PlanFields) (b : BoxParts) → IsBox plan b → b.version ≡ Fifth
+    → (meaning_of plan b).verdict ≡ Restored → indexed plan b ≡ b
+
+-- the places found of any container fit in 64 bits, rise, and begin with the header's end
+abbrev pub PlacesAreFound : Type 0
+PlacesAreFound =
+    (plan : PlanFields) (b : BoxParts) → IsBox plan b
+    → ArePlaces (length b.header) (length b.handovers) (places_found plan b)

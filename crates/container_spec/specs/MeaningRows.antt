@@ -17,6 +17,7 @@ use Rattle.box_format.specs.BoxRows.{grey_header, grey_plan, ones_plan, image_en
 use Rattle.container_spec.specs.Segments.{SegmentFields, Output, segment_output}
 use Rattle.box_format.specs.declared.version.Version.TheVariants.{First, Second}
 use Rattle.container_spec.specs.Meanings.{Meaning, Verdict, Restored, PadSpelled, ChunkShort, Faulty, meaning_of}
+use Rattle.container_spec.specs.Indexed.{indexed, places_found}
 
 -- a segment of one MCU of two with these tables, by its stream, what it starts from, and what the next one starts from
 abbrev pub one_of_two : ComponentCodes → List ℕ → ℕ → HandoverFields → Option HandoverFields
@@ -174,3 +175,13 @@ places_are_looked_at =
       bytes = grey_header 16 ++ 0x0f ∷ [];
       verdict = Faulty (record { segment = 1; cause = PlaceBad 1 2 });
     })
+
+-- the places of two segments of which the first has no byte, and the container that keeps them: of one that keeps none,
+-- and of ones that keep the right places and wrong ones
+abbrev pub places_are_found : Type 0
+places_are_found =
+    (places_found (grey_plan 2) byteless_parts ≡ 69 ∷ 69 ∷ 70 ∷ [])
+    × (indexed (grey_plan 2) byteless_parts ≡ placed_parts)
+    × (indexed (grey_plan 2) placed_parts ≡ placed_parts)
+    × (indexed (grey_plan 2) (record placed_parts { places = Some (69 ∷ 70 ∷ 70 ∷ []) })
+    ≡ placed_parts)

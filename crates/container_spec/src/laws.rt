@@ -1,7 +1,7 @@
 // What holds of all segments, containers and files.
 ghost use Rattle.container_spec.specs.SegmentLaws.{McusArePut, SegmentIsItsSlice, GoodHasItsStream, GoodHasItsPlaces};
-ghost use Rattle.container_spec.specs.MeaningLaws.{OneMeaning, ContainerIsRestored, RestoredIsContainer, OneContainer, AcceptedIsNotRefused, FirstCanPad, SecondCanPad, ContainerIsShort, MigratedMeansTheSame, SegmentIsShort};
-ghost use Rattle.container_spec.specs.MeaningRows.{zeros_are_put, faults_are_told, places_are_counted, containers_are_joined, pad_is_spelled, lists_are_spelled, chunks_are_slices, places_are_looked_at};
+ghost use Rattle.container_spec.specs.MeaningLaws.{OneMeaning, ContainerIsRestored, RestoredIsContainer, OneContainer, AcceptedIsNotRefused, FirstCanPad, SecondCanPad, ContainerIsShort, MigratedMeansTheSame, SegmentIsShort, IndexedIsContainer, IndexedStays, PlacesAreFound};
+ghost use Rattle.container_spec.specs.MeaningRows.{zeros_are_put, faults_are_told, places_are_counted, containers_are_joined, pad_is_spelled, lists_are_spelled, chunks_are_slices, places_are_looked_at, places_are_found};
 
 /// MCUs that a stream gives are put, and so a segment of a scan stands for its slice of the scan.
 pub fn segments_are_slices()
@@ -31,6 +31,15 @@ pub fn containers_stand_for_files()
     ensures migrated { MigratedMeansTheSame }
 {}
 
+/// A container that stands for a file has one of version 5, with the places found, that is the file's too. One that
+/// keeps places already keeps the ones found. The places found of any container, whatever its streams, are such as a
+/// container may keep.
+pub fn indexed_containers_stand_for_files()
+    ensures indexed { IndexedIsContainer }
+    ensures stays { IndexedStays }
+    ensures found { PlacesAreFound }
+{}
+
 /// Whatever its stream, a segment of a container has fewer bytes than 64 bits count.
 pub fn segments_are_short()
     ensures { SegmentIsShort }
@@ -46,4 +55,5 @@ pub fn rows_of_meanings()
     ensures lists { lists_are_spelled }
     ensures chunks { chunks_are_slices }
     ensures looked { places_are_looked_at }
+    ensures found { places_are_found }
 {}

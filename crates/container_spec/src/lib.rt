@@ -11,6 +11,6 @@
 mod laws;
 
 pub use laws::{
-    containers_stand_for_files, good_segments_have_their_stream, rows_of_meanings,
-    segments_are_short, segments_are_slices,
+    containers_stand_for_files, good_segments_have_their_stream,
+    indexed_containers_stand_for_files, rows_of_meanings, segments_are_short, segments_are_slices,
 };

@@ -17,7 +17,7 @@ joined_parts : (xs ys : List (List ℕ)) → joined (xs ++ ys) ≡ joined xs ++ 
 joined_parts xs ys = flat_map-append (λ (bytes : List ℕ). bytes) xs ys
 
 -- the bytes of the first segments
-abbrev first_bytes : List (List ℕ) → ℕ → List ℕ
+abbrev pub first_bytes : List (List ℕ) → ℕ → List ℕ
 first_bytes xs i = joined (take i xs)
 
 -- the bytes of the segments from one to before another are a slice of those of all
@@ -40,7 +40,7 @@ segments_are_slice xs i j h =
     ∙ drop_at a b (length a) refl
 
 -- with one segment more
-one_more : (xs : List (List ℕ)) (i : ℕ) → i < length xs
+pub one_more : (xs : List (List ℕ)) (i : ℕ) → i < length xs
     → length (first_bytes xs (i + 1)) ≡ length (first_bytes xs i) + length (get_or xs i [])
 one_more xs i h =
     let x = get_or xs i [] in

@@ -13,7 +13,7 @@ mod PiecesFilled
 mod ReadOn
 mod ScansCoded
 mod SegmentEnds
-mod SegmentNumbers
+pub mod SegmentNumbers
 mod SegmentsBegun
 mod SegmentsCoded
 mod SlotsOfGrid

@@ -50,3 +50,7 @@ returns-clause-chunks c = (refl, refl, refl)
 pub returns-clause-looked : goal.returns-clause-looked
 unfolding after first_bits stream blocks_stream value_events count_events values_events inner_positions values_in guess prediction dc_spread block_events inner_count_events edge_events dc_events ac_events cell_at block_at segment_events events_at around_in told_by asked_number asked_count asked_category asked_rest asked_value asked_values asked_edge asked_residue placed block_with asked_coefficients asked_block block_read blocks_read block_text dc_text ac_text ac_values value_text zeros_text word_text word_of words_of blocks_text dcs_after mcu_put mcus_put handover_bytes mcu_step ending mcus_output meaning_of
 returns-clause-looked c = (refl, refl, refl)
+
+pub returns-clause-found : goal.returns-clause-found
+unfolding after first_bits stream blocks_stream value_events count_events values_events inner_positions values_in guess prediction dc_spread block_events inner_count_events edge_events dc_events ac_events cell_at block_at segment_events events_at around_in told_by asked_number asked_count asked_category asked_rest asked_value asked_values asked_edge asked_residue placed block_with asked_coefficients asked_block block_read blocks_read block_text dc_text ac_text ac_values value_text zeros_text word_text word_of words_of blocks_text dcs_after mcu_put mcus_put handover_bytes mcu_step ending mcus_output meaning_of
+returns-clause-found c = (refl, refl, refl, refl)

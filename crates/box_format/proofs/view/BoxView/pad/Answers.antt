@@ -1,13 +1,15 @@
-use Rattle.std.proofs.Common.{◌≡◌, ◌==◌, false, true, ℕ, List, length, sym, subst, ◌∙◌}
+use Rattle.std.proofs.Common.{◌≡◌, ◌==◌, ◌<◌, ◌^◌, false, true, ℕ, List, length, sym, subst, ◌∙◌}
 use Rattle.std.specs.Prelude.{slice_index}
 use Rattle.scan_spec.specs.Pads.{Listed, list_room}
 use Rattle.scan_spec.specs.Slots.{shape_of}
 use Rattle.box_format.specs.BoxChecks.{is_bad_pad}
+use Rattle.box_format.specs.Raws.{raw_of}
 use Rattle.box_format.specs.Seen.{BoxSeen}
 use Rattle.box_format.specs.Versions.{decoded, layout_of, version_in}
 use Rattle.box_format.specs.Whole.{list_in}
-use Rattle.box_format.proofs.Fronts.{pad_can, long_again}
+use Rattle.box_format.proofs.Fronts.{pad_can, list_again, long_again}
 use Rattle.box_format.proofs.Passed.{early_of, late_of}
+use Rattle.box_format.proofs.PassedBox.{passed_is_box}
 use Rattle.box_format.proofs.view.BoxView.pad.Goals as goal
 
 pub list_in-requires : goal.list_in-requires
@@ -30,3 +32,18 @@ returns-in-2-clause-long c =
     c.self.view_is
     (subst (λ (l : List ℕ). (length l == list_room (shape_of i.plan)) ≡ true)
     (sym c.list_in.ensures) long)
+
+pub returns-in-2-clause-fits : goal.returns-in-2-clause-fits
+unfolding raw_of
+returns-in-2-clause-fits c =
+    let i = c.self.inside in
+    let bytes = i.bytes.now in
+    let whole = (early_of decoded bytes c.self.invariant.checks.early).whole in
+    let late = late_of i.plan bytes whole c.self.invariant.checks.late in
+    let box =
+    (passed_is_box decoded i.plan bytes c.self.invariant.bytes c.self.invariant.checks).0.box in
+    let listed = (layout_of (version_in bytes)).listed in
+    subst (λ (l : List ℕ). length l < 2 ^ 32)
+    (sym (c.list_in.ensures
+    ∙ list_again listed (shape_of i.plan) (slice_index bytes 5) (list_in bytes) late.pad))
+    box.list_fits

@@ -31,3 +31,12 @@ returns-clause-few c =
     let few = box.few in
     let count = c.segments_in.ensures ∙ sym (handovers_count c.self.inside.bytes.now) in
     omega (arith, more, few, count)
+
+pub returns-clause-streams : goal.returns-clause-streams
+unfolding raw_of
+returns-clause-streams c =
+    let bytes = c.self.inside.bytes.now in
+    let box = (passed_is_box decoded c.self.inside.plan bytes c.self.invariant.bytes
+    c.self.invariant.checks).0.box in
+    c.segments_in.ensures ∙ sym (handovers_count bytes) ∙ sym box.streams
+    ∙ ap (λ (s : BoxSeen). length s.parts.streams) c.self.view_is

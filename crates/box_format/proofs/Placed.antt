@@ -1,0 +1,90 @@
+-- The bytes of a container as they are put with places.
+use Rattle.std.proofs.Common.{◌≡◌, ◌<◌, ◌≤◌, ◌+◌, ◌-◌, ◌^◌, ℕ, List, [], ◌∷◌, ◌++◌, length, drop, map, flat_map, get_or, refl, ap, ap₂, ◌∙◌, sym, arith, append_assoc}
+use Rattle.std.specs.Prelude.{Some, None, min, sum}
+use Rattle.std.proofs.lemmas.List.{drop_more, drop_all}
+use Rattle.byteorder.specs.Endian.{big_bytes}
+use Rattle.handover.specs.Handovers.{HandoverFields, start}
+use Rattle.handover.specs.HandoverBytes.{handover_bytes}
+use Rattle.box_format.specs.Parts.{BoxParts, box_bytes, list_bytes, magic, pad_byte, place_bytes, records, with_places}
+use Rattle.box_format.specs.Versions.{version_byte}
+use Rattle.box_format.specs.declared.version.Version.TheVariants.{Fifth}
+use Rattle.box_format.proofs.Lists.{sum_first}
+
+-- ---- the records
+
+-- a record and those after it
+next_records : (places : List ℕ) (i : ℕ) (handovers : List HandoverFields)
+    (streams : List (List ℕ)) → i < length handovers → length streams ≡ length handovers
+    → records (Some places) i (drop i handovers) (drop i streams)
+    ≡ handover_bytes (get_or handovers i start)
+    ++ (big_bytes 8 (length (get_or streams i [])) ++ place_bytes (Some places) i)
+    ++ records (Some places) (i + 1) (drop (i + 1) handovers) (drop (i + 1) streams)
+next_records places i handovers streams below same =
+    ap₂ (records (Some places) i) (drop_more handovers i start below)
+    (drop_more streams i [] (omega (arith, below, same)))
+
+apart : (b x y z r : List ℕ) → b ++ (x ++ y) ++ z ++ r ≡ b ++ (x ++ (y ++ z) ++ r)
+apart b x y z r = simp append_assoc
+
+-- one more is put
+pub record_put : (places : List ℕ) (i k : ℕ) (handovers : List HandoverFields)
+    (streams : List (List ℕ)) (h : HandoverFields) (stream before one two all : List ℕ)
+    → i < length handovers → length streams ≡ length handovers
+    → h ≡ get_or handovers i start → stream ≡ get_or streams i [] → k ≡ i
+    → one ≡ before ++ (handover_bytes h ++ big_bytes 8 (length stream))
+    → two ≡ one ++ place_bytes (Some places) k
+    → before ++ records (Some places) i (drop i handovers) (drop i streams) ≡ all
+    → two ++ records (Some places) (i + 1) (drop (i + 1) handovers) (drop (i + 1) streams) ≡ all
+record_put places i k handovers streams h stream before one two all below same a b c e f is =
+    rw (f, e, a, b, c)
+    (apart before (handover_bytes (get_or handovers i start))
+    (big_bytes 8 (length (get_or streams i []))) (place_bytes (Some places) i)
+    (records (Some places) (i + 1) (drop (i + 1) handovers) (drop (i + 1) streams))
+    ∙ ap (λ (l : List ℕ). before ++ l) (sym (next_records places i handovers streams below same))
+    ∙ is)
+
+-- ---- their room
+
+-- one more stream is counted
+pub room_more : (streams : List (List ℕ)) (i room front part next whole : ℕ) (stream : List ℕ)
+    → i < length streams → stream ≡ get_or streams i [] → front ≡ 30
+    → part ≡ min (front + length stream) (2 ^ 64 - 1) → next ≡ min (room + part) (2 ^ 64 - 1)
+    → min (2 ^ 64 - 1)
+    (room + sum (map (λ (s : List ℕ). 30 + length s) (drop i streams))) ≡ whole
+    → min (2 ^ 64 - 1)
+    (next + sum (map (λ (s : List ℕ). 30 + length s) (drop (i + 1) streams))) ≡ whole
+room_more streams i room front part next whole stream below a k b e is =
+    let f : List ℕ → ℕ = λ s. 30 + length s in
+    let first = ap (λ (l : List (List ℕ)). sum (map f l)) (drop_more streams i [] below)
+    ∙ sum_first (f (get_or streams i [])) (map f (drop (i + 1) streams)) in
+    let long = ap (λ (l : List ℕ). length l) a in
+    omega (arith, first, long, k, b, e, is)
+
+-- all are counted
+pub room_all : (streams : List (List ℕ)) (i room whole : ℕ) → length streams ≤ i
+    → room < 2 ^ 64
+    → min (2 ^ 64 - 1)
+    (room + sum (map (λ (s : List ℕ). 30 + length s) (drop i streams))) ≡ whole → room ≡ whole
+room_all streams i room whole past small is =
+    let f : List ℕ → ℕ = λ s. 30 + length s in
+    let none = ap (λ (l : List (List ℕ)). sum (map f l)) (drop_all i streams past) in
+    omega (arith, none, small, is)
+
+-- ---- the whole
+
+-- what was written one after another
+pub placed_written : (b : BoxParts) (places list header trailer : List ℕ) (pad count k : ℕ)
+    (b0 b1 b2 b3 b4 b5 b6 b7 b8 : List ℕ) → b.chunk ≡ None → list ≡ list_bytes b.pads
+    → header ≡ b.header → trailer ≡ b.trailer → pad ≡ pad_byte b.pads
+    → count ≡ length b.handovers → k ≡ count → b0 ≡ []
+    → b1 ≡ b0 ++ (magic ++ version_byte Fifth ∷ pad ∷ count ∷ [])
+    → b2 ≡ b1 ++ (big_bytes 4 (length header) ++ (big_bytes 4 (length trailer)
+    ++ big_bytes 4 (length list)))
+    → b3 ≡ b2 ++ place_bytes (Some places) k
+    → b4 ≡ b3 ++ records (Some places) 0 b.handovers b.streams → b5 ≡ b4 ++ list
+    → b6 ≡ b5 ++ header → b7 ≡ b6 ++ trailer → b8 ≡ b7 ++ flat_map (λ stream. stream) b.streams
+    → b8 ≡ box_bytes (with_places b places)
+unfolding box_bytes
+placed_written b places list header trailer pad count k b0 b1 b2 b3 b4 b5 b6 b7 b8 none l h t p n m
+    e0 e1 e2 e3 e4 e5 e6 e7 e8 =
+    rw (e8, e7, e6, e5, e4, e3, e2, e1, e0, m, l, h, t, p, n, none) refl

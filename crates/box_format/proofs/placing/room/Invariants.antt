@@ -1,0 +1,13 @@
+use Rattle.std.proofs.Common.{◌≡◌, ◌+◌, ◌-◌, ◌^◌, ◌<◌, List, ℕ, length, map, drop, min, sum}
+use Rattle.box_format.specs.Parts.{with_places}
+use Rattle.box_format.specs.Seen.{room_of}
+use Rattle.box_format.proofs.placing.room.Given as goal
+
+abbrev pub invariant-loop-i : goal.invariant-loop-i
+invariant-loop-i l = record {
+  small : l.room < 2 ^ 64;
+  left : (places : List ℕ)
+      → min (2 ^ 64 - 1)
+      (l.room + sum (map (λ (stream : List ℕ). 30 + length stream) (drop l.i l.view.parts.streams)))
+      ≡ min (2 ^ 64 - 1) (room_of (with_places l.view.parts places));
+}
