@@ -4,6 +4,7 @@ use Rattle.std.specs.Prelude.{All, OnOk, OnErr}
 use Rattle.container_spec.specs.Meanings.{Joined}
 use Rattle.output_board.specs.declared.view.EmitterView.{EmitterView}
 use Rattle.output_board.specs.declared.view.WorkerView.{WorkerView}
+use Rattle.segment_crew.specs.Crews.{Member}
 use Rattle.segment_worker.specs.declared.emitted.Emitted.{Emitted}
 use Rattle.segment_worker.specs.declared.emitted.EmitStop.{EmitStop}
 use Rattle.segment_worker.specs.declared.emitted.EmitStop.TheVariants as Stops
@@ -36,8 +37,8 @@ has_emitted count view (Err stop) (Err (Fault fault)) through stopped follows = 
 has_emitted count view (Err stop) (Err (WriteFault written)) through stopped follows = tt
 
 -- and so do the workers'
-pub have_left : (team : List WorkerView) (result : Result ℕ DecodeError)
-    → All (λ (w : WorkerView). w.left ≡ true) team → HaveLeft team result
+pub have_left : (team : List (Member WorkerView)) (result : Result ℕ DecodeError)
+    → All (λ (member : Member WorkerView). member.view.left ≡ true) team → HaveLeft team result
 have_left team (Ok written) left = left
 have_left team (Err PadSpelling) left = left
 have_left team (Err ChunkShort) left = left

@@ -1,5 +1,4 @@
 mod FilesWritten
-mod NewTeams
 mod NoSegments
 mod EndsMet
 mod RingSizes

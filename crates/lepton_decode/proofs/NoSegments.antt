@@ -11,9 +11,10 @@ use Rattle.container_spec.specs.Meanings.{Joined, joined, segment_in}
 use Rattle.segment_worker.specs.declared.emitted.Emitted.{Emitted}
 use Rattle.segment_worker.specs.Emitting.{Emits, joined_in, seen_through}
 use Rattle.segment_worker.proofs.Writing.{written_nothing}
+use Rattle.lepton_decode.specs.Chunked.{whole}
 
 -- it has no bytes of segments
-pub nothing_joined : (v : BoxSeen) → length v.parts.handovers ≡ 0 → joined_in v ≡ joined []
+pub nothing_joined : (v : BoxSeen) → length v.parts.handovers ≡ 0 → joined_in (whole v) ≡ joined []
 nothing_joined v none =
     ap (λ (n : ℕ). joined (map (λ i. segment_output (segment_in v.plan v.parts i)) (numbers 0 n))) none
 
@@ -26,7 +27,7 @@ module _ {Sink : Type 0} (held : Sink → Option (List ℕ))
   -- all of its segments are written before anything is
   pub nothing_emitted : (v : BoxSeen) (w : Window) (pads : PadSum) (sink : Sink) → length v.parts.handovers ≡ 0
       → pads ≡ no_pads
-      → Emits held takes faults full sink sink (seen_through w (joined_in v)) (Ok (nothing_with pads))
+      → Emits held takes faults full sink sink (seen_through w (joined_in (whole v))) (Ok (nothing_with pads))
   nothing_emitted v w pads sink none e =
       subst (λ (all : Joined). Emits held takes faults full sink sink (seen_through w all) (Ok (nothing_with pads)))
       (sym (nothing_joined v none))

@@ -1,12 +1,18 @@
 -- Steps: what a container begins with, what goes through of its segments, and what is asked of them, by its chunk if it
 -- has one (own).
-use Rattle.std.specs.Prelude.{ℕ, ◌+◌, nat_lt, Bool, true, false, List, Option, Some, None}
+use Rattle.std.specs.Prelude.{ℕ, ◌+◌, nat_lt, Bool, true, false, List, length, Option, Some, None}
 use Rattle.byte_window.specs.declared.window.Window.{Window}
 use Rattle.scan_spec.specs.Pads.{PadBits, is_spelled}
 use Rattle.handover.specs.declared.pads.PadSum.{PadSum}
 use Rattle.box_format.specs.Parts.{BoxParts}
+use Rattle.box_format.specs.Seen.{BoxSeen}
 use Rattle.box_format.specs.declared.chunk.Chunk.{Chunk}
 use Rattle.container_spec.specs.Meanings.{before_rows, rows_window}
+use Rattle.segment_worker.specs.Contents.{Stretch, stretch}
+
+-- all of its segments
+abbrev pub whole : BoxSeen → Stretch
+whole v = stretch v 0 (length v.parts.handovers)
 
 -- what comes before its segments
 abbrev pub before_in : BoxParts → List ℕ

@@ -9,20 +9,16 @@ use Rattle.segment_worker.specs.Written.{HasWritten, HasFailed}
 use Rattle.segment_worker.specs.Emitting.{IsThrough}
 use Rattle.segment_worker.specs.declared.emitted.Emitted.{Emitted}
 use Rattle.segment_worker.specs.declared.emitted.EmitStop.{EmitStop}
+use Rattle.segment_crew.specs.Crews.{CrewSeen, Member}
 use Rattle.lepton_decode.specs.declared.error.DecodeError.{DecodeError}
 use Rattle.lepton_decode.specs.declared.error.DecodeError.TheVariants.{WriteFault, Fault, PadSpelling, ChunkShort}
 
--- what the emitter and each worker know of a board
-pub record CrewSeen : Type 0 where
-  pub emitter : EmitterView
-  pub team : List WorkerView
-
--- what each worker knows; nothing if there is no board
-abbrev pub team_in : Option CrewSeen → List WorkerView
+-- what is seen of each worker; nothing if there is no crew
+abbrev pub team_in : Option CrewSeen → List (Member WorkerView)
 team_in None = []
 team_in (Some crew) = crew.team
 
--- a container that is ready: its header's plan, its parts, what is known of its board if it has one, and whether it was
+-- a container that is ready: its header's plan, its parts, what is seen of its crew if it has one, and whether it was
 -- decoded
 pub record ReadySeen : Type 0 where
   pub plan : PlanFields
@@ -68,11 +64,11 @@ HasEmitted count e (Err (Fault fault)) = e.stopped ≡ true
 HasEmitted count e (Err (WriteFault written)) = Unit {0}
 
 -- each worker has left, unless a write failed
-abbrev pub HaveLeft : List WorkerView → Result ℕ DecodeError → Type 0
-HaveLeft team (Ok written) = All (λ w. w.left ≡ true) team
-HaveLeft team (Err PadSpelling) = All (λ w. w.left ≡ true) team
-HaveLeft team (Err ChunkShort) = All (λ w. w.left ≡ true) team
-HaveLeft team (Err (Fault fault)) = All (λ w. w.left ≡ true) team
+abbrev pub HaveLeft : List (Member WorkerView) → Result ℕ DecodeError → Type 0
+HaveLeft team (Ok written) = All (λ member. member.view.left ≡ true) team
+HaveLeft team (Err PadSpelling) = All (λ member. member.view.left ≡ true) team
+HaveLeft team (Err ChunkShort) = All (λ member. member.view.left ≡ true) team
+HaveLeft team (Err (Fault fault)) = All (λ member. member.view.left ≡ true) team
 HaveLeft team (Err (WriteFault written)) = Unit {0}
 
 -- what a decode may answer by how its emitter ended: it is whole only if all segments were written

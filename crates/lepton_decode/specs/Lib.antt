@@ -1,5 +1,4 @@
 pub mod Chunked
 pub mod Ends
-pub mod Teams
 pub mod ReadyInside
 pub mod AloneInside

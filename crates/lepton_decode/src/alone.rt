@@ -121,6 +121,7 @@ fn restore_alone<'a, K: Sink, G: Gate>(
         Err(written) => return Err(DecodeError::WriteFault { written }),
     };
     let window = rows_window(view);
-    let emitted = emit_alone(decoder, piece, view, window, sink, gate);
+    let segments = view.segments();
+    let emitted = emit_alone(decoder, piece, view, window, sink, gate, 0, segments);
     put_rest(view, before, window, emitted, sink)
 }

@@ -2,19 +2,18 @@
 ghost use Rattle.std.specs.Prelude.{◌≡◌, ◌≤◌, All, IfSome, false, is_some, length, true};
 ghost use Rattle.container_spec.specs.Meanings.{meaning_of};
 ghost use Rattle.outside_core.specs.Takes.{TakesNext};
+ghost use Rattle.segment_crew.specs.Crews.{HasBegunItsClaims};
+ghost use Rattle.lepton_decode.specs.Chunked.{whole};
 ghost use Rattle.lepton_decode.specs.Ends.{Ends, HasEmitted, HaveLeft, meaning_in, team_in};
-ghost use Rattle.lepton_decode.specs.Teams.{IsIdleWorker, IsNewLead, views_of};
 
 use crate::error::DecodeError;
 use crate::file_parts::{put_before, put_rest, rows_window};
 use crate::ready::Ready;
-use crate::team::{Emitter, Shared, Worker};
-use crate::threads::lead_beside;
 use box_format::BoxView;
 use handover::PadSum;
-use output_board::Board;
 use outside_core::{Gate, Sink};
-use segment_worker::{Emitted, Told};
+use segment_crew::Crew;
+use segment_worker::Emitted;
 use std::sync::Wait;
 use std::thread::Threads;
 
@@ -38,8 +37,11 @@ pub fn run<R: Threads + Wait + Sync, K: Sink + Send, G: Gate + Sync>(
     ensures ends { Ends K.held K.takes K.faults K.full sink.old sink.new (meaning_in ready.old) result }
     // If there is a board, what the emitter's seat knows then of it, and that each worker has left it.
     ensures emitted { IfSome ready.new.crew (λ crew.
-        HasEmitted (length ready.old.parts.handovers) crew.emitter result) }
+        HasEmitted (length ready.old.parts.handovers) crew.emitter.view result) }
     ensures left { IfSome ready.new.crew (λ crew. HaveLeft crew.team result) }
+    // And that the emitter and each worker began as many segments as it claimed.
+    ensures begun { IfSome ready.new.crew (λ crew.
+        HasBegunItsClaims crew.emitter × All HasBegunItsClaims crew.team) }
     ensures crew { is_some ready.new.crew ≡ is_some ready.old.crew }
     ensures team { length (team_in ready.new.crew) ≡ length (team_in ready.old.crew) }
     ensures used { ready.new.used ≡ true }
@@ -47,15 +49,7 @@ pub fn run<R: Threads + Wait + Sync, K: Sink + Send, G: Gate + Sync>(
 {
     ready.used = true;
     match &mut ready.crew {
-        Some(crew) => restore(
-            rt,
-            &ready.view,
-            &crew.board,
-            &mut crew.emitter,
-            &mut crew.team,
-            sink,
-            gate,
-        ),
+        Some(crew) => restore(rt, &ready.view, crew, sink, gate),
         None => restore_bare(&ready.view, sink),
     }
 }
@@ -64,35 +58,32 @@ pub fn run<R: Threads + Wait + Sync, K: Sink + Send, G: Gate + Sync>(
 fn restore<'a, R: Threads + Wait + Sync, K: Sink + Send, G: Gate + Sync>(
     rt: &R,
     view: &BoxView<'a>,
-    board: &Board<Told<'a>>,
-    emitter: &mut Emitter<'a>,
-    team: &mut Vec<Worker<'a>>,
+    crew: &mut Crew<'a>,
     sink: &mut K,
     gate: &G,
 ) -> Result<u64, DecodeError>
-    requires new { IsNewLead board.now view.now emitter.old }
-    requires team { All (IsIdleWorker board.now view.now) team.old.items }
+    requires fresh { crew.old.used ≡ false }
+    requires whole { crew.old.segments ≡ whole view.now }
     requires takes { TakesNext K.takes sink.old
         (meaning_of view.now.plan view.now.parts).bytes }
     ensures ends { Ends K.held K.takes K.faults K.full sink.old sink.new
         (meaning_of view.now.plan view.now.parts) result }
-    ensures emitted { HasEmitted (length view.now.parts.handovers) emitter.new.seat.view result }
-    ensures left { HaveLeft (views_of team.new.items) result }
-    ensures count { length team.new.items ≡ length team.old.items }
+    ensures emitted { HasEmitted (length view.now.parts.handovers) crew.new.emitter.view result }
+    ensures left { HaveLeft crew.new.team result }
+    ensures emitter { HasBegunItsClaims crew.new.emitter }
+    ensures team { All HasBegunItsClaims crew.new.team }
+    ensures count { length crew.new.team ≡ length crew.old.team }
+    ensures segments { crew.new.segments ≡ crew.old.segments }
     ensures lasting { K.faults sink.old ≤ K.faults sink.new }
 {
+    // Called for its clauses: before the crew is used, too, each began as many segments as it claimed.
+    let _used = crew.used();
     let before = match put_before(view, sink) {
         Ok(before) => before,
         Err(written) => return Err(DecodeError::WriteFault { written }),
     };
     let window = rows_window(view);
-    let shared = Shared {
-        board,
-        view,
-        window,
-        gate,
-    };
-    let emitted = lead_beside(rt, emitter, team.as_mut_slice(), &shared, sink);
+    let emitted = crew.emit(rt, view, window, sink, gate);
     put_rest(view, before, window, emitted, sink)
 }
 

@@ -6,7 +6,7 @@ ghost use Rattle.container_spec.specs.Meanings.{meaning_of};
 ghost use Rattle.segment_worker.specs.Contents.{segment_room};
 ghost use Rattle.segment_worker.specs.Emitting.{Counts, Emits, joined_in, seen_through};
 ghost use Rattle.segment_worker.specs.Written.{HasWritten, HasFailed};
-ghost use Rattle.lepton_decode.specs.Chunked.{are_spelled, before_in, falls_short, window_in};
+ghost use Rattle.lepton_decode.specs.Chunked.{are_spelled, before_in, falls_short, whole, window_in};
 ghost use Rattle.lepton_decode.specs.Ends.{Ends, Follows};
 
 use crate::error::DecodeError;
@@ -102,15 +102,16 @@ pub(crate) fn put_rest<K: Sink>(
     requires before { before ≡ length (before_in view.now.parts) }
     requires fits { before < 2 ^ 32 }
     requires window { window ≡ window_in view.now.parts }
-    requires counts { Counts (seen_through window (joined_in view.now)) emitted }
-    requires came { IfOk emitted (λ emitted. emitted.came ≡ length (joined_in view.now).bytes) }
-    requires few { length (joined_in view.now).bytes ≤ segment_room * most_segments }
+    requires counts { Counts (seen_through window (joined_in (whole view.now))) emitted }
+    requires came { IfOk emitted (λ emitted.
+        emitted.came ≡ length (joined_in (whole view.now)).bytes) }
+    requires few { length (joined_in (whole view.now)).bytes ≤ segment_room * most_segments }
     requires takes { IfOk emitted (λ emitted. falls_short window emitted.came ≡ false
         → TakesNext K.takes sink.old view.now.parts.trailer) }
     ensures ends { (first mid : K)
         → HasWritten K.held K.takes K.faults first mid (before_in view.now.parts)
-        → Emits K.held K.takes K.faults K.full mid sink.old (seen_through window (joined_in view.now))
-        emitted
+        → Emits K.held K.takes K.faults K.full mid sink.old
+        (seen_through window (joined_in (whole view.now))) emitted
         → Ends K.held K.takes K.faults K.full first sink.new (meaning_of view.now.plan view.now.parts)
         result }
     ensures follows { Follows emitted result }

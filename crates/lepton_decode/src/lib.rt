@@ -1,26 +1,21 @@
 //! A container's file, or its chunk of one, written while it is decoded (this project's own).
 //!
-//!     bytes --read_box--> view --prepare--> if there is a segment: board, seats, decoders, pieces
+//!     bytes --read_box--> view --prepare--> if there is a segment: a crew for all of them
 //!
 //!     run     header, or the chunk's part of it --write_all--> sink
-//!             workers in threads of their own   --rings of the board-->  the emitter on this thread,
-//!             and of that what the chunk has    --write_all--> sink
+//!             of the segments what the chunk has --Crew::emit--> sink
 //!             trailer, if no byte of a chunk is missing --write_all--> sink
 //!
 //! `prepare` takes the memory; `run` is given no allocator, so that nothing is lost for want of it once bytes are
 //! written. `prepare_alone` and `run_alone` do the same on the calling thread, with no board: nothing in them waits, so
-//! they are proved to return. What a container stands for is `container_spec`; what workers and the emitter do is
-//! `segment_worker`'s.
+//! they are proved to return. What a container stands for is `container_spec`; what a crew does is `segment_crew`'s.
 #![tactic(auto)]
 
 mod alone;
-mod crew;
 mod decode;
 mod error;
 mod file_parts;
 mod ready;
-mod team;
-mod threads;
 
 pub use alone::{ReadyAlone, prepare_alone, run_alone};
 pub use decode::run;

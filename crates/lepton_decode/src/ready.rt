@@ -4,11 +4,12 @@ ghost use Rattle.box_format.specs.Parts.{BoxParts, IsBoxOf};
 ghost use Rattle.jpeg_marker.specs.Plans.{PlanFields};
 ghost use Rattle.box_format.specs.BoxChecks.{IsRefusedBox};
 ghost use Rattle.box_format.specs.declared.refusal.BoxRefusal.{BoxRefusal};
+ghost use Rattle.lepton_decode.specs.Chunked.{whole};
 ghost use Rattle.lepton_decode.specs.Ends.{team_in};
 
-use crate::crew::{Crew, crew_for};
 use box_format::{BoxRefusal, BoxView, read_box};
 use growth::NoMemory;
+use segment_crew::Crew;
 use std::alloc::Global;
 use std::marker::Model;
 use thiserror::Error;
@@ -16,8 +17,7 @@ use thiserror::Error;
 /// A container that is ready to be decoded, once: its parts, and if it has a segment, its board with the seats, and all
 /// the memory that decoding needs.
 ///
-/// Clauses see its header's plan, its parts, what the emitter and each worker know of the board, if there is one, and
-/// whether it was decoded.
+/// Clauses see its header's plan, its parts, what is seen of its crew, if it has one, and whether it was decoded.
 #[derive(Drop)]
 pub struct Ready<'a> {
     pub(crate) view: BoxView<'a>,
@@ -84,7 +84,7 @@ pub fn prepare(
     ensures team { IfOk result (λ ready.
         length (team_in ready.crew) ≡ min workers (length ready.parts.handovers)) }
     ensures rings { IfOk result (λ ready.
-        IfSome ready.crew (λ crew. crew.emitter.capacity ≡ ring)) }
+        IfSome ready.crew (λ crew. crew.emitter.view.capacity ≡ ring)) }
     ensures refused { (refusal : BoxRefusal) → IsErrOf result (PrepareError.Box refusal)
         → IsRefusedBox bytes.now refusal }
 {
@@ -98,6 +98,31 @@ pub fn prepare(
         crew,
         used: false,
     })
+}
+
+// The crew of all of a container's segments, if it has one: no more workers than segments.
+fn crew_for<'a>(
+    alloc: Global,
+    view: &BoxView<'a>,
+    workers: u8,
+    ring: usize,
+) -> Result<Option<Crew<'a>>, NoMemory>
+    requires { 1 ≤ ring }
+    ensures some { IfOk result (λ crew.
+        is_some crew ≡ nat_lt 0 (length view.now.parts.handovers)) }
+    ensures whole { IfOk result (λ crew. IfSome crew (λ made. made.segments ≡ whole view.now)) }
+    ensures fresh { IfOk result (λ crew. IfSome crew (λ made. made.used ≡ false)) }
+    ensures team { IfOk result (λ crew.
+        length (team_in crew) ≡ min workers (length view.now.parts.handovers)) }
+    ensures rings { IfOk result (λ crew.
+        IfSome crew (λ made. made.emitter.view.capacity ≡ ring)) }
+{
+    let segments = view.segments();
+    if segments == 0 {
+        return Ok(None);
+    }
+    let crew = Crew::prepare(alloc, view, 0, segments, workers, ring)?;
+    Ok(Some(crew))
 }
 
 /// The least ring that `ample_ring` gives: 64 KiB.

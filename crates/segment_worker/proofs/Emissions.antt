@@ -1,5 +1,5 @@
 -- What an emitter has written, call by call.
-use Rattle.std.proofs.Common.{◌≡◌, ℕ, zero, suc, ◌+◌, ◌-◌, ◌*◌, ◌<◌, ◌≤◌, List, [], ◌++◌, length, map, take, drop, refl, sym, ap, subst, ◌∙◌, arith, append_assoc, append-nil, length-append, Option, Some, Ok, Err, ⊎_elim}
+use Rattle.std.proofs.Common.{◌≡◌, ℕ, zero, suc, ◌+◌, ◌-◌, ◌*◌, ◌<◌, ◌≤◌, List, [], ◌++◌, length, map, take, drop, refl, sym, ap, ap₂, subst, ◌∙◌, arith, append_assoc, append-nil, length-append, Option, Some, Ok, Err, ⊎_elim}
 use Rattle.std.specs.Prelude.{slice_get}
 use Rattle.std.proofs.lemmas.Bool.{cases_lt}
 use lib.Seq.{length-take-le, take_all, take-add}
@@ -16,9 +16,8 @@ use Rattle.handover.specs.declared.outcome.Outcome.TheVariants.{Good, Bad}
 use Rattle.handover.specs.declared.outcome.StreamFault.{StreamFault}
 use Rattle.board_core.specs.BoardInvariants.{bytes_at}
 use Rattle.box_format.specs.Raws.{numbers}
-use Rattle.box_format.specs.Seen.{BoxSeen}
-use Rattle.container_spec.specs.Segments.{Output, segment_output}
-use Rattle.container_spec.specs.Meanings.{Joined, joined, joined_with, segment_in}
+use Rattle.container_spec.specs.Segments.{Output}
+use Rattle.container_spec.specs.Meanings.{Joined, joined, joined_with}
 use Rattle.container_spec.proofs.PutParts.{sums_none}
 use Rattle.segment_code.specs.Decoding.{DecoderSeen}
 use Rattle.output_board.specs.declared.view.EmitterView.{EmitterView}
@@ -27,13 +26,13 @@ use Rattle.output_board.specs.declared.answers.Take.TheVariants.{Bytes, Ended}
 use Rattle.output_board.specs.Seats.{SeatValue, HasHeldOnce}
 use Rattle.output_board.specs.Answers.{TakeGives}
 use Rattle.segment_worker.specs.declared.emitted.EmitStop.TheVariants.{Fault}
-use Rattle.segment_worker.specs.Contents.{segments_bytes, segments_outcomes, segment_room, AreShort}
+use Rattle.segment_worker.specs.Contents.{Stretch, segments_bytes, segments_outcomes, segment_room, AreShort}
 use Rattle.segment_worker.specs.Written.{HasWritten, HasFailed}
 use Rattle.segment_worker.specs.Joining.{joined_from, joined_onto}
 use Rattle.segment_worker.specs.Emitting.{joined_in, seen_through, IsNewEmitter, IsUsedEmitter, Emits, IsWrittenTo, IsEmitting}
 use Rattle.segment_worker.specs.OwnSegments.{own_rest, OwnEnds}
 use Rattle.segment_worker.proofs.Tails.{past_end, front}
-use Rattle.segment_worker.proofs.ContentsTold.{output_of, bytes_of, bytes_long, outcome_of, outcome_within}
+use Rattle.segment_worker.proofs.ContentsTold.{output_in, output_of, bytes_of, bytes_long, outcome_of, outcome_within}
 use Rattle.segment_worker.proofs.SegmentsJoined.{good_next, bad_next, bytes_next}
 use Rattle.segment_worker.proofs.Writing.{written_nothing, written_on, failed_in, failed_on, next_on, next_in}
 
@@ -41,25 +40,25 @@ some_same : {A : Type 0} (a b : A) → ◌≡◌ {A = Option A} (Some a) (Some b
 some_same a b e = cc
 
 -- after good segments the next one's bytes follow, if there is one
-segment_behind : (v : BoxSeen) (cur : ℕ) (bytes : List ℕ) (padded : PadSum) → cur < length v.parts.handovers
-    → joined_in v ≡ joined_onto bytes padded (joined_from v.plan v.parts cur)
+segment_behind : (v : Stretch) (cur : ℕ) (bytes : List ℕ) (padded : PadSum) → cur < v.count
+    → joined_in v ≡ joined_onto bytes padded (joined_from v cur)
     → (more : List ℕ) × ((joined_in v).bytes ≡ bytes ++ (bytes_at (segments_bytes v) cur ++ more))
 segment_behind v cur bytes padded under all =
-    let next = bytes_next v.plan v.parts cur bytes padded under all in
+    let next = bytes_next v cur bytes padded under all in
     (next.0, next.1 ∙ ap (λ (l : List ℕ). bytes ++ (l ++ next.0)) (sym (bytes_of v cur under)))
 
-none_behind : (v : BoxSeen) (cur : ℕ) (bytes : List ℕ) (padded : PadSum) → length v.parts.handovers ≤ cur
-    → joined_in v ≡ joined_onto bytes padded (joined_from v.plan v.parts cur)
+none_behind : (v : Stretch) (cur : ℕ) (bytes : List ℕ) (padded : PadSum) → v.count ≤ cur
+    → joined_in v ≡ joined_onto bytes padded (joined_from v cur)
     → (more : List ℕ) × ((joined_in v).bytes ≡ bytes ++ (bytes_at (segments_bytes v) cur ++ more))
 none_behind v cur bytes padded past all =
-    let more = (joined_from v.plan v.parts cur).bytes in
+    let more = (joined_from v cur).bytes in
     let long = bytes_long v in
     let none : bytes_at (segments_bytes v) cur ≡ [] =
     past_end (segments_bytes v) cur (omega (arith, long, past)) in
     (more, ap (λ (j : Joined). j.bytes) all ∙ ap (λ (l : List ℕ). bytes ++ (l ++ more)) (sym none))
 
 module _ {Sink : Type 0} (held : Sink → Option (List ℕ))
-    (takes : Sink → List ℕ → Type 0) (faults : Sink → ℕ) (full : Sink → Type 0) (v : BoxSeen) (w : Window) where
+    (takes : Sink → List ℕ → Type 0) (faults : Sink → ℕ) (full : Sink → Type 0) (v : Stretch) (w : Window) where
   -- by equal counts
   pub moved : (cur now taken more : ℕ) (old new : Sink) (came : ℕ) (padded : PadSum)
       → now ≡ cur → more ≡ taken → IsWrittenTo held takes faults v w cur taken old new came padded
@@ -75,9 +74,9 @@ module _ {Sink : Type 0} (held : Sink → Option (List ℕ))
       ++ (drop taken (bytes_at (segments_bytes v) cur) ++ more))
   rest_behind cur taken old new came padded is =
       let s = bytes_at (segments_bytes v) cur in
-      let next = ⊎_elim (λ (under : cur < length v.parts.handovers). segment_behind v cur is.bytes padded under is.all)
-      (λ (past : length v.parts.handovers ≤ cur). none_behind v cur is.bytes padded past is.all)
-      (cases_lt cur (length v.parts.handovers)) in
+      let next = ⊎_elim (λ (under : cur < v.count). segment_behind v cur is.bytes padded under is.all)
+      (λ (past : v.count ≤ cur). none_behind v cur is.bytes padded past is.all)
+      (cases_lt cur v.count) in
       let parts : s ≡ take taken s ++ drop taken s = sym (take-append-drop taken s) in (
         next.0,
         next.1 ∙ ap (λ (l : List ℕ). is.bytes ++ (l ++ next.0)) parts
@@ -112,8 +111,9 @@ module _ {Sink : Type 0} (held : Sink → Option (List ℕ))
   none_emitted sink = record {
     bytes = [];
     all =
-        let e : length v.parts.handovers ≡ length v.parts.handovers - 0 = omega arith in
-        ap (λ (n : ℕ). joined (map (λ i. segment_output (segment_in v.plan v.parts i)) (numbers 0 n))) e;
+        let e : v.count ≡ v.count - 0 = omega arith in
+        let f : v.first ≡ v.first + 0 = omega arith in
+        ap₂ (λ (m n : ℕ). joined (map (output_in v) (numbers m n))) f e;
     has = written_nothing held takes faults full w sink;
     count = refl;
     within = omega arith;
@@ -153,13 +153,13 @@ module _ {Sink : Type 0} (held : Sink → Option (List ℕ))
       let s = bytes_at (segments_bytes v) cur in
       let under = outcome_within v cur (Good more) good in
       let same = bytes_of v cur under in
-      let end : Good more ≡ (segment_output (segment_in v.plan v.parts cur)).1 =
+      let end : Good more ≡ (output_of v cur).1 =
       some_same _ _ (sym good ∙ outcome_of v cur under) in
       let all : take taken s ≡ s = take_all taken s (omega (arith, whole)) in record {
         bytes = is.bytes ++ s;
-        all = good_next v.plan v.parts cur is.bytes padded more under is.all end
+        all = good_next v cur is.bytes padded more under is.all end
             ∙ ap (λ (l : List ℕ). joined_onto (is.bytes ++ l) (pads_with padded more)
-            (joined_from v.plan v.parts (cur + 1))) (sym same);
+            (joined_from v (cur + 1))) (sym same);
         has = subst (λ (l : List ℕ). HasWritten held takes faults old new (window w l))
             (ap (λ (l : List ℕ). is.bytes ++ l) all ∙ sym (append-nil (is.bytes ++ s))) is.has;
         count =
@@ -180,9 +180,9 @@ module _ {Sink : Type 0} (held : Sink → Option (List ℕ))
   bad_emitted cur taken old new came padded fault is whole bad =
       let s = bytes_at (segments_bytes v) cur in
       let under = outcome_within v cur (Bad fault) bad in
-      let end : Bad fault ≡ (segment_output (segment_in v.plan v.parts cur)).1 =
+      let end : Bad fault ≡ (output_of v cur).1 =
       some_same _ _ (sym bad ∙ outcome_of v cur under) in
-      let next = bad_next v.plan v.parts cur is.bytes padded fault under is.all end in
+      let next = bad_next v cur is.bytes padded fault under is.all end in
       let all : take taken s ≡ s = take_all taken s (omega (arith, whole)) in (
         next.0,
         subst (λ (l : List ℕ). HasWritten held takes faults old new (window w l))
@@ -204,16 +204,16 @@ module _ {Sink : Type 0} (held : Sink → Option (List ℕ))
   -- nothing follows the last segment
   last_behind : (cur taken : ℕ) (old new : Sink) (came : ℕ) (padded : PadSum)
       (is : IsWrittenTo held takes faults v w cur taken old new came padded)
-      → cur ≡ length v.parts.handovers → joined_in v ≡ joined_onto is.bytes padded (joined [])
+      → cur ≡ v.count → joined_in v ≡ joined_onto is.bytes padded (joined [])
   last_behind cur taken old new came padded is over =
-      let left : length v.parts.handovers - cur ≡ 0 = omega (arith, over) in
+      let left : v.count - cur ≡ 0 = omega (arith, over) in
       is.all ∙ ap (λ (n : ℕ). joined_onto is.bytes padded
-      (joined (map (λ i. segment_output (segment_in v.plan v.parts i)) (numbers cur n)))) left
+      (joined (map (output_in v) (numbers (v.first + cur) n)))) left
 
   -- all came
   pub all_came : (cur taken : ℕ) (old new : Sink) (came : ℕ) (padded : PadSum)
       → IsWrittenTo held takes faults v w cur taken old new came padded
-      → cur ≡ length v.parts.handovers → came ≡ length (joined_in v).bytes
+      → cur ≡ v.count → came ≡ length (joined_in v).bytes
   all_came cur taken old new came padded is over =
       let last = last_behind cur taken old new came padded is over in
       let long = bytes_long v in
@@ -227,7 +227,7 @@ module _ {Sink : Type 0} (held : Sink → Option (List ℕ))
   -- all are emitted
   pub all_emitted : (cur taken : ℕ) (old new : Sink) (came : ℕ) (padded : PadSum)
       → IsWrittenTo held takes faults v w cur taken old new came padded
-      → cur ≡ length v.parts.handovers
+      → cur ≡ v.count
       → Emits held takes faults full old new (seen_through w (joined_in v))
       (Ok (record { bytes = through w came; came = came; pads = padded }))
   all_emitted cur taken old new came padded is over =
@@ -248,9 +248,9 @@ module _ {Sink : Type 0} (held : Sink → Option (List ℕ))
 
 module _ {Sink : Type 0} (held : Sink → Option (List ℕ))
     (takes : Sink → List ℕ → Type 0) (faults : Sink → ℕ) (full : Sink → Type 0)
-    (table : TableId) (v : BoxSeen) (w : Window) where
+    (table : TableId) (v : Stretch) (w : Window) where
   -- before the first call
-  pub starts_emitting : (s : SeatValue BoxSeen EmitterView) (d : DecoderSeen) (sink : Sink)
+  pub starts_emitting : (s : SeatValue Stretch EmitterView) (d : DecoderSeen) (sink : Sink)
       → IsNewEmitter table v s d → IsEmitting held takes faults table v w s d sink sink 0 no_pads
   starts_emitting s d sink n = record {
     used = record {
@@ -266,7 +266,7 @@ module _ {Sink : Type 0} (held : Sink → Option (List ℕ))
   }
 
   -- the seat after one hold that claims nothing
-  pub used_after : (s t : SeatValue BoxSeen EmitterView) (d : DecoderSeen) → IsUsedEmitter table v s d
+  pub used_after : (s t : SeatValue Stretch EmitterView) (d : DecoderSeen) → IsUsedEmitter table v s d
       → HasHeldOnce s t → t.claims ≡ s.claims → IsUsedEmitter table v t d
   used_after s t d u h claims = record {
     own = h.table ∙ u.own;
@@ -275,17 +275,17 @@ module _ {Sink : Type 0} (held : Sink → Option (List ℕ))
     begun = u.begun ∙ sym claims;
   }
 
-  -- what a take gives, by the container
-  gives_in : (s t : SeatValue BoxSeen EmitterView) (before now : List ℕ) (answer : Take)
+  -- what a take gives, by the stretch
+  gives_in : (s t : SeatValue Stretch EmitterView) (before now : List ℕ) (answer : Take)
       → s.content ≡ v
       → TakeGives (segments_bytes s.content) (segments_outcomes s.content) s t before now answer
       → TakeGives (segments_bytes v) (segments_outcomes v) s t before now answer
   gives_in s t before now answer is give =
-      subst (λ (c : BoxSeen). TakeGives (segments_bytes c) (segments_outcomes c) s t before now answer)
+      subst (λ (c : Stretch). TakeGives (segments_bytes c) (segments_outcomes c) s t before now answer)
       is give
 
   -- the sink takes bytes that were taken
-  pub taken_next : (s t : SeatValue BoxSeen EmitterView) (d : DecoderSeen) (old mid : Sink)
+  pub taken_next : (s t : SeatValue Stretch EmitterView) (d : DecoderSeen) (old mid : Sink)
       (came n : ℕ) (padded : PadSum) (before now : List ℕ) → TakesNext takes old (window w (joined_in v).bytes)
       → IsEmitting held takes faults table v w s d old mid came padded
       → TakeGives (segments_bytes s.content) (segments_outcomes s.content) s t before now (Bytes n)
@@ -301,18 +301,18 @@ module _ {Sink : Type 0} (held : Sink → Option (List ℕ))
       (sym (take-append-drop n xs)))
 
   -- and a segment of the emitter's own
-  pub own_next : (s : SeatValue BoxSeen EmitterView) (d : DecoderSeen) (old mid : Sink) (came : ℕ)
+  pub own_next : (s : SeatValue Stretch EmitterView) (d : DecoderSeen) (old mid : Sink) (came : ℕ)
       (padded : PadSum) → TakesNext takes old (window w (joined_in v).bytes)
       → IsEmitting held takes faults table v w s d old mid came padded
       → TakesNext takes mid (window (after w came) (own_rest s))
   own_next s d old mid came padded next e =
-      subst (λ (c : BoxSeen). TakesNext takes mid
+      subst (λ (c : Stretch). TakesNext takes mid
       (window (after w came) (drop s.view.taken (bytes_at (segments_bytes c) s.view.cur))))
       (sym e.used.content)
       (rest_taken held takes faults full v w s.view.cur s.view.taken old mid came padded next e.so_far)
 
   -- bytes were taken and written
-  pub bytes_taken : (s t : SeatValue BoxSeen EmitterView) (d : DecoderSeen) (old mid new : Sink)
+  pub bytes_taken : (s t : SeatValue Stretch EmitterView) (d : DecoderSeen) (old mid new : Sink)
       (came n : ℕ) (padded : PadSum) (before now : List ℕ)
       → IsEmitting held takes faults table v w s d old mid came padded → HasHeldOnce s t
       → TakeGives (segments_bytes s.content) (segments_outcomes s.content) s t before now (Bytes n)
@@ -340,7 +340,7 @@ module _ {Sink : Type 0} (held : Sink → Option (List ℕ))
       }
 
   -- a write of bytes that were taken failed
-  pub taken_failed : (s t : SeatValue BoxSeen EmitterView) (d : DecoderSeen) (old mid new : Sink)
+  pub taken_failed : (s t : SeatValue Stretch EmitterView) (d : DecoderSeen) (old mid new : Sink)
       (came n more : ℕ) (padded : PadSum) (before now : List ℕ)
       → IsEmitting held takes faults table v w s d old mid came padded
       → TakeGives (segments_bytes s.content) (segments_outcomes s.content) s t before now (Bytes n)
@@ -357,7 +357,7 @@ module _ {Sink : Type 0} (held : Sink → Option (List ℕ))
       (sym (take-append-drop n xs)))
 
   -- the segment that is emitted ended well
-  pub good_taken : AreShort v → (s t : SeatValue BoxSeen EmitterView) (d : DecoderSeen)
+  pub good_taken : AreShort v → (s t : SeatValue Stretch EmitterView) (d : DecoderSeen)
       (old new : Sink) (came : ℕ) (padded more both : PadSum) (outcome : Outcome)
       (before now : List ℕ) → IsEmitting held takes faults table v w s d old new came padded
       → HasHeldOnce s t → outcome ≡ Good more → both ≡ pads_with padded more
@@ -380,7 +380,7 @@ module _ {Sink : Type 0} (held : Sink → Option (List ℕ))
       }
 
   -- and badly
-  pub bad_taken : (s t : SeatValue BoxSeen EmitterView) (d : DecoderSeen) (old new : Sink)
+  pub bad_taken : (s t : SeatValue Stretch EmitterView) (d : DecoderSeen) (old new : Sink)
       (came : ℕ) (padded : PadSum) (fault : StreamFault) (outcome : Outcome)
       (before now : List ℕ) → IsEmitting held takes faults table v w s d old new came padded
       → outcome ≡ Bad fault
@@ -392,7 +392,7 @@ module _ {Sink : Type 0} (held : Sink → Option (List ℕ))
       bad_emitted held takes faults full v w s.view.cur s.view.taken old new came padded fault e.so_far g.3 g.2
 
   -- a take that gave nothing
-  pub same_emitted : (s t : SeatValue BoxSeen EmitterView) (d : DecoderSeen) (old new : Sink)
+  pub same_emitted : (s t : SeatValue Stretch EmitterView) (d : DecoderSeen) (old new : Sink)
       (came : ℕ) (padded : PadSum) → IsEmitting held takes faults table v w s d old new came padded
       → HasHeldOnce s t → t.claims ≡ s.claims → t.view ≡ s.view
       → IsEmitting held takes faults table v w t d old new came padded
@@ -405,7 +405,7 @@ module _ {Sink : Type 0} (held : Sink → Option (List ℕ))
   }
 
   -- a segment of the emitter's own
-  pub own_emitted : (s t : SeatValue BoxSeen EmitterView) (d later : DecoderSeen) (old mid new : Sink)
+  pub own_emitted : (s t : SeatValue Stretch EmitterView) (d later : DecoderSeen) (old mid new : Sink)
       (came count : ℕ) (padded : PadSum)
       → IsEmitting held takes faults table v w s d old mid came padded
       → OwnEnds held takes faults full (after w came) s t mid new (Ok count)
@@ -414,7 +414,7 @@ module _ {Sink : Type 0} (held : Sink → Option (List ℕ))
   own_emitted s t d later old mid new came count padded e own same content begun plan =
       let view = own.2 in
       let is : own_rest s ≡ drop s.view.taken (bytes_at (segments_bytes v) s.view.cur) =
-      ap (λ (c : BoxSeen). drop s.view.taken (bytes_at (segments_bytes c) s.view.cur)) e.used.content in
+      ap (λ (c : Stretch). drop s.view.taken (bytes_at (segments_bytes c) s.view.cur)) e.used.content in
       record {
         used = record {
           own = same ∙ e.used.own;
@@ -429,24 +429,24 @@ module _ {Sink : Type 0} (held : Sink → Option (List ℕ))
             (ap (λ (x : EmitterView). x.taken) view)
             (more_emitted held takes faults full v w s.view.cur s.view.taken count old mid new came padded
             e.so_far
-            (subst (λ (c : BoxSeen). s.view.taken + count ≤ length (bytes_at (segments_bytes c) s.view.cur))
+            (subst (λ (c : Stretch). s.view.taken + count ≤ length (bytes_at (segments_bytes c) s.view.cur))
             e.used.content own.1)
             (subst (λ (l : List ℕ). HasWritten held takes faults mid new (window (after w came) (take count l))) is own.0));
       }
 
   -- in which a write failed
-  pub own_failed : (s t : SeatValue BoxSeen EmitterView) (d : DecoderSeen) (old mid new : Sink)
+  pub own_failed : (s t : SeatValue Stretch EmitterView) (d : DecoderSeen) (old mid new : Sink)
       (came more : ℕ) (padded : PadSum)
       → IsEmitting held takes faults table v w s d old mid came padded
       → OwnEnds held takes faults full (after w came) s t mid new (Err more)
       → HasFailed held faults full old new (window w (joined_in v).bytes) (through w came + more)
   own_failed s t d old mid new came more padded e own =
       cut_short held takes faults full v w s.view.cur s.view.taken old mid new came more padded e.so_far
-      (subst (λ (c : BoxSeen). HasFailed held faults full mid new
+      (subst (λ (c : Stretch). HasFailed held faults full mid new
       (window (after w came) (drop s.view.taken (bytes_at (segments_bytes c) s.view.cur))) more) e.used.content own.0)
 
   -- the next segment is emitted after a good one
-  pub good_cur : (s t : SeatValue BoxSeen EmitterView) (more : PadSum) (outcome : Outcome)
+  pub good_cur : (s t : SeatValue Stretch EmitterView) (more : PadSum) (outcome : Outcome)
       (before now : List ℕ) → outcome ≡ Good more
       → TakeGives (segments_bytes s.content) (segments_outcomes s.content) s t before now (Ended outcome)
       → t.view.cur ≡ s.view.cur + 1
@@ -455,11 +455,11 @@ module _ {Sink : Type 0} (held : Sink → Option (List ℕ))
       is give in
       ap (λ (x : EmitterView). x.cur) g.0
 
-  -- which is a segment of the container
-  pub good_within : (s t : SeatValue BoxSeen EmitterView) (more : PadSum) (outcome : Outcome)
+  -- which is a segment of the stretch
+  pub good_within : (s t : SeatValue Stretch EmitterView) (more : PadSum) (outcome : Outcome)
       (before now : List ℕ) → s.content ≡ v → outcome ≡ Good more
       → TakeGives (segments_bytes s.content) (segments_outcomes s.content) s t before now (Ended outcome)
-      → s.view.cur < length v.parts.handovers
+      → s.view.cur < v.count
   good_within s t more outcome before now content is give =
       let g = subst (λ (o : Outcome). TakeGives (segments_bytes v) (segments_outcomes v) s t before now (Ended o))
       is (gives_in s t before now (Ended outcome) content give) in
@@ -483,10 +483,13 @@ joined_few f room from (suc count) each =
     omega (arith, more, first, all)
 
 -- all segments have few bytes
-pub few_joined : (v : BoxSeen) (count : ℕ) → AreShort v → length v.parts.handovers ≤ count
+pub few_joined : (v : Stretch) (count : ℕ) → AreShort v → v.count ≤ count
     → length (joined_in v).bytes ≤ segment_room * count
 few_joined v count short few =
-    let all = joined_few (output_of v) segment_room 0 (length v.parts.handovers)
-    (λ i low high. subst (λ (xs : List ℕ). length xs ≤ segment_room)
-    (bytes_of v i (omega (arith, high))) (short i)) in
+    let all = joined_few (output_in v) segment_room v.first v.count
+    (λ i low high.
+    let n : v.first + (i - v.first) ≡ i = omega (arith, low) in
+    let under : i - v.first < v.count = omega (arith, low, high) in
+    subst (λ (xs : List ℕ). length xs ≤ segment_room)
+    (bytes_of v (i - v.first) under ∙ ap (λ (k : ℕ). (output_in v k).0) n) (short (i - v.first))) in
     omega (arith, all, few)

@@ -11,19 +11,16 @@ use Rattle.handover.specs.declared.outcome.Outcome.{Outcome}
 use Rattle.handover.specs.declared.outcome.Outcome.TheVariants.{Good, Bad}
 use Rattle.handover.specs.declared.outcome.StreamFault.{StreamFault}
 use Rattle.board_core.specs.BoardInvariants.{bytes_at}
-use Rattle.box_format.specs.Seen.{BoxSeen}
-use Rattle.container_spec.specs.Segments.{segment_output}
-use Rattle.container_spec.specs.Meanings.{segment_in}
 use Rattle.segment_code.specs.Decoding.{DecoderSeen, Owes, Pays}
 use Rattle.segment_code.specs.declared.step.Step.{Step}
 use Rattle.segment_code.specs.declared.step.Step.TheVariants.{More, Done, Fault}
 use Rattle.output_board.specs.declared.view.EmitterView.{EmitterView}
 use Rattle.output_board.specs.Seats.{SeatValue}
-use Rattle.segment_worker.specs.Contents.{segments_bytes, segments_outcomes}
+use Rattle.segment_worker.specs.Contents.{Stretch, segments_bytes, segments_outcomes}
 use Rattle.segment_worker.specs.Written.{HasWritten, HasFailed}
 use Rattle.segment_worker.specs.OwnSegments.{OwesRest, IsSameSeat, IsPassing, own_rest, OwnEnds}
 use Rattle.segment_worker.proofs.Tails.{rest_after, first_of_rest, rest_within, rest_ends}
-use Rattle.segment_worker.proofs.ContentsTold.{bytes_of, outcome_of}
+use Rattle.segment_worker.proofs.ContentsTold.{output_of, bytes_of, outcome_of}
 use Rattle.segment_worker.proofs.Writing.{written_nothing, written_on, failed_on, next_on}
 
 -- whoever owes pays
@@ -33,13 +30,13 @@ PaysAll step out old new =
     → Pays step bytes outcome out old new
 
 -- a segment that was begun is owed whole
-pub owes_all : (v : BoxSeen) (i from : ℕ) (d : DecoderSeen) → i < length v.parts.handovers → from ≡ 0
-    → Owes d (segment_output (segment_in v.plan v.parts i)).0 (segment_output (segment_in v.plan v.parts i)).1
+pub owes_all : (v : Stretch) (i from : ℕ) (d : DecoderSeen) → i < v.count → from ≡ 0
+    → Owes d (output_of v i).0 (output_of v i).1
     → OwesRest v i from d
 owes_all v i from d within zero_is owes =
     subst (λ (n : ℕ). OwesRest v i n d) (sym zero_is) (record {
-      bytes = (segment_output (segment_in v.plan v.parts i)).0;
-      outcome = (segment_output (segment_in v.plan v.parts i)).1;
+      bytes = (output_of v i).0;
+      outcome = (output_of v i).1;
       owes = owes;
       rest = bytes_of v i within;
       within = omega arith;
@@ -54,7 +51,7 @@ paid_first (Done pads) bytes out outcome old new p = ([], p.0 ∙ sym (append-ni
 paid_first (Fault fault) bytes out outcome old new p = ([], p.0 ∙ sym (append-nil out))
 
 -- the next bytes of a segment that is owed, and what follows them
-pub owed_next : (v : BoxSeen) (i from : ℕ) (step : Step) (out : List ℕ) (old new : DecoderSeen)
+pub owed_next : (v : Stretch) (i from : ℕ) (step : Step) (out : List ℕ) (old new : DecoderSeen)
     → OwesRest v i from old → PaysAll step out old new
     → (more : List ℕ) × (drop from (bytes_at (segments_bytes v) i) ≡ out ++ more)
 owed_next v i from step out old new owes pays =
@@ -62,7 +59,7 @@ owed_next v i from step out old new owes pays =
     (pays owes.bytes owes.outcome owes.owes) in (p.0, owes.rest ∙ p.1)
 
 -- after a piece that isn't the last
-pub owed_later : (v : BoxSeen) (i from : ℕ) (out : List ℕ) (old new : DecoderSeen)
+pub owed_later : (v : Stretch) (i from : ℕ) (out : List ℕ) (old new : DecoderSeen)
     → OwesRest v i from old → PaysAll More out old new
     → (new.left < old.left) × (new.running ≡ true) × OwesRest v i (from + length out) new
 owed_later v i from out old new owes pays =
@@ -82,7 +79,7 @@ owed_later v i from out old new owes pays =
     )
 
 -- at the last piece: all is given, and this is the outcome
-pub owed_done : (v : BoxSeen) (i from : ℕ) (pads : PadSum) (out : List ℕ) (old new : DecoderSeen)
+pub owed_done : (v : Stretch) (i from : ℕ) (pads : PadSum) (out : List ℕ) (old new : DecoderSeen)
     → OwesRest v i from old → PaysAll (Done pads) out old new
     → (from + length out ≡ length (bytes_at (segments_bytes v) i))
     × (slice_get (segments_outcomes v) i ≡ Some (Good pads))
@@ -92,7 +89,7 @@ owed_done v i from pads out old new owes pays =
       owes.end ∙ ap (λ (o : Outcome). Some o) p.1,
     )
 
-pub owed_fault : (v : BoxSeen) (i from : ℕ) (fault : StreamFault) (out : List ℕ)
+pub owed_fault : (v : Stretch) (i from : ℕ) (fault : StreamFault) (out : List ℕ)
     (old new : DecoderSeen) → OwesRest v i from old → PaysAll (Fault fault) out old new
     → (from + length out ≡ length (bytes_at (segments_bytes v) i))
     × (slice_get (segments_outcomes v) i ≡ Some (Bad fault))
@@ -103,7 +100,7 @@ owed_fault v i from fault out old new owes pays =
     )
 
 -- what is true at a segment's end is true of the seat that passed it
-pub ends_there : (from now later : SeatValue BoxSeen EmitterView) (written count : ℕ) (o : Outcome)
+pub ends_there : (from now later : SeatValue Stretch EmitterView) (written count : ℕ) (o : Outcome)
     → IsSameSeat from now → now.view ≡ record from.view { taken = from.view.taken + written }
     → IsSameSeat now later → later.view ≡ record now.view { taken = now.view.taken + count }
     → ((from.view.taken + written) + count ≡ length (bytes_at (segments_bytes from.content) from.view.cur))
@@ -114,13 +111,13 @@ ends_there from now later written count o same view again more f =
     let content = again.content ∙ same.content in
     let seen : later.view ≡ record from.view { taken = (from.view.taken + written) + count } =
     more ∙ ap (λ (w : EmitterView). record w { taken = w.taken + count }) view in
-    subst (λ (z : BoxSeen × EmitterView).
+    subst (λ (z : Stretch × EmitterView).
     (z.1.taken ≡ length (bytes_at (segments_bytes z.0) z.1.cur))
     × (slice_get (segments_outcomes z.0) z.1.cur ≡ Some o))
     (λ i. (sym content i, sym seen i)) f
 
 -- a claim takes nothing of it
-pub claimed_rest : (from mid : SeatValue BoxSeen EmitterView) → mid.content ≡ from.content
+pub claimed_rest : (from mid : SeatValue Stretch EmitterView) → mid.content ≡ from.content
     → mid.view ≡ record from.view { owns = true } → own_rest mid ≡ own_rest from
 claimed_rest from mid content view =
     λ i. drop (view i).taken (bytes_at (segments_bytes (content i)) (view i).cur)
@@ -128,7 +125,7 @@ claimed_rest from mid content view =
 module _ {Sink : Type 0} (held : Sink → Option (List ℕ))
     (takes : Sink → List ℕ → Type 0) (faults : Sink → ℕ) (full : Sink → Type 0) (w : Window) where
   -- before the first piece
-  pub starts_passing : (s : SeatValue BoxSeen EmitterView) (d : DecoderSeen) (sink : Sink)
+  pub starts_passing : (s : SeatValue Stretch EmitterView) (d : DecoderSeen) (sink : Sink)
       → d.running ≡ true → OwesRest s.content s.view.cur s.view.taken d
       → IsPassing held takes faults w s s d d sink sink 0
   starts_passing s d sink running owes =
@@ -143,7 +140,7 @@ module _ {Sink : Type 0} (held : Sink → Option (List ℕ))
       }
 
   -- what follows the bytes that were written begins with the next piece
-  piece_behind : (from now : SeatValue BoxSeen EmitterView) (begun d new : DecoderSeen)
+  piece_behind : (from now : SeatValue Stretch EmitterView) (begun d new : DecoderSeen)
       (old mid : Sink) (written : ℕ) (step : Step) (out : List ℕ)
       → IsPassing held takes faults w from now begun d old mid written → PaysAll step out d new
       → (more : List ℕ) × (own_rest from ≡ take written (own_rest from) ++ (out ++ more))
@@ -157,7 +154,7 @@ module _ {Sink : Type 0} (held : Sink → Option (List ℕ))
       )
 
   -- the segment's bytes so far, and how many
-  came_long : (from now : SeatValue BoxSeen EmitterView) (begun d : DecoderSeen) (old mid : Sink)
+  came_long : (from now : SeatValue Stretch EmitterView) (begun d : DecoderSeen) (old mid : Sink)
       (written : ℕ) → IsPassing held takes faults w from now begun d old mid written
       → written ≡ length (take written (own_rest from))
   came_long from now begun d old mid written p =
@@ -166,7 +163,7 @@ module _ {Sink : Type 0} (held : Sink → Option (List ℕ))
       sym (length-take-le written (own_rest from) (omega (arith, long, within)))
 
   -- the sink takes what goes through of the next piece
-  pub piece_taken : (from now : SeatValue BoxSeen EmitterView) (begun d new : DecoderSeen)
+  pub piece_taken : (from now : SeatValue Stretch EmitterView) (begun d new : DecoderSeen)
       (old mid : Sink) (written : ℕ) (step : Step) (out : List ℕ) → TakesNext takes old (window w (own_rest from))
       → IsPassing held takes faults w from now begun d old mid written → PaysAll step out d new
       → TakesNext takes mid (window (after w written) out)
@@ -176,7 +173,7 @@ module _ {Sink : Type 0} (held : Sink → Option (List ℕ))
       (came_long from now begun d old mid written p) next p.has.onward b.1
 
   -- what goes through of a piece was written
-  piece_written : (from now : SeatValue BoxSeen EmitterView) (begun d new : DecoderSeen)
+  piece_written : (from now : SeatValue Stretch EmitterView) (begun d new : DecoderSeen)
       (old mid sink : Sink) (written : ℕ) (step : Step) (out : List ℕ)
       → IsPassing held takes faults w from now begun d old mid written → PaysAll step out d new
       → HasWritten held takes faults mid sink (window (after w written) out)
@@ -194,7 +191,7 @@ module _ {Sink : Type 0} (held : Sink → Option (List ℕ))
       p.has has)
 
   -- a piece was written, and isn't the last
-  pub piece_passed : (from now later : SeatValue BoxSeen EmitterView) (begun d new : DecoderSeen)
+  pub piece_passed : (from now later : SeatValue Stretch EmitterView) (begun d new : DecoderSeen)
       (old mid sink : Sink) (written : ℕ) (out : List ℕ)
       → IsPassing held takes faults w from now begun d old mid written → PaysAll More out d new
       → HasWritten held takes faults mid sink (window (after w written) out) → IsSameSeat now later
@@ -224,7 +221,7 @@ module _ {Sink : Type 0} (held : Sink → Option (List ℕ))
       )
 
   -- a piece doesn't pass the segment's end
-  pub piece_within : (from now : SeatValue BoxSeen EmitterView) (begun d new : DecoderSeen)
+  pub piece_within : (from now : SeatValue Stretch EmitterView) (begun d new : DecoderSeen)
       (old mid : Sink) (written : ℕ) (step : Step) (out : List ℕ)
       → IsPassing held takes faults w from now begun d old mid written → PaysAll step out d new
       → now.view.taken + length out ≤ length (bytes_at (segments_bytes now.content) now.view.cur)
@@ -232,11 +229,11 @@ module _ {Sink : Type 0} (held : Sink → Option (List ℕ))
       let next = owed_next from.content from.view.cur (from.view.taken + written) step out d new p.owes pays in
       let within = rest_within (bytes_at (segments_bytes from.content) from.view.cur) out next.0
       (from.view.taken + written) p.owes.within next.1 in
-      subst (λ (z : BoxSeen × EmitterView). z.1.taken + length out ≤ length (bytes_at (segments_bytes z.0) z.1.cur))
+      subst (λ (z : Stretch × EmitterView). z.1.taken + length out ≤ length (bytes_at (segments_bytes z.0) z.1.cur))
       (λ i. (sym p.same.content i, sym p.view i)) within
 
   -- the last piece was written
-  pub all_passed : (from now later last : SeatValue BoxSeen EmitterView) (begun d new : DecoderSeen)
+  pub all_passed : (from now later last : SeatValue Stretch EmitterView) (begun d new : DecoderSeen)
       (old mid sink : Sink) (written : ℕ) (step : Step) (out : List ℕ)
       → IsPassing held takes faults w from now begun d old mid written → PaysAll step out d new
       → HasWritten held takes faults mid sink (window (after w written) out)
@@ -257,7 +254,7 @@ module _ {Sink : Type 0} (held : Sink → Option (List ℕ))
       )
 
   -- a write of a piece failed
-  pub piece_failed : (from now : SeatValue BoxSeen EmitterView) (begun d new : DecoderSeen)
+  pub piece_failed : (from now : SeatValue Stretch EmitterView) (begun d new : DecoderSeen)
       (old mid sink : Sink) (written more : ℕ) (step : Step) (out : List ℕ)
       → IsPassing held takes faults w from now begun d old mid written → PaysAll step out d new
       → HasFailed held faults full mid sink (window (after w written) out) more
@@ -270,7 +267,7 @@ module _ {Sink : Type 0} (held : Sink → Option (List ℕ))
       )
 
   -- where somebody else has it
-  pub own_none : (from now : SeatValue BoxSeen EmitterView) (sink : Sink) → now.view ≡ from.view
+  pub own_none : (from now : SeatValue Stretch EmitterView) (sink : Sink) → now.view ≡ from.view
       → from.view.owns ≡ false
       → from.view.taken ≤ length (bytes_at (segments_bytes from.content) from.view.cur)
       → OwnEnds held takes faults full w from now sink sink (Ok 0)

@@ -7,10 +7,9 @@ use Rattle.output_board.specs.declared.view.WorkerView.{WorkerView}
 use Rattle.output_board.specs.Answers.{HasNext, IsAtEnd}
 use Rattle.std.specs.Prelude.{slice_get}
 use Rattle.handover.specs.declared.outcome.Outcome.{Outcome}
-use Rattle.box_format.specs.Seen.{BoxSeen}
 use Rattle.segment_code.specs.Decoding.{DecoderSeen}
 use Rattle.segment_code.specs.declared.step.Step.{Step}
-use Rattle.segment_worker.specs.Contents.{segments_bytes, segments_outcomes}
+use Rattle.segment_worker.specs.Contents.{Stretch, segments_bytes, segments_outcomes}
 use Rattle.segment_worker.specs.OwnSegments.{OwesRest}
 use Rattle.segment_worker.proofs.Tails.{first_of_rest}
 use Rattle.segment_worker.proofs.OwnPieces.{PaysAll, owed_next}
@@ -37,25 +36,25 @@ next_after ss w bytes put now within n view =
         taken_later xs bytes put (omega (arith, within)) (ap (drop 1) e)
 
 -- a piece of a segment that is owed comes next
-pub piece_next : (v : BoxSeen) (i : ℕ) (w : WorkerView) (step : Step) (out : List ℕ)
-    (old new : DecoderSeen) (seat : BoxSeen) → w.segment ≡ Some i → seat ≡ v
+pub piece_next : (v : Stretch) (i : ℕ) (w : WorkerView) (step : Step) (out : List ℕ)
+    (old new : DecoderSeen) (seat : Stretch) → w.segment ≡ Some i → seat ≡ v
     → OwesRest v i w.put old → PaysAll step out old new → HasNext (segments_bytes seat) w out
 piece_next v i w step out old new seat segment content owes pays =
     let next = owed_next v i w.put step out old new owes pays in
-    subst (λ (c : BoxSeen). HasNext (segments_bytes c) w out) (sym content) (record {
+    subst (λ (c : Stretch). HasNext (segments_bytes c) w out) (sym content) (record {
       index = i;
       segment = segment;
       next = first_of_rest (bytes_at (segments_bytes v) i) out next.0 w.put next.1;
     })
 
 -- the last piece was put
-pub at_end : (v : BoxSeen) (i put : ℕ) (w : WorkerView) (o : Outcome) (out : List ℕ) (seat : BoxSeen)
+pub at_end : (v : Stretch) (i put : ℕ) (w : WorkerView) (o : Outcome) (out : List ℕ) (seat : Stretch)
     → w.segment ≡ Some i → w.put ≡ put + length out → seat ≡ v
     → (put + length out ≡ length (bytes_at (segments_bytes v) i))
     × (slice_get (segments_outcomes v) i ≡ Some o)
     → IsAtEnd (segments_bytes seat) (segments_outcomes seat) w o
 at_end v i put w o out seat segment count content f =
-    subst (λ (c : BoxSeen). IsAtEnd (segments_bytes c) (segments_outcomes c) w o) (sym content) (record {
+    subst (λ (c : Stretch). IsAtEnd (segments_bytes c) (segments_outcomes c) w o) (sym content) (record {
       index = i;
       segment = segment;
       all = count ∙ f.0;

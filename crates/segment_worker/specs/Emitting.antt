@@ -5,28 +5,27 @@ use Rattle.byte_window.specs.Windows.{window}
 use Rattle.atomic_table.specs.Seated.{TableId}
 use Rattle.board_core.specs.BoardInvariants.{bytes_at}
 use Rattle.handover.specs.declared.pads.PadSum.{PadSum}
-use Rattle.box_format.specs.Seen.{BoxSeen}
-use Rattle.container_spec.specs.Meanings.{Joined, joined, outputs_of}
+use Rattle.container_spec.specs.Meanings.{Joined, joined}
 use Rattle.segment_code.specs.Decoding.{DecoderSeen}
 use Rattle.output_board.specs.declared.view.EmitterView.{EmitterView}
 use Rattle.output_board.specs.Seats.{SeatValue}
 use Rattle.segment_worker.specs.declared.emitted.Emitted.{Emitted}
 use Rattle.segment_worker.specs.declared.emitted.EmitStop.{EmitStop}
 use Rattle.segment_worker.specs.declared.emitted.EmitStop.TheVariants.{WriteFault, Fault}
-use Rattle.segment_worker.specs.Contents.{segments_bytes, segment_room}
+use Rattle.segment_worker.specs.Contents.{Stretch, outputs_in, segments_bytes, segment_room}
 use Rattle.segment_worker.specs.Joining.{joined_from, joined_onto}
 use Rattle.segment_worker.specs.Written.{HasWritten, HasFailed}
 
--- a container's segments, joined
-abbrev pub joined_in : BoxSeen → Joined
-joined_in v = joined (outputs_of v.plan v.parts)
+-- the segments of a stretch, joined
+abbrev pub joined_in : Stretch → Joined
+joined_in v = joined (outputs_in v)
 
 -- what a window lets through of segments
 abbrev pub seen_through : Window → Joined → Joined
 seen_through w all = record all { bytes = window w all.bytes }
 
--- the emitter's seat on a container's board, and its decoder, before the first call
-pub record IsNewEmitter (table : TableId) (v : BoxSeen) (seat : SeatValue BoxSeen EmitterView)
+-- the emitter's seat on the board of a stretch, and its decoder, before the first call
+pub record IsNewEmitter (table : TableId) (v : Stretch) (seat : SeatValue Stretch EmitterView)
     (decoder : DecoderSeen) : Type 0 where
   pub own : seat.table ≡ table
   pub content : seat.content ≡ v
@@ -35,15 +34,15 @@ pub record IsNewEmitter (table : TableId) (v : BoxSeen) (seat : SeatValue BoxSee
   pub free : seat.view.owns ≡ false
   pub going : seat.view.stopped ≡ false
   pub claims : seat.claims ≡ 0
-  pub plan : decoder.plan ≡ v.plan
+  pub plan : decoder.plan ≡ v.container.plan
   pub begun : decoder.begun ≡ 0
 
 -- and after the last one: it is still the same board's, and the decoder began as many segments as the seat claimed
-pub record IsUsedEmitter (table : TableId) (v : BoxSeen) (seat : SeatValue BoxSeen EmitterView)
+pub record IsUsedEmitter (table : TableId) (v : Stretch) (seat : SeatValue Stretch EmitterView)
     (decoder : DecoderSeen) : Type 0 where
   pub own : seat.table ≡ table
   pub content : seat.content ≡ v
-  pub plan : decoder.plan ≡ v.plan
+  pub plan : decoder.plan ≡ v.container.plan
   pub begun : decoder.begun ≡ seat.claims
 
 -- its view says that all N segments are emitted, and the board isn't stopped
@@ -71,21 +70,21 @@ module _ {Sink : Type 0} (held : Sink → Option (List ℕ))
 -- the segments before one ended well, and what a window lets through of them and of the first `taken` bytes of that one
 -- is written
 pub record IsWrittenTo {Sink : Type 0} (held : Sink → Option (List ℕ))
-    (takes : Sink → List ℕ → Type 0) (faults : Sink → ℕ) (v : BoxSeen) (w : Window)
+    (takes : Sink → List ℕ → Type 0) (faults : Sink → ℕ) (v : Stretch) (w : Window)
     (cur taken : ℕ) (old new : Sink) (came : ℕ) (padded : PadSum) : Type 0 where
   pub bytes : List ℕ
-  pub all : joined_in v ≡ joined_onto bytes padded (joined_from v.plan v.parts cur)
+  pub all : joined_in v ≡ joined_onto bytes padded (joined_from v cur)
   pub has : HasWritten held takes faults old new
       (window w (bytes ++ take taken (bytes_at (segments_bytes v) cur)))
   pub count : came ≡ length bytes + taken
   pub within : taken ≤ length (bytes_at (segments_bytes v) cur)
   pub few : length bytes ≤ segment_room * cur
-  pub low : cur ≤ length v.parts.handovers
+  pub low : cur ≤ v.count
 
 -- between two calls
 pub record IsEmitting {Sink : Type 0} (held : Sink → Option (List ℕ))
     (takes : Sink → List ℕ → Type 0) (faults : Sink → ℕ)
-    (table : TableId) (v : BoxSeen) (w : Window) (seat : SeatValue BoxSeen EmitterView)
+    (table : TableId) (v : Stretch) (w : Window) (seat : SeatValue Stretch EmitterView)
     (decoder : DecoderSeen) (old new : Sink) (came : ℕ) (padded : PadSum) : Type 0 where
   pub used : IsUsedEmitter table v seat decoder
   pub free : seat.view.owns ≡ false

@@ -5,12 +5,11 @@ use Rattle.outside_core.specs.Takes.{MovesOn}
 use Rattle.byte_window.specs.declared.window.Window.{Window}
 use Rattle.byte_window.specs.Windows.{window}
 use Rattle.bit_list.specs.Pieces.{piece_room}
-use Rattle.jpeg_marker.specs.Plans.{PlanFields}
 use Rattle.handover.specs.declared.outcome.Outcome.{Outcome}
 use Rattle.handover.specs.declared.pads.PadSum.{PadSum}
-use Rattle.box_format.specs.Parts.{BoxParts}
-use Rattle.container_spec.specs.Meanings.{joined, outputs_of}
 use Rattle.segment_code.specs.Decoding.{DecoderSeen, Owes}
+use Rattle.segment_worker.specs.Contents.{Stretch}
+use Rattle.segment_worker.specs.Emitting.{joined_in}
 use Rattle.segment_worker.specs.Joining.{joined_from, joined_onto}
 use Rattle.segment_worker.specs.Written.{HasWritten, HasFailed}
 
@@ -59,15 +58,15 @@ SegmentEnds held takes faults full w old new bytes outcome (Ok ended) =
 SegmentEnds held takes faults full w old new bytes outcome (Err written) =
     HasFailed held faults full old new (window w bytes) written
 
--- before the segment with a number, if the segments before it ended well
+-- before the segment with an index in a stretch, if the segments before it ended well
 pub record SegmentsWritten {Sink : Type 0} (held : Sink → Option (List ℕ))
     (takes : Sink → List ℕ → Type 0) (faults : Sink → ℕ) (w : Window)
-    (plan : PlanFields) (b : BoxParts) (i : ℕ) (now : DecoderSeen) (old new : Sink)
+    (v : Stretch) (i : ℕ) (now : DecoderSeen) (old new : Sink)
     (came : ℕ) (padded : PadSum) : Type 0 where
   pub bytes : List ℕ
-  pub all : joined (outputs_of plan b) ≡ joined_onto bytes padded (joined_from plan b i)
+  pub all : joined_in v ≡ joined_onto bytes padded (joined_from v i)
   pub has : HasWritten held takes faults old new (window w bytes)
   pub count : came ≡ length bytes
   pub few : came ≤ pieces_room * i
-  pub plan_is : now.plan ≡ plan
+  pub plan_is : now.plan ≡ v.container.plan
   pub begun : now.begun ≡ i

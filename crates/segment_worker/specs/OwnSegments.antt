@@ -4,15 +4,14 @@ use Rattle.byte_window.specs.declared.window.Window.{Window}
 use Rattle.byte_window.specs.Windows.{window}
 use Rattle.handover.specs.declared.outcome.Outcome.{Outcome}
 use Rattle.board_core.specs.BoardInvariants.{bytes_at}
-use Rattle.box_format.specs.Seen.{BoxSeen}
 use Rattle.segment_code.specs.Decoding.{DecoderSeen, Owes}
 use Rattle.output_board.specs.declared.view.EmitterView.{EmitterView}
 use Rattle.output_board.specs.Seats.{SeatValue}
-use Rattle.segment_worker.specs.Contents.{segments_bytes, segments_outcomes}
+use Rattle.segment_worker.specs.Contents.{Stretch, segments_bytes, segments_outcomes}
 use Rattle.segment_worker.specs.Written.{HasWritten, HasFailed}
 
--- a decoder owes the bytes of segment i of a container from one on, and its outcome
-pub record OwesRest (v : BoxSeen) (i from : ℕ) (d : DecoderSeen) : Type 0 where
+-- a decoder owes the bytes of segment i of a stretch from one on, and its outcome
+pub record OwesRest (v : Stretch) (i from : ℕ) (d : DecoderSeen) : Type 0 where
   pub bytes : List ℕ
   pub outcome : Outcome
   pub owes : Owes d bytes outcome
@@ -27,13 +26,13 @@ pub record IsSameSeat {C V : Type 0} (old new : SeatValue C V) : Type 0 where
   pub claims : new.claims ≡ old.claims
 
 -- a segment's bytes that its emitter hasn't taken
-abbrev pub own_rest : SeatValue BoxSeen EmitterView → List ℕ
+abbrev pub own_rest : SeatValue Stretch EmitterView → List ℕ
 own_rest seat = drop seat.view.taken (bytes_at (segments_bytes seat.content) seat.view.cur)
 
 -- between two pieces of the emitter's own segment
 pub record IsPassing {Sink : Type 0} (held : Sink → Option (List ℕ))
     (takes : Sink → List ℕ → Type 0) (faults : Sink → ℕ)
-    (w : Window) (from now : SeatValue BoxSeen EmitterView) (begun d : DecoderSeen)
+    (w : Window) (from now : SeatValue Stretch EmitterView) (begun d : DecoderSeen)
     (old new : Sink) (came : ℕ) : Type 0 where
   pub same : IsSameSeat from now
   pub view : now.view ≡ record from.view { taken = from.view.taken + came }
@@ -46,8 +45,8 @@ pub record IsPassing {Sink : Type 0} (held : Sink → Option (List ℕ))
 -- what a window lets through of bytes of the segment that is emitted was written, and the emitter owns none; or a write
 -- failed in it, after this number of bytes
 abbrev pub OwnEnds : {Sink : Type 0} → (Sink → Option (List ℕ)) → (Sink → List ℕ → Type 0)
-    → (Sink → ℕ) → (Sink → Type 0) → Window → SeatValue BoxSeen EmitterView
-    → SeatValue BoxSeen EmitterView → Sink → Sink → Result ℕ ℕ → Type 0
+    → (Sink → ℕ) → (Sink → Type 0) → Window → SeatValue Stretch EmitterView
+    → SeatValue Stretch EmitterView → Sink → Sink → Result ℕ ℕ → Type 0
 OwnEnds held takes faults full w from now old new (Ok came) =
     HasWritten held takes faults old new (window w (take came (own_rest from)))
     × (from.view.taken + came ≤ length (bytes_at (segments_bytes from.content) from.view.cur))

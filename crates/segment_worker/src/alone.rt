@@ -1,11 +1,11 @@
-// A container's segments decoded on one thread, with no board.
-ghost use Rattle.std.specs.Prelude.{◌≡◌, ◌*◌, ◌≤◌, ◌<◌, ◌^◌, ℕ, List, length, IfOk, IfErr, true};
+// A stretch of a container's segments decoded on one thread, with no board.
+ghost use Rattle.std.specs.Prelude.{◌≡◌, ◌+◌, ◌*◌, ◌≤◌, ◌<◌, ◌^◌, ℕ, List, length, IfOk, IfErr, OnOk, true};
 ghost use Rattle.outside_core.specs.Takes.{TakesNext};
 ghost use Rattle.byte_window.specs.Windows.{window as passed};
 ghost use Rattle.handover.specs.declared.outcome.Outcome.{Outcome};
 ghost use Rattle.box_format.specs.Versions.{most_segments};
 ghost use Rattle.segment_code.specs.Decoding.{Owes};
-ghost use Rattle.segment_worker.specs.Contents.{segment_room};
+ghost use Rattle.segment_worker.specs.Contents.{segment_room, stretch};
 ghost use Rattle.segment_worker.specs.Emitting.{Emits, joined_in, seen_through};
 ghost use Rattle.segment_worker.specs.LoneSegments.{OwesSome, SegmentEnds, pieces_room};
 
@@ -19,9 +19,9 @@ use handover::{Outcome, PadSum};
 use outside_core::{Gate, Sink};
 use segment_code::{SegmentDecoder, Step};
 
-/// Writes what the window lets through of the segments in order, each decoded on the calling thread when its turn
-/// comes: what `emit` writes, with no other thread to wait for. It returns after the last segment, or after the first
-/// with a fault, or if the sink fails.
+/// Writes what the window lets through of `count` segments in order, from the container's number `first` on, each
+/// decoded on the calling thread when its turn comes: what `emit` writes, with no other thread to wait for. It returns
+/// after the last segment, or after the first with a fault, or if the sink fails.
 ///
 /// At each moment, also while the call is under way, what was written is a prefix of what goes through of the joined
 /// segments, since the sink need take nothing else.
@@ -34,19 +34,26 @@ pub fn emit_alone<'a, K: Sink, G: Gate>(
     window: Window,
     sink: &mut K,
     gate: &G,
+    first: u8,
+    count: u8,
 ) -> Result<Emitted, EmitStop>
+    requires within { first + count ≤ length view.now.parts.handovers }
     requires plan { decoder.old.plan ≡ view.now.plan }
     requires fresh { decoder.old.begun ≡ 0 }
-    requires takes { TakesNext K.takes sink.old (seen_through window (joined_in view.now)).bytes }
+    requires takes { TakesNext K.takes sink.old
+        (seen_through window (joined_in (stretch view.now first count))).bytes }
     ensures ends { Emits K.held K.takes K.faults K.full sink.old sink.new
-        (seen_through window (joined_in view.now)) result }
-    ensures came { IfOk result (λ emitted. emitted.came ≡ length (joined_in view.now).bytes) }
-    ensures few { length (joined_in view.now).bytes ≤ segment_room * most_segments }
+        (seen_through window (joined_in (stretch view.now first count))) result }
+    ensures came { IfOk result (λ emitted.
+        emitted.came ≡ length (joined_in (stretch view.now first count)).bytes) }
+    ensures few { length (joined_in (stretch view.now first count)).bytes
+        ≤ segment_room * most_segments }
+    ensures begun { OnOk result (decoder.new.begun ≡ decoder.old.begun + count) }
     ensures plan { decoder.new.plan ≡ decoder.old.plan }
     ensures lasting { K.faults sink.old ≤ K.faults sink.new }
 {
     segments_are_short(view);
-    emit_segments(decoder, piece, view, window, sink, gate)
+    emit_segments(decoder, piece, view, window, sink, gate, first, count)
 }
 
 // The same.
@@ -57,25 +64,33 @@ fn emit_segments<'a, K: Sink, G: Gate>(
     window: Window,
     sink: &mut K,
     gate: &G,
+    first: u8,
+    count: u8,
 ) -> Result<Emitted, EmitStop>
+    requires within { first + count ≤ length view.now.parts.handovers }
+    requires few { length view.now.parts.handovers ≤ most_segments }
     requires plan { decoder.old.plan ≡ view.now.plan }
     requires fresh { decoder.old.begun ≡ 0 }
-    requires takes { TakesNext K.takes sink.old (seen_through window (joined_in view.now)).bytes }
+    requires takes { TakesNext K.takes sink.old
+        (seen_through window (joined_in (stretch view.now first count))).bytes }
     ensures ends { Emits K.held K.takes K.faults K.full sink.old sink.new
-        (seen_through window (joined_in view.now)) result }
-    ensures came { IfOk result (λ emitted. emitted.came ≡ length (joined_in view.now).bytes) }
+        (seen_through window (joined_in (stretch view.now first count))) result }
+    ensures came { IfOk result (λ emitted.
+        emitted.came ≡ length (joined_in (stretch view.now first count)).bytes) }
+    ensures begun { OnOk result (decoder.new.begun ≡ count) }
     ensures plan { decoder.new.plan ≡ decoder.old.plan }
     ensures lasting { K.faults sink.old ≤ K.faults sink.new }
 {
     let mut came = 0;
     let mut pads = PadSum::none();
-    for segment in 0..view.segments() {
-        gate.before_own(segment);
-        decoder.begin(view, segment);
+    for segment in 0..count {
+        let number = first + segment;
+        gate.before_own(number);
+        decoder.begin(view, number);
         let rest = window.after(came);
         match emit_segment(decoder, piece, rest, sink) {
-            Ok((count, Outcome::Good { pads: more })) => {
-                came += count;
+            Ok((passed, Outcome::Good { pads: more })) => {
+                came += passed;
                 pads = pads.with(&more);
             }
             Ok((_, Outcome::Bad(fault))) => return Err(EmitStop::Fault(fault)),

@@ -1,6 +1,7 @@
-// The board of a container.
-ghost use Rattle.std.specs.Prelude.{◌≡◌, ◌≤◌, IfOk};
+// The board of a stretch.
+ghost use Rattle.std.specs.Prelude.{◌≡◌, ◌+◌, ◌≤◌, IfOk, length};
 ghost use Rattle.output_board.specs.Seats.{new_emitter_seat, new_worker_seats};
+ghost use Rattle.segment_worker.specs.Contents.{stretch};
 
 use crate::content::Told;
 use crate::lengths::segments_are_short;
@@ -9,13 +10,15 @@ use growth::NoMemory;
 use output_board::{Board, EmitterSeat, WorkerSeat};
 use std::alloc::Global;
 
-/// The board of a container's segments before the first call, the emitter's seat, and the seats of `workers` workers.
-/// Each segment's ring holds at most `ring` bytes. The one error is out of memory.
+/// The board of `count` of a container's segments, from number `first` on, before the first call, the emitter's seat,
+/// and the seats of `workers` workers. Each segment's ring holds at most `ring` bytes. The one error is out of memory.
 pub fn prepare_board<'a>(
     alloc: Global,
     view: &BoxView<'a>,
     ring: usize,
     workers: u8,
+    first: u8,
+    count: u8,
 ) -> Result<
     (
         Board<Told<'a>>,
@@ -24,13 +27,14 @@ pub fn prepare_board<'a>(
     ),
     NoMemory,
 >
-    requires { 1 ≤ ring }
+    requires ring { 1 ≤ ring }
+    requires within { first + count ≤ length view.now.parts.handovers }
     ensures emitter { IfOk result (λ made.
-        made.1 ≡ new_emitter_seat made.0 view.now workers ring) }
+        made.1 ≡ new_emitter_seat made.0 (stretch view.now first count) workers ring) }
     ensures workers { IfOk result (λ made.
-        made.2.items ≡ new_worker_seats made.0 view.now workers) }
+        made.2.items ≡ new_worker_seats made.0 (stretch view.now first count) workers) }
 {
     segments_are_short(view);
-    let content = Told::new(view);
-    Board::prepare(alloc, &content, view.segments(), ring, workers)
+    let content = Told::new(view, first, count);
+    Board::prepare(alloc, &content, count, ring, workers)
 }

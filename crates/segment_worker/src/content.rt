@@ -1,36 +1,41 @@
-// The content of a container's board: the bytes and the outcome of each segment.
+// The content of the board of a stretch: the bytes and the outcome of each segment.
 ghost use Rattle.std.specs.Prelude.{◌≡◌};
+ghost use Rattle.segment_worker.specs.Contents.{stretch};
 
 use box_format::BoxView;
 use output_board::Content;
 use std::marker::Model;
 use std::snapshot::Snapshot;
 
-/// The bytes and the outcome of each segment of a container, for the clauses of its board. It holds nothing when the
-/// program runs.
+/// The bytes and the outcome of each segment of a stretch, for the clauses of its board. When the program runs it holds
+/// two numbers.
 ///
-/// Clauses see the container.
+/// Clauses see the stretch.
 #[derive(Drop)]
 pub struct Told<'a> {
     container: Snapshot<BoxView<'a>>,
+    first: u8,
+    count: u8,
 }
 
 impl<'a> Model for Told<'a> {
-    ghost use Rattle.box_format.specs.Seen.{BoxSeen};
+    ghost use Rattle.segment_worker.specs.Contents.{Stretch, stretch};
 
-    ghost Value = { BoxSeen };
+    ghost Value = { Stretch };
 
-    ghost view = { λ t. t.container.value };
+    ghost view = { λ t. stretch t.container.value t.first t.count };
 
     ghost invariant = { λ t. Unit {0} };
 }
 
 impl<'a> Told<'a> {
-    pub fn new(view: &BoxView<'a>) -> Told<'a>
-        ensures { result ≡ view.now }
+    pub fn new(view: &BoxView<'a>, first: u8, count: u8) -> Told<'a>
+        ensures { result ≡ stretch view.now first count }
     {
         Told {
             container: Snapshot::of(view),
+            first,
+            count,
         }
     }
 }

@@ -1,8 +1,8 @@
 // The emitter.
-ghost use Rattle.std.specs.Prelude.{◌≡◌, ◌*◌, ◌≤◌, length, IfOk, OnOk, OnErr, true};
+ghost use Rattle.std.specs.Prelude.{◌≡◌, ◌+◌, ◌*◌, ◌≤◌, length, IfOk, OnOk, OnErr, true};
 ghost use Rattle.outside_core.specs.Takes.{TakesNext};
 ghost use Rattle.box_format.specs.Versions.{most_segments};
-ghost use Rattle.segment_worker.specs.Contents.{AreShort, segment_room};
+ghost use Rattle.segment_worker.specs.Contents.{AreShort, segment_room, stretch};
 ghost use Rattle.segment_worker.specs.Emitting.{Emits, IsNewEmitter, IsThrough, IsUsedEmitter, joined_in, seen_through};
 
 use crate::content::Told;
@@ -22,9 +22,9 @@ use std::sync::Wait;
 /// The most bytes of one take from a ring.
 const MOST_TAKEN: usize = 4_096;
 
-/// Writes what the window lets through of the segments in order, the bytes of each from its ring, or decoded here if
-/// nobody has claimed it when its turn comes. It returns after the last one, also if nothing goes through any more; or
-/// it stops the board, after the first with a fault, or if the sink fails.
+/// Writes what the window lets through of `count` segments in order, from the container's number `first` on, the bytes
+/// of each from its ring, or decoded here if nobody has claimed it when its turn comes. It returns after the last one,
+/// also if nothing goes through any more; or it stops the board, after the first with a fault, or if the sink fails.
 ///
 /// At each moment, also while the call is under way, what was written is a prefix of what goes through of the joined
 /// segments, since the sink need take nothing else.
@@ -40,16 +40,22 @@ pub fn emit<'a, R: Wait, K: Sink, G: Gate>(
     window: Window,
     sink: &mut K,
     gate: &G,
+    first: u8,
+    count: u8,
 ) -> Result<Emitted, EmitStop>
-    requires new { IsNewEmitter board.now view.now seat.old decoder.old }
-    requires takes { TakesNext K.takes sink.old (seen_through window (joined_in view.now)).bytes }
+    requires within { first + count ≤ length view.now.parts.handovers }
+    requires new { IsNewEmitter board.now (stretch view.now first count) seat.old decoder.old }
+    requires takes { TakesNext K.takes sink.old
+        (seen_through window (joined_in (stretch view.now first count))).bytes }
     ensures ends { Emits K.held K.takes K.faults K.full sink.old sink.new
-        (seen_through window (joined_in view.now)) result }
-    ensures came { IfOk result (λ emitted. emitted.came ≡ length (joined_in view.now).bytes) }
-    ensures through { OnOk result (IsThrough (length view.now.parts.handovers) seat.new.view) }
+        (seen_through window (joined_in (stretch view.now first count))) result }
+    ensures came { IfOk result (λ emitted.
+        emitted.came ≡ length (joined_in (stretch view.now first count)).bytes) }
+    ensures through { OnOk result (IsThrough count seat.new.view) }
     ensures stopped { OnErr result (seat.new.view.stopped ≡ true) }
-    ensures used { IsUsedEmitter board.now view.now seat.new decoder.new }
-    ensures few { length (joined_in view.now).bytes ≤ segment_room * most_segments }
+    ensures used { IsUsedEmitter board.now (stretch view.now first count) seat.new decoder.new }
+    ensures few { length (joined_in (stretch view.now first count)).bytes
+        ≤ segment_room * most_segments }
     ensures lasting { K.faults sink.old ≤ K.faults sink.new }
 {
     segments_are_short(view);
@@ -64,6 +70,8 @@ pub fn emit<'a, R: Wait, K: Sink, G: Gate>(
         window,
         sink,
         gate,
+        first,
+        count,
         &mut buffer,
     )
 }
@@ -79,19 +87,24 @@ fn emit_through<'a, R: Wait, K: Sink, G: Gate>(
     window: Window,
     sink: &mut K,
     gate: &G,
+    first: u8,
+    _count: u8,
     buffer: &mut [u8],
 ) -> Result<Emitted, EmitStop>
-    requires new { IsNewEmitter board.now view.now seat.old decoder.old }
-    requires short { AreShort view.now }
-    requires count { length view.now.parts.handovers ≤ most_segments }
+    requires within { first + _count ≤ length view.now.parts.handovers }
+    requires new { IsNewEmitter board.now (stretch view.now first _count) seat.old decoder.old }
+    requires short { AreShort (stretch view.now first _count) }
+    requires few { length view.now.parts.handovers ≤ most_segments }
     requires some { 1 ≤ length buffer.old }
-    requires takes { TakesNext K.takes sink.old (seen_through window (joined_in view.now)).bytes }
+    requires takes { TakesNext K.takes sink.old
+        (seen_through window (joined_in (stretch view.now first _count))).bytes }
     ensures ends { Emits K.held K.takes K.faults K.full sink.old sink.new
-        (seen_through window (joined_in view.now)) result }
-    ensures came { IfOk result (λ emitted. emitted.came ≡ length (joined_in view.now).bytes) }
-    ensures through { OnOk result (IsThrough (length view.now.parts.handovers) seat.new.view) }
+        (seen_through window (joined_in (stretch view.now first _count))) result }
+    ensures came { IfOk result (λ emitted.
+        emitted.came ≡ length (joined_in (stretch view.now first _count)).bytes) }
+    ensures through { OnOk result (IsThrough _count seat.new.view) }
     ensures stopped { OnErr result (seat.new.view.stopped ≡ true) }
-    ensures used { IsUsedEmitter board.now view.now seat.new decoder.new }
+    ensures used { IsUsedEmitter board.now (stretch view.now first _count) seat.new decoder.new }
     ensures lasting { K.faults sink.old ≤ K.faults sink.new }
 {
     let mut came = 0;
@@ -99,14 +112,14 @@ fn emit_through<'a, R: Wait, K: Sink, G: Gate>(
     let mut current = 0;
     for _ in rt.forever() {
         match board.take(rt, seat, buffer) {
-            Take::Bytes(count) => {
-                if let Err(more) = write_part(sink, window, came, &buffer[..count]) {
+            Take::Bytes(taken) => {
+                if let Err(more) = write_part(sink, window, came, &buffer[..taken]) {
                     board.stop(rt, seat);
                     return Err(EmitStop::WriteFault {
                         written: window.through(came) + more,
                     });
                 }
-                came += count as u64;
+                came += taken as u64;
             }
             Take::Ended(Outcome::Good { pads: more }) => {
                 pads = pads.with(&more);
@@ -119,9 +132,9 @@ fn emit_through<'a, R: Wait, K: Sink, G: Gate>(
             Take::Unclaimed => {
                 let rest = window.after(came);
                 match emit_unclaimed(
-                    rt, decoder, piece, seat, board, view, rest, sink, gate, current,
+                    rt, decoder, piece, seat, board, view, rest, sink, gate, first, current,
                 ) {
-                    Ok(count) => came += count,
+                    Ok(passed) => came += passed,
                     Err(more) => {
                         board.stop(rt, seat);
                         return Err(EmitStop::WriteFault {

@@ -1,9 +1,10 @@
 // The emitter's own segment, decoded into the sink.
-ghost use Rattle.std.specs.Prelude.{◌≡◌, ◌+◌, ◌≤◌, true, false, length};
+ghost use Rattle.std.specs.Prelude.{◌≡◌, ◌+◌, ◌<◌, ◌≤◌, true, false, length};
 ghost use Rattle.outside_core.specs.Takes.{TakesNext};
 ghost use Rattle.byte_window.specs.Windows.{window as passed};
 ghost use Rattle.board_core.specs.BoardInvariants.{bytes_at};
-ghost use Rattle.segment_worker.specs.Contents.{AreShort, segments_bytes};
+ghost use Rattle.box_format.specs.Versions.{most_segments};
+ghost use Rattle.segment_worker.specs.Contents.{AreShort, segments_bytes, stretch};
 ghost use Rattle.segment_worker.specs.OwnSegments.{IsSameSeat, OwesRest, OwnEnds, own_rest};
 
 use crate::content::Told;
@@ -18,7 +19,8 @@ use segment_code::{SegmentDecoder, Step};
 use std::sync::Wait;
 
 // Claims the segment that is emitted, if nobody has, and writes what the window lets through of it, whatever its
-// outcome. Returns how many bytes came, or how many were written before the sink failed.
+// outcome. Returns how many bytes came, or how many were written before the sink failed. The segment is the board's
+// with index `current`, and the board's first one is the container's with number `first`.
 pub(crate) fn emit_unclaimed<'a, R: Wait, K: Sink, G: Gate>(
     rt: &R,
     decoder: &mut SegmentDecoder<'a>,
@@ -29,17 +31,21 @@ pub(crate) fn emit_unclaimed<'a, R: Wait, K: Sink, G: Gate>(
     window: Window,
     sink: &mut K,
     gate: &G,
+    first: u8,
     current: u8,
 ) -> Result<u64, u64>
     requires own { seat.old.table ≡ board.now }
-    requires content { seat.old.content ≡ view.now }
+    requires content { seat.old.content ≡ stretch view.now first seat.old.content.count }
+    requires fits { first + seat.old.content.count ≤ length view.now.parts.handovers }
+    requires few { length view.now.parts.handovers ≤ most_segments }
+    requires number { first + current < 256 }
     requires free { seat.old.view.owns ≡ false }
     requires going { seat.old.view.stopped ≡ false }
     requires within { seat.old.view.taken
         ≤ length (bytes_at (segments_bytes seat.old.content) seat.old.view.cur) }
     requires plan { decoder.old.plan ≡ view.now.plan }
     requires begun { decoder.old.begun ≡ seat.old.claims }
-    requires short { AreShort view.now }
+    requires short { AreShort seat.old.content }
     requires takes { TakesNext K.takes sink.old (passed window (own_rest seat.old)) }
     ensures ends { OwnEnds K.held K.takes K.faults K.full window seat.old seat.new sink.old sink.new
         result }
@@ -49,10 +55,10 @@ pub(crate) fn emit_unclaimed<'a, R: Wait, K: Sink, G: Gate>(
     ensures plan { decoder.new.plan ≡ decoder.old.plan }
     ensures lasting { K.faults sink.old ≤ K.faults sink.new }
 {
-    gate.before_own(current);
+    gate.before_own(first + current);
     match board.claim_own(rt, seat) {
         Own::Mine(segment) => {
-            decoder.begin(view, segment);
+            decoder.begin(view, first + segment);
             emit_own(rt, decoder, piece, seat, board, window, sink)
         }
         Own::Other => Ok(0),

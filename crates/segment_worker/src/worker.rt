@@ -1,4 +1,6 @@
 // A worker.
+ghost use Rattle.std.specs.Prelude.{◌+◌, ◌≤◌, length};
+ghost use Rattle.segment_worker.specs.Contents.{stretch};
 ghost use Rattle.segment_worker.specs.Working.{HasLeft, IsIdle, IsOver};
 
 use crate::content::Told;
@@ -11,8 +13,8 @@ use outside_core::Gate;
 use segment_code::SegmentDecoder;
 use std::sync::Wait;
 
-/// Claims segments and decodes them into their rings, one after another, until none is left or the board is stopped.
-/// Then it leaves.
+/// Claims segments of the board of `count` segments, from the container's number `first` on, and decodes them into
+/// their rings, one after another, until none is left or the board is stopped. Then it leaves.
 ///
 /// The gate is called before and after each put.
 pub fn work<'a, R: Wait, G: Gate>(
@@ -23,11 +25,14 @@ pub fn work<'a, R: Wait, G: Gate>(
     board: &Board<Told<'a>>,
     view: &BoxView<'a>,
     gate: &G,
+    first: u8,
+    count: u8,
 )
-    requires { IsIdle board.now view.now seat.old decoder.old }
-    ensures { HasLeft board.now view.now seat.new decoder.new }
+    requires within { first + count ≤ length view.now.parts.handovers }
+    requires idle { IsIdle board.now (stretch view.now first count) seat.old decoder.old }
+    ensures { HasLeft board.now (stretch view.now first count) seat.new decoder.new }
 {
-    put_segments(rt, decoder, piece, seat, board, view, gate);
+    put_segments(rt, decoder, piece, seat, board, view, gate, first, count);
     board.leave(rt, seat);
 }
 
@@ -40,16 +45,19 @@ fn put_segments<'a, R: Wait, G: Gate>(
     board: &Board<Told<'a>>,
     view: &BoxView<'a>,
     gate: &G,
+    first: u8,
+    _count: u8,
 )
-    requires { IsIdle board.now view.now seat.old decoder.old }
-    ensures { IsOver board.now view.now seat.new decoder.new }
+    requires within { first + _count ≤ length view.now.parts.handovers }
+    requires idle { IsIdle board.now (stretch view.now first _count) seat.old decoder.old }
+    ensures { IsOver board.now (stretch view.now first _count) seat.new decoder.new }
 {
     segments_are_short(view);
     for _ in rt.forever() {
         match board.claim(rt, seat) {
             Claim::Segment(segment) => {
-                decoder.begin(view, segment);
-                if !put_segment(rt, decoder, piece, seat, board, segment, gate) {
+                decoder.begin(view, first + segment);
+                if !put_segment(rt, decoder, piece, seat, board, first, segment, gate) {
                     return;
                 }
             }

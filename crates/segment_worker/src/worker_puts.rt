@@ -11,13 +11,13 @@ use outside_core::Gate;
 use std::sync::Wait;
 
 // Puts the next bytes of the worker's segment, as its ring has room, and returns whether all were put before the board
-// was stopped. The gate is called before and after each put.
+// was stopped. The gate is called before and after each put, with the segment's number in the container.
 pub(crate) fn put_bytes<'a, R: Wait, G: Gate>(
     rt: &R,
     seat: &mut WorkerSeat<Told<'a>>,
     board: &Board<Told<'a>>,
     bytes: &[u8],
-    segment: u8,
+    number: u8,
     gate: &G,
 ) -> bool
     requires own { seat.old.table ≡ board.now }
@@ -35,9 +35,9 @@ pub(crate) fn put_bytes<'a, R: Wait, G: Gate>(
         if rest.is_empty() {
             return true;
         }
-        gate.before_put(segment);
+        gate.before_put(number);
         let answer = board.put(rt, seat, rest);
-        gate.after_put(segment);
+        gate.after_put(number);
         match answer {
             Put::Took(0) => board.pause_worker(rt, seat),
             Put::Took(count) => put += count,

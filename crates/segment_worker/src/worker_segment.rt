@@ -1,5 +1,5 @@
 // A segment that a worker claimed, decoded into its ring.
-ghost use Rattle.std.specs.Prelude.{◌≡◌, Some, None, true, false};
+ghost use Rattle.std.specs.Prelude.{◌≡◌, ◌+◌, ◌<◌, Some, None, true, false};
 ghost use Rattle.segment_worker.specs.OwnSegments.{IsSameSeat, OwesRest};
 
 use crate::content::Told;
@@ -12,18 +12,21 @@ use segment_code::{SegmentDecoder, Step};
 use std::sync::Wait;
 
 // Decodes the rest of the worker's segment into its ring, piece by piece, and ends it. Returns whether the board wasn't
-// stopped before.
+// stopped before. The gate is called with the segment's number in the container, where `first` is that of the board's
+// first segment.
 pub(crate) fn put_segment<'a, R: Wait, G: Gate>(
     rt: &R,
     decoder: &mut SegmentDecoder<'a>,
     piece: &mut Piece,
     seat: &mut WorkerSeat<Told<'a>>,
     board: &Board<Told<'a>>,
+    first: u8,
     segment: u8,
     gate: &G,
 ) -> bool
     requires own { seat.old.table ≡ board.now }
     requires segment { seat.old.view.segment ≡ Some segment }
+    requires number { first + segment < 256 }
     requires going { seat.old.view.over ≡ false }
     requires running { decoder.old.running ≡ true }
     requires owes { OwesRest seat.old.content segment seat.old.view.put decoder.old }
@@ -35,9 +38,10 @@ pub(crate) fn put_segment<'a, R: Wait, G: Gate>(
     ensures begun { decoder.new.begun ≡ decoder.old.begun }
     ensures plan { decoder.new.plan ≡ decoder.old.plan }
 {
+    let number = first + segment;
     loop {
         let step = decoder.step(piece);
-        if !put_bytes(rt, seat, board, piece.bytes(), segment, gate) {
+        if !put_bytes(rt, seat, board, piece.bytes(), number, gate) {
             return false;
         }
         match step {

@@ -8,7 +8,7 @@ use Rattle.segment_worker.specs.Emitting.{Counts, Emits, joined_in, seen_through
 use Rattle.segment_worker.specs.Written.{HasWritten, HasFailed}
 use Rattle.segment_worker.specs.declared.emitted.Emitted.{Emitted}
 use Rattle.segment_worker.specs.declared.emitted.EmitStop.{EmitStop}
-use Rattle.lepton_decode.specs.Chunked.{falls_short}
+use Rattle.lepton_decode.specs.Chunked.{falls_short, whole}
 use Rattle.lepton_decode.specs.Ends.{Ends}
 use Rattle.lepton_decode.specs.declared.error.DecodeError.TheVariants as DecodeError
 use Rattle.lepton_decode.proofs.FilesWritten.{pads_decide, short_of, whole_length, ends_at_fault, ends_short, all_bytes, failed_in_segments, failed_in_trailer}
@@ -17,7 +17,7 @@ use Rattle.lepton_decode.proofs.file_parts.put_rest.Goals as goal
 pub overflow_add-result : goal.overflow_add-result
 overflow_add-result g c =
     let e = c.in-Err-WriteFault.is ∙ ap (λ (stop : EmitStop). Err stop) c.in-Err-WriteFault.field-0-is in
-    let all = joined_in c.args.view.now in
+    let all = joined_in (whole c.args.view.now) in
     let counts : c.in-Err-WriteFault.written < length (seen_through c.args.window all).bytes =
     subst (Counts (seen_through c.args.window all)) e c.requires.counts in
     let through = (is_counted c.args.window all.bytes).1 in
@@ -33,7 +33,7 @@ returns-in-Err-WriteFault-clause-ends g c = λ first mid has emits.
     (sym c.in-Err-WriteFault.written-is)
     (failed_in_segments g.K.Sink.held g.K.Sink.takes g.K.Sink.faults g.K.Sink.full view.plan view.parts c.args.window c.requires.window first mid c.args.sink.now
     c.args.before c.in-Err-WriteFault.written c.requires.before has
-    (subst (Emits g.K.Sink.held g.K.Sink.takes g.K.Sink.faults g.K.Sink.full mid c.args.sink.now (seen_through c.args.window (joined_in view))) e emits))
+    (subst (Emits g.K.Sink.held g.K.Sink.takes g.K.Sink.faults g.K.Sink.full mid c.args.sink.now (seen_through c.args.window (joined_in (whole view)))) e emits))
 
 pub returns-in-Err-Fault-clause-ends : goal.returns-in-Err-Fault-clause-ends
 returns-in-Err-Fault-clause-ends g c = λ first mid has emits.
@@ -43,11 +43,11 @@ returns-in-Err-Fault-clause-ends g c = λ first mid has emits.
     (sym c.in-Err-Fault.fault-is)
     (ends_at_fault g.K.Sink.held g.K.Sink.takes g.K.Sink.faults g.K.Sink.full view.plan view.parts c.args.window c.requires.window first mid c.args.sink.now
     c.in-Err-Fault.fault has
-    (subst (Emits g.K.Sink.held g.K.Sink.takes g.K.Sink.faults g.K.Sink.full mid c.args.sink.now (seen_through c.args.window (joined_in view))) e emits))
+    (subst (Emits g.K.Sink.held g.K.Sink.takes g.K.Sink.faults g.K.Sink.full mid c.args.sink.now (seen_through c.args.window (joined_in (whole view)))) e emits))
 
 pub overflow_add-result-in-Err : goal.overflow_add-result-in-Err
 overflow_add-result-in-Err g c =
-    let all = joined_in c.args.view.now in
+    let all = joined_in (whole c.args.view.now) in
     let counts : c.in-Ok.emitted.bytes ≡ length (seen_through c.args.window all).bytes =
     subst (Counts (seen_through c.args.window all)) c.in-Ok.is c.requires.counts in
     let through = (is_counted c.args.window all.bytes).1 in
@@ -57,7 +57,7 @@ overflow_add-result-in-Err g c =
 
 pub overflow_add-result-in-Err-2 : goal.overflow_add-result-in-Err-2
 overflow_add-result-in-Err-2 g c =
-    let all = joined_in c.args.view.now in
+    let all = joined_in (whole c.args.view.now) in
     let counts : c.in-Ok.emitted.bytes ≡ length (seen_through c.args.window all).bytes =
     subst (Counts (seen_through c.args.window all)) c.in-Ok.is c.requires.counts in
     let through = (is_counted c.args.window all.bytes).1 in
@@ -79,11 +79,11 @@ write_all-requires g c =
 pub returns-in-Err-clause-ends : goal.returns-in-Err-clause-ends
 returns-in-Err-clause-ends g c = λ first mid has emits.
     let view = c.args.view.now in
-    let all = subst (Emits g.K.Sink.held g.K.Sink.takes g.K.Sink.faults g.K.Sink.full mid c.args.sink.now (seen_through c.args.window (joined_in view))) c.in-Ok.is emits in
-    let came : c.in-Ok.emitted.came ≡ length (joined_in view).bytes =
-    subst (λ (emitted : Result Emitted EmitStop). IfOk emitted (λ (e : Emitted). e.came ≡ length (joined_in view).bytes))
+    let all = subst (Emits g.K.Sink.held g.K.Sink.takes g.K.Sink.faults g.K.Sink.full mid c.args.sink.now (seen_through c.args.window (joined_in (whole view)))) c.in-Ok.is emits in
+    let came : c.in-Ok.emitted.came ≡ length (joined_in (whole view)).bytes =
+    subst (λ (emitted : Result Emitted EmitStop). IfOk emitted (λ (e : Emitted). e.came ≡ length (joined_in (whole view)).bytes))
     c.in-Ok.is c.requires.came in
-    let enough = short_of c.args.window c.in-Ok.emitted.came (length (joined_in view).bytes) false came
+    let enough = short_of c.args.window c.in-Ok.emitted.came (length (joined_in (whole view)).bytes) false came
     (sym c.is_short.ensures ∙ c.if-is_short.false) in
     let failed : HasFailed g.K.Sink.held g.K.Sink.faults g.K.Sink.full c.args.sink.now c.write_all.new.sink view.parts.trailer c.in-Err.field-0.written =
     subst (λ (l : List ℕ). HasFailed g.K.Sink.held g.K.Sink.faults g.K.Sink.full c.args.sink.now c.write_all.new.sink l c.in-Err.field-0.written) c.trailer-trailer.ensures.bytes
@@ -94,11 +94,11 @@ returns-in-Err-clause-ends g c = λ first mid has emits.
 pub returns-then-not-are_pads_spelled-clause-ends : goal.returns-then-not-are_pads_spelled-clause-ends
 returns-then-not-are_pads_spelled-clause-ends g c = λ first mid has emits.
     let view = c.args.view.now in
-    let all = subst (Emits g.K.Sink.held g.K.Sink.takes g.K.Sink.faults g.K.Sink.full mid c.args.sink.now (seen_through c.args.window (joined_in view))) c.in-Ok.is emits in
-    let came : c.in-Ok.emitted.came ≡ length (joined_in view).bytes =
-    subst (λ (emitted : Result Emitted EmitStop). IfOk emitted (λ (e : Emitted). e.came ≡ length (joined_in view).bytes))
+    let all = subst (Emits g.K.Sink.held g.K.Sink.takes g.K.Sink.faults g.K.Sink.full mid c.args.sink.now (seen_through c.args.window (joined_in (whole view)))) c.in-Ok.is emits in
+    let came : c.in-Ok.emitted.came ≡ length (joined_in (whole view)).bytes =
+    subst (λ (emitted : Result Emitted EmitStop). IfOk emitted (λ (e : Emitted). e.came ≡ length (joined_in (whole view)).bytes))
     c.in-Ok.is c.requires.came in
-    let enough = short_of c.args.window c.in-Ok.emitted.came (length (joined_in view).bytes) false came
+    let enough = short_of c.args.window c.in-Ok.emitted.came (length (joined_in (whole view)).bytes) false came
     (sym c.is_short.ensures ∙ c.if-is_short.false) in
     let last : HasWritten g.K.Sink.held g.K.Sink.takes g.K.Sink.faults c.args.sink.now c.write_all.new.sink view.parts.trailer =
     subst (HasWritten g.K.Sink.held g.K.Sink.takes g.K.Sink.faults c.args.sink.now c.write_all.new.sink) c.trailer-trailer.ensures.bytes
@@ -110,7 +110,7 @@ returns-then-not-are_pads_spelled-clause-ends g c = λ first mid has emits.
 
 pub overflow_add-result-2 : goal.overflow_add-result-2
 overflow_add-result-2 g c =
-    let all = joined_in c.args.view.now in
+    let all = joined_in (whole c.args.view.now) in
     let counts : c.in-Ok.emitted.bytes ≡ length (seen_through c.args.window all).bytes =
     subst (Counts (seen_through c.args.window all)) c.in-Ok.is c.requires.counts in
     let through = (is_counted c.args.window all.bytes).1 in
@@ -120,7 +120,7 @@ overflow_add-result-2 g c =
 
 pub overflow_add-result-3 : goal.overflow_add-result-3
 overflow_add-result-3 g c =
-    let all = joined_in c.args.view.now in
+    let all = joined_in (whole c.args.view.now) in
     let counts : c.in-Ok.emitted.bytes ≡ length (seen_through c.args.window all).bytes =
     subst (Counts (seen_through c.args.window all)) c.in-Ok.is c.requires.counts in
     let through = (is_counted c.args.window all.bytes).1 in
@@ -132,11 +132,11 @@ overflow_add-result-3 g c =
 pub returns-clause-ends : goal.returns-clause-ends
 returns-clause-ends g c = λ first mid has emits.
     let view = c.args.view.now in
-    let all = subst (Emits g.K.Sink.held g.K.Sink.takes g.K.Sink.faults g.K.Sink.full mid c.args.sink.now (seen_through c.args.window (joined_in view))) c.in-Ok.is emits in
-    let came : c.in-Ok.emitted.came ≡ length (joined_in view).bytes =
-    subst (λ (emitted : Result Emitted EmitStop). IfOk emitted (λ (e : Emitted). e.came ≡ length (joined_in view).bytes))
+    let all = subst (Emits g.K.Sink.held g.K.Sink.takes g.K.Sink.faults g.K.Sink.full mid c.args.sink.now (seen_through c.args.window (joined_in (whole view)))) c.in-Ok.is emits in
+    let came : c.in-Ok.emitted.came ≡ length (joined_in (whole view)).bytes =
+    subst (λ (emitted : Result Emitted EmitStop). IfOk emitted (λ (e : Emitted). e.came ≡ length (joined_in (whole view)).bytes))
     c.in-Ok.is c.requires.came in
-    let enough = short_of c.args.window c.in-Ok.emitted.came (length (joined_in view).bytes) false came
+    let enough = short_of c.args.window c.in-Ok.emitted.came (length (joined_in (whole view)).bytes) false came
     (sym c.is_short.ensures ∙ c.if-is_short.false) in
     let last : HasWritten g.K.Sink.held g.K.Sink.takes g.K.Sink.faults c.args.sink.now c.write_all.new.sink view.parts.trailer =
     subst (HasWritten g.K.Sink.held g.K.Sink.takes g.K.Sink.faults c.args.sink.now c.write_all.new.sink) c.trailer-trailer.ensures.bytes
@@ -151,9 +151,9 @@ returns-clause-ends g c = λ first mid has emits.
 pub returns-then-is_short-clause-ends : goal.returns-then-is_short-clause-ends
 returns-then-is_short-clause-ends g c = λ first mid has emits.
     let view = c.args.view.now in
-    let all = subst (Emits g.K.Sink.held g.K.Sink.takes g.K.Sink.faults g.K.Sink.full mid c.args.sink.now (seen_through c.args.window (joined_in view))) c.in-Ok.is emits in
-    let came : c.in-Ok.emitted.came ≡ length (joined_in view).bytes =
-    subst (λ (emitted : Result Emitted EmitStop). IfOk emitted (λ (e : Emitted). e.came ≡ length (joined_in view).bytes))
+    let all = subst (Emits g.K.Sink.held g.K.Sink.takes g.K.Sink.faults g.K.Sink.full mid c.args.sink.now (seen_through c.args.window (joined_in (whole view)))) c.in-Ok.is emits in
+    let came : c.in-Ok.emitted.came ≡ length (joined_in (whole view)).bytes =
+    subst (λ (emitted : Result Emitted EmitStop). IfOk emitted (λ (e : Emitted). e.came ≡ length (joined_in (whole view)).bytes))
     c.in-Ok.is c.requires.came in
     ends_short g.K.Sink.held g.K.Sink.takes g.K.Sink.faults g.K.Sink.full view.plan view.parts c.args.window c.requires.window first mid c.args.sink.now
-    all.0 (short_of c.args.window c.in-Ok.emitted.came (length (joined_in view).bytes) true came (sym c.is_short.ensures ∙ c.if-is_short.true)) has all.3
+    all.0 (short_of c.args.window c.in-Ok.emitted.came (length (joined_in (whole view)).bytes) true came (sym c.is_short.ensures ∙ c.if-is_short.true)) has all.3

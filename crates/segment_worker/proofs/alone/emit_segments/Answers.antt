@@ -1,4 +1,4 @@
-use Rattle.std.proofs.Common.{◌≡◌, ◌+◌, ◌<◌, ◌∙◌, sym, subst, arith, ℕ, length, Ok}
+use Rattle.std.proofs.Common.{◌≡◌, ◌+◌, ◌∙◌, sym, subst, arith, ℕ, Ok}
 use Rattle.outside_core.specs.Takes.{TakesNext}
 use Rattle.byte_window.specs.declared.window.Window.{Window}
 use Rattle.byte_window.specs.Windows.{window}
@@ -7,10 +7,11 @@ use Rattle.container_spec.specs.Meanings.{segment_in}
 use Rattle.segment_code.specs.Decoding.{DecoderSeen, Owes}
 use Rattle.box_format.specs.Parts.{BoxParts}
 use Rattle.jpeg_marker.specs.Plans.{PlanFields}
+use Rattle.segment_worker.specs.Contents.{stretch}
 use Rattle.segment_worker.specs.Written.{HasWritten, HasFailed}
 use Rattle.segment_worker.specs.Emitting.{Emits, joined_in, seen_through}
 use Rattle.segment_worker.specs.LoneSegments.{OwesSome}
-use Rattle.segment_worker.proofs.SegmentsJoined.{output_at}
+use Rattle.segment_worker.proofs.ContentsTold.{output_of}
 use Rattle.segment_worker.proofs.LoneWritten.{no_segments, segment_taken, segment_written, segment_bad, segment_failed, all_segments}
 use Rattle.segment_worker.proofs.alone.emit_segments.Goals as goal
 
@@ -24,54 +25,54 @@ owed d made plan b i e owes =
 pub loop-segment-init : goal.loop-segment-init
 loop-segment-init g c =
     rw (c.none-pads.ensures)
-    (no_segments g.K.Sink.held g.K.Sink.takes g.K.Sink.faults g.K.Sink.full c.args.window c.args.view.now.plan c.args.view.now.parts c.args.decoder.now
+    (no_segments g.K.Sink.held g.K.Sink.takes g.K.Sink.faults g.K.Sink.full c.args.window (stretch c.args.view.now c.args.first c.args.count) c.args.decoder.now
     c.args.sink.now c.requires.plan c.requires.fresh)
 
 pub emit_segment-requires-clause-owes : goal.emit_segment-requires-clause-owes
 emit_segment-requires-clause-owes g c =
     let loop = c.loop-segment.invariant in
-    let plan = c.args.view.now.plan in
-    let parts = c.args.view.now.parts in
+    let v = stretch c.args.view.now c.args.first c.args.count in
     let i = c.loop-segment.segment in
     let owed : OwesSome c.begin.new.self = record {
-      bytes = (output_at plan parts i).0;
-      outcome = (output_at plan parts i).1;
-      owes = owed c.begin.new.self c.loop-segment.decoder.plan plan parts i loop.plan_is c.begin.ensures.owes;
+      bytes = (output_of v i).0;
+      outcome = (output_of v i).1;
+      owes = owed c.begin.new.self c.loop-segment.decoder.plan c.args.view.now.plan c.args.view.now.parts
+          (c.args.first + i) loop.plan_is c.begin.ensures.owes;
     } in (
       owed,
-      subst (λ (w : Window). TakesNext g.K.Sink.takes c.loop-segment.sink (window w (output_at c.args.view.now.plan c.args.view.now.parts c.loop-segment.segment).0))
+      subst (λ (w : Window). TakesNext g.K.Sink.takes c.loop-segment.sink (window w (output_of (stretch c.args.view.now c.args.first c.args.count) c.loop-segment.segment).0))
           (sym c.after-rest.ensures)
-          (segment_taken g.K.Sink.held g.K.Sink.takes g.K.Sink.faults g.K.Sink.full c.args.window plan parts i c.loop-segment.decoder
+          (segment_taken g.K.Sink.held g.K.Sink.takes g.K.Sink.faults g.K.Sink.full c.args.window v i c.loop-segment.decoder
           c.args.sink.now c.loop-segment.sink c.loop-segment.came c.loop-segment.pads c.requires.takes loop
-          (subst (λ (n : ℕ). i < n) c.segments-segment-end.ensures.count c.loop-segment-test.true)),
+          c.loop-segment-test.true),
     )
 
 pub returns-in-Ok-default-Bad-clause-ends : goal.returns-in-Ok-default-Bad-clause-ends
 returns-in-Ok-default-Bad-clause-ends g c =
     let loop = c.loop-segment.invariant in
     let owes = owed c.begin.new.self c.loop-segment.decoder.plan c.args.view.now.plan c.args.view.now.parts
-    c.loop-segment.segment loop.plan_is c.begin.ensures.owes in
+    (c.args.first + c.loop-segment.segment) loop.plan_is c.begin.ensures.owes in
     let ended = c.in-Ok-default-Bad.ensures.ends _ _ owes in
     let has = subst (λ (w : Window). HasWritten g.K.Sink.held g.K.Sink.takes g.K.Sink.faults c.loop-segment.sink c.emit_segment.new.sink
-    (window w (output_at c.args.view.now.plan c.args.view.now.parts c.loop-segment.segment).0)) c.after-rest.ensures ended.2 in
-    segment_bad g.K.Sink.held g.K.Sink.takes g.K.Sink.faults g.K.Sink.full c.args.window c.args.view.now.plan c.args.view.now.parts
+    (window w (output_of (stretch c.args.view.now c.args.first c.args.count) c.loop-segment.segment).0)) c.after-rest.ensures ended.2 in
+    segment_bad g.K.Sink.held g.K.Sink.takes g.K.Sink.faults g.K.Sink.full c.args.window (stretch c.args.view.now c.args.first c.args.count)
     c.loop-segment.segment c.loop-segment.decoder c.args.sink.now c.loop-segment.sink c.emit_segment.new.sink
     c.loop-segment.came c.loop-segment.pads c.in-Ok-default-Bad.fault loop
-    (subst (λ (n : ℕ). c.loop-segment.segment < n) c.segments-segment-end.ensures.count c.loop-segment-test.true)
+    c.loop-segment-test.true
     (sym c.in-Ok-default-Bad.field-0-1-is ∙ ended.1) has
 
 pub loop-segment-preserved : goal.loop-segment-preserved
 loop-segment-preserved g c =
     let loop = c.loop-segment.invariant in
     let owes = owed c.begin.new.self c.loop-segment.decoder.plan c.args.view.now.plan c.args.view.now.parts
-    c.loop-segment.segment loop.plan_is c.begin.ensures.owes in
+    (c.args.first + c.loop-segment.segment) loop.plan_is c.begin.ensures.owes in
     let ended = c.in-Ok-default-Good.ensures.ends _ _ owes in
     let has = subst (λ (w : Window). HasWritten g.K.Sink.held g.K.Sink.takes g.K.Sink.faults c.loop-segment.sink c.emit_segment.new.sink
-    (window w (output_at c.args.view.now.plan c.args.view.now.parts c.loop-segment.segment).0)) c.after-rest.ensures ended.2 in
-    segment_written g.K.Sink.held g.K.Sink.takes g.K.Sink.faults g.K.Sink.full c.args.window c.args.view.now.plan c.args.view.now.parts
+    (window w (output_of (stretch c.args.view.now c.args.first c.args.count) c.loop-segment.segment).0)) c.after-rest.ensures ended.2 in
+    segment_written g.K.Sink.held g.K.Sink.takes g.K.Sink.faults g.K.Sink.full c.args.window (stretch c.args.view.now c.args.first c.args.count)
     c.loop-segment.segment c.loop-segment.decoder c.emit_segment.new.decoder c.args.sink.now c.loop-segment.sink c.emit_segment.new.sink
-    c.loop-segment.came c.in-Ok-default-Good.count c.loop-segment.pads c.in-Ok-default-Good.more _ loop
-    (subst (λ (n : ℕ). c.loop-segment.segment < n) c.segments-segment-end.ensures.count c.loop-segment-test.true)
+    c.loop-segment.came c.in-Ok-default-Good.passed c.loop-segment.pads c.in-Ok-default-Good.more _ loop
+    c.loop-segment-test.true
     ended.0 (sym c.in-Ok-default-Good.field-0-1-is ∙ ended.1) has c.in-Ok-default-Good.ensures.few
     (c.in-Ok-default-Good.ensures.plan ∙ c.begin.ensures.plan)
     (c.in-Ok-default-Good.ensures.begun ∙ c.begin.ensures.begun) c.with-pads.ensures
@@ -80,26 +81,31 @@ pub returns-in-Err-clause-ends : goal.returns-in-Err-clause-ends
 returns-in-Err-clause-ends g c =
     let loop = c.loop-segment.invariant in
     let owes = owed c.begin.new.self c.loop-segment.decoder.plan c.args.view.now.plan c.args.view.now.parts
-    c.loop-segment.segment loop.plan_is c.begin.ensures.owes in
+    (c.args.first + c.loop-segment.segment) loop.plan_is c.begin.ensures.owes in
     subst (λ (n : ℕ). HasFailed g.K.Sink.held g.K.Sink.faults g.K.Sink.full c.args.sink.now c.emit_segment.new.sink
-    (window c.args.window (joined_in c.args.view.now).bytes) (n + c.in-Err.more)) (sym c.through.ensures.value)
-    (segment_failed g.K.Sink.held g.K.Sink.takes g.K.Sink.faults g.K.Sink.full c.args.window c.args.view.now.plan c.args.view.now.parts
+    (window c.args.window (joined_in (stretch c.args.view.now c.args.first c.args.count)).bytes) (n + c.in-Err.more)) (sym c.through.ensures.value)
+    (segment_failed g.K.Sink.held g.K.Sink.takes g.K.Sink.faults g.K.Sink.full c.args.window (stretch c.args.view.now c.args.first c.args.count)
     c.loop-segment.segment c.loop-segment.decoder c.args.sink.now c.loop-segment.sink c.emit_segment.new.sink
     c.loop-segment.came c.in-Err.more c.loop-segment.pads loop
-    (subst (λ (n : ℕ). c.loop-segment.segment < n) c.segments-segment-end.ensures.count c.loop-segment-test.true)
+    c.loop-segment-test.true
     (subst (λ (w : Window). HasFailed g.K.Sink.held g.K.Sink.faults g.K.Sink.full c.loop-segment.sink c.emit_segment.new.sink
-    (window w (output_at c.args.view.now.plan c.args.view.now.parts c.loop-segment.segment).0) c.in-Err.more)
+    (window w (output_of (stretch c.args.view.now c.args.first c.args.count) c.loop-segment.segment).0) c.in-Err.more)
     c.after-rest.ensures (c.in-Err.ensures.ends _ _ owes)))
 
 pub returns-clause-ends : goal.returns-clause-ends
 returns-clause-ends g c =
-    let count = c.segments-segment-end.ensures.count in
     let least = c.loop-segment-test.false in
     let most = c.loop-segment.auto.segment-end in
-    let over : c.loop-segment.segment ≡ length c.args.view.now.parts.handovers = omega (arith, count, least, most) in
+    let over : c.loop-segment.segment ≡ c.args.count = omega (arith, least, most) in
     subst (λ (n : ℕ). Emits g.K.Sink.held g.K.Sink.takes g.K.Sink.faults g.K.Sink.full c.args.sink.now c.loop-segment.sink
-    (seen_through c.args.window (joined_in c.args.view.now)) (Ok (record { bytes = n; came = c.loop-segment.came; pads = c.loop-segment.pads })))
+    (seen_through c.args.window (joined_in (stretch c.args.view.now c.args.first c.args.count))) (Ok (record { bytes = n; came = c.loop-segment.came; pads = c.loop-segment.pads })))
     (sym c.through-2.ensures.value)
-    (all_segments g.K.Sink.held g.K.Sink.takes g.K.Sink.faults g.K.Sink.full c.args.window c.args.view.now.plan c.args.view.now.parts
+    (all_segments g.K.Sink.held g.K.Sink.takes g.K.Sink.faults g.K.Sink.full c.args.window (stretch c.args.view.now c.args.first c.args.count)
     c.loop-segment.segment c.loop-segment.decoder c.args.sink.now c.loop-segment.sink c.loop-segment.came c.loop-segment.pads
     c.loop-segment.invariant over)
+
+pub returns-clause-begun : goal.returns-clause-begun
+returns-clause-begun g c =
+    let least = c.loop-segment-test.false in
+    let most = c.loop-segment.auto.segment-end in
+    c.loop-segment.invariant.begun ∙ omega (arith, least, most)

@@ -1,43 +1,53 @@
-use Rattle.std.proofs.Common.{◌≡◌, ◌<◌, ◌∙◌, sym, ap, subst, arith, List, ℕ, length}
+use Rattle.std.proofs.Common.{◌≡◌, ◌+◌, ◌<◌, ◌∙◌, sym, ap, subst, arith, List, ℕ}
 use Rattle.outside_core.specs.Takes.{TakesNext}
 use Rattle.byte_window.specs.Windows.{window}
 use Rattle.jpeg_marker.specs.Plans.{PlanFields}
-use Rattle.box_format.specs.Seen.{BoxSeen}
 use Rattle.container_spec.specs.Segments.{segment_output}
 use Rattle.container_spec.specs.Meanings.{segment_in}
 use Rattle.segment_code.specs.Decoding.{Owes}
 use Rattle.output_board.specs.declared.view.EmitterView.{EmitterView}
+use Rattle.segment_worker.specs.Contents.{Stretch, stretch}
 use Rattle.segment_worker.specs.OwnSegments.{OwesRest}
 use Rattle.segment_worker.proofs.ContentsTold.{bytes_long}
 use Rattle.segment_worker.proofs.OwnPieces.{owes_all, claimed_rest, own_none}
 use Rattle.segment_worker.proofs.emitter_own.emit_unclaimed.Goals as goal
 
+pub overflow_add-first-in-Mine : goal.overflow_add-first-in-Mine
+overflow_add-first-in-Mine g c =
+    let a = c.in-Mine.ensures.answer in
+    let long = bytes_long c.args.seat.now.content in
+    let under = a.6 in
+    let is = a.7 in
+    let fits = c.requires.fits in
+    let few = c.requires.few in
+    omega (arith, long, under, is, fits, few)
+
 pub begin-requires-clause-segment : goal.begin-requires-clause-segment
 begin-requires-clause-segment g c =
     let a = c.in-Mine.ensures.answer in
     let long = bytes_long c.args.seat.now.content in
-    let same = ap (λ (v : BoxSeen). length v.parts.handovers) c.requires.content in
     let under = a.6 in
     let is = a.7 in
-    omega (arith, long, same, under, is)
+    let fits = c.requires.fits in
+    omega (arith, long, under, is, fits)
 
 pub emit_own-requires-clause-owes : goal.emit_own-requires-clause-owes
 emit_own-requires-clause-owes g c =
-    let v = c.args.view.now in
+    let v = stretch c.args.view.now c.args.first c.args.seat.now.content.count in
     let a = c.in-Mine.ensures.answer in
     let long = bytes_long c.args.seat.now.content in
-    let same = ap (λ (v : BoxSeen). length v.parts.handovers) c.requires.content in
     let under = a.6 in
     let is = a.7 in
-    let within : c.in-Mine.segment < length v.parts.handovers = omega (arith, long, same, under, is) in
+    let within : c.in-Mine.segment < v.count = omega (arith, long, under, is) in
     let content = c.claim_own.ensures.hold.content ∙ c.requires.content in
     let view = a.0 in
     let cur : c.claim_own.new.seat.view.cur ≡ c.in-Mine.segment =
     ap (λ (w : EmitterView). w.cur) view ∙ sym (is ∙ a.4.1) in
     let none : c.claim_own.new.seat.view.taken ≡ 0 = ap (λ (w : EmitterView). w.taken) view ∙ a.1 in
-    let owes = subst (λ (p : PlanFields). Owes c.begin.new.self (segment_output (segment_in p v.parts c.in-Mine.segment)).0 (segment_output (segment_in p v.parts c.in-Mine.segment)).1)
+    let number = c.args.first + c.in-Mine.segment in
+    let owes = subst (λ (p : PlanFields). Owes c.begin.new.self (segment_output (segment_in p c.args.view.now.parts number)).0 (segment_output (segment_in p c.args.view.now.parts number)).1)
     c.requires.plan c.begin.ensures.owes in
-    subst (λ (z : BoxSeen × ℕ). OwesRest z.0 z.1 c.claim_own.new.seat.view.taken c.begin.new.self)
+    subst (λ (z : Stretch × ℕ). OwesRest z.0 z.1 c.claim_own.new.seat.view.taken c.begin.new.self)
     (λ i. (sym content i, sym cur i))
     (owes_all v c.in-Mine.segment c.claim_own.new.seat.view.taken c.begin.new.self within none owes)
 

@@ -1,39 +1,63 @@
-use Rattle.std.proofs.Common.{◌<◌, ◌∙◌, sym, ap, subst, arith, length}
+use Rattle.std.proofs.Common.{◌<◌, ◌+◌, ◌∙◌, sym, ap, subst, arith}
 use Rattle.jpeg_marker.specs.Plans.{PlanFields}
-use Rattle.box_format.specs.Seen.{BoxSeen}
 use Rattle.container_spec.specs.Segments.{segment_output}
 use Rattle.container_spec.specs.Meanings.{segment_in}
 use Rattle.segment_code.specs.Decoding.{Owes}
 use Rattle.output_board.specs.declared.view.WorkerView.{WorkerView}
+use Rattle.segment_worker.specs.Contents.{Stretch, stretch}
 use Rattle.segment_worker.specs.OwnSegments.{OwesRest}
 use Rattle.segment_worker.proofs.ContentsTold.{bytes_long}
 use Rattle.segment_worker.proofs.OwnPieces.{owes_all}
 use Rattle.segment_worker.proofs.worker.put_segments.Goals as goal
 
+pub overflow_add-first : goal.overflow_add-first
+overflow_add-first g c =
+    let a = c.in-Segment.ensures.answer in
+    let long = bytes_long c.loop.seat.content in
+    let same = ap (λ (v : Stretch). v.count) c.loop.invariant.content in
+    let under = a.5 in
+    let is = a.6 in
+    let within = c.requires.within in
+    let few = c.segments_are_short.ensures.few in
+    omega (arith, long, same, under, is, within, few)
+
 pub begin-requires-clause-segment : goal.begin-requires-clause-segment
 begin-requires-clause-segment g c =
     let a = c.in-Segment.ensures.answer in
     let long = bytes_long c.loop.seat.content in
-    let same = ap (λ (v : BoxSeen). length v.parts.handovers) c.loop.invariant.content in
+    let same = ap (λ (v : Stretch). v.count) c.loop.invariant.content in
     let under = a.5 in
     let is = a.6 in
-    omega (arith, long, same, under, is)
+    let within = c.requires.within in
+    omega (arith, long, same, under, is, within)
+
+pub put_segment-requires-clause-number : goal.put_segment-requires-clause-number
+put_segment-requires-clause-number g c =
+    let a = c.in-Segment.ensures.answer in
+    let long = bytes_long c.loop.seat.content in
+    let same = ap (λ (v : Stretch). v.count) c.loop.invariant.content in
+    let under = a.5 in
+    let is = a.6 in
+    let within = c.requires.within in
+    let few = c.segments_are_short.ensures.few in
+    omega (arith, long, same, under, is, within, few)
 
 pub put_segment-requires-clause-owes : goal.put_segment-requires-clause-owes
 put_segment-requires-clause-owes g c =
-    let v = c.args.view.now in
+    let v = stretch c.args.view.now c.args.first c.args._count in
     let i = c.loop.invariant in
     let a = c.in-Segment.ensures.answer in
     let long = bytes_long c.loop.seat.content in
-    let same = ap (λ (v : BoxSeen). length v.parts.handovers) i.content in
+    let same = ap (λ (v : Stretch). v.count) i.content in
     let under = a.5 in
     let is = a.6 in
-    let within : c.in-Segment.segment < length v.parts.handovers = omega (arith, long, same, under, is) in
+    let within : c.in-Segment.segment < c.args._count = omega (arith, long, same, under, is) in
     let content = c.claim.ensures.hold.content ∙ i.content in
     let none = ap (λ (w : WorkerView). w.put) a.0 in
-    let owes = subst (λ (p : PlanFields). Owes c.begin.new.self (segment_output (segment_in p v.parts c.in-Segment.segment)).0 (segment_output (segment_in p v.parts c.in-Segment.segment)).1)
+    let number = c.args.first + c.in-Segment.segment in
+    let owes = subst (λ (p : PlanFields). Owes c.begin.new.self (segment_output (segment_in p c.args.view.now.parts number)).0 (segment_output (segment_in p c.args.view.now.parts number)).1)
     i.plan c.begin.ensures.owes in
-    subst (λ (z : BoxSeen). OwesRest z c.in-Segment.segment c.claim.new.seat.view.put c.begin.new.self) (sym content)
+    subst (λ (z : Stretch). OwesRest z c.in-Segment.segment c.claim.new.seat.view.put c.begin.new.self) (sym content)
     (owes_all v c.in-Segment.segment c.claim.new.seat.view.put c.begin.new.self within none owes)
 
 pub put_segment-requires-clause-going : goal.put_segment-requires-clause-going

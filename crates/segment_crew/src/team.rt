@@ -1,6 +1,7 @@
-// The emitter and the workers of a decode, each with what it needs.
-ghost use Rattle.std.specs.Prelude.{◌≡◌, All, IfOk, length};
-ghost use Rattle.lepton_decode.specs.Teams.{IsIdleWorker, IsNewSeat, AreNewSeats};
+// The emitter and the workers of a crew, each with what it needs.
+ghost use Rattle.std.specs.Prelude.{◌≡◌, ◌+◌, ◌≤◌, All, IfOk, length};
+ghost use Rattle.segment_worker.specs.Contents.{stretch};
+ghost use Rattle.segment_crew.specs.Teams.{IsIdleWorker, IsNewSeat, AreNewSeats};
 
 use crate::threads::{Lead, Task};
 use bit_list::Piece;
@@ -30,21 +31,26 @@ pub(crate) struct Emitter<'a> {
     pub(crate) piece: Piece,
 }
 
-// What all of a container share.
+// What all of a crew share.
 #[derive(Drop)]
 pub(crate) struct Shared<'s, 'a, G> {
     pub(crate) board: &'s Board<Told<'a>>,
     pub(crate) view: &'s BoxView<'a>,
+    pub(crate) first: u8,
+    pub(crate) count: u8,
     pub(crate) window: Window,
     pub(crate) gate: &'s G,
 }
 
 impl<'s, 'a, G: Gate> Task<Shared<'s, 'a, G>> for Worker<'a> {
-    ghost use Rattle.lepton_decode.specs.Teams.{IsIdleWorker, IsLeftWorker};
+    ghost use Rattle.segment_worker.specs.Contents.{stretch};
+    ghost use Rattle.segment_crew.specs.Teams.{IsIdleWorker, IsLeftWorker};
 
-    ghost ready = { λ worker shared. IsIdleWorker shared.board.now shared.view.now worker };
+    ghost ready = { λ worker shared.
+        IsIdleWorker shared.board.now (stretch shared.view.now shared.first shared.count) worker };
 
-    ghost done = { λ worker shared. IsLeftWorker shared.board.now shared.view.now worker };
+    ghost done = { λ worker shared.
+        IsLeftWorker shared.board.now (stretch shared.view.now shared.first shared.count) worker };
 
     fn perform<R: Wait>(&mut self, rt: &R, shared: &Shared<'s, 'a, G>) {
         work(
@@ -55,24 +61,30 @@ impl<'s, 'a, G: Gate> Task<Shared<'s, 'a, G>> for Worker<'a> {
             shared.board,
             shared.view,
             shared.gate,
+            shared.first,
+            shared.count,
         );
     }
 }
 
 impl<'s, 'a, G: Gate, K: Sink> Lead<Shared<'s, 'a, G>, K> for Emitter<'a> {
     ghost use Rattle.outside_core.specs.Takes.{TakesNext};
+    ghost use Rattle.segment_worker.specs.Contents.{stretch};
     ghost use Rattle.segment_worker.specs.Emitting.{joined_in, seen_through};
-    ghost use Rattle.lepton_decode.specs.Teams.{IsNewLead, LeadEnds};
+    ghost use Rattle.segment_crew.specs.Teams.{IsNewLead, LeadEnds};
 
     type Answer = Result<Emitted, EmitStop>;
 
-    ghost begins = { λ emitter shared. IsNewLead shared.board.now shared.view.now emitter };
+    ghost begins = { λ emitter shared.
+        IsNewLead shared.board.now (stretch shared.view.now shared.first shared.count) emitter };
 
     ghost takes = { λ shared sink.
-        TakesNext K.takes sink (seen_through shared.window (joined_in shared.view.now)).bytes };
+        TakesNext K.takes sink (seen_through shared.window
+        (joined_in (stretch shared.view.now shared.first shared.count))).bytes };
 
     ghost ends = { λ old new shared from to answer.
-        LeadEnds K.held K.takes K.faults K.full shared.window shared.view.now new from to answer };
+        LeadEnds K.held K.takes K.faults K.full shared.board.now shared.window
+        (stretch shared.view.now shared.first shared.count) new from to answer };
 
     fn lead<R: Wait>(
         &mut self,
@@ -90,6 +102,8 @@ impl<'s, 'a, G: Gate, K: Sink> Lead<Shared<'s, 'a, G>, K> for Emitter<'a> {
             shared.window,
             sink,
             shared.gate,
+            shared.first,
+            shared.count,
         )
     }
 }
@@ -100,14 +114,18 @@ pub(crate) fn team_of<'a>(
     view: &BoxView<'a>,
     board: &Board<Told<'a>>,
     seats: Vec<WorkerSeat<Told<'a>>>,
+    first: u8,
+    count: u8,
 ) -> Result<Vec<Worker<'a>>, NoMemory>
-    requires { AreNewSeats board.now view.now seats.items }
-    ensures idle { IfOk result (λ team. All (IsIdleWorker board.now view.now) team.items) }
+    requires within { first + count ≤ length view.now.parts.handovers }
+    requires new { AreNewSeats board.now (stretch view.now first count) seats.items }
+    ensures idle { IfOk result (λ team.
+        All (IsIdleWorker board.now (stretch view.now first count)) team.items) }
     ensures count { IfOk result (λ team. length team.items ≡ length seats.entry.items) }
 {
     let mut team = with_capacity(alloc, seats.len())?;
     for seat in seats {
-        let worker = worker_of(alloc, view, board, seat)?;
+        let worker = worker_of(alloc, view, board, seat, first, count)?;
         push(&mut team, worker)?;
     }
     Ok(team)
@@ -119,9 +137,13 @@ fn worker_of<'a>(
     view: &BoxView<'a>,
     _board: &Board<Told<'a>>,
     seat: WorkerSeat<Told<'a>>,
+    _first: u8,
+    _count: u8,
 ) -> Result<Worker<'a>, NoMemory>
-    requires { IsNewSeat _board.now view.now seat }
-    ensures { IfOk result (λ worker. IsIdleWorker _board.now view.now worker) }
+    requires within { _first + _count ≤ length view.now.parts.handovers }
+    requires new { IsNewSeat _board.now (stretch view.now _first _count) seat }
+    ensures { IfOk result (λ worker.
+        IsIdleWorker _board.now (stretch view.now _first _count) worker) }
 {
     let decoder = SegmentDecoder::prepare(alloc, view.plan())?;
     let piece = Piece::new(alloc)?;
