@@ -1,2 +1,3 @@
 mod FaultsFound
 mod FilesAt
+mod PlacesMade

@@ -11,5 +11,5 @@
 mod container;
 mod error;
 
-pub use container::encode;
+pub use container::{encode, encode_placed};
 pub use error::EncodeError;

@@ -1,54 +1,41 @@
-use Rattle.std.proofs.Common.{rules, ◌≡◌, List, map, ℕ, ap, ◌∙◌, sym, subst}
-use Rattle.std.specs.Prelude.{Err}
+use Rattle.std.proofs.Common.{rules, List, map, ℕ, ap, ◌∙◌, sym, subst, refl}
 use Rattle.std.specs.List.{AllByRecursion}
-use Rattle.std.proofs.lemmas.Result.{err_from_is_err_and}
 use Rattle.bit_list.specs.Bits.{IsByte}
 use Rattle.box_format.specs.Parts.{IsBox, box_bytes}
 use Rattle.box_format.specs.declared.version.Version.TheVariants.{Second}
 use Rattle.container_spec.specs.Files.{IsContainerOf}
-use Rattle.lepton_encode.specs.declared.error.EncodeError.TheVariants.{Scan}
-use Rattle.lepton_encode.specs.Errors.{error_of}
-use Rattle.lepton_encode.proofs.FaultsFound.{scan_found}
 use Rattle.lepton_encode.proofs.FilesAt.{are_bytes, found, has_container, is_box}
 use Rattle.lepton_encode.proofs.container.encode.Goals as goal
 
-pub returns-in_err-starts-clause-scan : goal.returns-in_err-starts-clause-scan
-returns-in_err-starts-clause-scan g c =
-    let p = err_from_is_err_and c.from_residual-in_err-starts.result
-    c.from_residual-in_err-starts.ensures.1 in
-    rw (p.1, p.2) (λ refusal is.
-    let scan : error_of c.in_err-starts.field-0.0 ≡ Scan refusal = cc in
-    let cause = ap (λ error. Err error) (scan_found c.in_err-starts.field-0.0 refusal scan) in
-    (c.in_ok-plan.plan, c.in_ok-plan.ensures.accepted, c.in_err-starts.ensures.refused refusal cause))
-
-pub write_box-requires : goal.write_box-requires
-write_box-requires g c =
+pub write_parts-requires-clause-parts : goal.write_parts-requires-clause-parts
+write_parts-requires-clause-parts g c =
     let plan = c.in_ok-plan.plan in
     let bytes = c.args.bytes.now in
-    let starts = c.in_ok-starts.starts in
-    let have = c.in_ok-starts.ensures.starts in
+    let starts = c.in_ok-plan.starts in
+    let have = c.in_ok-plan.ensures.starts in
     let are : AllByRecursion IsByte bytes =
     are_bytes bytes (λ i. let h = c.type_inv.bytes i in search rules) in
-    let streams = ap (map (λ v. v.items)) c.as_slice.ensures.value
-    ∙ c.in_ok-starts.ensures.streams have.mcus have.pads starts.trailer have.file in
-    let same = found plan bytes c.args.segments starts have c.pad.ensures c.header_length.ensures
-    c.split_at.ensures.front c.trailer.ensures c.split_at-2.ensures.back c.handovers.ensures streams in
-    let is = is_box plan bytes c.args.segments starts have are c.requires.length c.requires.some
-    c.requires.few in
-    (plan, subst (IsBox plan) (sym same) is)
+    let streams = ap (map (λ v. v.items)) c.as_slice-streams.ensures.value
+    ∙ c.in_ok-plan.ensures.streams have.mcus have.pads have.file in
+    let same = found plan bytes c.args.segments starts have are c.requires.length c.requires.some
+    (map (λ v. v.items) c.as_slice-streams.result.now) streams in
+    subst (IsBox plan) (sym same)
+    (is_box plan bytes c.args.segments starts have are c.requires.length c.requires.some Second refl
+    refl c.requires.few)
 
 pub returns-clause-made : goal.returns-clause-made
 returns-clause-made g c =
     let plan = c.in_ok-plan.plan in
     let bytes = c.args.bytes.now in
-    let starts = c.in_ok-starts.starts in
-    let have = c.in_ok-starts.ensures.starts in
+    let starts = c.in_ok-plan.starts in
+    let have = c.in_ok-plan.ensures.starts in
     let are : AllByRecursion IsByte bytes =
     are_bytes bytes (λ i. let h = c.type_inv.bytes i in search rules) in
-    let streams = ap (map (λ v. v.items)) c.as_slice.ensures.value
-    ∙ c.in_ok-starts.ensures.streams have.mcus have.pads starts.trailer have.file in
-    let same = found plan bytes c.args.segments starts have c.pad.ensures c.header_length.ensures
-    c.split_at.ensures.front c.trailer.ensures c.split_at-2.ensures.back c.handovers.ensures streams in
-    let made = has_container plan bytes c.args.segments starts have are c.requires.length in
+    let streams = ap (map (λ v. v.items)) c.as_slice-streams.ensures.value
+    ∙ c.in_ok-plan.ensures.streams have.mcus have.pads have.file in
+    let same = found plan bytes c.args.segments starts have are c.requires.length c.requires.some
+    (map (λ v. v.items) c.as_slice-streams.result.now) streams in
     subst (λ (m : List ℕ). IsContainerOf Second c.args.segments m bytes)
-    (sym (c.in_ok-made.ensures ∙ ap box_bytes same)) made
+    (sym (c.in_ok-made.ensures ∙ ap box_bytes same))
+    (has_container plan bytes c.args.segments starts have are c.requires.length c.requires.some Second
+    refl refl)
