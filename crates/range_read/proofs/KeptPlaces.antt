@@ -1,0 +1,88 @@
+-- A container of the fifth version keeps its places, and which of its segments a range of its file has.
+use Rattle.std.proofs.Common.{◌≡◌, ℕ, ◌+◌, ◌<◌, ◌≤◌, Bool, true, false, List, length, Option, Some, None, refl, ap, ◌∙◌, arith, ⊎_elim}
+use Rattle.std.specs.Prelude.{IfSome, is_some}
+use Rattle.std.proofs.lemmas.Bool.{cases_lt}
+use Rattle.std.proofs.lemmas.List.{length-map}
+use Rattle.byte_window.specs.Slices.{Cover, has_place}
+use Rattle.byte_window.specs.SliceLaws.{IsCover}
+use Rattle.byte_window.proofs.Covers.{cover_is_exact}
+use Rattle.jpeg_marker.specs.Plans.{PlanFields}
+use Rattle.box_format.specs.Parts.{BoxParts, IsBox, ArePlaces}
+use Rattle.box_format.specs.Versions.{layout_of}
+use Rattle.box_format.specs.declared.chunk.Chunk.{Chunk}
+use Rattle.box_format.specs.declared.version.Version.{Version}
+use Rattle.box_format.specs.declared.version.Version.TheVariants.{Fifth}
+use Rattle.container_spec.specs.Segments.{Output, segment_output}
+use Rattle.container_spec.specs.Meanings.{outputs_of, segment_in}
+use Rattle.container_spec.proofs.Numbered.{mapped_long}
+use Rattle.range_spec.specs.Ranges.{place_at, segments_within}
+use Rattle.range_read.specs.RangeMeanings.{places_of, placed_file}
+
+-- places that are kept
+pub record AreKeptPlaces (b : BoxParts) : Type 0 where
+  pub some : b.places ≡ Some (places_of b.places)
+  pub are : ArePlaces (length b.header) (length b.handovers) (places_of b.places)
+
+same_places : (places : Option (List ℕ)) → is_some places ≡ true → places ≡ Some (places_of places)
+same_places None some = absurd cc
+same_places (Some places) some = refl
+
+those_places : (P : List ℕ → Type 0) (places : Option (List ℕ)) → is_some places ≡ true
+    → IfSome places P → P (places_of places)
+those_places P None some all = absurd cc
+those_places P (Some places) some all = all
+
+none_if : (chunk : Option Chunk) → is_some chunk ≡ false → chunk ≡ None
+none_if None none = refl
+none_if (Some c) none = absurd cc
+
+-- as many segments as handovers
+pub segments_long : (plan : PlanFields) (b : BoxParts)
+    → length (placed_file plan b).segments ≡ length b.handovers
+segments_long plan b =
+    length-map (outputs_of plan b) (λ (output : Output). output.0)
+    ∙ mapped_long (λ i. segment_output (segment_in plan b i)) 0 (length b.handovers)
+
+cover_fits : (met : ℕ → Bool) (count : ℕ) (c : Cover) → IsCover met count c → c.to ≤ count
+cover_fits met count c k =
+    ⊎_elim (λ (some : c.from < c.to). (k.some some).2)
+    (λ (h : c.to ≤ c.from).
+    let order = k.order in
+    let same : c.from ≡ c.to = omega (arith, order, h) in
+    let zero_is = (k.none same).1 in omega (arith, zero_is))
+    (cases_lt c.from c.to)
+
+-- the segments that a range has are some of the container's
+pub cover_is_ordered : (plan : PlanFields) (b : BoxParts) (from to : ℕ)
+    → (segments_within (placed_file plan b) from to).from
+    ≤ (segments_within (placed_file plan b) from to).to
+cover_is_ordered plan b from to =
+    let f = placed_file plan b in
+    (cover_is_exact (has_place (place_at f) from to) (length f.segments)).order
+
+pub cover_is_within : (plan : PlanFields) (b : BoxParts) (from to : ℕ)
+    → (segments_within (placed_file plan b) from to).to ≤ length b.handovers
+cover_is_within plan b from to =
+    let f = placed_file plan b in
+    let met = has_place (place_at f) from to in
+    let fits = cover_fits met (length f.segments) (segments_within f from to)
+    (cover_is_exact met (length f.segments)) in
+    let long = segments_long plan b in
+    omega (arith, fits, long)
+
+-- of the fifth version
+module _ (plan : PlanFields) (b : BoxParts) (box : IsBox plan b) (fifth : b.version ≡ Fifth) where
+  pub no_chunk : b.chunk ≡ None
+  no_chunk = none_if b.chunk (box.chunked ∙ ap (λ (v : Version). (layout_of v).chunked) fifth)
+
+  pub kept_places : AreKeptPlaces b
+  kept_places =
+      let some = box.placed ∙ ap (λ (v : Version). (layout_of v).placed) fifth in
+      let P = ArePlaces (length b.header) (length b.handovers) in record {
+        some = same_places b.places some;
+        are = those_places P b.places some box.places;
+      }
+
+  -- one place for each segment, and one for the scan's end
+  pub one_place_more : length (places_of b.places) ≡ length b.handovers + 1
+  one_place_more = kept_places.are.count

@@ -1,0 +1,75 @@
+-- Statement: a range that is read, and what it leaves in a sink (own).
+use Rattle.std.specs.Prelude.{ℕ, ◌≡◌, Bool, List, [], length, Option, Some, None, Result, Ok, Err}
+use Rattle.jpeg_marker.specs.Plans.{PlanFields}
+use Rattle.box_format.specs.Parts.{BoxParts}
+use Rattle.box_format.specs.Seen.{BoxSeen}
+use Rattle.output_board.specs.declared.view.WorkerView.{WorkerView}
+use Rattle.range_spec.specs.Ranges.{begun_within, segments_within}
+use Rattle.segment_crew.specs.Crews.{CrewSeen, Member}
+use Rattle.segment_worker.specs.Contents.{Stretch, stretch}
+use Rattle.segment_worker.specs.Written.{HasWritten, HasFailed}
+use Rattle.segment_worker.specs.declared.emitted.EmitStop.{EmitStop}
+use Rattle.segment_worker.specs.declared.emitted.EmitStop.TheVariants.{Fault, WriteFault}
+use Rattle.range_read.specs.RangeMeanings.{RangeMeaning, placed_file, range_meaning}
+use Rattle.range_read.specs.declared.reading.Ranged.{Ranged}
+
+-- a range that is ready: its container's plan and parts, from where to before where it is, what is seen of the crew of
+-- its segments, if it has any, and whether it was read
+pub record RangeSeen : Type 0 where
+  pub plan : PlanFields
+  pub parts : BoxParts
+  pub from : ℕ
+  pub to : ℕ
+  pub crew : Option CrewSeen
+  pub used : Bool
+
+-- what it is
+abbrev pub range_in : RangeSeen → RangeMeaning
+range_in ready = range_meaning ready.plan ready.parts ready.from ready.to
+
+-- a range that is ready for one thread: its container's plan and parts, from where to before where it is, how many
+-- segments its decoder began, if it has one, and whether it was read
+pub record LoneRangeSeen : Type 0 where
+  pub plan : PlanFields
+  pub parts : BoxParts
+  pub from : ℕ
+  pub to : ℕ
+  pub begun : Option ℕ
+  pub used : Bool
+
+-- what it is
+abbrev pub lone_range_in : LoneRangeSeen → RangeMeaning
+lone_range_in ready = range_meaning ready.plan ready.parts ready.from ready.to
+
+-- the segments of a container from the first to the last with a place in a range
+abbrev pub stretch_between : BoxSeen → ℕ → ℕ → Stretch
+stretch_between v from to =
+    let f = placed_file v.plan v.parts in
+    stretch v (segments_within f from to).from (begun_within f from to)
+
+-- and in this one
+abbrev pub stretch_in : RangeSeen → Stretch
+stretch_in ready =
+    stretch_between (record { plan = ready.plan; parts = ready.parts }) ready.from ready.to
+
+-- and in one for one thread
+abbrev pub lone_stretch_in : LoneRangeSeen → Stretch
+lone_stretch_in ready =
+    stretch_between (record { plan = ready.plan; parts = ready.parts }) ready.from ready.to
+
+-- what is seen of each worker; nothing if there is no crew
+abbrev pub team_in : Option CrewSeen → List (Member WorkerView)
+team_in None = []
+team_in (Some crew) = crew.team
+
+module _ {Sink : Type 0} (held : Sink → Option (List ℕ))
+    (takes : Sink → List ℕ → Type 0) (faults : Sink → ℕ) (full : Sink → Type 0) where
+  -- a reading of this range
+  abbrev pub RangeEnds : Sink → Sink → RangeMeaning → Result Ranged EmitStop → Type 0
+  RangeEnds old new m (Ok ranged) =
+      (m.fault ≡ None) × (ranged.written ≡ length m.bytes) × (ranged.begun ≡ m.begun)
+      × HasWritten held takes faults old new m.bytes
+  RangeEnds old new m (Err (Fault fault)) =
+      (m.fault ≡ Some fault) × HasWritten held takes faults old new m.bytes
+  RangeEnds old new m (Err (WriteFault written)) =
+      HasFailed held faults full old new m.bytes written

@@ -1,0 +1,184 @@
+// A range of a container's file, read on one thread.
+ghost use Rattle.std.specs.Prelude.{◌≡◌, ◌≤◌, IfOk, IfSome, IsErrOf, false, is_some, nat_lt, true};
+ghost use Rattle.jpeg_marker.specs.Plans.{PlanFields};
+ghost use Rattle.box_format.specs.BoxChecks.{IsRefusedBy};
+ghost use Rattle.box_format.specs.Parts.{BoxParts, IsBoxOf};
+ghost use Rattle.box_format.specs.Versions.{IsRead, ranged};
+ghost use Rattle.box_format.specs.declared.refusal.BoxRefusal.{BoxRefusal};
+ghost use Rattle.outside_core.specs.Takes.{TakesNext};
+ghost use Rattle.range_read.specs.RangeEnds.{RangeEnds, lone_range_in, lone_stretch_in};
+ghost use Rattle.range_read.specs.RangeMeanings.{is_bad_range, range_meaning};
+
+use crate::bounds::{segments_within, window_within};
+use crate::error::RangeError;
+use crate::parts::{put_header, put_trailer};
+use crate::reading::{Ranged, read_bare};
+use crate::ready::read_ranged;
+use bit_list::Piece;
+use box_format::BoxView;
+use growth::NoMemory;
+use outside_core::{Gate, Sink};
+use segment_code::SegmentDecoder;
+use segment_worker::{EmitStop, emit_alone};
+use std::alloc::Global;
+use std::marker::Model;
+
+// What decodes segments on one thread: a decoder, and a piece of bytes that it fills.
+#[derive(Drop)]
+pub(crate) struct Lone<'a> {
+    pub(crate) decoder: SegmentDecoder<'a>,
+    pub(crate) piece: Piece,
+}
+
+/// A range of a container's file that is ready to be read on one thread, once: the container's parts, and if a segment
+/// has a place in the range, all the memory that decoding needs.
+///
+/// Clauses see the header's plan, the parts, from where to before where the range is, how many segments its decoder
+/// began, if it has one, and whether it was read.
+#[derive(Drop)]
+pub struct ReadyRangeAlone<'a> {
+    pub(crate) view: BoxView<'a>,
+    pub(crate) from: u64,
+    pub(crate) to: u64,
+    pub(crate) lone: Option<Lone<'a>>,
+    pub(crate) used: bool,
+}
+
+impl<'a> Model for ReadyRangeAlone<'a> {
+    ghost use Rattle.range_read.specs.RangeEnds.{LoneRangeSeen};
+    ghost use Rattle.range_read.specs.AloneInside.{lone_range_of, IsReadyRangeAlone};
+
+    ghost Value = { LoneRangeSeen };
+
+    ghost view = { lone_range_of };
+
+    ghost invariant = { IsReadyRangeAlone };
+}
+
+impl<'a> ReadyRangeAlone<'a> {
+    /// Whether it was read.
+    pub fn used(&self) -> bool
+        ensures { result ≡ self.now.used }
+    {
+        self.used
+    }
+}
+
+/// Reads a container's parts, and allocates all the memory that reading the file's bytes from place `from` to before
+/// place `to` on one thread needs: the bins, two MCU rows of blocks and a piece of bytes. If no segment has a place
+/// there, it allocates nothing.
+pub fn prepare_range_alone(
+    alloc: Global,
+    bytes: &[u8],
+    from: u64,
+    to: u64,
+) -> Result<ReadyRangeAlone<'_>, RangeError>
+    ensures ready { IfOk result (λ ready. IsBoxOf ready.plan ready.parts bytes.now) }
+    ensures version { IfOk result (λ ready. IsRead ranged ready.parts.version) }
+    ensures from { IfOk result (λ ready. ready.from ≡ from) }
+    ensures to { IfOk result (λ ready. ready.to ≡ to) }
+    ensures good { IfOk result (λ ready. is_bad_range ready.parts from to ≡ false) }
+    ensures fresh { IfOk result (λ ready. ready.used ≡ false) }
+    ensures decoder { IfOk result (λ ready.
+        is_some ready.begun ≡ nat_lt 0 (lone_stretch_in ready).count) }
+    ensures begun { IfOk result (λ ready. IfSome ready.begun (λ begun. begun ≡ 0)) }
+    ensures refused { (refusal : BoxRefusal) → IsErrOf result (RangeError.Box refusal)
+        → IsRefusedBy ranged bytes.now refusal }
+    ensures bad { IsErrOf result RangeError.RangeBad → (plan : PlanFields) × (b : BoxParts)
+        × IsBoxOf plan b bytes.now × IsRead ranged b.version × (is_bad_range b from to ≡ true) }
+{
+    let view = read_ranged(bytes, from, to)?;
+    let (first, past) = segments_within(&view, from, to);
+    let lone = lone_for(alloc, &view, past - first)?;
+    Ok(ReadyRangeAlone {
+        view,
+        from,
+        to,
+        lone,
+        used: false,
+    })
+}
+
+// What decodes `count` of a container's segments, if there is one.
+fn lone_for<'a>(alloc: Global, view: &BoxView<'a>, count: u8) -> Result<Option<Lone<'a>>, NoMemory>
+    ensures some { IfOk result (λ lone. is_some lone ≡ nat_lt 0 count) }
+    ensures plan { IfOk result (λ lone. IfSome lone (λ made. made.decoder.plan ≡ view.now.plan)) }
+    ensures fresh { IfOk result (λ lone. IfSome lone (λ made. made.decoder.begun ≡ 0)) }
+{
+    if count == 0 {
+        return Ok(None);
+    }
+    let decoder = SegmentDecoder::prepare(alloc, view.plan())?;
+    let piece = Piece::new(alloc)?;
+    Ok(Some(Lone { decoder, piece }))
+}
+
+/// Writes what `run_range` writes, and answers what it answers, on the calling thread. Nothing in it waits, so it
+/// returns, on any container, if the calls of the sink and of the gate return. It allocates nothing.
+///
+/// At each moment, also while the call is under way, what was written is a prefix of the range, since the sink need
+/// take nothing else.
+///
+/// The gate is called before each segment, with the segment's number in the container.
+pub fn run_range_alone<K: Sink, G: Gate>(
+    ready: &mut ReadyRangeAlone,
+    sink: &mut K,
+    gate: &G,
+) -> Result<Ranged, EmitStop>
+    requires fresh { ready.old.used ≡ false }
+    requires takes { TakesNext K.takes sink.old (lone_range_in ready.old).bytes }
+    ensures ends { RangeEnds K.held K.takes K.faults K.full sink.old sink.new
+        (lone_range_in ready.old) result }
+    // The decoder began as many segments as there are from the first to the last with a place in the range.
+    ensures begun { IfOk result (λ ranged. IfSome ready.new.begun (λ begun. begun ≡ ranged.begun)) }
+    ensures decoder { is_some ready.new.begun ≡ is_some ready.old.begun }
+    ensures used { ready.new.used ≡ true }
+    ensures lasting { K.faults sink.old ≤ K.faults sink.new }
+{
+    ready.used = true;
+    match &mut ready.lone {
+        Some(lone) => read_alone(
+            &ready.view,
+            ready.from,
+            ready.to,
+            &mut lone.decoder,
+            &mut lone.piece,
+            sink,
+            gate,
+        ),
+        None => read_bare(&ready.view, ready.from, ready.to, sink),
+    }
+}
+
+// What the range has of the header, of the segments and of the trailer.
+fn read_alone<'a, K: Sink, G: Gate>(
+    view: &BoxView<'a>,
+    from: u64,
+    to: u64,
+    decoder: &mut SegmentDecoder<'a>,
+    piece: &mut Piece,
+    sink: &mut K,
+    gate: &G,
+) -> Result<Ranged, EmitStop>
+    requires good { is_bad_range view.now.parts from to ≡ false }
+    requires plan { decoder.old.plan ≡ view.now.plan }
+    requires fresh { decoder.old.begun ≡ 0 }
+    requires takes { TakesNext K.takes sink.old
+        (range_meaning view.now.plan view.now.parts from to).bytes }
+    ensures ends { RangeEnds K.held K.takes K.faults K.full sink.old sink.new
+        (range_meaning view.now.plan view.now.parts from to) result }
+    ensures begun { IfOk result (λ ranged. decoder.new.begun ≡ ranged.begun) }
+    ensures plan { decoder.new.plan ≡ decoder.old.plan }
+    ensures lasting { K.faults sink.old ≤ K.faults sink.new }
+{
+    let before = match put_header(view, from, to, sink) {
+        Ok(before) => before,
+        Err(written) => return Err(EmitStop::WriteFault { written }),
+    };
+    let segments = segments_within(view, from, to);
+    let window = window_within(view, segments, from, to);
+    let first = segments.0;
+    let count = segments.1 - first;
+    let emitted = emit_alone(decoder, piece, view, window, sink, gate, first, count);
+    put_trailer(view, from, to, before, count, emitted, sink)
+}

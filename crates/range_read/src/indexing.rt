@@ -1,0 +1,75 @@
+// From a container to the same one with the places of its segments.
+ghost use Rattle.std.specs.Prelude.{◌≡◌, IfOk, IsErrOf, None};
+ghost use Rattle.handover.specs.declared.outcome.StreamFault.{StreamFault};
+ghost use Rattle.box_format.specs.BoxChecks.{IsRefusedBy};
+ghost use Rattle.box_format.specs.Versions.{indexable};
+ghost use Rattle.box_format.specs.declared.refusal.BoxRefusal.{BoxRefusal};
+ghost use Rattle.container_spec.specs.Indexed.{places_found};
+ghost use Rattle.container_spec.specs.Meanings.{Faulty, PadSpelled, Restored, meaning_of, outputs_of};
+ghost use Rattle.range_read.specs.IndexEnds.{Ends, IsIndexOf};
+ghost use Rattle.range_read.specs.Measures.{AreMeasures};
+
+use crate::error::IndexError;
+use crate::measure::{Measure, measure_all};
+use box_format::{BoxView, Version, read_box_of, write_placed};
+use growth::{push, with_capacity};
+use handover::{Outcome, PadSum};
+use std::alloc::Global;
+use std::thread::Threads;
+
+// The versions that are indexed.
+const INDEXABLE: [Version; 3] = [Version::First, Version::Second, Version::Fifth];
+
+/// The same container in version 5, which keeps the place in the file of each segment's first byte: of a container of
+/// version 1, 2 or 5 that stands for a file. Each segment is decoded, in a thread of its own if one can be had. A
+/// refusal is that of the container, or else its first fault, or else that its pad bits are spelled in another way than
+/// a file's.
+pub fn index<R: Threads + Sync>(rt: &R, alloc: Global, bytes: &[u8]) -> Result<Vec<u8>, IndexError>
+    ensures made { IfOk result (λ made. IsIndexOf made.items bytes.now) }
+    ensures refused { (refusal : BoxRefusal) → IsErrOf result (IndexError.Box refusal)
+        → IsRefusedBy indexable bytes.now refusal }
+    ensures fault { (fault : StreamFault) → IsErrOf result (IndexError.Fault fault)
+        → Ends bytes.now (Faulty fault) }
+    ensures spelling { IsErrOf result IndexError.PadSpelling → Ends bytes.now PadSpelled }
+{
+    let view = read_box_of(bytes, &INDEXABLE)?;
+    let measures = measure_all(rt, alloc, &view)?;
+    let places = places_by(alloc, &view, measures)?;
+    let made = write_placed(alloc, &view, places.as_slice())?;
+    Ok(made)
+}
+
+// The places of a container's segments and of its scan's end, by the measures of the segments.
+fn places_by(alloc: Global, view: &BoxView, measures: Vec<Measure>) -> Result<Vec<u64>, IndexError>
+    requires whole { view.now.parts.chunk ≡ None }
+    requires measures { AreMeasures (outputs_of view.now.plan view.now.parts) measures.items }
+    ensures places { IfOk result (λ places.
+        places.items ≡ places_found view.now.plan view.now.parts) }
+    ensures restored { IfOk result (λ _.
+        (meaning_of view.now.plan view.now.parts).verdict ≡ Restored) }
+    ensures fault { (fault : StreamFault) → IsErrOf result (IndexError.Fault fault)
+        → (meaning_of view.now.plan view.now.parts).verdict ≡ Faulty fault }
+    ensures spelling { IsErrOf result IndexError.PadSpelling
+        → (meaning_of view.now.plan view.now.parts).verdict ≡ PadSpelled }
+    ensures checked { (refusal : BoxRefusal) → ¬ IsErrOf result (IndexError.Box refusal) }
+{
+    let mut places = with_capacity(alloc, usize::from(view.segments()) + 1)?;
+    let mut place = view.header().len() as u64;
+    let mut pads = PadSum::none();
+    for measure in measures {
+        push(&mut places, place)?;
+        match measure.outcome {
+            Outcome::Good { pads: more } => {
+                place += measure.length;
+                pads = pads.with(&more);
+            }
+            Outcome::Bad(fault) => return Err(IndexError::Fault(fault)),
+        }
+    }
+    push(&mut places, place)?;
+    if view.pad().is_spelled(&pads) {
+        Ok(places)
+    } else {
+        Err(IndexError::PadSpelling)
+    }
+}

@@ -1,0 +1,30 @@
+//! Containers that keep the places of their segments, and ranges of a file that are read from them (this project's
+//! own; docs/FORMAT.md, docs/RANGES.md).
+//!
+//!     index   container --each segment decoded, in its own thread--> lengths --> places --> container of version 5
+//!
+//!     range   from .. to --places--> the segments with a place in it --a crew for these alone--> window --> sink
+//!             before them the header's part, and after them the trailer's
+//!
+//!     alone   the same, each of these segments decoded on the calling thread: nothing waits
+//!
+//! Which segments a range needs, and what of them goes into it, is `range_spec`'s. What a crew does is
+//! `segment_crew`'s.
+#![tactic(auto)]
+
+mod alone;
+mod bounds;
+mod error;
+mod indexing;
+mod laws;
+mod measure;
+mod parts;
+mod reading;
+mod ready;
+
+pub use alone::{ReadyRangeAlone, prepare_range_alone, run_range_alone};
+pub use error::{IndexError, RangeError};
+pub use indexing::index;
+pub use laws::{ranges_of_containers_are_slices, rows_of_ranges_of_containers};
+pub use reading::{Ranged, run_range};
+pub use ready::{ReadyRange, prepare_range};
