@@ -36,6 +36,7 @@ const COMMANDS: &[(&[&str], Command)] = &[
     (&["decode", "--workers=16"], Command::Decode { workers: 16 }),
     (&["migrate"], Command::Migrate),
     (&["migrate", "--"], Command::Migrate),
+    (&["index"], Command::Index),
 ];
 
 // The same for a chunk: its number and its size, and the segments, that they mean.
@@ -56,6 +57,33 @@ const CHUNKS: &[(&[&str], [u32; 2], u8)] = &[
         &["chunk", "--segments", "02", "--index=+3", "--size", "4"],
         [3, 4],
         2,
+    ),
+];
+
+// The same for a range: the places and the workers that they mean.
+const RANGES: &[(&[&str], [u64; 2], u8)] = &[
+    (&["range", "--from=0", "--to=0"], [0, 0], 4),
+    (
+        &["range", "--from", "1099511627775", "--to", "0"],
+        [1099511627775, 0],
+        4,
+    ),
+    (
+        &["range", "--workers=0", "--to=+8", "--from=007"],
+        [7, 8],
+        0,
+    ),
+    (
+        &[
+            "range",
+            "--to",
+            "1099511627775",
+            "--workers",
+            "16",
+            "--from=0",
+        ],
+        [0, 1099511627775],
+        16,
     ),
 ];
 
@@ -138,6 +166,24 @@ const REFUSED_CHUNKS: &[&[&str]] = &[
     &["migrate", "--size", "1"],
 ];
 
+const REFUSED_RANGES: &[&[&str]] = &[
+    &["range"],
+    &["range", "--from=0"],
+    &["range", "--to=0"],
+    &["range", "--from=0", "--to"],
+    &["range", "--from=-1", "--to=1"],
+    &["range", "--from=-0", "--to=1"],
+    &["range", "--from=0", "--to=1099511627776"],
+    &["range", "--from=1099511627776", "--to=0"],
+    &["range", "--from=0", "--to=18446744073709551616"],
+    &["range", "--from=0", "--to=1", "--workers=17"],
+    &["range", "--from=0", "--to=1", "--to=1"],
+    &["range", "--from=0", "--to=1", "x"],
+    &["index", "x"],
+    &["index", "--workers=1"],
+    &["decode", "--from=0", "--to=1"],
+];
+
 const REFUSED_SAMPLES: &[&[&str]] = &[
     &["sample"],
     &["sample", "--seed=1", "--columns=1"],
@@ -184,6 +230,25 @@ fn chunk(place: [u32; 2], segments: u8) -> Command {
 }
 
 #[test]
+fn numbers_of_a_range_are_read(rt: HostRuntime) -> Result<(), Fail> {
+    for (given, places, workers) in RANGES {
+        assert!(rt;
+            means(rt.alloc(), given, Ok(range(*places, *workers)))?,
+            "{given:?}"
+        );
+    }
+    Ok(())
+}
+
+fn range(places: [u64; 2], workers: u8) -> Command {
+    Command::Range {
+        from: places[0],
+        to: places[1],
+        workers,
+    }
+}
+
+#[test]
 fn numbers_of_a_sample_are_read(rt: HostRuntime) -> Result<(), Fail> {
     for (given, seed, size) in SAMPLES {
         assert!(rt;
@@ -216,6 +281,17 @@ fn other_arguments_are_rejected(rt: HostRuntime) -> Result<(), Fail> {
 #[test]
 fn other_arguments_of_a_chunk_are_rejected(rt: HostRuntime) -> Result<(), Fail> {
     for given in REFUSED_CHUNKS {
+        assert!(rt;
+            means(rt.alloc(), given, Err(WordsError::Refused))?,
+            "{given:?}"
+        );
+    }
+    Ok(())
+}
+
+#[test]
+fn other_arguments_of_a_range_are_rejected(rt: HostRuntime) -> Result<(), Fail> {
+    for given in REFUSED_RANGES {
         assert!(rt;
             means(rt.alloc(), given, Err(WordsError::Refused))?,
             "{given:?}"

@@ -4,7 +4,7 @@ use Rattle.std.specs.Prelude.{find, option_and_then, pos, slice_get}
 use Rattle.std.specs.List.{AllByRecursion}
 use Rattle.std.specs.Option.{option_map_or}
 use Rattle.std.specs.Str.{bytes_eq}
-use Rattle.std.specs.Str.Parse.{ParsesUnsigned}
+use Rattle.std.specs.Str.Parse.{ParsesUnsigned, digits_value, without_leading_plus}
 use Rattle.std.specs.declared.num.ParseIntError.{ParseIntError}
 use Rattle.clap.specs.Kinds.{Kinds, or_else, range_kinds, value_kinds, values_kinds}
 use Rattle.clap.specs.ValueTests.{accepts}
@@ -12,12 +12,12 @@ use Rattle.clap.specs.Values.{read_as, reading_of}
 use Rattle.clap.specs.Walk.{Held, Row, Rule, Text, answers_to, at_row, default_rows, finished, has_row, is_empty, more_values, nothing_held, row_text, rows_after, settled, stop_after, used, values_or_missing, walk, walk_from, with_default, with_values, without}
 use Rattle.clap.specs.Simple.{App, Shape, argument_words, built, entered, filled, help_rule, label_of, names_of, new_rule, rows_at, with_index}
 use Rattle.clap.specs.Faults.{built_fault, check_fault, settle_fault, walk_fault, default_fault, defaults_fault, entered_fault, level_fault, repeat_fault, set_fault, use_fault, values_fault}
-use Rattle.clap.specs.Lexer.{without_minus}
-use Rattle.clap.specs.declared.error.kind.ErrorKind.TheVariants.{DisplayHelp, ValueValidation}
+use Rattle.clap.specs.declared.error.kind.ErrorKind.TheVariants.{DisplayHelp}
+use Rattle.clap.specs.declared.error.kind.ErrorKind.{ErrorKind}
 use Rattle.clap.specs.declared.builder.value_parser.Reading.{Reading}
-use Rattle.clap.specs.declared.builder.value_parser.Reading.TheVariants.{WithoutMinus}
+use Rattle.clap.specs.declared.builder.value_parser.Reading.TheVariants.{AsWritten, WithoutMinus}
 use Rattle.clap.specs.declared.builder.value_parser.ValueParser.{ValueParser}
-use Rattle.clap.specs.declared.builder.value_parser.ValueParser.TheVariants.{Signed}
+use Rattle.clap.specs.declared.builder.value_parser.ValueParser.TheVariants.{Signed, Unsigned}
 use Rattle.clap.specs.declared.builder.action.ArgAction.TheVariants.{Set}
 use Rattle.clap.specs.declared.parser.matches.ValueSource.{ValueSource}
 use Rattle.clap.specs.declared.parser.matches.ValueSource.TheVariants.{CommandLine, DefaultValue}
@@ -28,7 +28,7 @@ use Rattle.clap.proofs.ValueTestLemmas.{accepts-Accepts}
 use Rattle.command_words.specs.LeptonApp.{faults, given, lepton_app}
 use Rattle.command_words.specs.Meaning.{Asks, IsInRange, Means, Reads, ReadsAs}
 use Rattle.command_words.specs.declared.command.Command.{Command}
-use Rattle.command_words.specs.declared.command.Command.TheVariants.{Chunk, Decode, Encode, Migrate, Sample}
+use Rattle.command_words.specs.declared.command.Command.TheVariants.{Chunk, Decode, Encode, Index, Migrate, Range, Sample}
 use Rattle.command_words.proofs.Reading.{name_in, other_name, rows_in}
 use Rattle.command_words.proofs.RowsKept.{no_else, settled_keeps, walk_keeps}
 
@@ -51,9 +51,9 @@ found_answers p (y ∷ ys) x found = go (p y) refl (found_answers p ys x) found
     go true is later found = let same : y ≡ x = cc in subst (λ z. p z ≡ true) same is
     go false is later found = later found
 
-is_accepted : (b : Bool) → cond b [] (ValueValidation ∷ []) ≡ [] → b ≡ true
-is_accepted true none = refl
-is_accepted false none = absurd cc
+is_accepted : (k : ErrorKind) (b : Bool) → cond b [] (k ∷ []) ≡ [] → b ≡ true
+is_accepted k true none = refl
+is_accepted k false none = absurd cc
 
 -- an option `--id` with values that a parser takes, as clap builds it; `usual` stands for it where it is left out
 abbrev option_built : Text → ValueParser → List Text → Bool → Rule
@@ -69,13 +69,10 @@ option_built id parser usual required = record (new_rule id) {
 abbrev help_built : Rule
 help_built = with_index 1 (filled help_rule)
 
-module _ (name : Text) (low high : ℕ) where
-  abbrev numbers : ValueParser
-  numbers = Signed (pos low) (pos high)
-
-  -- values of the option are numbers of the range, and are read without a minus
+module _ (name : Text) (numbers : ValueParser) where
+  -- values of the option are numbers of the range, and are read as its parser reads them
   abbrev ValuesPass : Text → Reading → List Text → Type 0
-  ValuesPass id how values = id ≡ name → (how ≡ WithoutMinus) × (values_kinds false numbers values ≡ [])
+  ValuesPass id how values = id ≡ name → (how ≡ reading_of numbers) × (values_kinds false numbers values ≡ [])
 
   -- a row of another option always passes
   abbrev RowPasses : Row → Type 0
@@ -203,19 +200,18 @@ module _ (name : Text) (low high : ℕ) where
       defaults_keep s.rules _ all defaults
       (settled_keeps s RowsPass uses (walk s.rules [] nothing_held words).held rest.0 end)
 
-  -- a number that is read of such rows
-  module _ (bits : ℕ) (small : high < 2 ^ bits) where
-    value_in_range : (how : Reading) (vs : List Text) (text : Text) (number : ℕ) → how ≡ WithoutMinus
+  -- a number that is read of such rows, where the parser takes only numbers of the range
+  module _ (low high bits : ℕ) (sound : (v : Text) (number : ℕ) → accepts false numbers v ≡ true
+      → ReadsAs bits (read_as (reading_of numbers) v) number → (low ≤ number) × (number ≤ high)) where
+    value_in_range : (how : Reading) (vs : List Text) (text : Text) (number : ℕ) → how ≡ reading_of numbers
         → values_kinds false numbers vs ≡ [] → option_map (read_as how) (slice_get vs 0) ≡ Some text → ReadsAs bits text number
         → (low ≤ number) × (number ≤ high)
     value_in_range how [] text number plain fine is reads = absurd cc
     value_in_range how (v ∷ vs) text number plain fine is reads =
-        let accepted : accepts false numbers v ≡ true = is_accepted (accepts false numbers v) (no_else _ _ fine).0 in
-        let same : text ≡ without_minus v = cc in
-        let read = signed_reads ParseIntError (ParsesUnsigned bits 10) bits low high v (Some number)
-        (subst (λ t. ReadsAs bits t number) same reads) (λ u x given. given) small (accepts-Accepts false numbers v accepted) in
-        let equal : read.0 ≡ number = cc in
-        subst (λ n. (low ≤ n) × (n ≤ high)) equal (read.2, read.3)
+        let accepted : accepts false numbers v ≡ true = is_accepted _ (accepts false numbers v)
+        (no_else (value_kinds false numbers v) (values_kinds false numbers vs) fine).0 in
+        let same : text ≡ read_as (reading_of numbers) v = cc in
+        sound v number accepted (subst (λ t. ReadsAs bits t number) same reads)
 
     read_in_range : (rows : List Row) (number : ℕ) → RowsPass rows → Reads bits rows name number
         → (low ≤ number) × (number ≤ high)
@@ -230,11 +226,48 @@ module _ (name : Text) (low high : ℕ) where
             value_in_range r.reading r.values reads.text number passes.0 passes.1 is reads.number_is
 
     -- the number that a subcommand's option reads as is in its range, where the words have no fault
-    number_fine : (s : Shape) → AllByRecursion Keeps s.rules → (words : List Text) → level_fault s [] nothing_held words false [] ≡ []
+    read_fine : (s : Shape) → AllByRecursion Keeps s.rules → (words : List Text) → level_fault s [] nothing_held words false [] ≡ []
         → (called : Text) (rows : List Row) → Some (rows_at s words) ≡ Some (called, rows) → (number : ℕ)
         → Reads bits rows name number → (low ≤ number) × (number ≤ high)
-    number_fine s all words none called rows is number reads =
+    read_fine s all words none called rows is number reads =
         read_in_range rows number (subst RowsPass (ap rows_in is) (level_keeps s all words none)) reads
+
+-- a number from one to another, neither below zero, is read without a minus
+signed_sound : (low high bits : ℕ) → high < 2 ^ bits → (v : Text) (number : ℕ)
+    → accepts false (Signed (pos low) (pos high)) v ≡ true
+    → ReadsAs bits (read_as WithoutMinus v) number → (low ≤ number) × (number ≤ high)
+signed_sound low high bits small v number accepted reads =
+    let read = signed_reads ParseIntError (ParsesUnsigned bits 10) bits low high v (Some number)
+    reads (λ u x given. given) small (accepts-Accepts false (Signed (pos low) (pos high)) v accepted) in
+    let equal : read.0 ≡ number = cc in
+    subst (λ n. (low ≤ n) × (n ≤ high)) equal (read.2, read.3)
+
+-- one of 64 bits is read as it is written
+unsigned_sound : (low high : ℕ) (v : Text) (number : ℕ) → accepts false (Unsigned low high) v ≡ true
+    → ReadsAs 64 (read_as AsWritten v) number → (low ≤ number) × (number ≤ high)
+unsigned_sound low high v number accepted reads =
+    let within = accepts-Accepts false (Unsigned low high) v accepted in
+    let is : number ≡ digits_value 10 (without_leading_plus v) = reads.1 in
+    let least = within.2 in
+    let most = within.3 in
+    (omega (arith, is, least), omega (arith, is, most))
+
+-- the same of a subcommand's option
+number_fine : (name : Text) (low high bits : ℕ) → high < 2 ^ bits → (s : Shape)
+    → AllByRecursion (Keeps name (Signed (pos low) (pos high))) s.rules → (words : List Text)
+    → level_fault s [] nothing_held words false [] ≡ [] → (called : Text) (rows : List Row)
+    → Some (rows_at s words) ≡ Some (called, rows) → (number : ℕ) → Reads bits rows name number
+    → (low ≤ number) × (number ≤ high)
+number_fine name low high bits small =
+    read_fine name (Signed (pos low) (pos high)) low high bits (signed_sound low high bits small)
+
+place_fine : (name : Text) (low high : ℕ) (s : Shape)
+    → AllByRecursion (Keeps name (Unsigned low high)) s.rules → (words : List Text)
+    → level_fault s [] nothing_held words false [] ≡ [] → (called : Text) (rows : List Row)
+    → Some (rows_at s words) ≡ Some (called, rows) → (number : ℕ) → Reads 64 rows name number
+    → (low ≤ number) × (number ≤ high)
+place_fine name low high =
+    read_fine name (Unsigned low high) low high 64 (unsigned_sound low high)
 
 -- ---- the subcommands
 
@@ -259,6 +292,11 @@ chunk_rules = option_built (codes "index") (Signed (pos 0) (pos 4294967295)) (co
     ∷ option_built (codes "size") (Signed (pos 1) (pos 67108864)) (codes "4194304" ∷ []) false
     ∷ option_built (codes "segments") (Signed (pos 1) (pos 64)) (codes "8" ∷ []) false ∷ help_built ∷ []
 
+abbrev range_rules : List Rule
+range_rules = option_built (codes "from") (Unsigned 0 1099511627775) [] true
+    ∷ option_built (codes "to") (Unsigned 0 1099511627775) [] true
+    ∷ option_built (codes "workers") (Signed (pos 0) (pos 16)) (codes "4" ∷ []) false ∷ help_built ∷ []
+
 abbrev sample_rules : List Rule
 sample_rules = option_built (codes "seed") (Signed (pos 0) (pos 4294967295)) [] true
     ∷ option_built (codes "columns") (Signed (pos 1) (pos 256)) [] true
@@ -267,8 +305,8 @@ sample_rules = option_built (codes "seed") (Signed (pos 0) (pos 4294967295)) [] 
 encode_fine : (s : Shape) → s.name ≡ codes "encode" → s.rules ≡ encode_rules → IsFine s
 encode_fine s named rules = record { fine = go }
   where
-    segments : AllByRecursion (Keeps (codes "segments") 1 64) s.rules
-    segments = subst (AllByRecursion (Keeps (codes "segments") 1 64)) (sym rules) (own_keeps _ _ _ _ _, (help_keeps _ _ _, tt))
+    segments : AllByRecursion (Keeps (codes "segments") (Signed (pos 1) (pos 64))) s.rules
+    segments = subst (AllByRecursion (Keeps (codes "segments") (Signed (pos 1) (pos 64)))) (sym rules) (own_keeps _ _ _ _, (help_keeps _ _, tt))
 
     go : (words : List Text) (command : Command) → level_fault s [] nothing_held words false [] ≡ []
         → Asks (Some (rows_at s words)) command → IsInRange command
@@ -276,14 +314,16 @@ encode_fine s named rules = record { fine = go }
         number_fine (codes "segments") 1 64 8 (omega arith) s segments words none _ asks.rows asks.is n asks.reads
     go words (Decode n) none asks = other_command _ s words _ _ named asks.is refl
     go words Migrate none asks = other_command _ s words _ _ named asks.1 refl
+    go words Index none asks = other_command _ s words _ _ named asks.1 refl
+    go words (Range a b w) none asks = other_command _ s words _ _ named asks.is refl
     go words (Chunk k z n) none asks = other_command _ s words _ _ named asks.is refl
     go words (Sample k c r) none asks = other_command _ s words _ _ named asks.is refl
 
 decode_fine : (s : Shape) → s.name ≡ codes "decode" → s.rules ≡ decode_rules → IsFine s
 decode_fine s named rules = record { fine = go }
   where
-    workers : AllByRecursion (Keeps (codes "workers") 0 16) s.rules
-    workers = subst (AllByRecursion (Keeps (codes "workers") 0 16)) (sym rules) (own_keeps _ _ _ _ _, (help_keeps _ _ _, tt))
+    workers : AllByRecursion (Keeps (codes "workers") (Signed (pos 0) (pos 16))) s.rules
+    workers = subst (AllByRecursion (Keeps (codes "workers") (Signed (pos 0) (pos 16)))) (sym rules) (own_keeps _ _ _ _, (help_keeps _ _, tt))
 
     go : (words : List Text) (command : Command) → level_fault s [] nothing_held words false [] ≡ []
         → Asks (Some (rows_at s words)) command → IsInRange command
@@ -291,23 +331,25 @@ decode_fine s named rules = record { fine = go }
         (number_fine (codes "workers") 0 16 8 (omega arith) s workers words none _ asks.rows asks.is n asks.reads).1
     go words (Encode n) none asks = other_command _ s words _ _ named asks.is refl
     go words Migrate none asks = other_command _ s words _ _ named asks.1 refl
+    go words Index none asks = other_command _ s words _ _ named asks.1 refl
+    go words (Range a b w) none asks = other_command _ s words _ _ named asks.is refl
     go words (Chunk k z n) none asks = other_command _ s words _ _ named asks.is refl
     go words (Sample k c r) none asks = other_command _ s words _ _ named asks.is refl
 
 sample_fine : (s : Shape) → s.name ≡ codes "sample" → s.rules ≡ sample_rules → IsFine s
 sample_fine s named rules = record { fine = go }
   where
-    seeds : AllByRecursion (Keeps (codes "seed") 0 4294967295) s.rules
-    seeds = subst (AllByRecursion (Keeps (codes "seed") 0 4294967295)) (sym rules)
-        (own_keeps _ _ _ _ _, (other_keeps _ _ _ _ _ _ _ refl, (other_keeps _ _ _ _ _ _ _ refl, (help_keeps _ _ _, tt))))
+    seeds : AllByRecursion (Keeps (codes "seed") (Signed (pos 0) (pos 4294967295))) s.rules
+    seeds = subst (AllByRecursion (Keeps (codes "seed") (Signed (pos 0) (pos 4294967295)))) (sym rules)
+        (own_keeps _ _ _ _, (other_keeps _ _ _ _ _ _ refl, (other_keeps _ _ _ _ _ _ refl, (help_keeps _ _, tt))))
 
-    columns : AllByRecursion (Keeps (codes "columns") 1 256) s.rules
-    columns = subst (AllByRecursion (Keeps (codes "columns") 1 256)) (sym rules)
-        (other_keeps _ _ _ _ _ _ _ refl, (own_keeps _ _ _ _ _, (other_keeps _ _ _ _ _ _ _ refl, (help_keeps _ _ _, tt))))
+    columns : AllByRecursion (Keeps (codes "columns") (Signed (pos 1) (pos 256))) s.rules
+    columns = subst (AllByRecursion (Keeps (codes "columns") (Signed (pos 1) (pos 256)))) (sym rules)
+        (other_keeps _ _ _ _ _ _ refl, (own_keeps _ _ _ _, (other_keeps _ _ _ _ _ _ refl, (help_keeps _ _, tt))))
 
-    rows : AllByRecursion (Keeps (codes "rows") 1 256) s.rules
-    rows = subst (AllByRecursion (Keeps (codes "rows") 1 256)) (sym rules)
-        (other_keeps _ _ _ _ _ _ _ refl, (other_keeps _ _ _ _ _ _ _ refl, (own_keeps _ _ _ _ _, (help_keeps _ _ _, tt))))
+    rows : AllByRecursion (Keeps (codes "rows") (Signed (pos 1) (pos 256))) s.rules
+    rows = subst (AllByRecursion (Keeps (codes "rows") (Signed (pos 1) (pos 256)))) (sym rules)
+        (other_keeps _ _ _ _ _ _ refl, (other_keeps _ _ _ _ _ _ refl, (own_keeps _ _ _ _, (help_keeps _ _, tt))))
 
     go : (words : List Text) (command : Command) → level_fault s [] nothing_held words false [] ≡ []
         → Asks (Some (rows_at s words)) command → IsInRange command
@@ -319,22 +361,24 @@ sample_fine s named rules = record { fine = go }
     go words (Encode n) none asks = other_command _ s words _ _ named asks.is refl
     go words (Decode n) none asks = other_command _ s words _ _ named asks.is refl
     go words Migrate none asks = other_command _ s words _ _ named asks.1 refl
+    go words Index none asks = other_command _ s words _ _ named asks.1 refl
+    go words (Range a b w) none asks = other_command _ s words _ _ named asks.is refl
     go words (Chunk k z n) none asks = other_command _ s words _ _ named asks.is refl
 
 chunk_fine : (s : Shape) → s.name ≡ codes "chunk" → s.rules ≡ chunk_rules → IsFine s
 chunk_fine s named rules = record { fine = go }
   where
-    indices : AllByRecursion (Keeps (codes "index") 0 4294967295) s.rules
-    indices = subst (AllByRecursion (Keeps (codes "index") 0 4294967295)) (sym rules)
-        (own_keeps _ _ _ _ _, (other_keeps _ _ _ _ _ _ _ refl, (other_keeps _ _ _ _ _ _ _ refl, (help_keeps _ _ _, tt))))
+    indices : AllByRecursion (Keeps (codes "index") (Signed (pos 0) (pos 4294967295))) s.rules
+    indices = subst (AllByRecursion (Keeps (codes "index") (Signed (pos 0) (pos 4294967295)))) (sym rules)
+        (own_keeps _ _ _ _, (other_keeps _ _ _ _ _ _ refl, (other_keeps _ _ _ _ _ _ refl, (help_keeps _ _, tt))))
 
-    sizes : AllByRecursion (Keeps (codes "size") 1 67108864) s.rules
-    sizes = subst (AllByRecursion (Keeps (codes "size") 1 67108864)) (sym rules)
-        (other_keeps _ _ _ _ _ _ _ refl, (own_keeps _ _ _ _ _, (other_keeps _ _ _ _ _ _ _ refl, (help_keeps _ _ _, tt))))
+    sizes : AllByRecursion (Keeps (codes "size") (Signed (pos 1) (pos 67108864))) s.rules
+    sizes = subst (AllByRecursion (Keeps (codes "size") (Signed (pos 1) (pos 67108864)))) (sym rules)
+        (other_keeps _ _ _ _ _ _ refl, (own_keeps _ _ _ _, (other_keeps _ _ _ _ _ _ refl, (help_keeps _ _, tt))))
 
-    segments : AllByRecursion (Keeps (codes "segments") 1 64) s.rules
-    segments = subst (AllByRecursion (Keeps (codes "segments") 1 64)) (sym rules)
-        (other_keeps _ _ _ _ _ _ _ refl, (other_keeps _ _ _ _ _ _ _ refl, (own_keeps _ _ _ _ _, (help_keeps _ _ _, tt))))
+    segments : AllByRecursion (Keeps (codes "segments") (Signed (pos 1) (pos 64))) s.rules
+    segments = subst (AllByRecursion (Keeps (codes "segments") (Signed (pos 1) (pos 64)))) (sym rules)
+        (other_keeps _ _ _ _ _ _ refl, (other_keeps _ _ _ _ _ _ refl, (own_keeps _ _ _ _, (help_keeps _ _, tt))))
 
     go : (words : List Text) (command : Command) → level_fault s [] nothing_held words false [] ≡ []
         → Asks (Some (rows_at s words)) command → IsInRange command
@@ -346,6 +390,50 @@ chunk_fine s named rules = record { fine = go }
     go words (Encode n) none asks = other_command _ s words _ _ named asks.is refl
     go words (Decode n) none asks = other_command _ s words _ _ named asks.is refl
     go words Migrate none asks = other_command _ s words _ _ named asks.1 refl
+    go words Index none asks = other_command _ s words _ _ named asks.1 refl
+    go words (Range a b w) none asks = other_command _ s words _ _ named asks.is refl
+    go words (Sample k c r) none asks = other_command _ s words _ _ named asks.is refl
+
+range_fine : (s : Shape) → s.name ≡ codes "range" → s.rules ≡ range_rules → IsFine s
+range_fine s named rules = record { fine = go }
+  where
+    firsts : AllByRecursion (Keeps (codes "from") (Unsigned 0 1099511627775)) s.rules
+    firsts = subst (AllByRecursion (Keeps (codes "from") (Unsigned 0 1099511627775))) (sym rules)
+        (own_keeps _ _ _ _, (other_keeps _ _ _ _ _ _ refl, (other_keeps _ _ _ _ _ _ refl, (help_keeps _ _, tt))))
+
+    lasts : AllByRecursion (Keeps (codes "to") (Unsigned 0 1099511627775)) s.rules
+    lasts = subst (AllByRecursion (Keeps (codes "to") (Unsigned 0 1099511627775))) (sym rules)
+        (other_keeps _ _ _ _ _ _ refl, (own_keeps _ _ _ _, (other_keeps _ _ _ _ _ _ refl, (help_keeps _ _, tt))))
+
+    workers : AllByRecursion (Keeps (codes "workers") (Signed (pos 0) (pos 16))) s.rules
+    workers = subst (AllByRecursion (Keeps (codes "workers") (Signed (pos 0) (pos 16)))) (sym rules)
+        (other_keeps _ _ _ _ _ _ refl, (other_keeps _ _ _ _ _ _ refl, (own_keeps _ _ _ _, (help_keeps _ _, tt))))
+
+    go : (words : List Text) (command : Command) → level_fault s [] nothing_held words false [] ≡ []
+        → Asks (Some (rows_at s words)) command → IsInRange command
+    go words (Range a b w) none asks =
+        let from = place_fine (codes "from") 0 1099511627775 s firsts words none _ asks.options asks.is a asks.from_is in
+        let to = place_fine (codes "to") 0 1099511627775 s lasts words none _ asks.options asks.is b asks.to_is in
+        let most = number_fine (codes "workers") 0 16 8 (omega arith) s workers words none _ asks.options asks.is w asks.workers_is in
+        (from.1, to.1, most.1)
+    go words (Encode n) none asks = other_command _ s words _ _ named asks.is refl
+    go words (Decode n) none asks = other_command _ s words _ _ named asks.is refl
+    go words Migrate none asks = other_command _ s words _ _ named asks.1 refl
+    go words Index none asks = other_command _ s words _ _ named asks.1 refl
+    go words (Chunk k z n) none asks = other_command _ s words _ _ named asks.is refl
+    go words (Sample k c r) none asks = other_command _ s words _ _ named asks.is refl
+
+index_fine : (s : Shape) → s.name ≡ codes "index" → IsFine s
+index_fine s named = record { fine = go }
+  where
+    go : (words : List Text) (command : Command) → level_fault s [] nothing_held words false [] ≡ []
+        → Asks (Some (rows_at s words)) command → IsInRange command
+    go words Index none asks = tt
+    go words (Encode n) none asks = other_command _ s words _ _ named asks.is refl
+    go words (Decode n) none asks = other_command _ s words _ _ named asks.is refl
+    go words Migrate none asks = other_command _ s words _ _ named asks.1 refl
+    go words (Range a b w) none asks = other_command _ s words _ _ named asks.is refl
+    go words (Chunk k z n) none asks = other_command _ s words _ _ named asks.is refl
     go words (Sample k c r) none asks = other_command _ s words _ _ named asks.is refl
 
 migrate_fine : (s : Shape) → s.name ≡ codes "migrate" → IsFine s
@@ -354,6 +442,8 @@ migrate_fine s named = record { fine = go }
     go : (words : List Text) (command : Command) → level_fault s [] nothing_held words false [] ≡ []
         → Asks (Some (rows_at s words)) command → IsInRange command
     go words Migrate none asks = tt
+    go words Index none asks = other_command _ s words _ _ named asks.1 refl
+    go words (Range a b w) none asks = other_command _ s words _ _ named asks.is refl
     go words (Encode n) none asks = other_command _ s words _ _ named asks.is refl
     go words (Decode n) none asks = other_command _ s words _ _ named asks.is refl
     go words (Chunk k z n) none asks = other_command _ s words _ _ named asks.is refl
@@ -367,16 +457,20 @@ help_fine s named = record { fine = go }
     go words (Encode n) none asks = other_command _ s words _ _ named asks.is refl
     go words (Decode n) none asks = other_command _ s words _ _ named asks.is refl
     go words Migrate none asks = other_command _ s words _ _ named asks.1 refl
+    go words Index none asks = other_command _ s words _ _ named asks.1 refl
+    go words (Range a b w) none asks = other_command _ s words _ _ named asks.is refl
     go words (Chunk k z n) none asks = other_command _ s words _ _ named asks.is refl
     go words (Sample k c r) none asks = other_command _ s words _ _ named asks.is refl
 
 subs_fine : AllByRecursion IsFine (built lepton_app).subs
-subs_fine = (encode_fine _ refl refl, (decode_fine _ refl refl, (migrate_fine _ refl, (chunk_fine _ refl refl, (sample_fine _ refl refl, (help_fine _ refl, tt))))))
+subs_fine = (encode_fine _ refl refl, (decode_fine _ refl refl, (migrate_fine _ refl, (chunk_fine _ refl refl, (index_fine _ refl, (range_fine _ refl refl, (sample_fine _ refl refl, (help_fine _ refl, tt))))))))
 
 asked_nothing : (command : Command) → Asks None command → IsInRange command
 asked_nothing (Encode n) asks = let bad : true ≡ false = ap (λ o. is_some o) (sym asks.is) in absurd cc
 asked_nothing (Decode n) asks = let bad : true ≡ false = ap (λ o. is_some o) (sym asks.is) in absurd cc
 asked_nothing Migrate asks = let bad : true ≡ false = ap (λ o. is_some o) (sym asks.1) in absurd cc
+asked_nothing Index asks = let bad : true ≡ false = ap (λ o. is_some o) (sym asks.1) in absurd cc
+asked_nothing (Range a b w) asks = let bad : true ≡ false = ap (λ o. is_some o) (sym asks.is) in absurd cc
 asked_nothing (Chunk k z n) asks = let bad : true ≡ false = ap (λ o. is_some o) (sym asks.is) in absurd cc
 asked_nothing (Sample k c r) asks = let bad : true ≡ false = ap (λ o. is_some o) (sym asks.is) in absurd cc
 

@@ -3,3 +3,4 @@ pub mod LeptonLemmas
 pub mod Reading
 pub mod RowLemmas
 pub mod RowsKept
+mod Narrowed

@@ -12,7 +12,7 @@ use Rattle.clap.specs.declared.parser.matches.SubCommand.{SubCommand}
 use Rattle.clap.proofs.WalkLemmas.{one_text-rows}
 use Rattle.command_words.specs.Meaning.{Asks, Reads}
 use Rattle.command_words.specs.declared.command.Command.{Command}
-use Rattle.command_words.specs.declared.command.Command.TheVariants.{Chunk, Decode, Encode, Migrate, Sample}
+use Rattle.command_words.specs.declared.command.Command.TheVariants.{Chunk, Decode, Encode, Index, Migrate, Range, Sample}
 
 abbrev pub rows_in : Option (Text × List Row) → List Row
 rows_in None = []
@@ -74,6 +74,8 @@ encode_unread met rows is none (Encode n) asks =
     none n (subst (λ rs. Reads 8 rs (codes "segments") n) (same_rows _ _ _ _ _ is asks.is) asks.reads)
 encode_unread met rows is none (Decode n) asks = other_met _ _ _ _ _ is asks.is refl
 encode_unread met rows is none Migrate asks = other_met _ _ _ _ _ is asks.1 refl
+encode_unread met rows is none Index asks = other_met _ _ _ _ _ is asks.1 refl
+encode_unread met rows is none (Range a b w) asks = other_met _ _ _ _ _ is asks.is refl
 encode_unread met rows is none (Chunk k z n) asks = other_met _ _ _ _ _ is asks.is refl
 encode_unread met rows is none (Sample s c r) asks = other_met _ _ _ _ _ is asks.is refl
 
@@ -83,6 +85,8 @@ decode_unread met rows is none (Decode n) asks =
     none n (subst (λ rs. Reads 8 rs (codes "workers") n) (same_rows _ _ _ _ _ is asks.is) asks.reads)
 decode_unread met rows is none (Encode n) asks = other_met _ _ _ _ _ is asks.is refl
 decode_unread met rows is none Migrate asks = other_met _ _ _ _ _ is asks.1 refl
+decode_unread met rows is none Index asks = other_met _ _ _ _ _ is asks.1 refl
+decode_unread met rows is none (Range a b w) asks = other_met _ _ _ _ _ is asks.is refl
 decode_unread met rows is none (Chunk k z n) asks = other_met _ _ _ _ _ is asks.is refl
 decode_unread met rows is none (Sample s c r) asks = other_met _ _ _ _ _ is asks.is refl
 
@@ -98,7 +102,25 @@ chunk_unread met options is none (Chunk k z n) asks =
 chunk_unread met options is none (Encode n) asks = other_met _ _ _ _ _ is asks.is refl
 chunk_unread met options is none (Decode n) asks = other_met _ _ _ _ _ is asks.is refl
 chunk_unread met options is none Migrate asks = other_met _ _ _ _ _ is asks.1 refl
+chunk_unread met options is none Index asks = other_met _ _ _ _ _ is asks.1 refl
+chunk_unread met options is none (Range a b w) asks = other_met _ _ _ _ _ is asks.is refl
 chunk_unread met options is none (Sample s c r) asks = other_met _ _ _ _ _ is asks.is refl
+
+pub range_unread : (met : Option (Text × List Row)) (options : List Row) → met ≡ Some (codes "range", options)
+    → ((from to workers : ℕ) → Reads 64 options (codes "from") from → Reads 64 options (codes "to") to
+    → ¬ Reads 8 options (codes "workers") workers)
+    → (command : Command) → ¬ Asks met command
+range_unread met options is none (Range a b w) asks =
+    let same = same_rows _ _ _ _ _ is asks.is in
+    none a b w (subst (λ rs. Reads 64 rs (codes "from") a) same asks.from_is)
+    (subst (λ rs. Reads 64 rs (codes "to") b) same asks.to_is)
+    (subst (λ rs. Reads 8 rs (codes "workers") w) same asks.workers_is)
+range_unread met options is none (Encode n) asks = other_met _ _ _ _ _ is asks.is refl
+range_unread met options is none (Decode n) asks = other_met _ _ _ _ _ is asks.is refl
+range_unread met options is none Migrate asks = other_met _ _ _ _ _ is asks.1 refl
+range_unread met options is none Index asks = other_met _ _ _ _ _ is asks.1 refl
+range_unread met options is none (Chunk k z n) asks = other_met _ _ _ _ _ is asks.is refl
+range_unread met options is none (Sample s c r) asks = other_met _ _ _ _ _ is asks.is refl
 
 pub sample_unread : (met : Option (Text × List Row)) (options : List Row) → met ≡ Some (codes "sample", options)
     → ((seed columns rows : ℕ) → Reads 32 options (codes "seed") seed → Reads 16 options (codes "columns") columns
@@ -112,6 +134,8 @@ sample_unread met options is none (Sample s c r) asks =
 sample_unread met options is none (Encode n) asks = other_met _ _ _ _ _ is asks.is refl
 sample_unread met options is none (Decode n) asks = other_met _ _ _ _ _ is asks.is refl
 sample_unread met options is none Migrate asks = other_met _ _ _ _ _ is asks.1 refl
+sample_unread met options is none Index asks = other_met _ _ _ _ _ is asks.1 refl
+sample_unread met options is none (Range a b w) asks = other_met _ _ _ _ _ is asks.is refl
 sample_unread met options is none (Chunk k z n) asks = other_met _ _ _ _ _ is asks.is refl
 
 pub if_none : {X : Type 0} (r : Option X) (P : Type 0) → P → IfNone r P

@@ -5,7 +5,7 @@ use Rattle.clap.specs.Words.{App, Kinds, Row, Rule, Text, fault_of, new_app, new
 use Rattle.clap.specs.Words.{subcommand_of, with_rule, with_subcommand}
 use Rattle.clap.specs.Simple.{on_top}
 use Rattle.clap.specs.declared.builder.value_parser.ValueParser.{ValueParser}
-use Rattle.clap.specs.declared.builder.value_parser.ValueParser.TheVariants.{Signed}
+use Rattle.clap.specs.declared.builder.value_parser.ValueParser.TheVariants.{Signed, Unsigned}
 
 -- an option `--name` with a number, `usual` where it is left out
 abbrev pub number_rule : Text → ValueParser → Text → Rule
@@ -45,6 +45,18 @@ chunk_app = with_rule (with_rule (with_rule (new_app (codes "chunk"))
     (number_rule (codes "size") (Signed (pos 1) (pos 67108864)) (codes "4194304")))
     (number_rule (codes "segments") (Signed (pos 1) (pos 64)) (codes "8"))
 
+-- `index`, without options
+abbrev pub index_app : App
+index_app = new_app (codes "index")
+
+-- `range`, with `--from` and `--to` from 0 to 1099511627775, which have to be given, and `--workers`
+-- from 0 to 16, 4 where it is left out
+abbrev pub range_app : App
+range_app = with_rule (with_rule (with_rule (new_app (codes "range"))
+    (required_rule (codes "from") (Unsigned 0 1099511627775)))
+    (required_rule (codes "to") (Unsigned 0 1099511627775)))
+    (number_rule (codes "workers") (Signed (pos 0) (pos 16)) (codes "4"))
+
 -- `sample`, with `--seed` from 0 to 4294967295, and `--columns` and `--rows` from 1 to 256 each;
 -- all three have to be given
 abbrev pub sample_app : App
@@ -57,11 +69,12 @@ sample_app = with_rule (with_rule (with_rule (new_app (codes "sample"))
 abbrev pub requiring_subcommand : App → App
 requiring_subcommand = on_top (λ s. record s { subcommand_required = true })
 
--- the program with the five
+-- the program with the seven
 abbrev pub lepton_app : App
-lepton_app = with_subcommand (with_subcommand (with_subcommand (with_subcommand
-    (with_subcommand (requiring_subcommand (new_app (codes "lepton"))) encode_app.top)
-    decode_app.top) migrate_app.top) chunk_app.top) sample_app.top
+lepton_app = with_subcommand (with_subcommand (with_subcommand (with_subcommand (with_subcommand
+    (with_subcommand (with_subcommand (requiring_subcommand (new_app (codes "lepton")))
+    encode_app.top) decode_app.top) migrate_app.top) chunk_app.top) index_app.top) range_app.top)
+    sample_app.top
 
 -- the kinds of error that clap may give at the words: none where it takes them
 unfoldable pub faults : List Text → Kinds

@@ -5,7 +5,7 @@ use Rattle.std.specs.declared.num.ParseIntError.{ParseIntError}
 use Rattle.clap.specs.Words.{Row, Text, one_of}
 use Rattle.command_words.specs.LeptonApp.{faults, given}
 use Rattle.command_words.specs.declared.command.Command.{Command}
-use Rattle.command_words.specs.declared.command.Command.TheVariants.{Encode, Decode, Migrate, Chunk, Sample}
+use Rattle.command_words.specs.declared.command.Command.TheVariants.{Encode, Decode, Migrate, Chunk, Index, Range, Sample}
 
 -- the text reads as this number of N bits: for 8, `text.parse::<u8>()`
 abbrev pub ReadsAs : ℕ → Text → ℕ → Type 0
@@ -32,6 +32,14 @@ pub record IsChunked (met : Option (Text × List Row)) (index size segments : �
   pub size_is : Reads 32 options (codes "size") size
   pub segments_is : Reads 8 options (codes "segments") segments
 
+-- `range` was met, and its options read as these numbers, the places of 64 bits and the workers of 8
+pub record IsRanged (met : Option (Text × List Row)) (from to workers : ℕ) : Type 0 where
+  pub options : List Row
+  pub is : met ≡ Some (codes "range", options)
+  pub from_is : Reads 64 options (codes "from") from
+  pub to_is : Reads 64 options (codes "to") to
+  pub workers_is : Reads 8 options (codes "workers") workers
+
 -- `sample` was met, and its options read as these numbers, the seed of 32 bits and the others of 16
 pub record IsSampled (met : Option (Text × List Row)) (seed columns rows : ℕ) : Type 0 where
   pub options : List Row
@@ -46,6 +54,8 @@ Asks met (Encode segments) = IsNumbered met (codes "encode") (codes "segments") 
 Asks met (Decode workers) = IsNumbered met (codes "decode") (codes "workers") workers
 Asks met Migrate = (options : List Row) × (met ≡ Some (codes "migrate", options))
 Asks met (Chunk index size segments) = IsChunked met index size segments
+Asks met Index = (options : List Row) × (met ≡ Some (codes "index", options))
+Asks met (Range from to workers) = IsRanged met from to workers
 Asks met (Sample seed columns rows) = IsSampled met seed columns rows
 
 -- clap takes the words, and they name the command's subcommand with its numbers
@@ -54,12 +64,15 @@ pub record Means (words : List Text) (command : Command) : Type 0 where
   pub asks : Asks (given words) command
 
 -- from 1 to 64 segments, from 0 to 16 workers; a chunk's number of 32 bits, a size from 1 to 67108864 and from 1 to 64
--- segments; a seed of 32 bits, from 1 to 256 columns and rows
+-- segments; places up to 1099511627775; a seed of 32 bits, from 1 to 256 columns and rows
 abbrev pub IsInRange : Command → Type 0
 IsInRange (Encode segments) = (1 ≤ segments) × (segments ≤ 64)
 IsInRange (Decode workers) = workers ≤ 16
 IsInRange Migrate = Unit {0}
 IsInRange (Chunk index size segments) =
     (index < 2 ^ 32) × (1 ≤ size) × (size ≤ 67108864) × (1 ≤ segments) × (segments ≤ 64)
+IsInRange Index = Unit {0}
+IsInRange (Range from to workers) =
+    (from ≤ 1099511627775) × (to ≤ 1099511627775) × (workers ≤ 16)
 IsInRange (Sample seed columns rows) =
     (seed < 2 ^ 32) × (1 ≤ columns) × (columns ≤ 256) × (1 ≤ rows) × (rows ≤ 256)

@@ -2,13 +2,13 @@
 use Rattle.std.specs.Prelude.{List, [], ◌∷◌, codes}
 use Rattle.clap.specs.Words.{Text}
 use Rattle.command_words.specs.declared.command.Command.{Command}
-use Rattle.command_words.specs.declared.command.Command.TheVariants.{Chunk, Decode, Encode, Migrate, Sample}
+use Rattle.command_words.specs.declared.command.Command.TheVariants.{Chunk, Decode, Encode, Index, Migrate, Range, Sample}
 
 -- a line of words begins with the program's name
 abbrev pub line : List Text → List Text
 line words = codes "lepton" ∷ words
 
--- `encode`, `decode`, `chunk` and `sample`, with these words after it
+-- `encode`, `decode`, `chunk`, `range` and `sample`, with these words after it
 abbrev pub encode_with : List Text → List Text
 encode_with words = codes "encode" ∷ words
 
@@ -18,8 +18,15 @@ decode_with words = codes "decode" ∷ words
 abbrev pub chunk_with : List Text → List Text
 chunk_with words = codes "chunk" ∷ words
 
+abbrev pub range_with : List Text → List Text
+range_with words = codes "range" ∷ words
+
 abbrev pub sample_with : List Text → List Text
 sample_with words = codes "sample" ∷ words
+
+-- `range` with its options in the order from, to
+abbrev pub range_of : Text → Text → List Text
+range_of from to = range_with (codes "--from" ∷ from ∷ codes "--to" ∷ to ∷ [])
 
 -- `sample` with its options in the order seed, columns, rows
 abbrev pub sample_of : Text → Text → Text → List Text
@@ -46,6 +53,12 @@ meant = (encode_with [], Encode 8)
     ∷ (
       chunk_with (codes "--segments" ∷ codes "2" ∷ codes "--index=3" ∷ codes "--size" ∷ codes "4" ∷ []),
       Chunk 3 4 2,
+    )
+    ∷ (codes "index" ∷ [], Index)
+    ∷ (range_of (codes "0") (codes "1099511627775"), Range 0 1099511627775 4)
+    ∷ (
+      range_with (codes "--workers" ∷ codes "0" ∷ codes "--to=6" ∷ codes "--from" ∷ codes "5" ∷ []),
+      Range 5 6 0,
     )
     ∷ (sample_of (codes "2") (codes "256") (codes "256"), Sample 2 256 256)
     ∷ (
@@ -86,6 +99,15 @@ meaningless = []
     ∷ chunk_with (codes "--index" ∷ codes "1" ∷ codes "--index" ∷ codes "1" ∷ [])
     ∷ chunk_with (codes "--workers" ∷ codes "1" ∷ [])
     ∷ chunk_with (codes "x" ∷ [])
+    ∷ (codes "index" ∷ codes "--workers" ∷ codes "1" ∷ [])
+    ∷ range_with []
+    ∷ range_with (codes "--from" ∷ codes "1" ∷ [])
+    ∷ range_with (codes "--to" ∷ codes "1" ∷ [])
+    ∷ range_of (codes "0") (codes "1099511627776")
+    ∷ range_of (codes "1099511627776") (codes "0")
+    ∷ range_of (codes "-1") (codes "1")
+    ∷ range_of (codes "0") (codes "18446744073709551616")
+    ∷ range_with (codes "--from=0" ∷ codes "--to=1" ∷ codes "--workers=17" ∷ [])
     ∷ sample_with []
     ∷ sample_with (codes "--seed" ∷ codes "1" ∷ codes "--columns" ∷ codes "1" ∷ [])
     ∷ sample_with (codes "--seed" ∷ codes "1" ∷ codes "--rows" ∷ codes "1" ∷ [])

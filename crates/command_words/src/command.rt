@@ -21,6 +21,11 @@ pub enum Command {
     /// Make the container of one chunk of a file: of its chunks of this size, 1 to 67108864 bytes, the one with this
     /// number, 0 to 4294967295, in at most this many segments, 1 to 64.
     Chunk { index: u32, size: u32, segments: u8 },
+    /// Make the same container in version 5, with the places of its segments in the file.
+    Index,
+    /// Give the file's bytes from one place to before another, 0 to 1099511627775 each, with at most this many workers,
+    /// 0 to 16.
+    Range { from: u64, to: u64, workers: u8 },
     /// Make a sample from this seed, 0 to 4294967295, with this many columns and rows, 1 to 256 each.
     Sample { seed: u32, columns: u16, rows: u16 },
 }
@@ -98,6 +103,13 @@ fn asked(matches: &ArgMatches) -> Option<Command>
                 segments,
             })
         }
+        ("index", _) => Some(Command::Index),
+        ("range", options) => {
+            let from = u64_of(options, "from")?;
+            let to = u64_of(options, "to")?;
+            let workers = u8_of(options, "workers")?;
+            Some(Command::Range { from, to, workers })
+        }
         ("sample", options) => {
             let seed = u32_of(options, "seed")?;
             let columns = u16_of(options, "columns")?;
@@ -137,4 +149,13 @@ fn u32_of(options: &ArgMatches, option: &str) -> Option<u32>
         → ¬ Reads 32 (rows_of (found_of options.now)) option.now number) }
 {
     options.get_one::<u32>(option)
+}
+
+// The same, of 64 bits.
+fn u64_of(options: &ArgMatches, option: &str) -> Option<u64>
+    ensures some { IfSome result (Reads 64 (rows_of (found_of options.now)) option.now) }
+    ensures none { IfNone result ((number : ℕ)
+        → ¬ Reads 64 (rows_of (found_of options.now)) option.now number) }
+{
+    options.get_one::<u64>(option)
 }

@@ -12,8 +12,8 @@ pub fn one_command()
 {}
 
 /// A command that arguments mean has 1 to 64 segments, or 0 to 16 workers, or a chunk's number from 0 to 4294967295
-/// with a size from 1 to 67108864 and 1 to 64 segments, or a seed from 0 to 4294967295 with 1 to 256 columns and 1 to
-/// 256 rows.
+/// with a size from 1 to 67108864 and 1 to 64 segments, or two places from 0 to 1099511627775 with 0 to 16 workers,
+/// or a seed from 0 to 4294967295 with 1 to 256 columns and 1 to 256 rows.
 pub fn numbers_are_in_range()
     ensures { (words : List Text) (command : Command) → Means words command
         → IsInRange command }

@@ -2,14 +2,14 @@
 ghost use Rattle.std.specs.Prelude.{◌≡◌, false, IfOk, Some, [], ◌∷◌, codes, pos};
 ghost use Rattle.clap.specs.declared.builder.value_parser.ValueParser.TheVariants.{Signed};
 ghost use Rattle.clap.specs.Words.{app_of, rule_of, with_subcommand};
-ghost use Rattle.command_words.specs.LeptonApp.{chunk_app, decode_app, encode_app, lepton_app, migrate_app, number_rule, required_rule, sample_app};
+ghost use Rattle.command_words.specs.LeptonApp.{chunk_app, decode_app, encode_app, index_app, lepton_app, migrate_app, number_rule, range_app, required_rule, sample_app};
 
 use clap::builder::ValueParser;
 use clap::{Arg, value_parser};
 use growth::{NoMemory, arg, subcommand};
 use std::alloc::Global;
 
-/// The program with its five subcommands, of which one must be named.
+/// The program with its seven subcommands, of which one must be named.
 pub(crate) fn known_words<'a>(alloc: Global) -> Result<clap::Command<'a>, NoMemory>
     ensures { IfOk result (λ known. app_of known ≡ lepton_app) }
 {
@@ -18,6 +18,8 @@ pub(crate) fn known_words<'a>(alloc: Global) -> Result<clap::Command<'a>, NoMemo
     let known = with_decode(alloc, known)?;
     let known = with_migrate(alloc, known)?;
     let known = with_chunk(alloc, known)?;
+    let known = with_index(alloc, known)?;
+    let known = with_range(alloc, known)?;
     with_sample(alloc, known)
 }
 
@@ -35,7 +37,7 @@ fn with_decode<'a>(alloc: Global, known: clap::Command<'a>) -> Result<clap::Comm
     ensures { IfOk result (λ more. app_of more
         ≡ with_subcommand (app_of known.entry) decode_app.top) }
 {
-    let workers = number_option(alloc, "workers", value_parser!(u8).range(0..=16), "4");
+    let workers = workers_option(alloc);
     let decode = arg(clap::Command::new(alloc, "decode"), workers)?;
     subcommand(known, decode)
 }
@@ -70,6 +72,26 @@ fn with_chunk<'a>(alloc: Global, known: clap::Command<'a>) -> Result<clap::Comma
     subcommand(known, chunk)
 }
 
+fn with_index<'a>(alloc: Global, known: clap::Command<'a>) -> Result<clap::Command<'a>, NoMemory>
+    ensures { IfOk result (λ more. app_of more
+        ≡ with_subcommand (app_of known.entry) index_app.top) }
+{
+    subcommand(known, clap::Command::new(alloc, "index"))
+}
+
+fn with_range<'a>(alloc: Global, known: clap::Command<'a>) -> Result<clap::Command<'a>, NoMemory>
+    ensures { IfOk result (λ more. app_of more
+        ≡ with_subcommand (app_of known.entry) range_app.top) }
+{
+    let from = required_option(alloc, "from", value_parser!(u64).range(0..=1099511627775));
+    let to = required_option(alloc, "to", value_parser!(u64).range(0..=1099511627775));
+    let workers = workers_option(alloc);
+    let range = arg(clap::Command::new(alloc, "range"), from)?;
+    let range = arg(range, to)?;
+    let range = arg(range, workers)?;
+    subcommand(known, range)
+}
+
 fn with_sample<'a>(alloc: Global, known: clap::Command<'a>) -> Result<clap::Command<'a>, NoMemory>
     ensures { IfOk result (λ more. app_of more
         ≡ with_subcommand (app_of known.entry) sample_app.top) }
@@ -90,6 +112,15 @@ fn segments_option<'a>(alloc: Global) -> Arg<'a>
     ensures local { result.global ≡ false }
 {
     number_option(alloc, "segments", value_parser!(u8).range(1..=64), "8")
+}
+
+// How many workers there may be at most.
+fn workers_option<'a>(alloc: Global) -> Arg<'a>
+    ensures rule { rule_of result
+        ≡ number_rule (codes "workers") (Signed (pos 0) (pos 16)) (codes "4") }
+    ensures local { result.global ≡ false }
+{
+    number_option(alloc, "workers", value_parser!(u8).range(0..=16), "4")
 }
 
 // An option with a number, `usual` where it is left out.

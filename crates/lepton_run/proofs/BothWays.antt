@@ -2,7 +2,7 @@
 use Rattle.std.proofs.Common.{◌≡◌, ℕ, ◌<◌, ◌≤◌, false, inl, inr, List, length, take, refl, sym, subst, arith}
 use Rattle.std.specs.List.{AllByRecursion}
 use Rattle.bit_list.specs.Bits.{IsByte}
-use Rattle.box_format.specs.Parts.{migrated}
+use Rattle.box_format.specs.Parts.{box_bytes, migrated}
 use Rattle.box_format.specs.Versions.{layout_of, version_in}
 use Rattle.box_format.specs.declared.version.Version.{Version}
 use Rattle.box_format.specs.declared.version.Version.TheVariants.{Second}
@@ -15,7 +15,7 @@ use Rattle.container_spec.proofs.FilesOfContainers.{restored_is_container}
 use Rattle.container_spec.proofs.MigratedMeanings.{migrated_means_the_same, plain}
 use Rattle.container_spec.proofs.RestoredFiles.{container_is_restored}
 use Rattle.command_words.specs.declared.command.Command.TheVariants.{Encode, Decode, Migrate}
-use Rattle.lepton_run.specs.Answers.{Answer, Answers, AnswersWithin, Made, answer_by, limit_of}
+use Rattle.lepton_run.specs.Answers.{Answer, Answers, AnswersWithin, Made, MigrateMakes, answer_by, limit_of}
 use Rattle.lepton_run.proofs.BoxesOfBytes.{box_are}
 
 -- a container's bytes are bytes
@@ -53,19 +53,20 @@ undone segments workers file made some few (inr is) =
 
 -- what is migrated stands for the same
 migrated_same : (workers : ℕ) (bytes made : List ℕ) (answer : Answer)
-    → AnswersWithin Migrate bytes (Made made) → length made ≤ limit_of (Decode workers)
+    → MigrateMakes bytes (Made made) → length made ≤ limit_of (Decode workers)
     → AnswersWithin (Decode workers) bytes answer → Answers (Decode workers) made answer
-migrated_same workers bytes made answer moved short is =
-    let m = moved.makes in
-    let box = m.2.box in
+migrated_same workers bytes made answer (inl refused) short is =
+    absurd (let e = refused.2 in cc)
+migrated_same workers bytes made answer (inr (plan, b, of, read, e)) short is =
+    let text : made ≡ box_bytes (migrated b) = cc in
     inr (record {
       short = short;
-      are = subst (AllByRecursion IsByte) (sym m.4)
-          (box_are m.0 (migrated m.1) (migrated_is m.0 m.1 (plain m.1.version m.3).chunked box));
+      are = subst (AllByRecursion IsByte) (sym text)
+          (box_are plan (migrated b) (migrated_is plan b (plain b.version read).chunked of.box));
       makes = (
         is.makes.0,
-        subst (λ (l : List ℕ). IsMeaning l is.makes.0) (sym m.4)
-            (migrated_means_the_same m.0 m.1 bytes is.makes.0 is.are m.3 m.2 is.makes.1),
+        subst (λ (l : List ℕ). IsMeaning l is.makes.0) (sym text)
+            (migrated_means_the_same plan b bytes is.makes.0 is.are read of is.makes.1),
         is.makes.2,
       );
     })
@@ -77,7 +78,7 @@ migrated_back workers bytes made answer (inl long) short is = absurd (let e = lo
 migrated_back workers bytes made answer (inr moved) short (inl long) =
     absurd (let h = moved.short in let l = long.0 in omega (arith, h, l))
 migrated_back workers bytes made answer (inr moved) short (inr is) =
-    migrated_same workers bytes made answer moved short is
+    migrated_same workers bytes made answer moved.makes short is
 
 -- what ends as a file stands for it
 pub restored_by : (meaning bytes : List ℕ) (verdict : Verdict)

@@ -1,21 +1,24 @@
 -- From how words ended to what the top call promises.
-use Rattle.std.proofs.Common.{◌≡◌, ℕ, ◌<◌, ◌≤◌, ◌⊎◌, true, inl, inr, List, length, Option, Some, refl, sym, ap, subst, ◌∙◌, arith}
+use Rattle.std.proofs.Common.{◌≡◌, ℕ, ◌<◌, ◌≤◌, ◌⊎◌, inl, inr, List, length, Option, Some, refl, sym, ap, subst, ◌∙◌, arith}
 use Rattle.std.specs.Io.KnownBytes.{Appends}
 use Rattle.outside_core.specs.Faults.{Rose}
 use Rattle.std.specs.List.{AllByRecursion}
 use Rattle.bit_list.specs.Bits.{IsByte}
 use Rattle.jpeg_marker.specs.Plans.{PlanFields}
 use Rattle.box_format.specs.Parts.{BoxParts, IsBoxOf, box_bytes, migrated}
-use Rattle.box_format.specs.Versions.{is_version, layout_of, migratable, version_byte}
+use Rattle.box_format.specs.Versions.{IsRead, indexable, layout_of, migratable, version_in}
 use Rattle.box_format.specs.declared.version.Version.{Version}
-use Rattle.box_format.specs.declared.version.Version.TheVariants.{Third}
+use Rattle.box_format.specs.declared.version.Version.TheVariants.{Fifth, Third}
 use Rattle.chunk_cut.specs.ChunksOfFiles.{IsChunkOf, chunk_of}
+use Rattle.byte_window.specs.Slices.{slice}
 use Rattle.container_spec.specs.Files.{IsContainerOf}
-use Rattle.container_spec.specs.Meanings.{Meaning, IsMeaning}
+use Rattle.container_spec.specs.Indexed.{indexed}
+use Rattle.container_spec.proofs.FilesOfContainers.{version_said}
+use Rattle.container_spec.specs.Meanings.{Meaning, Restored, IsMeaning, meaning_of}
 use Rattle.container_spec.proofs.MigratedMeanings.{migrated_means_the_same}
 use Rattle.command_words.specs.Meaning.{Means}
 use Rattle.command_words.specs.declared.command.Command.{Command}
-use Rattle.command_words.specs.declared.command.Command.TheVariants.{Encode, Decode, Migrate}
+use Rattle.command_words.specs.declared.command.Command.TheVariants.{Encode, Decode, Migrate, Index, Range}
 use Rattle.lepton_run.specs.Answers.{Answer, Answers, AppendsPart, Early, IsInput, Late, Made, Took, Writes, bytes_of, limit_of, line_of}
 use Rattle.lepton_run.specs.Endings.{ending_line, ending_of, status_at}
 use Rattle.lepton_run.specs.CommandEnds.{Answered, Given, SampleEnds}
@@ -26,6 +29,7 @@ use Rattle.lepton_run.proofs.BoxesOfBytes.{box_are}
 use Rattle.lepton_run.proofs.BytesTaken.{answer_had}
 use Rattle.lepton_run.proofs.ChunksBack.{chunk_back}
 use Rattle.lepton_run.proofs.OneAnswers.{one_answer}
+use Rattle.lepton_run.proofs.RangesBack.{are_placed, indexed_answer, range_within}
 use Rattle.lepton_run.proofs.SameCommand.{same_command}
 
 same_line : (answer : Answer) → ending_line (ending_of answer) ≡ line_of answer
@@ -222,7 +226,7 @@ module _ {Sink Source : Type 0} (held : Sink → Option (List ℕ)) (faults : Si
       (meaning : Meaning) → Means words Migrate
       → ¬ Rose failures lost source rest → ¬ Rose faults full old new
       → left source ≡ Some bytes → length bytes ≤ limit_of Migrate → IsBoxOf plan b bytes
-      → is_version migratable (version_byte b.version) ≡ true → IsMeaning bytes meaning
+      → IsRead migratable b.version → IsMeaning bytes meaning
       → ((status ≡ 0) × IsMeaning (box_bytes (migrated b)) meaning
       × Appends (held old) (held new) (box_bytes (migrated b))) ⊎ (status ≡ 5)
   migrated_of ending status is ends said bytes plan b meaning means calm still had short of
@@ -230,13 +234,73 @@ module _ {Sink Source : Type 0} (held : Sink → Option (List ℕ)) (faults : Si
       let are = subst (AllByRecursion IsByte) (sym of.text) (box_are plan b of.box) in
       let made = box_bytes (migrated b) in
       elim (complete_of Migrate bytes (Made made) means had
-      (inr (record { short = short; are = are; makes = (plan, b, of, whole, refl) })) ending status is
+      (inr (record { short = short; are = are; makes = inr (plan, b, of, whole, refl) })) ending status is
       ends said calm (λ _. still)) [
         | inl given ↦ inl (
           is ∙ ap status_at given.0,
           migrated_means_the_same plan b bytes meaning are whole of stands,
           given.1,
         )
+        | inr five ↦ inr five
+      ]
+
+  -- an indexed container, by its parts
+  indexed_by : (ending : Ending) (status : ℕ) → status ≡ status_at ending → Ends ending
+      → Said (ending_line ending) → (bytes file : List ℕ) → Means words Index
+      → ¬ Rose failures lost source rest → ¬ Rose faults full old new
+      → left source ≡ Some bytes → length bytes ≤ limit_of Index
+      → IsRead indexable (version_in bytes) → (plan : PlanFields) (b : BoxParts)
+      → IsBoxOf plan b bytes → record { bytes = file; verdict = Restored } ≡ meaning_of plan b
+      → ((status ≡ 0) × (most : ℕ) × (made : List ℕ)
+      × IsContainerOf (version_in bytes) most bytes file × IsContainerOf Fifth most made file
+      × Appends (held old) (held new) made) ⊎ (status ≡ 5)
+  indexed_by ending status is ends said bytes file means calm still had short read plan b of e =
+      let version : b.version ≡ version_in bytes = sym (ap version_in of.text ∙ version_said b) in
+      let mine = subst (IsRead indexable) (sym version) read in
+      let made = box_bytes (indexed plan b) in
+      let placed = are_placed bytes made file plan b of mine (sym e) refl in
+      elim (complete_of Index bytes (Made made) means had
+      (indexed_answer bytes plan b of short mine (ap (λ (m : Meaning). m.verdict) (sym e))) ending
+      status is ends said calm (λ _. still)) [
+        | inl given ↦ inl (
+          is ∙ ap status_at given.0,
+          placed.most,
+          made,
+          placed.before,
+          placed.after,
+          given.1,
+        )
+        | inr five ↦ inr five
+      ]
+
+  pub indexed_of : (ending : Ending) (status : ℕ) → status ≡ status_at ending → Ends ending
+      → Said (ending_line ending) → (bytes file : List ℕ) → Means words Index
+      → ¬ Rose failures lost source rest → ¬ Rose faults full old new
+      → left source ≡ Some bytes → length bytes ≤ limit_of Index
+      → IsRead indexable (version_in bytes)
+      → IsMeaning bytes (record { bytes = file; verdict = Restored })
+      → ((status ≡ 0) × (most : ℕ) × (made : List ℕ)
+      × IsContainerOf (version_in bytes) most bytes file × IsContainerOf Fifth most made file
+      × Appends (held old) (held new) made) ⊎ (status ≡ 5)
+  indexed_of ending status is ends said bytes file means calm still had short read (inl refused) =
+      absurd (let f = ap (λ (m : Meaning). m.verdict) refused.2 in cc)
+  indexed_of ending status is ends said bytes file means calm still had short read
+      (inr (plan, b, of, e)) =
+      indexed_by ending status is ends said bytes file means calm still had short read plan b of e
+
+  pub range_back_of : (ending : Ending) (status : ℕ) → status ≡ status_at ending → Ends ending
+      → Said (ending_line ending) → (workers most from to : ℕ) (bytes file : List ℕ)
+      → Means words (Range from to workers) → ¬ Rose failures lost source rest
+      → ¬ Rose faults full old new → left source ≡ Some bytes
+      → length file ≤ limit_of (Encode most) → 0 < most → most ≤ (layout_of Fifth).most
+      → IsContainerOf Fifth most bytes file → from ≤ to → to ≤ length file
+      → ((status ≡ 0) × Appends (held old) (held new) (slice from to file)) ⊎ (status ≡ 5)
+  range_back_of ending status is ends said workers most from to bytes file means calm still had short
+      some few of order within =
+      elim (complete_of (Range from to workers) bytes (Made (slice from to file)) means had
+      (range_within most from to workers bytes file some few short of order within) ending status is
+      ends said calm (λ _. still)) [
+        | inl given ↦ inl (is ∙ ap status_at given.0, given.1)
         | inr five ↦ inr five
       ]
 

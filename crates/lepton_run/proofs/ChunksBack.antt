@@ -59,7 +59,7 @@ chunk_undone index size segments workers file made some few answers =
     chunk_back segments size index workers made file some few is.1 is.0
 
 -- what a decode makes is what its container stands for
-is_meant : (workers : ℕ) (made bytes : List ℕ) → Answers (Decode workers) made (Made bytes)
+pub is_meant : (workers : ℕ) (made bytes : List ℕ) → Answers (Decode workers) made (Made bytes)
     → IsMeaning made (record { bytes = bytes; verdict = Restored })
 is_meant workers made bytes (inl long) = absurd (let e = long.1 in cc)
 is_meant workers made bytes (inr is) =

@@ -5,6 +5,8 @@ pub mod OneAnswers
 pub mod BothWays
 pub mod ChunksBack
 pub mod CarriedOut
+pub mod RangesCarried
+pub mod RangesBack
 pub mod CallEnds
 pub mod LinesNoted
 pub mod SamplesCoded

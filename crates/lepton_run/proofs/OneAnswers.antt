@@ -1,5 +1,5 @@
 -- Bytes have one answer.
-use Rattle.std.proofs.Common.{◌≡◌, ℕ, inl, inr, List, [], length, refl, sym, ap, ◌∙◌, subst, arith}
+use Rattle.std.proofs.Common.{◌≡◌, ℕ, inl, inr, List, [], length, refl, sym, ap, ap₂, ◌∙◌, subst, arith}
 use Rattle.std.specs.List.{AllByRecursion}
 use Rattle.bit_list.specs.Bits.{IsByte}
 use Rattle.jpeg_marker.specs.Plans.{PlanFields}
@@ -11,8 +11,9 @@ use Rattle.scan_spec.specs.declared.refusal.ScanRefusal.{ScanRefusal}
 use Rattle.scan_spec.proofs.ItemsOnce.{one_outcome}
 use Rattle.scan_spec.proofs.PlanShapes.{accepted_is_shape}
 use Rattle.cut_spec.specs.Cuts.{cut_of}
-use Rattle.box_format.specs.Parts.{BoxParts, box_bytes, migrated}
-use Rattle.box_format.specs.Versions.{migratable}
+use Rattle.box_format.specs.Parts.{BoxParts}
+use Rattle.box_format.specs.declared.refusal.BoxRefusal.{BoxRefusal}
+use Rattle.box_format.specs.declared.version.Version.{Version}
 use Rattle.box_format.specs.declared.version.Version.TheVariants.{Second}
 use Rattle.box_format.proofs.BoxLawsProved.{one_box, one_box_refusal, never_both as box_or_refused}
 use Rattle.container_spec.specs.Meanings.{Meaning}
@@ -20,12 +21,12 @@ use Rattle.container_spec.proofs.AcceptedFiles.{scan_apart}
 use Rattle.container_spec.proofs.OneMeanings.{one_container, one_meaning}
 use Rattle.chunk_cut.proofs.OneChunks.{one_chunk}
 use Rattle.command_words.specs.declared.command.Command.{Command}
-use Rattle.command_words.specs.declared.command.Command.TheVariants.{Encode, Decode, Migrate, Chunk, Sample}
+use Rattle.command_words.specs.declared.command.Command.TheVariants.{Encode, Decode, Migrate, Chunk, Index, Range, Sample}
 use Rattle.sample_jpeg.specs.SampleFile.{sample_file}
 use Rattle.lepton_run.specs.Summaries.{IsSummary, sample_segments, summary_of}
-use Rattle.lepton_run.specs.Answers.{Answer, Answers, Early, Late, Made, Makes, ScanRefuses, answer_by}
+use Rattle.lepton_run.specs.Answers.{Answer, Answers, BoxMakes, Early, Late, Made, Makes, ScanRefuses, answer_by}
 use Rattle.lepton_run.specs.declared.refusal.Refusal.{Refusal}
-use Rattle.lepton_run.specs.declared.refusal.Refusal.TheVariants.{Header, Scan, Box, Fault, PadSpelling, ChunkShort, NoChunk, TooLong}
+use Rattle.lepton_run.specs.declared.refusal.Refusal.TheVariants.{Header, Scan, Box, Fault, PadSpelling, ChunkShort, NoChunk, RangeBad, TooLong}
 
 one_scan_refusal : (bytes : List ℕ) (refusal other : ScanRefusal) → AllByRecursion IsByte bytes
     → ScanRefuses bytes refusal → ScanRefuses bytes other → refusal ≡ other
@@ -49,6 +50,7 @@ one_encoded n bytes (Made a) (Early (Fault r)) all p q = absurd q
 one_encoded n bytes (Made a) (Early PadSpelling) all p q = absurd q
 one_encoded n bytes (Made a) (Early ChunkShort) all p q = absurd q
 one_encoded n bytes (Made a) (Early TooLong) all p q = absurd q
+one_encoded n bytes (Made a) (Early RangeBad) all p q = absurd q
 one_encoded n bytes (Made a) (Early NoChunk) all p q = absurd q
 one_encoded n bytes (Made a) (Late w r) all p q = absurd q
 one_encoded n bytes (Early (Header r)) (Made b) all p q =
@@ -62,6 +64,7 @@ one_encoded n bytes (Early (Header r)) (Early (Fault s)) all p q = absurd q
 one_encoded n bytes (Early (Header r)) (Early PadSpelling) all p q = absurd q
 one_encoded n bytes (Early (Header r)) (Early ChunkShort) all p q = absurd q
 one_encoded n bytes (Early (Header r)) (Early TooLong) all p q = absurd q
+one_encoded n bytes (Early (Header r)) (Early RangeBad) all p q = absurd q
 one_encoded n bytes (Early (Header r)) (Early NoChunk) all p q = absurd q
 one_encoded n bytes (Early (Header r)) (Late w s) all p q = absurd q
 one_encoded n bytes (Early (Scan r)) (Made b) all p q =
@@ -75,6 +78,7 @@ one_encoded n bytes (Early (Scan r)) (Early (Fault s)) all p q = absurd q
 one_encoded n bytes (Early (Scan r)) (Early PadSpelling) all p q = absurd q
 one_encoded n bytes (Early (Scan r)) (Early ChunkShort) all p q = absurd q
 one_encoded n bytes (Early (Scan r)) (Early TooLong) all p q = absurd q
+one_encoded n bytes (Early (Scan r)) (Early RangeBad) all p q = absurd q
 one_encoded n bytes (Early (Scan r)) (Early NoChunk) all p q = absurd q
 one_encoded n bytes (Early (Scan r)) (Late w s) all p q = absurd q
 one_encoded n bytes (Early (Box r)) b all p q = absurd p
@@ -82,45 +86,24 @@ one_encoded n bytes (Early (Fault r)) b all p q = absurd p
 one_encoded n bytes (Early PadSpelling) b all p q = absurd p
 one_encoded n bytes (Early ChunkShort) b all p q = absurd p
 one_encoded n bytes (Early TooLong) b all p q = absurd p
+one_encoded n bytes (Early RangeBad) b all p q = absurd p
 one_encoded n bytes (Early NoChunk) b all p q = absurd p
 one_encoded n bytes (Late w r) b all p q = absurd p
 
--- what migrate makes of bytes is one thing
-one_migrated : (bytes : List ℕ) (a b : Answer) → AllByRecursion IsByte bytes
-    → Makes Migrate bytes a → Makes Migrate bytes b → a ≡ b
-one_migrated bytes (Made a) (Made b) all p q =
-    let same = (one_box p.0 q.0 p.1 q.1 bytes p.2 q.2).1 in
-    ap Made (p.4 ∙ ap (λ (x : BoxParts). box_bytes (migrated x)) same ∙ sym q.4)
-one_migrated bytes (Made a) (Early (Header r)) all p q = absurd q
-one_migrated bytes (Made a) (Early (Scan r)) all p q = absurd q
-one_migrated bytes (Made a) (Early (Box r)) all p q =
-    absurd (box_or_refused migratable bytes p.0 p.1 r p.3 p.2 q)
-one_migrated bytes (Made a) (Early (Fault r)) all p q = absurd q
-one_migrated bytes (Made a) (Early PadSpelling) all p q = absurd q
-one_migrated bytes (Made a) (Early ChunkShort) all p q = absurd q
-one_migrated bytes (Made a) (Early TooLong) all p q = absurd q
-one_migrated bytes (Made a) (Early NoChunk) all p q = absurd q
-one_migrated bytes (Made a) (Late w r) all p q = absurd q
-one_migrated bytes (Early (Header r)) b all p q = absurd p
-one_migrated bytes (Early (Scan r)) b all p q = absurd p
-one_migrated bytes (Early (Box r)) (Made b) all p q =
-    absurd (box_or_refused migratable bytes q.0 q.1 r q.3 q.2 p)
-one_migrated bytes (Early (Box r)) (Early (Header s)) all p q = absurd q
-one_migrated bytes (Early (Box r)) (Early (Scan s)) all p q = absurd q
-one_migrated bytes (Early (Box r)) (Early (Box s)) all p q =
-    ap (λ (x : Refusal). Early x) (ap Box (one_box_refusal migratable bytes r s p q))
-one_migrated bytes (Early (Box r)) (Early (Fault s)) all p q = absurd q
-one_migrated bytes (Early (Box r)) (Early PadSpelling) all p q = absurd q
-one_migrated bytes (Early (Box r)) (Early ChunkShort) all p q = absurd q
-one_migrated bytes (Early (Box r)) (Early TooLong) all p q = absurd q
-one_migrated bytes (Early (Box r)) (Early NoChunk) all p q = absurd q
-one_migrated bytes (Early (Box r)) (Late w s) all p q = absurd q
-one_migrated bytes (Early (Fault r)) b all p q = absurd p
-one_migrated bytes (Early PadSpelling) b all p q = absurd p
-one_migrated bytes (Early ChunkShort) b all p q = absurd p
-one_migrated bytes (Early TooLong) b all p q = absurd p
-one_migrated bytes (Early NoChunk) b all p q = absurd p
-one_migrated bytes (Late w r) b all p q = absurd p
+-- what is made of containers is one thing
+one_boxed : (versions : List Version) (answer_to : PlanFields → BoxParts → Answer) (bytes : List ℕ)
+    (a b : Answer) → BoxMakes versions answer_to bytes a → BoxMakes versions answer_to bytes b
+    → a ≡ b
+one_boxed versions f bytes a b (inl p) (inl q) =
+    p.2 ∙ ap (λ (r : BoxRefusal). Early (Box r)) (one_box_refusal versions bytes p.0 q.0 p.1 q.1)
+    ∙ sym q.2
+one_boxed versions f bytes a b (inl p) (inr q) =
+    absurd (box_or_refused versions bytes q.0 q.1 p.0 q.3 q.2 p.1)
+one_boxed versions f bytes a b (inr p) (inl q) =
+    absurd (box_or_refused versions bytes p.0 p.1 q.0 p.3 p.2 q.1)
+one_boxed versions f bytes a b (inr p) (inr q) =
+    let same = one_box p.0 q.0 p.1 q.1 bytes p.2 q.2 in
+    p.4 ∙ ap₂ f same.0 same.1 ∙ sym q.4
 
 -- what `chunk` makes of bytes is one thing
 one_chunked : (index size segments : ℕ) (bytes : List ℕ) (a b : Answer)
@@ -138,6 +121,7 @@ one_chunked i s n bytes (Made a) (Early (Fault r)) all p q = absurd q
 one_chunked i s n bytes (Made a) (Early PadSpelling) all p q = absurd q
 one_chunked i s n bytes (Made a) (Early ChunkShort) all p q = absurd q
 one_chunked i s n bytes (Made a) (Early TooLong) all p q = absurd q
+one_chunked i s n bytes (Made a) (Early RangeBad) all p q = absurd q
 one_chunked i s n bytes (Made a) (Late w r) all p q = absurd q
 one_chunked i s n bytes (Early (Header r)) (Made b) all p q =
     absurd (never_both bytes q.plan r q.is.header p)
@@ -152,6 +136,7 @@ one_chunked i s n bytes (Early (Header r)) (Early (Fault t)) all p q = absurd q
 one_chunked i s n bytes (Early (Header r)) (Early PadSpelling) all p q = absurd q
 one_chunked i s n bytes (Early (Header r)) (Early ChunkShort) all p q = absurd q
 one_chunked i s n bytes (Early (Header r)) (Early TooLong) all p q = absurd q
+one_chunked i s n bytes (Early (Header r)) (Early RangeBad) all p q = absurd q
 one_chunked i s n bytes (Early (Header r)) (Late w t) all p q = absurd q
 one_chunked i s n bytes (Early (Scan r)) (Made b) all p q =
     absurd (scan_apart bytes q.plan q.mcus q.pads q.trailer r all q.is p)
@@ -166,6 +151,7 @@ one_chunked i s n bytes (Early (Scan r)) (Early (Fault t)) all p q = absurd q
 one_chunked i s n bytes (Early (Scan r)) (Early PadSpelling) all p q = absurd q
 one_chunked i s n bytes (Early (Scan r)) (Early ChunkShort) all p q = absurd q
 one_chunked i s n bytes (Early (Scan r)) (Early TooLong) all p q = absurd q
+one_chunked i s n bytes (Early (Scan r)) (Early RangeBad) all p q = absurd q
 one_chunked i s n bytes (Early (Scan r)) (Late w t) all p q = absurd q
 one_chunked i s n bytes (Early NoChunk) (Made b) all p q =
     absurd (let h = q.there in let l = p.1 in omega (arith, h, l))
@@ -179,12 +165,14 @@ one_chunked i s n bytes (Early NoChunk) (Early (Fault t)) all p q = absurd q
 one_chunked i s n bytes (Early NoChunk) (Early PadSpelling) all p q = absurd q
 one_chunked i s n bytes (Early NoChunk) (Early ChunkShort) all p q = absurd q
 one_chunked i s n bytes (Early NoChunk) (Early TooLong) all p q = absurd q
+one_chunked i s n bytes (Early NoChunk) (Early RangeBad) all p q = absurd q
 one_chunked i s n bytes (Early NoChunk) (Late w t) all p q = absurd q
 one_chunked i s n bytes (Early (Box r)) b all p q = absurd p
 one_chunked i s n bytes (Early (Fault r)) b all p q = absurd p
 one_chunked i s n bytes (Early PadSpelling) b all p q = absurd p
 one_chunked i s n bytes (Early ChunkShort) b all p q = absurd p
 one_chunked i s n bytes (Early TooLong) b all p q = absurd p
+one_chunked i s n bytes (Early RangeBad) b all p q = absurd p
 one_chunked i s n bytes (Late w r) b all p q = absurd p
 
 -- what `sample` says is one thing
@@ -212,7 +200,9 @@ one_made (Encode segments) bytes a b all p q = one_encoded segments bytes a b al
 one_made (Decode workers) bytes a b all p q =
     p.2 ∙ ap (λ (m : Meaning). answer_by m.bytes m.verdict)
     (one_meaning bytes p.0 q.0 all p.1 q.1) ∙ sym q.2
-one_made Migrate bytes a b all p q = one_migrated bytes a b all p q
+one_made Migrate bytes a b all p q = one_boxed _ _ bytes a b p q
+one_made Index bytes a b all p q = one_boxed _ _ bytes a b p q
+one_made (Range from to workers) bytes a b all p q = one_boxed _ _ bytes a b p q
 one_made (Chunk index size segments) bytes a b all p q =
     one_chunked index size segments bytes a b all p q
 one_made (Sample seed columns rows) bytes a b all p q =

@@ -2,9 +2,9 @@
 use Rattle.std.proofs.Common.{◌≡◌, ℕ, List, Option, Some, None, get_or, refl, sym, ap, subst, ◌∙◌, arith}
 use Rattle.std.specs.Prelude.{codes}
 use Rattle.command_words.specs.LeptonApp.{given}
-use Rattle.command_words.specs.Meaning.{IsChunked, IsNumbered, IsSampled, Means, ReadsAs}
+use Rattle.command_words.specs.Meaning.{IsChunked, IsNumbered, IsRanged, IsSampled, Means, ReadsAs}
 use Rattle.command_words.specs.declared.command.Command.{Command}
-use Rattle.command_words.specs.declared.command.Command.TheVariants.{Encode, Decode, Migrate, Chunk, Sample}
+use Rattle.command_words.specs.declared.command.Command.TheVariants.{Encode, Decode, Migrate, Chunk, Index, Range, Sample}
 
 -- the second parts of equal pairs
 second_same : {A B : Type 0} (a c : A) (x y : B)
@@ -68,12 +68,32 @@ chunks_same words i s n j t m p q =
     let segments = one_reading 8 _ _ n m numbers p.segments_is.number_is q.segments_is.number_is in
     rw (index, size, segments) refl
 
+ranges_same : (words : List (List ℕ)) (i s n j t m : ℕ) → IsRanged (given words) i s n
+    → IsRanged (given words) j t m → Range i s n ≡ Range j t m
+ranges_same words i s n j t m p q =
+    let options = second_same _ _ p.options q.options (sym p.is ∙ q.is) in
+    let one = p.from_is.first in
+    let two = q.from_is.first in
+    let firsts : p.from_is.text ≡ q.from_is.text = cc in
+    let three = p.to_is.first in
+    let four = q.to_is.first in
+    let lasts : p.to_is.text ≡ q.to_is.text = cc in
+    let five = p.workers_is.first in
+    let six = q.workers_is.first in
+    let numbers : p.workers_is.text ≡ q.workers_is.text = cc in
+    let from = one_reading 64 _ _ i j firsts p.from_is.number_is q.from_is.number_is in
+    let to = one_reading 64 _ _ s t lasts p.to_is.number_is q.to_is.number_is in
+    let workers = one_reading 8 _ _ n m numbers p.workers_is.number_is q.workers_is.number_is in
+    rw (from, to, workers) refl
+
 -- the name of a command's subcommand
 abbrev name_of : Command → List ℕ
 name_of (Encode segments) = codes "encode"
 name_of (Decode workers) = codes "decode"
 name_of Migrate = codes "migrate"
 name_of (Chunk index size segments) = codes "chunk"
+name_of Index = codes "index"
+name_of (Range from to workers) = codes "range"
 name_of (Sample seed columns rows) = codes "sample"
 
 -- the first letter of the subcommand that was met
@@ -88,6 +108,8 @@ letter_is words (Encode segments) means = ap letter_in means.asks.is
 letter_is words (Decode workers) means = ap letter_in means.asks.is
 letter_is words Migrate means = ap letter_in means.asks.1
 letter_is words (Chunk index size segments) means = ap letter_in means.asks.is
+letter_is words Index means = ap letter_in means.asks.1
+letter_is words (Range from to workers) means = ap letter_in means.asks.is
 letter_is words (Sample seed columns rows) means = ap letter_in means.asks.is
 
 -- no two subcommands begin with one letter
@@ -99,30 +121,42 @@ apart words a b p q other =
 pub same_command : (words : List (List ℕ)) (a b : Command) → Means words a → Means words b
     → a ≡ b
 same_command words (Encode m) (Encode n) p q = ap Encode (numbers_same words _ _ m n p.asks q.asks)
-same_command words (Encode m) (Decode n) p q =
-    apart words (Encode m) (Decode n) p q (λ e. omega (arith, e))
+same_command words (Encode m) (Decode k) p q =
+    apart words (Encode m) (Decode k) p q (λ e. omega (arith, e))
 same_command words (Encode m) Migrate p q =
     apart words (Encode m) Migrate p q (λ e. omega (arith, e))
 same_command words (Encode m) (Chunk j t k) p q =
     apart words (Encode m) (Chunk j t k) p q (λ e. omega (arith, e))
+same_command words (Encode m) Index p q =
+    apart words (Encode m) Index p q (λ e. omega (arith, e))
+same_command words (Encode m) (Range j t k) p q =
+    apart words (Encode m) (Range j t k) p q (λ e. omega (arith, e))
 same_command words (Encode m) (Sample t d u) p q =
     apart words (Encode m) (Sample t d u) p q (λ e. omega (arith, e))
-same_command words (Decode m) (Encode n) p q =
-    apart words (Decode m) (Encode n) p q (λ e. omega (arith, e))
+same_command words (Decode m) (Encode k) p q =
+    apart words (Decode m) (Encode k) p q (λ e. omega (arith, e))
 same_command words (Decode m) (Decode n) p q = ap Decode (numbers_same words _ _ m n p.asks q.asks)
 same_command words (Decode m) Migrate p q =
     apart words (Decode m) Migrate p q (λ e. omega (arith, e))
 same_command words (Decode m) (Chunk j t k) p q =
     apart words (Decode m) (Chunk j t k) p q (λ e. omega (arith, e))
+same_command words (Decode m) Index p q =
+    apart words (Decode m) Index p q (λ e. omega (arith, e))
+same_command words (Decode m) (Range j t k) p q =
+    apart words (Decode m) (Range j t k) p q (λ e. omega (arith, e))
 same_command words (Decode m) (Sample t d u) p q =
     apart words (Decode m) (Sample t d u) p q (λ e. omega (arith, e))
-same_command words Migrate (Encode n) p q =
-    apart words Migrate (Encode n) p q (λ e. omega (arith, e))
-same_command words Migrate (Decode n) p q =
-    apart words Migrate (Decode n) p q (λ e. omega (arith, e))
+same_command words Migrate (Encode k) p q =
+    apart words Migrate (Encode k) p q (λ e. omega (arith, e))
+same_command words Migrate (Decode k) p q =
+    apart words Migrate (Decode k) p q (λ e. omega (arith, e))
 same_command words Migrate Migrate p q = refl
-same_command words Migrate (Chunk j t m) p q =
-    apart words Migrate (Chunk j t m) p q (λ e. omega (arith, e))
+same_command words Migrate (Chunk j t k) p q =
+    apart words Migrate (Chunk j t k) p q (λ e. omega (arith, e))
+same_command words Migrate Index p q =
+    apart words Migrate Index p q (λ e. omega (arith, e))
+same_command words Migrate (Range j t k) p q =
+    apart words Migrate (Range j t k) p q (λ e. omega (arith, e))
 same_command words Migrate (Sample t d u) p q =
     apart words Migrate (Sample t d u) p q (λ e. omega (arith, e))
 same_command words (Chunk i s n) (Encode k) p q =
@@ -132,14 +166,48 @@ same_command words (Chunk i s n) (Decode k) p q =
 same_command words (Chunk i s n) Migrate p q =
     apart words (Chunk i s n) Migrate p q (λ e. omega (arith, e))
 same_command words (Chunk i s n) (Chunk j t m) p q = chunks_same words i s n j t m p.asks q.asks
+same_command words (Chunk i s n) Index p q =
+    apart words (Chunk i s n) Index p q (λ e. omega (arith, e))
+same_command words (Chunk i s n) (Range j t k) p q =
+    apart words (Chunk i s n) (Range j t k) p q (λ e. omega (arith, e))
 same_command words (Chunk i s n) (Sample t d u) p q =
     apart words (Chunk i s n) (Sample t d u) p q (λ e. omega (arith, e))
-same_command words (Sample s c r) (Encode n) p q =
-    apart words (Sample s c r) (Encode n) p q (λ e. omega (arith, e))
-same_command words (Sample s c r) (Decode n) p q =
-    apart words (Sample s c r) (Decode n) p q (λ e. omega (arith, e))
+same_command words Index (Encode k) p q =
+    apart words Index (Encode k) p q (λ e. omega (arith, e))
+same_command words Index (Decode k) p q =
+    apart words Index (Decode k) p q (λ e. omega (arith, e))
+same_command words Index Migrate p q =
+    apart words Index Migrate p q (λ e. omega (arith, e))
+same_command words Index (Chunk j t k) p q =
+    apart words Index (Chunk j t k) p q (λ e. omega (arith, e))
+same_command words Index Index p q = refl
+same_command words Index (Range j t k) p q =
+    apart words Index (Range j t k) p q (λ e. omega (arith, e))
+same_command words Index (Sample t d u) p q =
+    apart words Index (Sample t d u) p q (λ e. omega (arith, e))
+same_command words (Range i s n) (Encode k) p q =
+    apart words (Range i s n) (Encode k) p q (λ e. omega (arith, e))
+same_command words (Range i s n) (Decode k) p q =
+    apart words (Range i s n) (Decode k) p q (λ e. omega (arith, e))
+same_command words (Range i s n) Migrate p q =
+    apart words (Range i s n) Migrate p q (λ e. omega (arith, e))
+same_command words (Range i s n) (Chunk j t k) p q =
+    apart words (Range i s n) (Chunk j t k) p q (λ e. omega (arith, e))
+same_command words (Range i s n) Index p q =
+    apart words (Range i s n) Index p q (λ e. omega (arith, e))
+same_command words (Range i s n) (Range j t m) p q = ranges_same words i s n j t m p.asks q.asks
+same_command words (Range i s n) (Sample t d u) p q =
+    apart words (Range i s n) (Sample t d u) p q (λ e. omega (arith, e))
+same_command words (Sample s c r) (Encode k) p q =
+    apart words (Sample s c r) (Encode k) p q (λ e. omega (arith, e))
+same_command words (Sample s c r) (Decode k) p q =
+    apart words (Sample s c r) (Decode k) p q (λ e. omega (arith, e))
 same_command words (Sample s c r) Migrate p q =
     apart words (Sample s c r) Migrate p q (λ e. omega (arith, e))
-same_command words (Sample s c r) (Chunk j t m) p q =
-    apart words (Sample s c r) (Chunk j t m) p q (λ e. omega (arith, e))
+same_command words (Sample s c r) (Chunk j t k) p q =
+    apart words (Sample s c r) (Chunk j t k) p q (λ e. omega (arith, e))
+same_command words (Sample s c r) Index p q =
+    apart words (Sample s c r) Index p q (λ e. omega (arith, e))
+same_command words (Sample s c r) (Range j t k) p q =
+    apart words (Sample s c r) (Range j t k) p q (λ e. omega (arith, e))
 same_command words (Sample s c r) (Sample t d u) p q = samples_same words s c r t d u p.asks q.asks

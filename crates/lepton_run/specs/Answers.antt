@@ -1,6 +1,6 @@
 -- Statement: the one answer to a command and the bytes that it reads: the bytes that it writes and its line
 -- (README.md, Use).
-use Rattle.std.specs.Prelude.{ℕ, ◌≡◌, ◌⊎◌, ◌+◌, ◌*◌, ◌<◌, ◌≤◌, Bool, true, false, List, [], length, take, Option, Some}
+use Rattle.std.specs.Prelude.{ℕ, ◌≡◌, ◌⊎◌, ◌+◌, ◌*◌, ◌<◌, ◌≤◌, Bool, true, false, if◌then◌else◌, List, [], length, take, Option, Some, None}
 use Rattle.std.specs.List.{AllByRecursion}
 use Rattle.std.specs.Io.KnownBytes.{Appends, Consumes, IsAtEnd}
 use Rattle.bit_list.specs.Bits.{IsByte}
@@ -9,22 +9,27 @@ use Rattle.jpeg_marker.specs.HeaderPlan.{Accepts, Refuses as HeaderRefuses}
 use Rattle.scan_spec.specs.Items.{Refuses as ItemsRefuse}
 use Rattle.scan_spec.specs.Slots.{shape_of}
 use Rattle.scan_spec.specs.declared.refusal.ScanRefusal.{ScanRefusal}
+use Rattle.handover.specs.declared.outcome.StreamFault.{StreamFault}
 use Rattle.box_format.specs.BoxChecks.{IsRefusedBy}
 use Rattle.box_format.specs.Parts.{BoxParts, IsBoxOf, box_bytes, migrated}
-use Rattle.box_format.specs.Versions.{is_version, migratable, version_byte}
+use Rattle.box_format.specs.Versions.{IsRead, indexable, migratable, ranged}
+use Rattle.box_format.specs.declared.refusal.BoxRefusal.{BoxRefusal}
+use Rattle.box_format.specs.declared.version.Version.{Version}
 use Rattle.box_format.specs.declared.version.Version.TheVariants.{Second}
 use Rattle.container_spec.specs.Files.{IsContainerOf}
+use Rattle.container_spec.specs.Indexed.{indexed}
 use Rattle.container_spec.specs.Limits.{most_of_a_container, most_of_a_file}
-use Rattle.container_spec.specs.Meanings.{Meaning, Verdict, Restored, PadSpelled, ChunkShort as ShortChunk, Faulty, NoBox, IsMeaning}
+use Rattle.container_spec.specs.Meanings.{Meaning, Verdict, Restored, PadSpelled, ChunkShort as ShortChunk, Faulty, NoBox, IsMeaning, meaning_of}
 use Rattle.chunk_cut.specs.ChunksOfFiles.{IsChunkOf, IsFile}
+use Rattle.range_read.specs.RangeMeanings.{is_bad_range, range_meaning}
 use Rattle.command_words.specs.declared.command.Command.{Command}
-use Rattle.command_words.specs.declared.command.Command.TheVariants.{Encode, Decode, Migrate, Chunk, Sample}
+use Rattle.command_words.specs.declared.command.Command.TheVariants.{Encode, Decode, Migrate, Chunk, Index, Range, Sample}
 use Rattle.lepton_run.specs.Lines.{refusal_line}
 use Rattle.lepton_run.specs.Summaries.{IsSummary}
 use Rattle.lepton_run.specs.declared.input.Input.{Input}
 use Rattle.lepton_run.specs.declared.input.Input.TheVariants.{File, Container, Nothing}
 use Rattle.lepton_run.specs.declared.refusal.Refusal.{Refusal}
-use Rattle.lepton_run.specs.declared.refusal.Refusal.TheVariants.{Header, Scan, Box, Fault, PadSpelling, ChunkShort, NoChunk, TooLong}
+use Rattle.lepton_run.specs.declared.refusal.Refusal.TheVariants.{Header, Scan, Box, Fault, PadSpelling, ChunkShort, NoChunk, RangeBad, TooLong}
 
 -- the answer to a command, if nothing fails and memory suffices: these bytes are made; or the bytes given are refused,
 -- before any byte is written or after some
@@ -57,6 +62,8 @@ input_of (Encode segments) = File
 input_of (Decode workers) = Container
 input_of Migrate = Container
 input_of (Chunk index size segments) = File
+input_of Index = Container
+input_of (Range from to workers) = Container
 input_of (Sample seed columns rows) = Nothing
 
 -- and how many bytes of it at most
@@ -96,14 +103,17 @@ DecodeMakes bytes answer =
     (meaning : Meaning) × IsMeaning bytes meaning
     × (answer ≡ answer_by meaning.bytes meaning.verdict)
 
--- what migrate makes of bytes: the same container of version 1 or 2 in version 2, whatever its streams stand for; or it
--- refuses it, as one that reads these versions alone
+-- what is made of bytes by who reads containers of these versions: the refusal of the first check that fails, or the
+-- answer to the container
+abbrev pub BoxMakes : List Version → (PlanFields → BoxParts → Answer) → List ℕ → Answer → Type 0
+BoxMakes versions answer_to bytes answer =
+    ((refusal : BoxRefusal) × IsRefusedBy versions bytes refusal × (answer ≡ Early (Box refusal)))
+    ⊎ ((plan : PlanFields) × (b : BoxParts) × IsBoxOf plan b bytes × IsRead versions b.version
+    × (answer ≡ answer_to plan b))
+
+-- what migrate makes of a container: the same one in version 2, whatever its streams stand for
 abbrev pub MigrateMakes : List ℕ → Answer → Type 0
-MigrateMakes bytes (Made made) =
-    (plan : PlanFields) × (b : BoxParts) × IsBoxOf plan b bytes
-    × (is_version migratable (version_byte b.version) ≡ true) × (made ≡ box_bytes (migrated b))
-MigrateMakes bytes (Early (Box refusal)) = IsRefusedBy migratable bytes refusal
-MigrateMakes bytes other = ⊥
+MigrateMakes = BoxMakes migratable (λ plan b. Made (box_bytes (migrated b)))
 
 -- what `chunk` makes of a file: the container of its chunk with this number, of chunks of this size; or it refuses the
 -- header, or else the scan, or else there is no such chunk
@@ -114,6 +124,34 @@ ChunkMakes index size segments bytes (Early (Scan refusal)) = ScanRefuses bytes 
 ChunkMakes index size segments bytes (Early NoChunk) =
     IsFile bytes × (length bytes ≤ index * size)
 ChunkMakes index size segments bytes other = ⊥
+
+-- the answer of `index` to a container that ends so, if this is the same one with places
+abbrev pub index_by : List ℕ → Verdict → Answer
+index_by made Restored = Made made
+index_by made PadSpelled = Early PadSpelling
+index_by made ShortChunk = Early ChunkShort
+index_by made (Faulty fault) = Early (Fault fault)
+index_by made (NoBox refusal) = Early (Box refusal)
+
+-- what `index` makes of a container: the same one in version 5 with the places of its segments, if it stands for a
+-- file; else it refuses what decode refuses, before any byte is written
+abbrev pub IndexMakes : List ℕ → Answer → Type 0
+IndexMakes =
+    BoxMakes indexable (λ plan b. index_by (box_bytes (indexed plan b)) (meaning_of plan b).verdict)
+
+-- the answer that a range is, by its bytes and by the fault that ends them
+abbrev pub range_answer : List ℕ → Option StreamFault → Answer
+range_answer bytes None = Made bytes
+range_answer bytes (Some fault) = Late bytes (Fault fault)
+
+-- what `range` makes of a container: the range, whatever the number of workers, if it is one of the file
+abbrev pub read_answer : ℕ → ℕ → PlanFields → BoxParts → Answer
+read_answer from to plan b =
+    if is_bad_range b from to then Early RangeBad
+    else range_answer (range_meaning plan b from to).bytes (range_meaning plan b from to).fault
+
+abbrev pub RangeMakes : ℕ → ℕ → List ℕ → Answer → Type 0
+RangeMakes from to = BoxMakes ranged (read_answer from to)
 
 -- what `sample` makes, of no bytes: the summary of a file made from the seed
 abbrev pub SampleMakes : ℕ → ℕ → ℕ → Answer → Type 0
@@ -126,6 +164,8 @@ Makes (Encode segments) bytes answer = EncodeMakes segments bytes answer
 Makes (Decode workers) bytes answer = DecodeMakes bytes answer
 Makes Migrate bytes answer = MigrateMakes bytes answer
 Makes (Chunk index size segments) bytes answer = ChunkMakes index size segments bytes answer
+Makes Index bytes answer = IndexMakes bytes answer
+Makes (Range from to workers) bytes answer = RangeMakes from to bytes answer
 Makes (Sample seed columns rows) bytes answer = SampleMakes seed columns rows answer
 
 -- bytes within the limit, and what is made of them

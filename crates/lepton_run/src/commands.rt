@@ -2,11 +2,14 @@
 ghost use Rattle.std.specs.Prelude.{◌≡◌, ◌≤◌, ℕ, Result, false, length};
 ghost use Rattle.outside_core.specs.Takes.{TakesNext};
 ghost use Rattle.command_words.specs.Meaning.{IsInRange};
-ghost use Rattle.command_words.specs.declared.command.Command.TheVariants.{Encode, Decode, Migrate, Chunk};
+ghost use Rattle.command_words.specs.declared.command.Command.TheVariants.{Encode, Decode, Migrate, Chunk, Index, Range};
 ghost use Rattle.lepton_decode.specs.Ends.{Ends, lone_meaning_in, meaning_in};
 ghost use Rattle.lepton_decode.specs.declared.error.DecodeError.{DecodeError};
+ghost use Rattle.range_read.specs.RangeEnds.{RangeEnds, lone_range_in, range_in};
+ghost use Rattle.range_read.specs.declared.reading.Ranged.{Ranged};
+ghost use Rattle.segment_worker.specs.declared.emitted.EmitStop.{EmitStop};
 ghost use Rattle.lepton_run.specs.Answers.{TakesAnswers, limit_of};
-ghost use Rattle.lepton_run.specs.DecodeEndings.{IsNoMemory, decode_ending};
+ghost use Rattle.lepton_run.specs.DecodeEndings.{IsNoMemory, decode_ending, range_ending};
 ghost use Rattle.lepton_run.specs.CommandEnds.{CarriedOut};
 
 use crate::ending::Ending;
@@ -20,6 +23,11 @@ use lepton_decode::{
 };
 use lepton_encode::EncodeError;
 use outside_core::{Gate, Sink};
+use range_read::{
+    IndexError, RangeError, Ranged, ReadyRange, ReadyRangeAlone, prepare_range,
+    prepare_range_alone, run_range, run_range_alone,
+};
+use segment_worker::EmitStop;
 use std::alloc::Global;
 use std::sync::Wait;
 use std::thread::Threads;
@@ -49,6 +57,15 @@ pub(crate) fn carry_out<R: Threads + Wait + Sync, K: Sink + Send, G: Gate + Sync
             size,
             segments,
         } => chunk(rt, alloc, index, size, segments, bytes, sink),
+        Command::Index => index(rt, alloc, bytes, sink),
+        Command::Range {
+            from,
+            to,
+            workers: 0,
+        } => range_alone(alloc, from, to, bytes, sink, gate),
+        Command::Range { from, to, workers } => {
+            range(rt, alloc, from, to, workers, bytes, sink, gate)
+        }
         Command::Sample {
             seed,
             columns,
@@ -151,7 +168,8 @@ fn restore_alone<K: Sink, G: Gate>(ready: &mut ReadyAlone, sink: &mut K, gate: &
     ending_by(ended)
 }
 
-// The same container in version 2, if it is of version 1 or 2, written once it is whole. It has no `Wait`, so it returns.
+// The same container in version 2, if it is of version 1 or 2, written once it is whole. It has no `Wait`, so it
+// returns.
 fn migrate<K: Sink>(alloc: Global, bytes: &[u8], sink: &mut K) -> Ending
     requires short { length bytes.now ≤ limit_of Migrate }
     requires takes { TakesAnswers K.takes Migrate bytes.now sink.old }
@@ -200,6 +218,107 @@ fn chunk<R: Threads + Sync, K: Sink>(
     write_made(made.as_slice(), sink)
 }
 
+// The same container in version 5, if it is of version 1, 2 or 5 and stands for a file, written once it is whole. It
+// has no `Wait`, so it returns.
+fn index<R: Threads + Sync, K: Sink>(rt: &R, alloc: Global, bytes: &[u8], sink: &mut K) -> Ending
+    requires short { length bytes.now ≤ limit_of Index }
+    requires takes { TakesAnswers K.takes Index bytes.now sink.old }
+    ensures ending { CarriedOut K.held K.faults K.full Index bytes.now sink.old sink.new result }
+    ensures lasting { K.faults sink.old ≤ K.faults sink.new }
+{
+    let made = match range_read::index(rt, alloc, bytes) {
+        Ok(made) => made,
+        Err(IndexError::Box(refusal)) => return Ending::Refused(Refusal::Box(refusal)),
+        Err(IndexError::Fault(fault)) => return Ending::Refused(Refusal::Fault(fault)),
+        Err(IndexError::PadSpelling) => return Ending::Refused(Refusal::PadSpelling),
+        Err(IndexError::NoMemory(short)) => return Ending::NoMemory(short),
+    };
+    write_made(made.as_slice(), sink)
+}
+
+// The bytes of a container's file from one place to before another, decoded by `workers` threads beside this one.
+fn range<R: Threads + Wait + Sync, K: Sink + Send, G: Gate + Sync>(
+    rt: &R,
+    alloc: Global,
+    from: u64,
+    to: u64,
+    workers: u8,
+    bytes: &[u8],
+    sink: &mut K,
+    gate: &G,
+) -> Ending
+    requires short { length bytes.now ≤ limit_of (Range from to workers) }
+    requires takes { TakesAnswers K.takes (Range from to workers) bytes.now sink.old }
+    ensures ending { CarriedOut K.held K.faults K.full (Range from to workers) bytes.now sink.old
+        sink.new result }
+    ensures lasting { K.faults sink.old ≤ K.faults sink.new }
+{
+    let mut ready = match prepare_range(alloc, bytes, from, to, workers, ample_ring(bytes)) {
+        Ok(ready) => ready,
+        Err(RangeError::Box(refusal)) => return Ending::Refused(Refusal::Box(refusal)),
+        Err(RangeError::RangeBad) => return Ending::Refused(Refusal::RangeBad),
+        Err(RangeError::NoMemory(short)) => return Ending::NoMemory(short),
+    };
+    read_range(rt, &mut ready, sink, gate)
+}
+
+// A range that is ready. Whatever memory this needs was allocated before.
+fn read_range<R: Threads + Wait + Sync, K: Sink + Send, G: Gate + Sync>(
+    rt: &R,
+    ready: &mut ReadyRange,
+    sink: &mut K,
+    gate: &G,
+) -> Ending
+    requires fresh { ready.old.used ≡ false }
+    requires takes { TakesNext K.takes sink.old (range_in ready.old).bytes }
+    ensures ends { (answer : Result Ranged EmitStop) × (result ≡ range_ending answer)
+        × RangeEnds K.held K.takes K.faults K.full sink.old sink.new (range_in ready.old) answer }
+    ensures memory { ¬ IsNoMemory result }
+    ensures lasting { K.faults sink.old ≤ K.faults sink.new }
+{
+    let ended = run_range(ready, rt, sink, gate);
+    range_ended_by(ended)
+}
+
+// The bytes of a container's file from one place to before another, decoded on this thread. It has no `Wait`, so it
+// returns.
+fn range_alone<K: Sink, G: Gate>(
+    alloc: Global,
+    from: u64,
+    to: u64,
+    bytes: &[u8],
+    sink: &mut K,
+    gate: &G,
+) -> Ending
+    requires short { length bytes.now ≤ limit_of (Range from to 0) }
+    requires takes { TakesAnswers K.takes (Range from to 0) bytes.now sink.old }
+    ensures ending { CarriedOut K.held K.faults K.full (Range from to 0) bytes.now sink.old sink.new
+        result }
+    ensures lasting { K.faults sink.old ≤ K.faults sink.new }
+{
+    let mut ready = match prepare_range_alone(alloc, bytes, from, to) {
+        Ok(ready) => ready,
+        Err(RangeError::Box(refusal)) => return Ending::Refused(Refusal::Box(refusal)),
+        Err(RangeError::RangeBad) => return Ending::Refused(Refusal::RangeBad),
+        Err(RangeError::NoMemory(short)) => return Ending::NoMemory(short),
+    };
+    read_range_alone(&mut ready, sink, gate)
+}
+
+// A range that is ready. Whatever memory this needs was allocated before.
+fn read_range_alone<K: Sink, G: Gate>(ready: &mut ReadyRangeAlone, sink: &mut K, gate: &G) -> Ending
+    requires fresh { ready.old.used ≡ false }
+    requires takes { TakesNext K.takes sink.old (lone_range_in ready.old).bytes }
+    ensures ends { (answer : Result Ranged EmitStop) × (result ≡ range_ending answer)
+        × RangeEnds K.held K.takes K.faults K.full sink.old sink.new (lone_range_in ready.old)
+        answer }
+    ensures memory { ¬ IsNoMemory result }
+    ensures lasting { K.faults sink.old ≤ K.faults sink.new }
+{
+    let ended = run_range_alone(ready, sink, gate);
+    range_ended_by(ended)
+}
+
 // How the command ends by what a decode answers.
 fn ending_by(ended: Result<u64, DecodeError>) -> Ending
     ensures ending { result ≡ decode_ending ended }
@@ -211,5 +330,17 @@ fn ending_by(ended: Result<u64, DecodeError>) -> Ending
         Err(DecodeError::PadSpelling) => Ending::Refused(Refusal::PadSpelling),
         Err(DecodeError::ChunkShort) => Ending::Refused(Refusal::ChunkShort),
         Err(DecodeError::WriteFault { .. }) => Ending::WriteFailed,
+    }
+}
+
+// How the command ends by what a range answers.
+fn range_ended_by(ended: Result<Ranged, EmitStop>) -> Ending
+    ensures ending { result ≡ range_ending ended }
+    ensures memory { ¬ IsNoMemory result }
+{
+    match ended {
+        Ok(_) => Ending::Done,
+        Err(EmitStop::Fault(fault)) => Ending::Refused(Refusal::Fault(fault)),
+        Err(EmitStop::WriteFault { .. }) => Ending::WriteFailed,
     }
 }

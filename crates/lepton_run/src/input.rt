@@ -28,6 +28,7 @@ fn input_of(command: Command) -> Input
     match command {
         Command::Encode { .. } | Command::Chunk { .. } => Input::File,
         Command::Decode { .. } | Command::Migrate => Input::Container,
+        Command::Index | Command::Range { .. } => Input::Container,
         Command::Sample { .. } => Input::Nothing,
     }
 }

@@ -3,10 +3,11 @@ ghost use Rattle.std.specs.Prelude.{◌≡◌, ◌*◌, ◌<◌, ◌≤◌, ℕ,
 ghost use Rattle.box_format.specs.Raws.{numbers};
 ghost use Rattle.box_format.specs.Versions.{layout_of, version_in};
 ghost use Rattle.box_format.specs.declared.version.Version.TheVariants.{Second, Third};
+ghost use Rattle.byte_window.specs.Slices.{slice};
 ghost use Rattle.container_spec.specs.Files.{IsContainerOf};
 ghost use Rattle.chunk_cut.specs.ChunksOfFiles.{chunk_of};
 ghost use Rattle.command_words.specs.declared.command.Command.{Command};
-ghost use Rattle.command_words.specs.declared.command.Command.TheVariants.{Encode, Decode, Migrate, Chunk};
+ghost use Rattle.command_words.specs.declared.command.Command.TheVariants.{Encode, Decode, Migrate, Chunk, Index, Range};
 ghost use Rattle.lepton_run.specs.Answers.{Answer, Answers, Made, limit_of};
 
 /// What was encoded is decoded: of the container that encode makes of a file, in any number of segments, decode makes
@@ -29,6 +30,19 @@ pub fn chunks_are_decoded_alone()
         → ((i : ℕ) → i < count → Answers (Chunk i size segments) file (Made (made i)))
         → ((i : ℕ) → i < count → Answers (Decode workers) (made i) (Made (decoded i)))
         → flat_map decoded (numbers 0 count) ≡ file }
+{}
+
+/// Ranges of a file are read alone: of the container that `index` makes of one that stands for a file, `range` makes
+/// each slice of the file, with any number of workers, and decode the file, if the places that are added stay within
+/// what decode takes.
+pub fn ranges_are_read_alone()
+    ensures slice { (from to workers others : ℕ) (bytes file made : List ℕ)
+        → Answers (Decode others) bytes (Made file) → Answers Index bytes (Made made)
+        → length made ≤ limit_of Index → from ≤ to → to ≤ length file
+        → Answers (Range from to workers) made (Made (slice from to file)) }
+    ensures whole { (workers others : ℕ) (bytes file made : List ℕ)
+        → Answers (Decode others) bytes (Made file) → Answers Index bytes (Made made)
+        → length made ≤ limit_of Index → Answers (Decode workers) made (Made file) }
 {}
 
 /// A whole file's container has one spelling: what decode reads is the container of the file that decode makes of it,

@@ -4,6 +4,8 @@
 //!                               decode:  source --> bytes --> file, segment by segment --> sink
 //!                               migrate: source --> bytes --> container of version 2 --> sink
 //!                               chunk:   source --> bytes --> container of a chunk --> sink
+//!                               index:   source --> bytes --> container with places --> sink
+//!                               range:   source --> bytes --> a part of the file --> sink
 //!                               sample:  number --> file --> container --> file again --> five lines --> sink
 //!                                                                            ending --> stderr, status
 //!
@@ -27,7 +29,7 @@ pub use command_words::Command;
 pub use ending::Ending;
 pub use laws::{
     chunks_are_decoded_alone, decode_undoes_encode, migrated_stands_for_the_same, one_answer,
-    one_spelling_a_file,
+    one_spelling_a_file, ranges_are_read_alone,
 };
 pub use refusal::Refusal;
 pub use top::{no_memory_for_words, run};

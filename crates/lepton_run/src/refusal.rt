@@ -18,9 +18,10 @@ pub enum Refusal {
     Scan(ScanRefusal),
     /// 30 to 39, 53: the bytes are no container.
     Box(BoxRefusal),
-    /// 40 to 45, 48: a segment has a fault; the file's bytes before it are written.
+    /// 40 to 45, 48: a segment has a fault. `decode` and `range` have written the bytes before it, `index` nothing.
     Fault(StreamFault),
-    /// 46: the container spells its pad bits in another way than a file's; all bytes of the file are written.
+    /// 46: the container spells its pad bits in another way than a file's. `decode` has written the whole file, `index`
+    /// nothing.
     PadSpelling,
     /// 47: a chunk's segments have fewer bytes than it says; what there is of it before its trailer is written.
     ChunkShort,
@@ -28,6 +29,8 @@ pub enum Refusal {
     TooLong,
     /// 51: the file ends before the chunk.
     NoChunk,
+    /// 54: the range ends before it begins, or after the file's end.
+    RangeBad,
 }
 
 impl Refusal {
@@ -57,6 +60,7 @@ impl Refusal {
             Refusal::ChunkShort => line.push(b"47 ChunkShort"),
             Refusal::TooLong => line.push(b"50 TooLong"),
             Refusal::NoChunk => line.push(b"51 NoChunk"),
+            Refusal::RangeBad => line.push(b"54 RangeBad"),
         }
     }
 }

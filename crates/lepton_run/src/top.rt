@@ -5,15 +5,16 @@ ghost use Rattle.outside_core.specs.Faults.{Rose};
 ghost use Rattle.outside_core.specs.Takes.{TakesAll};
 ghost use Rattle.jpeg_marker.specs.Plans.{PlanFields};
 ghost use Rattle.container_spec.specs.Files.{IsContainerOf};
-ghost use Rattle.container_spec.specs.Meanings.{Meaning, IsMeaning};
+ghost use Rattle.container_spec.specs.Meanings.{IsMeaning, Meaning, Restored};
+ghost use Rattle.byte_window.specs.Slices.{slice};
 ghost use Rattle.box_format.specs.Parts.{BoxParts, IsBoxOf, box_bytes, migrated};
-ghost use Rattle.box_format.specs.Versions.{is_version, layout_of, migratable, version_byte};
+ghost use Rattle.box_format.specs.Versions.{IsRead, indexable, layout_of, migratable, version_in};
 ghost use Rattle.box_format.specs.declared.version.Version.{Version};
-ghost use Rattle.box_format.specs.declared.version.Version.TheVariants.{Third};
+ghost use Rattle.box_format.specs.declared.version.Version.TheVariants.{Fifth, Third};
 ghost use Rattle.chunk_cut.specs.ChunksOfFiles.{IsChunkOf, chunk_of};
 ghost use Rattle.command_words.specs.Meaning.{IsInRange, Means};
 ghost use Rattle.command_words.specs.declared.command.Command.{Command};
-ghost use Rattle.command_words.specs.declared.command.Command.TheVariants.{Encode, Decode, Migrate, Sample};
+ghost use Rattle.command_words.specs.declared.command.Command.TheVariants.{Encode, Decode, Migrate, Index, Range, Sample};
 ghost use Rattle.lepton_run.specs.Answers.{Answer, Answers, AppendsPart, IsInput, Made, MayTake, TakenWithin, TakesAnswers, Took, Writes, bytes_of, limit_of, line_of};
 ghost use Rattle.lepton_run.specs.Endings.{Notes, ending_line, ending_of, line_at, status_at};
 ghost use Rattle.lepton_run.specs.CommandEnds.{Answered, SampleEnds, Transferred};
@@ -34,22 +35,23 @@ use std::thread::Threads;
 ///
 /// | status | if | line |
 /// |---|---|---|
-/// | 0 | the container of the file or chunk, the file or chunk, or a sample's five lines were written | none |
-/// | 1 | the bytes are refused: with 40 to 48 what they stand for was written, else nothing | (a) |
+/// | 0 | the container of the file or chunk, the file, chunk or range, or a sample's five lines were written | none |
+/// | 1 | the bytes are refused | (a) |
 /// | 2 | the arguments mean no command | `lepton: words refused` |
 /// | 3 | the source failed | `lepton: read failed` |
 /// | 4 | the sink failed | `lepton: write failed` |
 /// | 5 | out of memory | `lepton: no memory` |
 ///
-/// (a) `lepton: refused `, the refusal's number and name, and the code, the place or the segment that it holds. With 40
-/// to 45 and 48 what is before the fault was written, with 46 the whole file, with 47 what there is of the chunk before
-/// its trailer.
+/// (a) `lepton: refused `, the refusal's number and name, and the code, the place or the segment that it holds. Of
+/// `decode` and `range` with 40 to 45 and 48 what is before the fault was written; of `decode` with 46 the whole file,
+/// and with 47 what there is of the chunk before its trailer; else nothing.
 ///
 /// The commands are `encode` with `--segments`, `decode` with `--workers`, `migrate`, `chunk` with `--index`, `--size`
-/// and `--segments`, or `sample` with `--seed`, `--columns` and `--rows`, as `command_words` has them. The whole source
-/// is read before anything is written. Once the first byte is written, no memory is asked for but what a new thread is
-/// handed. `sample` reads nothing. The segments of a file are coded, and those of a container decoded, in other threads
-/// too if these can be had. A failure of `note` changes no status.
+/// and `--segments`, `index`, `range` with `--from`, `--to` and `--workers`, or `sample` with `--seed`, `--columns` and
+/// `--rows`, as `command_words` has them. The whole source is read before anything is written. Once the first byte is
+/// written, no memory is asked for but what a new thread is handed. `sample` reads nothing. The segments of a file are
+/// coded, and those of a container decoded, in other threads too if these can be had. A failure of `note` changes no
+/// status.
 pub fn run<R: Threads + Wait + Sync, S: Source, K: Sink + Send, N: Sink + Send, G: Gate + Sync>(
     rt: &R,
     alloc: Global,
@@ -158,10 +160,33 @@ pub fn run<R: Threads + Wait + Sync, S: Source, K: Sink + Send, N: Sink + Send, 
         → Means (map string_bytes words.now) Migrate
         → ¬ Rose S.faults S.full source.old source.new → ¬ Rose K.faults K.full sink.old sink.new
         → S.left source.old ≡ Some bytes → length bytes ≤ limit_of Migrate
-        → IsBoxOf plan b bytes → is_version migratable (version_byte b.version) ≡ true
+        → IsBoxOf plan b bytes → IsRead migratable b.version
         → IsMeaning bytes meaning
         → ((status_at result ≡ 0) × IsMeaning (box_bytes (migrated b)) meaning
         × Appends (K.held sink.old) (K.held sink.new) (box_bytes (migrated b)))
+        ⊎ (status_at result ≡ 5) }
+
+    // A container that stands for a file is indexed to the file's container of version 5, of as many segments.
+    ensures indexed { (bytes file : List ℕ) → Means (map string_bytes words.now) Index
+        → ¬ Rose S.faults S.full source.old source.new → ¬ Rose K.faults K.full sink.old sink.new
+        → S.left source.old ≡ Some bytes → length bytes ≤ limit_of Index
+        → IsRead indexable (version_in bytes)
+        → IsMeaning bytes (record { bytes = file; verdict = Restored })
+        → ((status_at result ≡ 0) × (most : ℕ) × (made : List ℕ)
+        × IsContainerOf (version_in bytes) most bytes file × IsContainerOf Fifth most made file
+        × Appends (K.held sink.old) (K.held sink.new) made)
+        ⊎ (status_at result ≡ 5) }
+
+    // A range is read alone: of the container of version 5 of a file within the limit, exactly that slice of the file
+    // is appended.
+    ensures range_back { (workers most from to : ℕ) (bytes file : List ℕ)
+        → Means (map string_bytes words.now) (Range from to workers)
+        → ¬ Rose S.faults S.full source.old source.new → ¬ Rose K.faults K.full sink.old sink.new
+        → S.left source.old ≡ Some bytes → length file ≤ limit_of (Encode most)
+        → 0 < most → most ≤ (layout_of Fifth).most → IsContainerOf Fifth most bytes file
+        → from ≤ to → to ≤ length file
+        → ((status_at result ≡ 0)
+        × Appends (K.held sink.old) (K.held sink.new) (slice from to file))
         ⊎ (status_at result ≡ 5) }
 
     // `sample` reads nothing and refuses nothing: 0, or 4 if the sink failed, or 5.

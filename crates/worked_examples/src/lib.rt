@@ -1,5 +1,5 @@
 //! What a row of `tests/rows.txt` can't say of the top call: sources and sinks that fail, threads that meet, each byte
-//! changed, samples by their digests, and chunks.
+//! changed, samples by their digests, chunks and ranges.
 #![tactic(auto)]
 
 #[cfg(test)]
@@ -16,6 +16,8 @@ mod files;
 mod meetings;
 #[cfg(test)]
 mod notes;
+#[cfg(test)]
+mod ranges;
 #[cfg(test)]
 mod rows;
 #[cfg(test)]

@@ -181,14 +181,24 @@ fn comes_back_by_all<R: Threads + Wait + Sync + Abort>(
         && comes_back(rt, alloc, container, file, 4, 1 << 20, &OpenGate)
 }
 
-// Notes each segment that a worker put or the emitter asked for.
+/// Notes each segment that a worker put or the emitter asked for.
 #[derive(Drop)]
-struct Visits {
+pub(crate) struct Visits {
     // Bit i for segment i.
     segments: AtomicU64,
 }
 
 impl Visits {
+    pub(crate) fn none() -> Visits {
+        Visits {
+            segments: AtomicU64::new(0),
+        }
+    }
+
+    pub(crate) fn segments(&self) -> u64 {
+        self.segments.load(Ordering::SeqCst)
+    }
+
     fn note(&self, segment: u8) {
         if segment < 64 {
             self.segments.fetch_or(1 << segment, Ordering::SeqCst);
@@ -217,11 +227,9 @@ fn summaries(rt: HostRuntime) {
 }
 
 fn is_summed_up<R: Threads + Wait + Sync + Abort>(rt: &R, alloc: Global, known: &Known) -> bool {
-    let visits = Visits {
-        segments: AtomicU64::new(0),
-    };
+    let visits = Visits::none();
     let tried = run_past(rt, alloc, known.words, &[0xff], NONE, &visits);
-    is_said(&tried, 0, known.summary, b"") && visits.segments.load(Ordering::SeqCst) == known.visits
+    is_said(&tried, 0, known.summary, b"") && visits.segments() == known.visits
 }
 
 // Whether nothing was read, and this was written and noted.

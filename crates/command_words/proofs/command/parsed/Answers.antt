@@ -1,5 +1,4 @@
-use Rattle.std.proofs.Common.{◌∙◌, sym, subst, inl, inr}
-use Rattle.clap.specs.Words.{HasMatchesOf, FailsBy, app_of, fault_of}
+use Rattle.std.proofs.Common.{◌∙◌, sym, inl, inr}
 use Rattle.command_words.proofs.LeptonLemmas.{app_is_exact, app_is_plain, faults_are, given_is, some_kind}
 use Rattle.command_words.proofs.command.parsed.Goals as goal
 

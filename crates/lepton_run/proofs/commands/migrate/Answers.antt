@@ -1,4 +1,4 @@
-use Rattle.std.proofs.Common.{rules, ap, Err, List, ℕ, subst, sym}
+use Rattle.std.proofs.Common.{rules, ap, Err, inl, inr, List, ℕ, refl, subst, sym}
 use Rattle.bool_coder.proofs.FirstBits.{all_bytes}
 use Rattle.box_format.specs.declared.refusal.Migrate.{Migrate as MigrateError}
 use Rattle.command_words.specs.declared.command.Command.TheVariants.{Migrate}
@@ -12,8 +12,12 @@ returns-in-Err-Box-clause-ending g c =
     refused_early g.K.Sink.held g.K.Sink.faults g.K.Sink.full c.args.sink.now c.args.sink.now
     c.args.bytes.now (all_bytes c.args.bytes.now (λ i. search rules)) Migrate
     (Box c.in-Err-Box.refusal) c.requires.short
-    (c.in-Err-Box.ensures.refused c.in-Err-Box.refusal
-    (ap (λ (error : MigrateError). Err error) c.in-Err-Box.field-0-is))
+    (inl (
+      c.in-Err-Box.refusal,
+      c.in-Err-Box.ensures.refused c.in-Err-Box.refusal
+          (ap (λ (error : MigrateError). Err error) c.in-Err-Box.field-0-is),
+      refl,
+    ))
 
 pub returns-clause-ending : goal.returns-clause-ending
 returns-clause-ending g c =
@@ -22,7 +26,8 @@ returns-clause-ending g c =
     (subst (λ (m : List ℕ). Answers Migrate c.args.bytes.now (Made m)) (sym c.as_slice.ensures.value)
     (answers_so g.K.Sink.held g.K.Sink.faults g.K.Sink.full c.args.sink.now c.write_made.new.sink
     c.args.bytes.now (all_bytes c.args.bytes.now (λ i. search rules)) Migrate (Made made)
-    c.requires.short c.in-Ok.ensures.made))
+    c.requires.short (let m = c.in-Ok.ensures.made in
+    inr (m.0, m.1, m.2, m.3, ap Made m.4))))
 
 pub write_made-requires : goal.write_made-requires
 write_made-requires g c =
@@ -31,5 +36,6 @@ write_made-requires g c =
       takes = subst (g.K.Sink.takes c.args.sink.now) (sym c.as_slice.ensures.value)
           (c.requires.takes (Made made) (answers_so g.K.Sink.held g.K.Sink.faults g.K.Sink.full c.args.sink.now
           c.args.sink.now c.args.bytes.now (all_bytes c.args.bytes.now (λ i. search rules)) Migrate (Made made)
-          c.requires.short c.in-Ok.ensures.made));
+          c.requires.short (let m = c.in-Ok.ensures.made in
+          inr (m.0, m.1, m.2, m.3, ap Made m.4))));
     }

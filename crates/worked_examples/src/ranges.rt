@@ -1,0 +1,110 @@
+// Ranges of a file: which segments are begun for them; and the two ways to a container with places.
+ghost use Rattle.std.specs.Prelude.{◌<◌, ◌^◌, length};
+
+use crate::rows::TWO_INTERVALS;
+use crate::samples::Visits;
+use crate::trial::{NONE, assert_holds, run_past};
+use box_format::read_box;
+use lepton_encode::{encode, encode_placed};
+use range_read::index;
+use sample_jpeg::sample;
+use std::alloc::Global;
+use std::process::Abort;
+use std::sync::Wait;
+use std::thread::Threads;
+
+// Words for a range of the file of two intervals, a bit for each segment that the one thread begins, and the bytes.
+const RANGES: &[(&[&str], u64, &[u8])] = &[
+    (
+        &["range", "--from=76", "--to=78", "--workers=0"],
+        0b01,
+        &[0xff, 0xd0],
+    ),
+    (
+        &["range", "--from=77", "--to=79", "--workers=0"],
+        0b11,
+        &[0xd0, 0x3f],
+    ),
+    (
+        &["range", "--from=78", "--to=81", "--workers=0"],
+        0b10,
+        &[0x3f, 0xff, 0xd9],
+    ),
+    (
+        &["range", "--from=0", "--to=2", "--workers=0"],
+        0,
+        &[0xff, 0xd8],
+    ),
+    (&["range", "--from=78", "--to=78", "--workers=0"], 0, &[]),
+    (
+        &["range", "--from=79", "--to=81", "--workers=0"],
+        0,
+        &[0xff, 0xd9],
+    ),
+];
+
+#[test]
+fn a_range_begins_its_segments_alone(rt: HostRuntime) {
+    let file = TWO_INTERVALS.file(&rt, rt.alloc());
+    let made = placed(&rt, rt.alloc(), file.as_slice(), 2);
+    for (words, visits, bytes) in RANGES {
+        assert!(rt;
+            begins(&rt, rt.alloc(), words, made.as_slice(), *visits, bytes),
+            "{words:?}"
+        );
+    }
+}
+
+fn begins<R: Threads + Wait + Sync + Abort>(
+    rt: &R,
+    alloc: Global,
+    words: &[&str],
+    container: &[u8],
+    segments: u64,
+    bytes: &[u8],
+) -> bool {
+    let visits = Visits::none();
+    let tried = run_past(rt, alloc, words, container, NONE, &visits);
+    tried.status == 0 && tried.written.as_slice() == bytes && visits.segments() == segments
+}
+
+// The container with places that a file is encoded to is the one that its container is indexed to.
+#[test]
+fn one_container_has_the_places(rt: HostRuntime) {
+    let file = sample(rt.alloc(), 7, 4, 3).expect(&rt, "memory");
+    for segments in [1u8, 2, 3] {
+        let holds = is_one(&rt, rt.alloc(), file.as_slice(), segments);
+        assert_holds(&rt, holds, "segments", u64::from(segments));
+    }
+}
+
+fn is_one<R: Threads + Wait + Sync + Abort>(
+    rt: &R,
+    alloc: Global,
+    file: &[u8],
+    segments: u8,
+) -> bool {
+    assert!(rt; file.len() < 1 << 32);
+    assert!(rt; 0 < segments && segments <= 64);
+    let made = placed(rt, alloc, file, segments);
+    let Ok(plain) = encode(rt, alloc, file, segments) else {
+        return false;
+    };
+    let Ok(indexed) = index(rt, alloc, plain.as_slice()) else {
+        return false;
+    };
+    let Ok(view) = read_box(made.as_slice()) else {
+        return false;
+    };
+    indexed.as_slice() == made.as_slice()
+        && made.len() == plain.len() + 8 * (usize::from(segments) + 1)
+        && view.file_length() == Some(file.len() as u64)
+}
+
+fn placed<R: Threads + Sync + Abort>(rt: &R, alloc: Global, file: &[u8], segments: u8) -> Vec<u8> {
+    assert!(rt; file.len() < 1 << 32);
+    assert!(rt; 0 < segments && segments <= 64);
+    encode_placed(rt, alloc, file, segments)
+        .ok()
+        .expect(rt, "the file is encoded")
+}
