@@ -8,5 +8,7 @@ pub mod Decoded
 pub mod Lookup
 pub mod WordReading
 pub mod Built
+pub mod FrameComponents
 pub mod PlanComponents
 pub mod ShortReading
+pub mod NoWords

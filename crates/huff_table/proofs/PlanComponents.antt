@@ -1,45 +1,66 @@
 -- Filling an array of four with the tables of one component after the other.
-use Rattle.std.proofs.Common.{◌≡◌, ℕ, zero, suc, ◌+◌, ◌-◌, ◌<◌, ◌≤◌, List, [], ◌∷◌, ◌++◌, length, map, take, set, get_or, replicate, refl, sym, ap, ap₂, ◌∙◌, arith}
+use Rattle.std.proofs.Common.{◌≡◌, ◌≢◌, ℕ, zero, suc, ◌+◌, ◌<◌, Bool, true, false, List, [], ◌∷◌, length, map, set, get_or, fold, replicate, Option, Some, None, refl, sym, ap, ◌∙◌, arith, ◌==◌}
 use Rattle.std.specs.List.{AllByRecursion}
+use Rattle.std.proofs.lemmas.Bool.{eqb-true, eq-eqb, false≢true}
+use Rattle.std.proofs.lemmas.List.{get_or-set_same, get_or-set_other, length-set}
 use Rattle.jpeg_marker.specs.declared.component.Component.{Component}
+use Rattle.jpeg_marker.proofs.Choices.{Rising}
 use Rattle.huff_table.specs.BuiltCodes.{AreTables}
-use Rattle.huff_table.specs.PlanWords.{no_codes, filled, AreComponents}
-use Rattle.huff_table.specs.ComponentTables.{tables_of}
+use Rattle.huff_table.specs.ComponentTables.{tables_of, component_at, no_codes, codes_with, codes_of}
+use Rattle.huff_table.proofs.FrameComponents.{index_of, none_below}
 use Rattle.huff_table.specs.declared.plan_codes.ComponentCodes.{ComponentCodes}
-use Rattle.std.proofs.lemmas.List.{take_more, take_all, take-append-le, map-append, length-take, length-map}
 
-abbrev pub filled_so_far : {A B : Type 0} → (A → B) → B → List A → ℕ → List B
-filled_so_far f first xs i = map f (take i xs) ++ replicate (4 - i) first
+-- four components, with the tables of these set by their index
+abbrev pub set_all : List ComponentCodes → List Component → List ComponentCodes
+set_all all components = fold (λ all (c : Component). set all c.index (tables_of c)) all components
 
-set_after : {B : Type 0} (ys : List B) (v d : B) (k : ℕ) → set (ys ++ replicate (suc k) d) (length ys) v ≡ (ys ++ v ∷ []) ++ replicate k d
-set_after [] v d k = refl
-set_after (y ∷ ys) v d k = ap (λ l. y ∷ l) (set_after ys v d k)
+-- the tables of a component if there is one, and others if not
+abbrev tables_or : Option Component → ComponentCodes → ComponentCodes
+tables_or None codes = codes
+tables_or (Some c) codes = tables_of c
 
--- one more
-pub filled_more : {A B : Type 0} (f : A → B) (first : B) (xs : List A) (i : ℕ) (d : A) → i < length xs → i < 4 → set (filled_so_far f first xs i) i (f (get_or xs i d)) ≡ filled_so_far f first xs (i + 1)
-filled_more f first xs i d below four =
-    let k : 4 - i ≡ suc (4 - (i + 1)) = omega arith in
-    let size : length (map f (take i xs)) ≡ i = length-map (take i xs) f ∙ length-take i xs ∙ omega arith in
-    ap₂ (λ n m. set (map f (take i xs) ++ replicate n first) m (f (get_or xs i d))) k (sym size)
-    ∙ set_after (map f (take i xs)) (f (get_or xs i d)) first (4 - (i + 1))
-    ∙ ap (λ l. l ++ replicate (4 - (i + 1)) first) (sym (ap (map f) (take_more xs i d below) ∙ map-append f (take i xs) (get_or xs i d ∷ [])))
+-- an entry after all were set
+set_at : (index from : ℕ) (all : List ComponentCodes) (components : List Component) → length all ≡ 4 → Rising from 4 (map index_of components)
+    → get_or (set_all all components) index no_codes ≡ tables_or (component_at components index) (get_or all index no_codes)
+set_at index from all [] long rising = refl
+set_at index from all (c ∷ components) long rising =
+    let rest = set_at index (c.index + 1) (set all c.index (tables_of c)) components (length-set all c.index (tables_of c) ∙ long) rising.2 in
+    go (c.index == index) refl rest
+  where
+    go : (b : Bool) → (c.index == index) ≡ b
+        → get_or (set_all (set all c.index (tables_of c)) components) index no_codes ≡ tables_or (component_at components index) (get_or (set all c.index (tables_of c)) index no_codes)
+        → get_or (set_all (set all c.index (tables_of c)) components) index no_codes ≡ tables_or (component_at (c ∷ components) index) (get_or all index no_codes)
+    go true e rest =
+        let same : c.index ≡ index = eqb-true c.index index e in
+        let none = none_below index (c.index + 1) components (omega (arith, same)) rising.2 in
+        rest ∙ rw (none, e) (ap (λ n. get_or (set all c.index (tables_of c)) n no_codes) (sym same) ∙ get_or-set_same all c.index (tables_of c) no_codes (omega (arith, long, rising.1)))
+    go false e rest =
+        let other : index ≢ c.index = λ same. false≢true (sym e ∙ eq-eqb c.index index (sym same)) in
+        rest ∙ rw e (ap (tables_or (component_at components index)) (get_or-set_other all c.index index (tables_of c) no_codes other))
 
--- all of them
-pub filled_all : {A B : Type 0} (f : A → B) (first : B) (xs : List A) (i : ℕ) → length xs ≤ i → length xs ≤ 4 → i ≤ length xs → filled_so_far f first xs i ≡ map f xs ++ replicate (4 - length (map f xs)) first
-filled_all f first xs i past few upto =
-    let same : i ≡ length xs = omega arith in
-    let size : length xs ≡ length (map f xs) = sym (length-map xs f) in
-    ap (λ l. map f l ++ replicate (4 - i) first) (take_all i xs past) ∙ ap (λ n. map f xs ++ replicate (4 - n) first) (same ∙ size)
+or_none : (found : Option Component) → tables_or found no_codes ≡ codes_with found
+or_none None = refl
+or_none (Some c) = refl
 
--- the first one
-pub first_is : (components : List Component) (c : Component) → 1 ≤ length components → c ≡ get_or components 0 c → tables_of c ≡ get_or (map tables_of components) 0 no_codes
-first_is [] c some is = absurd (omega arith)
-first_is (x ∷ xs) c some is = ap tables_of is
+length_all : (all : List ComponentCodes) (components : List Component) → length (set_all all components) ≡ length all
+length_all all [] = refl
+length_all all (c ∷ components) = length_all (set all c.index (tables_of c)) components ∙ length-set all c.index (tables_of c)
 
-all_take : (n : ℕ) (all : List ComponentCodes) → AllByRecursion AreTables all → AllByRecursion AreTables (take n all)
-all_take zero all tables = tt
-all_take (suc n) [] tables = tt
-all_take (suc n) (c ∷ all) tables = (tables.0, all_take n all tables.1)
+four_are : (all : List ComponentCodes) → length all ≡ 4 → all ≡ map (λ index. get_or all index no_codes) (0 ∷ 1 ∷ 2 ∷ 3 ∷ [])
+four_are [] long = absurd (omega (arith, long))
+four_are (a ∷ []) long = absurd (omega (arith, long))
+four_are (a ∷ b ∷ []) long = absurd (omega (arith, long))
+four_are (a ∷ b ∷ c ∷ []) long = absurd (omega (arith, long))
+four_are (a ∷ b ∷ c ∷ d ∷ []) long = refl
+four_are (a ∷ b ∷ c ∷ d ∷ e ∷ all) long = absurd (omega (arith, long))
+
+-- all of them are those of the frame
+pub all_set_are : (components : List Component) → Rising 0 4 (map index_of components) → set_all (replicate 4 no_codes) components ≡ codes_of components
+all_set_are components rising =
+    let at : (index : ℕ) → get_or (replicate 4 no_codes) index no_codes ≡ no_codes → get_or (set_all (replicate 4 no_codes) components) index no_codes ≡ codes_with (component_at components index) =
+    λ index none. set_at index 0 (replicate 4 no_codes) components refl rising ∙ ap (tables_or (component_at components index)) none ∙ or_none (component_at components index) in
+    four_are (set_all (replicate 4 no_codes) components) (length_all (replicate 4 no_codes) components)
+    ∙ rw (at 0 refl, at 1 refl, at 2 refl, at 3 refl) refl
 
 -- one of them set
 pub all_set : (all : List ComponentCodes) (i : ℕ) (c : ComponentCodes) → AllByRecursion AreTables all → AreTables c → AllByRecursion AreTables (set all i c)
@@ -47,22 +68,8 @@ all_set [] i c tables one = tt
 all_set (d ∷ all) zero c tables one = (one, tables.1)
 all_set (d ∷ all) (suc i) c tables one = (tables.0, all_set all i c tables.1 one)
 
--- what is kept of them
-pub prefix_is : (all : List ComponentCodes) (components : List Component) (first : ComponentCodes) → all ≡ map tables_of components ++ replicate (4 - length (map tables_of components)) first
-    → take (length components) all ≡ map tables_of components
-prefix_is all components first is =
-    let size : length (map tables_of components) ≡ length components = length-map components tables_of in
-    ap (take (length components)) is ∙ take-append-le (length components) (map tables_of components) (replicate (4 - length (map tables_of components)) first) (omega arith)
-    ∙ take_all (length components) (map tables_of components) (omega arith)
-
-pub are_components : (all : List ComponentCodes) (components : List Component) (first : ComponentCodes) → all ≡ map tables_of components ++ replicate (4 - length (map tables_of components)) first
-    → length components ≤ 4 → first ≡ get_or (map tables_of components) 0 no_codes → AllByRecursion AreTables all → AreComponents (record { components = all; count = length components })
-are_components all components first is few begin tables =
-    let prefix = prefix_is all components first is in
-    let size : length (map tables_of components) ≡ length components = length-map components tables_of in
-    record {
-      few = omega (arith, ap length prefix, size, few);
-      long = ap length prefix ∙ size;
-      blank = is ∙ ap (λ f. map tables_of components ++ replicate (4 - length (map tables_of components)) f) begin ∙ ap filled (sym prefix);
-      tables = all_take (length components) all tables;
-    }
+-- their indexes are below four
+pub index_below : (from : ℕ) (components : List Component) (i : ℕ) (d : Component) → Rising from 4 (map index_of components) → i < length components → (get_or components i d).index < 4
+index_below from [] i d rising within = absurd (omega (arith, within))
+index_below from (c ∷ components) zero d rising within = rising.1
+index_below from (c ∷ components) (suc i) d rising within = index_below (c.index + 1) components i d rising.2 (omega (arith, within))

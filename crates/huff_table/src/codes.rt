@@ -2,7 +2,7 @@
 ghost use Rattle.std.specs.Prelude.{◌≡◌, ℕ, ◌+◌, ◌*◌, ◌-◌, ◌^◌, ◌<◌, ◌≤◌, ◌↔◌, Bool, List, ◌++◌, length, take, Ok, Err, Some, None, IsSome, IfSome, IfNone, IfOk, IfErr, OnErr, Contains};
 ghost use Rattle.bit_list.specs.Bits.{low_bits};
 ghost use Rattle.bit_list.specs.Units.{bits_at};
-ghost use Rattle.jpeg_marker.specs.HuffmanTables.{IsTable};
+ghost use Rattle.jpeg_marker.specs.HuffmanTables.{IsTable, no_table};
 ghost use Rattle.jpeg_marker.specs.AcceptedPlans.{AreBytes};
 ghost use Rattle.huff_table.specs.CodeWords.{word_of};
 ghost use Rattle.huff_table.specs.Decoding.{value_at};
@@ -11,7 +11,7 @@ ghost use Rattle.huff_table.specs.Levels.{level, value_among};
 
 use crate::fault::CodeFault;
 use crate::short_words::short_words;
-use crate::word::{NONE, ShortWord, Word};
+use crate::word::{NO_SHORT, NONE, ShortWord, Word};
 use bit_list::BitIn;
 use jpeg_marker::RawTable;
 use std::marker::Model;
@@ -64,6 +64,19 @@ impl Codes {
             table: *table,
             words,
             short: short_words(table),
+        }
+    }
+
+    /// No code word.
+    pub(crate) fn none() -> Codes
+        ensures value { result ≡ no_table }
+        ensures kept { IsTable result }
+        ensures bytes { AreBytes result.values }
+    {
+        Codes {
+            table: RawTable::empty(),
+            words: [NONE; 256],
+            short: [NO_SHORT; 512],
         }
     }
 

@@ -1,5 +1,5 @@
 // The code words of all components.
-ghost use Rattle.std.specs.Prelude.{◌≡◌, ◌<◌, ◌≤◌, length, map, slice_get, Some, IfSome};
+ghost use Rattle.std.specs.Prelude.{◌≡◌, ◌<◌, length, slice_get, Some, IfSome};
 
 use crate::codes::Codes;
 use jpeg_marker::{Component, Plan};
@@ -12,16 +12,16 @@ pub struct ComponentCodes {
     pub ac: Codes,
 }
 
-/// The code words of each component of a plan, in the frame's order. Clauses see the tables.
+/// The code words of each component of the frame, by its index: none for one that the plan's scan leaves out. Clauses
+/// see the tables.
 #[derive(Clone, Copy)]
 pub struct PlanCodes {
     components: [ComponentCodes; 4],
-    count: usize,
 }
 
 impl Model for PlanCodes {
     ghost use Rattle.std.specs.Prelude.{List};
-    ghost use Rattle.std.proofs.Common.{sym, ap₂};
+    ghost use Rattle.std.specs.Prelude.{refl};
     ghost use Rattle.huff_table.specs.declared.plan_codes.ComponentCodes.{ComponentCodes};
 
     ghost Value = { List ComponentCodes };
@@ -34,12 +34,12 @@ impl Model for PlanCodes {
 
     ghost inverse = { inside_of };
 
-    ghost inverse_ok = { λ a h. ap₂ (λ all n. record { components = all; count = n }) (sym h.blank) h.long };
+    ghost inverse_ok = { λ a h. refl };
 }
 
 ghost use Rattle.std.specs.List.{AllByRecursion};
 ghost use Rattle.huff_table.specs.BuiltCodes.{AreTables};
-ghost use Rattle.huff_table.specs.ComponentTables.{tables_of};
+ghost use Rattle.huff_table.specs.ComponentTables.{tables_of, no_codes, codes_of};
 
 impl ComponentCodes {
     /// The code words of a component's tables.
@@ -52,24 +52,31 @@ impl ComponentCodes {
             ac: Codes::build(component.ac()),
         }
     }
+
+    // No code words, for a component that a scan leaves out.
+    fn none() -> ComponentCodes
+        ensures value { result ≡ no_codes }
+        ensures kept { AreTables result }
+    {
+        ComponentCodes {
+            dc: Codes::none(),
+            ac: Codes::none(),
+        }
+    }
 }
 
 impl PlanCodes {
     /// The code words of a plan's tables.
     pub fn build(plan: &Plan) -> PlanCodes
-        ensures value { result ≡ map tables_of plan.now.components }
+        ensures value { result ≡ codes_of plan.now.components }
         ensures kept { AllByRecursion AreTables result }
     {
         let components = plan.components();
-        let first = ComponentCodes::build(&components[0]);
-        let mut all = [first; 4];
-        for (i, component) in components.iter().enumerate() {
-            all[i] = ComponentCodes::build(component);
+        let mut all = [ComponentCodes::none(); 4];
+        for component in components {
+            all[usize::from(component.index())] = ComponentCodes::build(component);
         }
-        PlanCodes {
-            components: all,
-            count: components.len(),
-        }
+        PlanCodes { components: all }
     }
 
     /// The code words of a component's DC differences.
@@ -88,12 +95,12 @@ impl PlanCodes {
         &self.components()[component].ac
     }
 
-    /// The code words of each component.
+    /// The code words of each component of the frame, by its index.
     pub fn components(&self) -> &[ComponentCodes]
         ensures value { result.now ≡ self.now }
-        ensures few { length self.now ≤ 4 }
+        ensures few { length self.now ≡ 4 }
         ensures kept { AllByRecursion AreTables self.now }
     {
-        &self.components[..self.count]
+        &self.components
     }
 }

@@ -53,7 +53,7 @@ impl RawTable {
     }
 
     /// A table without a code word.
-    pub(crate) fn empty() -> RawTable
+    pub fn empty() -> RawTable
         ensures { result ≡ no_table }
     {
         RawTable {

@@ -1,33 +1,28 @@
-use Rattle.std.proofs.Common.{◌≤◌, length, map, set, ap, ◌∙◌, arith}
-use Rattle.huff_table.specs.ComponentTables.{tables_of}
-use Rattle.huff_table.proofs.PlanComponents.{filled_so_far, filled_more, filled_all, first_is, prefix_is, all_set, are_components}
+use Rattle.std.proofs.Common.{◌≡◌, ◌<◌, [], drop, map, sym, ap, ◌∙◌, arith}
+use Rattle.jpeg_marker.specs.declared.component.Component.{Component}
+use Rattle.jpeg_marker.proofs.Choices.{Rising, rising_is}
+use Rattle.huff_table.specs.ComponentTables.{codes_of}
+use Rattle.huff_table.proofs.PlanComponents.{set_all, index_below, all_set_are}
+use Rattle.std.proofs.lemmas.List.{drop_all}
 use Rattle.huff_table.proofs.plan_codes.PlanCodes.build.Goals as goal
 
-pub loop-i-preserved : goal.loop-i-preserved
-loop-i-preserved c =
+pub listed : goal.listed
+listed c =
     let components = c.components-components.result.now in
-    let few : length components ≤ 4 = omega (arith, ap length c.components-components.ensures.value, c.components-components.ensures.kept.few) in
-    let first = c.build-first.result in
-    let all =
-    ap (λ all. set all c.loop-i.i c.build.result) c.loop-i.invariant.all
-    ∙ ap (λ v. set (filled_so_far tables_of first components c.loop-i.i) c.loop-i.i v) (c.build.ensures.value ∙ ap tables_of c.index-components-i.is)
-    ∙ filled_more tables_of first components c.loop-i.i c.index-components-i.result c.loop-i-test.true (omega (arith, few, c.loop-i-test.true)) in
-    record { all = all; tables = all_set c.loop-i.all c.loop-i.i c.build.result c.loop-i.invariant.tables c.build.ensures.kept }
+    let rising : Rising 0 4 (map (λ (x : Component). x.index) components) = rw (c.components-components.ensures.value) (rising_is 0 4 _ c.components-components.ensures.kept.indexes) in
+    let low : c.index.result < 4 = rw (c.index.ensures, c.component-item.is) (index_below 0 components c.loop-component.component-index c.component-item.result rising c.loop-component-test.true) in
+    omega (arith, low, c.from.ensures, c.loop-component.invariant.long)
 
-pub invariant_of-result : goal.invariant_of-result
-invariant_of-result c =
+pub bounds-all-from : goal.bounds-all-from
+bounds-all-from c =
     let components = c.components-components.result.now in
-    let same = ap length c.components-components.ensures.value in
-    let few : length components ≤ 4 = omega (arith, same, c.components-components.ensures.kept.few) in
-    let some : 1 ≤ length components = omega (arith, same, c.components-components.ensures.kept.some) in
-    let first = c.build-first.result in
-    let all = c.loop-i.invariant.all ∙ filled_all tables_of first components c.loop-i.i c.loop-i-test.false few c.loop-i.auto.i-end in
-    are_components c.loop-i.all components first all few (c.build-first.ensures.value ∙ first_is components c.index-components-0.result some c.index-components-0.is) c.loop-i.invariant.tables
+    let rising : Rising 0 4 (map (λ (x : Component). x.index) components) = rw (c.components-components.ensures.value) (rising_is 0 4 _ c.components-components.ensures.kept.indexes) in
+    let low : c.index.result < 4 = rw (c.index.ensures, c.component-item.is) (index_below 0 components c.loop-component.component-index c.component-item.result rising c.loop-component-test.true) in
+    omega (arith, low, c.from.ensures)
 
 pub returns-clause-value : goal.returns-clause-value
 returns-clause-value c =
     let components = c.components-components.result.now in
-    let few : length components ≤ 4 = omega (arith, ap length c.components-components.ensures.value, c.components-components.ensures.kept.few) in
-    let first = c.build-first.result in
-    let all = c.loop-i.invariant.all ∙ filled_all tables_of first components c.loop-i.i c.loop-i-test.false few c.loop-i.auto.i-end in
-    prefix_is c.loop-i.all components first all ∙ ap (map tables_of) c.components-components.ensures.value
+    let rising : Rising 0 4 (map (λ (x : Component). x.index) components) = rw (c.components-components.ensures.value) (rising_is 0 4 _ c.components-components.ensures.kept.indexes) in
+    let none : drop c.loop-component.component-index components ≡ [] = drop_all c.loop-component.component-index components c.loop-component-test.false in
+    ap (set_all c.loop-component.all) (sym none) ∙ c.loop-component.invariant.rest ∙ all_set_are components rising ∙ ap codes_of c.components-components.ensures.value
