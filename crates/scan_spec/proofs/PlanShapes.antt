@@ -1,5 +1,6 @@
 -- The shape of the scan of a plan.
 use Rattle.std.proofs.Common.{◌≡◌, ℕ, zero, suc, ◌+◌, ◌<◌, ◌≤◌, Bool, false, ◌==◌, List, [], ◌∷◌, ◌++◌, length, map, replicate, cond, refl, sym, ap, ◌∙◌, arith, length-append}
+use Rattle.std.specs.Prelude.{flat_map}
 use Rattle.std.specs.List.{AllByRecursion, sum_by}
 use Rattle.std.proofs.lemmas.Bool.Decides.{nat_tests}
 use Rattle.std.proofs.lemmas.List.{length-map, length-replicate}
@@ -11,14 +12,16 @@ use Rattle.jpeg_marker.specs.declared.component.Component.{Component}
 use Rattle.jpeg_marker.specs.AcceptedPlans.{HasTables}
 use Rattle.jpeg_marker.proofs.PlanGrids.{some_block, few_in_mcu}
 use Rattle.jpeg_marker.proofs.HeadersTaken.{accepted_has_plan}
-use Rattle.scan_spec.specs.Slots.{slot_of, slots_from, slots_of, shape_of}
+use Rattle.jpeg_marker.proofs.Choices.{Rising, rising_is}
+use Rattle.huff_table.proofs.FrameComponents.{index_of}
+use Rattle.scan_spec.specs.Slots.{slot_of, slots_of, shape_of}
 use Rattle.scan_spec.specs.ShapeInside.{most_slots}
 use Rattle.scan_spec.specs.ScanLaws.{IsSlot, IsShape}
 use Rattle.scan_spec.specs.FileLaws.{AcceptedIsShape}
 use Rattle.scan_spec.specs.declared.slot.Slot.{Slot}
 
-slot_is : (index : ℕ) (c : Component) → index < 4 → HasTables c → IsSlot (slot_of index c)
-slot_is index c below has = record { component = below; dc = has.dc; ac = has.ac; bytes = has.ac_bytes }
+slot_is : (c : Component) → c.index < 4 → HasTables c → IsSlot (slot_of c)
+slot_is c below has = record { component = below; dc = has.dc; ac = has.ac; bytes = has.ac_bytes }
 
 each_is : (n : ℕ) (s : Slot) → IsSlot s → AllByRecursion IsSlot (replicate n s)
 each_is zero s is = tt
@@ -28,30 +31,34 @@ all-append : (xs ys : List Slot) → AllByRecursion IsSlot xs → AllByRecursion
 all-append [] ys p q = q
 all-append (x ∷ xs) ys p q = (p.0, all-append xs ys p.1 q)
 
-slots_from_are : (index : ℕ) (components : List Component) → index + length components ≤ 4 → AllByRecursion HasTables components → AllByRecursion IsSlot (slots_from index components)
-slots_from_are index [] few all = tt
-slots_from_are index (c ∷ components) few all =
-    all-append (replicate (area (part_of c)) (slot_of index c)) (slots_from (index + 1) components)
-    (each_is (area (part_of c)) (slot_of index c) (slot_is index c (omega arith) all.0))
-    (slots_from_are (index + 1) components (omega arith) all.1)
+-- the slots of components, each as often as its sampling factors say
+abbrev each_slot : List Component → List Slot
+each_slot components = flat_map (λ part. replicate (area (part_of part)) (slot_of part)) components
 
-slots_are : (components : List Component) → length components ≤ 4 → AllByRecursion HasTables components → AllByRecursion IsSlot (slots_of components)
-slots_are [] few all = tt
-slots_are (c ∷ []) few all = (slot_is 0 c (omega arith) all.0, tt)
-slots_are (c ∷ d ∷ components) few all = slots_from_are 0 (c ∷ d ∷ components) (omega arith) all
+each_are : (from : ℕ) (components : List Component) → Rising from 4 (map index_of components) → AllByRecursion HasTables components → AllByRecursion IsSlot (each_slot components)
+each_are from [] rising all = tt
+each_are from (c ∷ components) rising all =
+    all-append (replicate (area (part_of c)) (slot_of c)) (each_slot components)
+    (each_is (area (part_of c)) (slot_of c) (slot_is c rising.1 all.0))
+    (each_are (c.index + 1) components rising.2 all.1)
+
+slots_are : (components : List Component) → Rising 0 4 (map index_of components) → AllByRecursion HasTables components → AllByRecursion IsSlot (slots_of components)
+slots_are [] rising all = tt
+slots_are (c ∷ []) rising all = (slot_is c rising.1 all.0, tt)
+slots_are (c ∷ d ∷ components) rising all = each_are 0 (c ∷ d ∷ components) rising all
 
 -- as many as there are blocks
-count_from : (index : ℕ) (components : List Component) → length (slots_from index components) ≡ sum_by area (map part_of components)
-count_from index [] = refl
-count_from index (c ∷ components) =
-    omega (arith, length-append (replicate (area (part_of c)) (slot_of index c)) (slots_from (index + 1) components), length-replicate (area (part_of c)) (slot_of index c), count_from (index + 1) components, sum_by-cons area (part_of c) (map part_of components))
+pub each_count : (components : List Component) → length (each_slot components) ≡ sum_by area (map part_of components)
+each_count [] = refl
+each_count (c ∷ components) =
+    omega (arith, length-append (replicate (area (part_of c)) (slot_of c)) (each_slot components), length-replicate (area (part_of c)) (slot_of c), each_count components, sum_by-cons area (part_of c) (map part_of components))
 
 pub slots_count : (components : List Component) → 1 ≤ length components → length (slots_of components) ≡ blocks_in_mcu (map part_of components)
 slots_count [] some = absurd (omega arith)
 slots_count (c ∷ []) some = refl
 slots_count (c ∷ d ∷ components) some =
     let test : (length (map part_of (c ∷ d ∷ components)) == 1) ≡ false = grind (arith, nat_tests) in
-    count_from 0 (c ∷ d ∷ components) ∙ sym (ap (λ (b : Bool). cond b 1 (sum_by area (map part_of (c ∷ d ∷ components)))) test)
+    each_count (c ∷ d ∷ components) ∙ sym (ap (λ (b : Bool). cond b 1 (sum_by area (map part_of (c ∷ d ∷ components)))) test)
 
 -- a plan's scan
 shape_is : (plan : PlanFields) → IsPlan plan → AllByRecursion HasTables plan.components → IsShape (shape_of plan) × (length (shape_of plan).slots ≤ most_slots)
@@ -60,7 +67,7 @@ shape_is plan is tables =
     let some = some_block (map part_of plan.components) (omega (arith, is.some, length-map plan.components part_of)) is.components in (
       record {
         some = omega (arith, count, some);
-        slots = slots_are plan.components is.few tables;
+        slots = slots_are plan.components (rising_is 0 4 _ is.indexes) tables;
         mcus = one-le-mul is.wide is.high;
       },
       omega (arith, count, few_in_mcu (map part_of plan.components) is.components),

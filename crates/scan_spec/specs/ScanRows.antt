@@ -40,9 +40,9 @@ loose = record {
 abbrev pub blank : Mcu
 blank = replicate 64 (pos 0) ∷ []
 
--- a component by its sampling factors
-abbrev pub component : ℕ → ℕ → Component
-component h v = record { index = 0; id = 0; h = h; v = v; dc = no_table; ac = no_table }
+-- a component by its index and its sampling factors
+abbrev pub component : ℕ → ℕ → ℕ → Component
+component index h v = record { index = index; id = 0; h = h; v = v; dc = no_table; ac = no_table }
 
 -- how many pad bits each interval has
 abbrev pub counts : Shape → List Mcu → List ℕ
@@ -142,7 +142,7 @@ read =
 abbrev pub sampled : Type 0
 sampled =
     map (λ (slot : Slot). slot.component)
-    (slots_of (component 2 2 ∷ component 1 1 ∷ component 1 1 ∷ [])) ≡ 0 ∷ 0 ∷ 0 ∷ 0 ∷ 1 ∷ 2 ∷ []
+    (slots_of (component 0 2 2 ∷ component 1 1 1 ∷ component 2 1 1 ∷ [])) ≡ 0 ∷ 0 ∷ 0 ∷ 0 ∷ 1 ∷ 2 ∷ []
 
 -- loose zeros by their items
 abbrev pub stuck : Type 0

@@ -3,7 +3,7 @@ ghost use Rattle.std.specs.Prelude.{◌≡◌, ◌≤◌, ◌+◌, ◌++◌, ◌
 ghost use Rattle.std.specs.List.{All};
 ghost use Rattle.jpeg_marker.specs.Frames.{are_components};
 ghost use Rattle.jpeg_marker.specs.Plans.{part_of};
-ghost use Rattle.huff_table.specs.ComponentTables.{tables_of};
+ghost use Rattle.huff_table.specs.ComponentTables.{codes_of};
 ghost use Rattle.scan_spec.specs.Slots.{shape_of};
 ghost use Rattle.scan_spec.specs.Spots.{is_closed, interval_number};
 ghost use Rattle.scan_spec.specs.ShapeInside.{slot_in, component_indexes, most_slots};
@@ -43,7 +43,7 @@ impl Model for ScanShape {
 impl ScanShape {
     /// The scan of a plan, with the code words of its tables.
     pub fn of(plan: &Plan, codes: &PlanCodes) -> ScanShape
-        requires { codes.now ≡ map tables_of plan.now.components }
+        requires { codes.now ≡ codes_of plan.now.components }
         ensures { result ≡ shape_of plan.now }
     {
         let (components, blocks) = blocks_of(plan.components());
@@ -116,12 +116,13 @@ fn blocks_of(components: &[Component]) -> ([u8; MOST_SLOTS], usize)
 {
     let mut slots = [0; MOST_SLOTS];
     if components.len() == 1 {
+        slots[0] = components[0].index();
         return (slots, 1);
     }
     let mut count = 0;
-    for (i, component) in components.iter().enumerate() {
+    for component in components {
         let blocks = usize::from(component.h()) * usize::from(component.v());
-        count = add(&mut slots, count, i as u8, blocks);
+        count = add(&mut slots, count, component.index(), blocks);
     }
     (slots, count)
 }
