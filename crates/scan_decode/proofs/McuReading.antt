@@ -4,7 +4,7 @@ use Rattle.std.proofs.lemmas.List.{drop_all, get_or_read}
 use Rattle.std.specs.Int.{w16}
 use Rattle.std.specs.List.{AllZip}
 use mir.Val.{to_z, of_z}
-use Rattle.huff_table.specs.PlanWords.{no_codes}
+use Rattle.huff_table.specs.ComponentTables.{no_codes}
 use Rattle.scan_spec.specs.BlockBits.{coefficient_at, in_zigzag}
 use Rattle.scan_spec.proofs.SignedValues.{kept_half}
 use Rattle.bit_list.specs.Units.{Cursor}

@@ -5,7 +5,7 @@ ghost use Rattle.scan_spec.specs.ScanCalls.{McuIsRead, reader_at, resume_place, 
 ghost use Rattle.scan_spec.specs.Slots.{shape_of};
 ghost use Rattle.scan_spec.specs.Spots.{is_closed};
 ghost use Rattle.scan_spec.specs.ShapeInside.{most_slots};
-ghost use Rattle.huff_table.specs.ComponentTables.{tables_of};
+ghost use Rattle.huff_table.specs.ComponentTables.{codes_of};
 ghost use Rattle.scan_spec.specs.ScanReading.{and_then, mcu_at, pads_at, after_pads};
 ghost use Rattle.scan_spec.specs.BlockBits.{in_zigzag};
 ghost use Rattle.scan_spec.specs.Scans.{no_dcs};
@@ -56,7 +56,7 @@ impl<'a> Model for Reader<'a> {
 impl<'a> Reader<'a> {
     /// Before the first MCU of the scan at a place of these bytes.
     pub fn start(plan: &Plan, codes: &PlanCodes, bytes: &'a [u8], place: usize) -> Self
-        requires { codes.now ≡ map tables_of plan.now.components }
+        requires { codes.now ≡ codes_of plan.now.components }
         ensures { result ≡ reader_at (shape_of plan.now) bytes.now place }
     {
         Reader {
@@ -80,7 +80,7 @@ impl<'a> Reader<'a> {
         handover: Handover,
         row: u32,
     ) -> Self
-        requires codes { codes.now ≡ map tables_of plan.now.components }
+        requires codes { codes.now ≡ codes_of plan.now.components }
         requires row { row < plan.now.down }
         requires restarts { handover.restarts
             ≡ markers_before (shape_of plan.now) (plan.now.across * row) }

@@ -2,7 +2,7 @@
 use Rattle.std.proofs.Common.{◌≡◌, ◌≤◌, ◌<◌, ◌+◌, ℕ, List, [], ◌∷◌, set, map, drop, length, get_or, ℤ, pos, unsigned_abs, Ok, sym, ap, ap₂, ◌∙◌, subst, arith, drop-cons, add-one}
 use Rattle.std.proofs.lemmas.List.{drop_all, get_or_read}
 use Rattle.std.specs.List.{All}
-use Rattle.huff_table.specs.PlanWords.{no_codes}
+use Rattle.huff_table.specs.ComponentTables.{no_codes}
 use Rattle.huff_table.specs.declared.plan_codes.ComponentCodes.{ComponentCodes}
 use Rattle.scan_spec.specs.BlockBits.{Text, then_text, coefficient_at, block_text}
 use Rattle.scan_spec.specs.Blocks.{last_dc, dcs_after_block, dcs_after, blocks_text}

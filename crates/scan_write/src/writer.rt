@@ -1,8 +1,8 @@
 // A scan, MCU by MCU.
-ghost use Rattle.std.specs.Prelude.{◌≡◌, ◌+◌, ◌*◌, ◌<◌, ◌≤◌, ◌==◌, ◌++◌, [], true, length, map};
+ghost use Rattle.std.specs.Prelude.{◌≡◌, ◌+◌, ◌*◌, ◌<◌, ◌≤◌, ◌==◌, ◌++◌, [], true, length};
 ghost use Rattle.bit_list.specs.Bits.{bytes_after, padding, stuffed};
 ghost use Rattle.bit_list.specs.Pieces.{piece_room};
-ghost use Rattle.huff_table.specs.ComponentTables.{tables_of};
+ghost use Rattle.huff_table.specs.ComponentTables.{codes_of};
 ghost use Rattle.handover.specs.PadSums.{pads_with};
 ghost use Rattle.scan_spec.specs.Pads.{pads_given, bit_for, interval_sum, is_long_for};
 ghost use Rattle.scan_spec.specs.ScanCalls.{McuIsPut, writer_of};
@@ -62,7 +62,7 @@ impl<'a> Model for Writer<'a> {
 impl<'a> Writer<'a> {
     /// Before the first MCU of a plan's scan. `pads` are the bits that fill up the last byte of each interval.
     pub fn start(plan: &Plan, codes: &PlanCodes, pads: Pads<'a>) -> Self
-        requires codes { codes.now ≡ map tables_of plan.now.components }
+        requires codes { codes.now ≡ codes_of plan.now.components }
         requires pads { is_long_for (shape_of plan.now) (pads_given pads) ≡ true }
         ensures { result ≡ writer_of (shape_of plan.now) (pads_given pads.entry) }
     {
@@ -80,7 +80,7 @@ impl<'a> Writer<'a> {
     /// Before the first MCU of a row of MCUs, given what the MCUs before it hand over: the row is one of the grid, from
     /// 0. `pads` are the bits that fill up the last byte of each interval of the scan.
     pub fn at(plan: &Plan, codes: &PlanCodes, handover: Handover, row: u32, pads: Pads<'a>) -> Self
-        requires codes { codes.now ≡ map tables_of plan.now.components }
+        requires codes { codes.now ≡ codes_of plan.now.components }
         requires row { row < plan.now.down }
         requires restarts { handover.restarts
             ≡ markers_before (shape_of plan.now) (plan.now.across * row) }
