@@ -11,7 +11,7 @@ use Rattle.sample_jpeg.specs.SampleHeader.{sample_component}
 
 -- the blocks of an MCU: one of each component (A.2.3)
 abbrev pub sample_slots : List Slot
-sample_slots = slots_of (sample_component 1 ∷ sample_component 2 ∷ sample_component 3 ∷ [])
+sample_slots = slots_of (sample_component 0 ∷ sample_component 1 ∷ sample_component 2 ∷ [])
 
 -- DCs of drawn blocks, or of none
 abbrev pub AreDrawnDcs : List ℤ → Type 0
