@@ -1,16 +1,16 @@
 -- A scan codes each component of its frame.
-use Rattle.std.proofs.Common.{◌≡◌, ◌≤◌, ℕ, zero, suc, ◌+◌, ◌*◌, List, [], ◌∷◌, length, map, replicate, refl, sym, ap, ◌∙◌, arith, true, false, Bool, nat_lt, ◌==◌, ◌&&◌, ◌||◌, ℤ, unsigned_abs, drop}
-use Rattle.std.specs.Prelude.{nat_le}
+use Rattle.std.proofs.Common.{◌≡◌, ◌≢◌, ◌≤◌, ◌<◌, ℕ, zero, suc, ◌*◌, List, [], ◌∷◌, length, map, fold, set, get_or, replicate, refl, sym, ap, ap₂, ◌∙◌, arith, true, false, Bool, cond, ◌==◌, ◌&&◌, ◌||◌, ℤ, pos, unsigned_abs}
+use Rattle.std.specs.Prelude.{nat_le, flat_map}
 use Rattle.std.specs.List.{list_any, list_all}
-use Rattle.std.proofs.lemmas.Bool.{and_parts, leb-true, lt-ltb, le-ltb, eq-eqb, ne_eqb}
-use Rattle.std.proofs.lemmas.Bool.Decides.{nat_tests}
+use Rattle.std.proofs.lemmas.Bool.{and_parts, leb-true, eqb-true, eq-eqb, false≢true}
+use Rattle.std.proofs.lemmas.List.{get_or-set_same, get_or-set_other, length-set}
 use Rattle.std.proofs.lemmas.List.Folds.{list_any-append}
 use Rattle.std.proofs.Math.Nat.{mul-le-mul}
 use Rattle.jpeg_marker.specs.declared.component.Component.{Component}
 use Rattle.jpeg_marker.specs.Frames.{area, is_sampled, are_components}
 use Rattle.jpeg_marker.specs.Plans.{PlanFields, IsPlan, part_of}
 use Rattle.scan_spec.specs.declared.slot.Slot.{Slot}
-use Rattle.scan_spec.specs.Slots.{slot_of, slots_from, slots_of, shape_of}
+use Rattle.scan_spec.specs.Slots.{slot_of, slots_of, shape_of}
 use Rattle.handover.specs.Handovers.{HandoverFields}
 use Rattle.handover.proofs.FieldBytes.{four_of}
 use Rattle.box_format.specs.Parts.{is_coded}
@@ -48,47 +48,28 @@ of_blocks (suc (suc n)) c slot some =
     ap (λ (b : Bool). (slot.component == c) || b) (of_blocks (suc n) c slot (omega arith))
     ∙ twice (slot.component == c)
 
-more : (k n : ℕ) → nat_lt k n ≡ nat_lt (suc k) (suc n)
-more k n = grind (arith, nat_tests)
+-- whether a scan has the component of an index
+abbrev pub has_index : ℕ → List Component → Bool
+has_index k cs = list_any (λ c. c.index == k) cs
 
--- the component at a place from the first one on has blocks
-coded_from : (index k : ℕ) (cs : List Component) → list_all is_sampled (map part_of cs) ≡ true
-    → list_any (is_of (index + k)) (slots_from index cs) ≡ nat_lt k (length cs)
-coded_from index k [] e = sym (le-ltb k 0 (omega arith))
-coded_from index zero (c ∷ cs) e =
+-- components whose sampling factors count have blocks, and no other
+coded_each : (k : ℕ) (cs : List Component) → list_all is_sampled (map part_of cs) ≡ true
+    → list_any (is_of k) (flat_map (λ part. replicate (area (part_of part)) (slot_of part)) cs)
+    ≡ has_index k cs
+coded_each k [] e = refl
+coded_each k (c ∷ cs) e =
     let parts = and_parts (is_sampled (part_of c)) (list_all is_sampled (map part_of cs)) e in
-    let here : (index == index + 0) ≡ true = eq-eqb index (index + 0) (omega arith) in
-    let some : nat_lt 0 (suc (length cs)) ≡ true = lt-ltb 0 (suc (length cs)) (omega arith) in
-    list_any-append (is_of (index + 0)) (replicate (area (part_of c)) (slot_of index c))
-    (slots_from (index + 1) cs)
-    ∙ ap (λ (b : Bool). b || list_any (is_of (index + 0)) (slots_from (index + 1) cs))
-    (of_blocks (area (part_of c)) (index + 0) (slot_of index c) (sampled_area c parts.0) ∙ here)
-    ∙ sym some
-coded_from index (suc k) (c ∷ cs) e =
-    let parts = and_parts (is_sampled (part_of c)) (list_all is_sampled (map part_of cs)) e in
-    let other : (index == index + suc k) ≡ false = ne_eqb index (index + suc k) (omega arith) in
-    let later : index + 1 + k ≡ index + suc k = omega arith in
-    list_any-append (is_of (index + suc k)) (replicate (area (part_of c)) (slot_of index c))
-    (slots_from (index + 1) cs)
-    ∙ ap (λ (b : Bool). b || list_any (is_of (index + suc k)) (slots_from (index + 1) cs))
-    (of_blocks (area (part_of c)) (index + suc k) (slot_of index c) (sampled_area c parts.0)
-    ∙ other)
-    ∙ ap (λ (n : ℕ). list_any (is_of n) (slots_from (index + 1) cs)) (sym later)
-    ∙ coded_from (index + 1) k cs parts.1
-    ∙ more k (length cs)
+    list_any-append (is_of k) (replicate (area (part_of c)) (slot_of c))
+    (flat_map (λ part. replicate (area (part_of part)) (slot_of part)) cs)
+    ∙ ap₂ (λ (a b : Bool). a || b) (of_blocks (area (part_of c)) k (slot_of c) (sampled_area c parts.0))
+    (coded_each k cs parts.1)
 
 -- each component of a plan has blocks, and no other
-coded_in : (cs : List Component) (k : ℕ) → 1 ≤ length cs
-    → list_all is_sampled (map part_of cs) ≡ true
-    → list_any (is_of k) (slots_of cs) ≡ nat_lt k (length cs)
-coded_in [] k some e = absurd (omega arith)
-coded_in (c ∷ []) zero some e = refl
-coded_in (c ∷ []) (suc k) some e =
-    last (0 == suc k) ∙ ne_eqb 0 (suc k) (omega arith) ∙ sym (le-ltb (suc k) 1 (omega arith))
-coded_in (c ∷ d ∷ cs) k some e =
-    let z : 0 + k ≡ k = omega arith in
-    ap (λ (n : ℕ). list_any (is_of n) (slots_from 0 (c ∷ d ∷ cs))) (sym z)
-    ∙ coded_from 0 k (c ∷ d ∷ cs) e
+coded_in : (cs : List Component) (k : ℕ) → list_all is_sampled (map part_of cs) ≡ true
+    → list_any (is_of k) (slots_of cs) ≡ has_index k cs
+coded_in [] k e = refl
+coded_in (c ∷ []) k e = refl
+coded_in (c ∷ d ∷ cs) k e = coded_each k (c ∷ d ∷ cs) e
 
 middle : (x y z : Bool) → (x && y && z) ≡ true → y ≡ true
 middle x true z e = refl
@@ -100,27 +81,80 @@ sampled_in : (cs : List Component) → are_components (map part_of cs) ≡ true
 sampled_in cs e = middle _ (list_all is_sampled (map part_of cs)) _ e
 
 pub coded_is : (plan : PlanFields) (k : ℕ) → IsPlan plan
-    → is_coded (shape_of plan) k ≡ nat_lt k (length plan.components)
-coded_is plan k is = coded_in plan.components k is.some (sampled_in plan.components is.components)
+    → is_coded (shape_of plan) k ≡ has_index k plan.components
+coded_is plan k is = coded_in plan.components k (sampled_in plan.components is.components)
 
--- the last DCs from one on are zeros
-zeros_from : (n : ℕ) (a b c d : ℤ) (z : ℤ → Bool) → 1 ≤ n → n ≤ 4
-    → ((nat_lt 0 n || z a) && ((nat_lt 1 n || z b)
-    && ((nat_lt 2 n || z c) && ((nat_lt 3 n || z d) && true))))
-    ≡ list_all z (drop n (a ∷ b ∷ c ∷ d ∷ []))
-zeros_from zero a b c d z some few = absurd (omega arith)
-zeros_from (suc zero) a b c d z some few = refl
-zeros_from (suc (suc zero)) a b c d z some few = refl
-zeros_from (suc (suc (suc zero))) a b c d z some few = refl
-zeros_from (suc (suc (suc (suc zero)))) a b c d z some few = refl
-zeros_from (suc (suc (suc (suc (suc n))))) a b c d z some few = absurd (omega arith)
+-- DCs, with zeros for these components
+abbrev pub zeroed : List ℤ → List Component → List ℤ
+zeroed dcs cs = fold (λ dcs (c : Component). set dcs c.index (pos 0)) dcs cs
+
+pub length-zeroed : (dcs : List ℤ) (cs : List Component) → length (zeroed dcs cs) ≡ length dcs
+length-zeroed dcs [] = refl
+length-zeroed dcs (c ∷ cs) =
+    length-zeroed (set dcs c.index (pos 0)) cs ∙ length-set dcs c.index (pos 0)
+
+-- one of them
+abbrev zero_or : Bool → ℤ → ℤ
+zero_or b dc = cond b (pos 0) dc
+
+twice_zero : (b : Bool) → zero_or b (pos 0) ≡ pos 0
+twice_zero true = refl
+twice_zero false = refl
+
+zeroed_at : (k : ℕ) (dcs : List ℤ) (cs : List Component) → k < length dcs
+    → get_or (zeroed dcs cs) k (pos 0) ≡ zero_or (has_index k cs) (get_or dcs k (pos 0))
+zeroed_at k dcs [] within = refl
+zeroed_at k dcs (c ∷ cs) within =
+    let long : length (set dcs c.index (pos 0)) ≡ length dcs = length-set dcs c.index (pos 0) in
+    go (c.index == k) refl
+    (zeroed_at k (set dcs c.index (pos 0)) cs (omega (arith, long, within)))
+  where
+    go : (b : Bool) → (c.index == k) ≡ b
+        → get_or (zeroed (set dcs c.index (pos 0)) cs) k (pos 0)
+        ≡ zero_or (has_index k cs) (get_or (set dcs c.index (pos 0)) k (pos 0))
+        → get_or (zeroed (set dcs c.index (pos 0)) cs) k (pos 0)
+        ≡ zero_or (has_index k (c ∷ cs)) (get_or dcs k (pos 0))
+    go true e rest =
+        let same : c.index ≡ k = eqb-true c.index k e in
+        let here : get_or (set dcs c.index (pos 0)) k (pos 0) ≡ pos 0 =
+        ap (λ (n : ℕ). get_or (set dcs c.index (pos 0)) n (pos 0)) (sym same)
+        ∙ get_or-set_same dcs c.index (pos 0) (pos 0) (omega (arith, same, within)) in
+        rest ∙ ap (zero_or (has_index k cs)) here ∙ twice_zero (has_index k cs)
+        ∙ ap (λ (b : Bool). zero_or (b || has_index k cs) (get_or dcs k (pos 0))) (sym e)
+    go false e rest =
+        let other : k ≢ c.index = λ same. false≢true (sym e ∙ eq-eqb c.index k (sym same)) in
+        rest
+        ∙ ap (zero_or (has_index k cs)) (get_or-set_other dcs c.index k (pos 0) (pos 0) other)
+        ∙ ap (λ (b : Bool). zero_or (b || has_index k cs) (get_or dcs k (pos 0))) (sym e)
+
+-- whether a DC is 0
+abbrev pub is_zero : ℤ → Bool
+is_zero dc = unsigned_abs dc == 0
+
+is_zero_or : (b : Bool) (dc : ℤ) → is_zero (zero_or b dc) ≡ (b || is_zero dc)
+is_zero_or true dc = refl
+is_zero_or false dc = refl
+
+unused_at : (plan : PlanFields) (dcs : List ℤ) (k : ℕ) → IsPlan plan → k < length dcs
+    → is_zero (get_or (zeroed dcs plan.components) k (pos 0))
+    ≡ (is_coded (shape_of plan) k || is_zero (get_or dcs k (pos 0)))
+unused_at plan dcs k is within =
+    ap is_zero (zeroed_at k dcs plan.components within)
+    ∙ is_zero_or (has_index k plan.components) (get_or dcs k (pos 0))
+    ∙ ap (λ (b : Bool). b || is_zero (get_or dcs k (pos 0))) (sym (coded_is plan k is))
+
+four_all : (dcs : List ℤ) (f : ℤ → Bool) → length dcs ≡ 4
+    → list_all f dcs ≡ list_all (λ k. f (get_or dcs k (pos 0))) (0 ∷ 1 ∷ 2 ∷ 3 ∷ [])
+four_all dcs f long = let four = four_of dcs long in rw four.are refl
 
 -- the test of the unused ones
 pub unused_is : (plan : PlanFields) (h : HandoverFields) → IsPlan plan → length h.preds ≡ 4
-    → are_unused_zeros (shape_of plan) h
-    ≡ list_all (λ dc. unsigned_abs dc == 0) (drop (length plan.components) h.preds)
+    → list_all is_zero (zeroed h.preds plan.components) ≡ are_unused_zeros (shape_of plan) h
 unused_is plan h is long =
-    let four = four_of h.preds long in
-    rw (coded_is plan 0 is, coded_is plan 1 is, coded_is plan 2 is, coded_is plan 3 is, four.are)
-    (zeros_from (length plan.components) four.a four.b four.c four.d (λ dc. unsigned_abs dc == 0)
-    is.some is.few)
+    four_all (zeroed h.preds plan.components) is_zero (length-zeroed h.preds plan.components ∙ long)
+    ∙ rw (
+      unused_at plan h.preds 0 is (omega (arith, long)),
+      unused_at plan h.preds 1 is (omega (arith, long)),
+      unused_at plan h.preds 2 is (omega (arith, long)),
+      unused_at plan h.preds 3 is (omega (arith, long)),
+    ) refl

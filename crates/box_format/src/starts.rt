@@ -69,9 +69,12 @@ fn can_start(plan: &Plan, count: u64, handover: &Handover) -> bool
 fn are_unused_zeros(plan: &Plan, handover: &Handover) -> bool
     ensures { result ≡ are_unused_zeros (shape_of plan.now) handover.now }
 {
-    let preds = handover.preds();
-    let (_, unused) = preds.as_slice().split_at(plan.components().len());
-    are_zeros(unused)
+    let components = plan.components();
+    let mut unused = handover.preds();
+    for component in components {
+        unused[usize::from(component.index())] = 0;
+    }
+    are_zeros(&unused)
 }
 
 // Whether each is 0.

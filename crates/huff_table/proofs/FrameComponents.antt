@@ -1,5 +1,5 @@
 -- The components of a scan by their index in the frame.
-use Rattle.std.proofs.Common.{◌≡◌, ℕ, zero, suc, ◌+◌, ◌<◌, ◌≤◌, Bool, false, List, [], ◌∷◌, map, get_or, cond, Some, None, refl, ap, ◌∙◌, arith, ◌==◌}
+use Rattle.std.proofs.Common.{◌≡◌, ℕ, zero, suc, ◌+◌, ◌<◌, ◌≤◌, Bool, false, List, [], ◌∷◌, length, map, get_or, cond, Some, None, refl, ap, ◌∙◌, arith, ◌==◌}
 use Rattle.std.specs.List.{AllByRecursion}
 use Rattle.std.proofs.lemmas.Bool.{eq-eqb, ne_eqb}
 use Rattle.jpeg_marker.specs.declared.component.Component.{Component}
@@ -61,3 +61,9 @@ codes_at components (suc (suc (suc (suc index)))) below = absurd (omega (arith, 
 -- those of a component are found by its index
 pub codes_found : (components : List Component) (from : ℕ) (c : Component) → IsFound components from c → get_or (codes_of components) c.index no_codes ≡ tables_of c
 codes_found components from c is = codes_at components c.index is.below ∙ ap codes_with is.found
+
+-- their indexes are below four
+pub index_below : (from : ℕ) (components : List Component) (i : ℕ) (d : Component) → Rising from 4 (map index_of components) → i < length components → (get_or components i d).index < 4
+index_below from [] i d rising within = absurd (omega (arith, within))
+index_below from (c ∷ components) zero d rising within = rising.1
+index_below from (c ∷ components) (suc i) d rising within = index_below (c.index + 1) components i d rising.2 (omega (arith, within))

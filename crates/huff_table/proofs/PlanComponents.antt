@@ -1,5 +1,5 @@
 -- Filling an array of four with the tables of one component after the other.
-use Rattle.std.proofs.Common.{◌≡◌, ◌≢◌, ℕ, zero, suc, ◌+◌, ◌<◌, Bool, true, false, List, [], ◌∷◌, length, map, set, get_or, fold, replicate, Option, Some, None, refl, sym, ap, ◌∙◌, arith, ◌==◌}
+use Rattle.std.proofs.Common.{◌≡◌, ◌≢◌, ℕ, zero, suc, ◌+◌, Bool, true, false, List, [], ◌∷◌, length, map, set, get_or, fold, replicate, Option, Some, None, refl, sym, ap, ◌∙◌, arith, ◌==◌}
 use Rattle.std.specs.List.{AllByRecursion}
 use Rattle.std.proofs.lemmas.Bool.{eqb-true, eq-eqb, false≢true}
 use Rattle.std.proofs.lemmas.List.{get_or-set_same, get_or-set_other, length-set}
@@ -67,9 +67,3 @@ pub all_set : (all : List ComponentCodes) (i : ℕ) (c : ComponentCodes) → All
 all_set [] i c tables one = tt
 all_set (d ∷ all) zero c tables one = (one, tables.1)
 all_set (d ∷ all) (suc i) c tables one = (tables.0, all_set all i c tables.1 one)
-
--- their indexes are below four
-pub index_below : (from : ℕ) (components : List Component) (i : ℕ) (d : Component) → Rising from 4 (map index_of components) → i < length components → (get_or components i d).index < 4
-index_below from [] i d rising within = absurd (omega (arith, within))
-index_below from (c ∷ components) zero d rising within = rising.1
-index_below from (c ∷ components) (suc i) d rising within = index_below (c.index + 1) components i d rising.2 (omega (arith, within))

@@ -1,15 +1,32 @@
-use Rattle.std.proofs.Common.{rules, ◌≡◌, ◌==◌, List, ℤ, drop, length, unsigned_abs, ◌∙◌, sym, ap, ap₂, ℕ}
+use Rattle.std.proofs.Common.{rules, ◌≡◌, ◌<◌, ℤ, List, [], drop, length, map, sym, ap, ◌∙◌, arith}
 use Rattle.std.specs.List.{list_all}
-use Rattle.box_format.proofs.Coded.{unused_is}
+use Rattle.std.proofs.lemmas.List.{drop_all}
+use Rattle.jpeg_marker.specs.declared.component.Component.{Component}
+use Rattle.jpeg_marker.proofs.Choices.{Rising, rising_is}
+use Rattle.huff_table.proofs.FrameComponents.{index_below}
+use Rattle.box_format.proofs.Coded.{zeroed, is_zero, unused_is}
 use Rattle.box_format.proofs.starts.are_unused_zeros.Goals as goal
+
+pub array_set_of-unused : goal.array_set_of-unused
+array_set_of-unused c =
+    let components = c.components-components.result.now in
+    let rising : Rising 0 4 (map (λ (x : Component). x.index) components) =
+    rw (c.components-components.ensures.value) (rising_is 0 4 _ c.components-components.ensures.kept.indexes) in
+    let low : c.index.result < 4 =
+    rw (c.index.ensures, c.component-item.is)
+    (index_below 0 components c.loop-component.component-index c.component-item.result rising c.loop-component-test.true) in
+    omega (arith, low, c.from.ensures)
 
 pub returns : goal.returns
 returns c =
-    let preds : c.as_slice.result.now ≡ c.args.handover.now.preds =
-    c.as_slice.ensures ∙ c.preds-preds.ensures.value in
+    let components = c.components-components.result.now in
     let four : length c.args.handover.now.preds ≡ 4 =
-    let e = c.preds-preds.ensures.value in let t = c.preds-preds.type_inv in search rules in
-    let count = ap (λ cs. length cs) c.components.ensures.value in
-    let unused = c.split_at.ensures.back ∙ ap₂ (λ (n : ℕ) (l : List ℤ). drop n l) count preds in
-    c.are_zeros.ensures ∙ ap (λ (l : List ℤ). list_all (λ dc. unsigned_abs dc == 0) l) unused
-    ∙ sym (unused_is c.args.plan.now c.args.handover.now c.components.ensures.kept four)
+    let e = c.preds-unused.ensures.value in let t = c.preds-unused.type_inv in search rules in
+    let none : drop c.loop-component.component-index components ≡ [] =
+    drop_all c.loop-component.component-index components c.loop-component-test.false in
+    let all : c.loop-component.unused ≡ zeroed c.args.handover.now.preds c.args.plan.now.components =
+    ap (zeroed c.loop-component.unused) (sym none) ∙ c.loop-component.invariant.rest
+    ∙ ap (λ (l : List ℤ). zeroed l components) c.preds-unused.ensures.value
+    ∙ ap (zeroed c.args.handover.now.preds) c.components-components.ensures.value in
+    c.are_zeros.ensures ∙ ap (list_all is_zero) all
+    ∙ unused_is c.args.plan.now c.args.handover.now c.components-components.ensures.kept four

@@ -2,7 +2,8 @@ use Rattle.std.proofs.Common.{◌≡◌, ◌<◌, [], drop, map, sym, ap, ◌∙
 use Rattle.jpeg_marker.specs.declared.component.Component.{Component}
 use Rattle.jpeg_marker.proofs.Choices.{Rising, rising_is}
 use Rattle.huff_table.specs.ComponentTables.{codes_of}
-use Rattle.huff_table.proofs.PlanComponents.{set_all, index_below, all_set_are}
+use Rattle.huff_table.proofs.FrameComponents.{index_below}
+use Rattle.huff_table.proofs.PlanComponents.{set_all, all_set_are}
 use Rattle.std.proofs.lemmas.List.{drop_all}
 use Rattle.huff_table.proofs.plan_codes.PlanCodes.build.Goals as goal
 
