@@ -68,7 +68,7 @@ box_suits plan b box =
     record {
       shape_is = (accepted_is_shape b.header plan box.header_bytes box.header).0;
       grid_is = record { across = is.wide; mcu = grid.some };
-      blocks = slots_of_grid plan.components is.some is.few;
+      blocks = slots_of_grid plan is;
     }
 
 -- a segment's row and MCUs were counted

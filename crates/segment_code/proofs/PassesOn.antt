@@ -8,7 +8,7 @@ use Rattle.coef_block.specs.Block.{IsBlock}
 use Rattle.jpeg_marker.specs.Plans.{PlanFields}
 use Rattle.jpeg_marker.specs.HeaderPlan.{Accepts}
 use Rattle.jpeg_marker.proofs.HeadersTaken.{accepted_has_plan}
-use Rattle.huff_table.specs.ComponentTables.{tables_of}
+use Rattle.huff_table.specs.ComponentTables.{codes_of}
 use Rattle.huff_table.specs.declared.plan_codes.ComponentCodes.{ComponentCodes}
 use Rattle.scan_spec.specs.Items.{Refuses}
 use Rattle.scan_spec.specs.Pads.{spelling_of}
@@ -85,7 +85,7 @@ is_next p is some =
 pub first_pass : (plan : PlanFields) (codes : List ComponentCodes) (bytes : List ℕ) (most : ℕ)
     (reader : ScanReader) (starts : StartsFields) (pads : FoundPads)
     → AllByRecursion IsByte bytes → Accepts bytes plan
-    → codes ≡ map tables_of plan.components → 0 < most → most < 2 ^ 32
+    → codes ≡ codes_of plan.components → 0 < most → most < 2 ^ 32
     → reader ≡ reader_at (shape_of plan) bytes plan.header_length
     → starts ≡ no_starts → pads ≡ none_found
     → IsPass (record {

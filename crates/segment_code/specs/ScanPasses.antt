@@ -1,10 +1,10 @@
 -- Steps: a pass over a file's scan from segment to segment, and a segment that is coded apart from it (own).
-use Rattle.std.specs.Prelude.{ℕ, ◌≡◌, ◌^◌, ◌+◌, ◌-◌, ◌*◌, ◌<◌, ◌≤◌, Bool, List, length, ℤ, map}
+use Rattle.std.specs.Prelude.{ℕ, ◌≡◌, ◌^◌, ◌+◌, ◌-◌, ◌*◌, ◌<◌, ◌≤◌, Bool, List, length, ℤ}
 use Rattle.std.specs.List.{AllByRecursion}
 use Rattle.bit_list.specs.Bits.{IsByte}
 use Rattle.jpeg_marker.specs.HeaderPlan.{Accepts}
 use Rattle.jpeg_marker.specs.Plans.{PlanFields}
-use Rattle.huff_table.specs.ComponentTables.{tables_of}
+use Rattle.huff_table.specs.ComponentTables.{codes_of}
 use Rattle.huff_table.specs.declared.plan_codes.ComponentCodes.{ComponentCodes}
 use Rattle.handover.specs.Handovers.{HandoverFields}
 use Rattle.scan_spec.specs.Scans.{Mcu, pad_at}
@@ -56,7 +56,7 @@ mcus_passed p = first_mcu (pass_cut p) (passed p)
 pub record IsPass (p : PassFields) : Type 0 where
   pub bytes : AllByRecursion IsByte p.bytes
   pub accepted : Accepts p.bytes p.plan
-  pub codes : p.codes ≡ map tables_of p.plan.components
+  pub codes : p.codes ≡ codes_of p.plan.components
   pub some : 0 < p.most
   pub few : p.most < 2 ^ 32
   pub within : passed p ≤ (pass_cut p).segments
@@ -83,7 +83,7 @@ pub record PartFields : Type 0 where
 -- it can be read
 pub record IsPart (part : PartFields) : Type 0 where
   pub bytes : AllByRecursion IsByte part.bytes
-  pub codes : part.codes ≡ map tables_of part.plan.components
+  pub codes : part.codes ≡ codes_of part.plan.components
   pub row : part.row < part.plan.down
   pub restarts : part.handover.restarts
       ≡ markers_before (shape_of part.plan) (part.plan.across * part.row)

@@ -1,15 +1,14 @@
 // The grid of a plan's blocks.
-ghost use Rattle.std.specs.Prelude.{◌≡◌, ◌≤◌, ℕ, IsTrue, length, map};
-ghost use Rattle.coef_block.specs.TwoRows.{Extents, block_count, four_of};
+ghost use Rattle.std.specs.Prelude.{◌≡◌, length};
+ghost use Rattle.coef_block.specs.TwoRows.{Extents, block_count};
 ghost use Rattle.jpeg_marker.specs.declared.component.Component.{Component};
-ghost use Rattle.jpeg_marker.specs.Frames.{are_components};
-ghost use Rattle.jpeg_marker.specs.Plans.{part_of};
+ghost use Rattle.jpeg_marker.specs.Plans.{IsPlan};
 ghost use Rattle.scan_spec.specs.Slots.{shape_of};
 ghost use Rattle.block_spec.specs.Grid.{Grid, IsGrid};
-ghost use Rattle.container_spec.specs.ScanStream.{grid_of, mcu_extents};
+ghost use Rattle.container_spec.specs.ScanStream.{by_index, grid_of, mcu_extents};
 
 use block_code::McuGrid;
-use jpeg_marker::{Component, Plan};
+use jpeg_marker::Plan;
 
 /// The grid of a plan's blocks (ITU-T T.81, A.2).
 pub(crate) fn grid_of(plan: &Plan) -> McuGrid
@@ -17,44 +16,55 @@ pub(crate) fn grid_of(plan: &Plan) -> McuGrid
     ensures grid { IsGrid result }
     ensures blocks { length (shape_of plan.now).slots ≡ block_count result.mcu }
 {
-    let (widths, heights) = mcu_extents(plan.components());
+    let (widths, heights) = mcu_extents(plan);
     McuGrid::new(plan.across(), widths, heights)
 }
 
-// How many blocks of each component an MCU is wide and high (A.2.2, A.2.3).
-fn mcu_extents(components: &[Component]) -> ([u32; 4], [u32; 4])
-    requires some { 1 ≤ length components.now }
-    requires few { length components.now ≤ 4 }
-    ensures { ◌≡◌ {A = Extents} (record { widths = result.0; heights = result.1 })
-        (mcu_extents components.now) }
+// How many blocks of each component of the frame, by its index, an MCU is wide and high (A.2.2, A.2.3).
+fn mcu_extents(plan: &Plan) -> ([u32; 4], [u32; 4])
+    ensures value { ◌≡◌ {A = Extents} (record { widths = result.0; heights = result.1 })
+        (mcu_extents plan.now.components) }
+    ensures kept { IsPlan plan.now }
 {
-    if components.len() == 1 {
-        ([1, 0, 0, 0], [1, 0, 0, 0])
+    if plan.components().len() == 1 {
+        (ones(plan), ones(plan))
     } else {
-        (widths(components), heights(components))
+        (widths(plan), heights(plan))
     }
 }
 
-// The horizontal sampling factors, 0 after the last.
-fn widths(components: &[Component]) -> [u32; 4]
-    requires { length components.now ≤ 4 }
-    ensures { result ≡ four_of (map (λ (c : Component). c.h) components.now) }
+// One for each component of the scan, by its index, and 0 for the others.
+fn ones(plan: &Plan) -> [u32; 4]
+    ensures { result ≡ by_index (λ (part : Component). 1) plan.now.components }
 {
+    let components = plan.components();
+    let mut ones = [0; 4];
+    for component in components {
+        ones[usize::from(component.index())] = 1;
+    }
+    ones
+}
+
+// The horizontal sampling factors by the component's index, and 0 for those that the scan leaves out.
+fn widths(plan: &Plan) -> [u32; 4]
+    ensures { result ≡ by_index (λ (part : Component). part.h) plan.now.components }
+{
+    let components = plan.components();
     let mut widths = [0; 4];
-    for (i, component) in components.iter().enumerate() {
-        widths[i] = u32::from(component.h());
+    for component in components {
+        widths[usize::from(component.index())] = u32::from(component.h());
     }
     widths
 }
 
-// The vertical sampling factors, 0 after the last.
-fn heights(components: &[Component]) -> [u32; 4]
-    requires { length components.now ≤ 4 }
-    ensures { result ≡ four_of (map (λ (c : Component). c.v) components.now) }
+// The vertical sampling factors by the component's index, and 0 for those that the scan leaves out.
+fn heights(plan: &Plan) -> [u32; 4]
+    ensures { result ≡ by_index (λ (part : Component). part.v) plan.now.components }
 {
+    let components = plan.components();
     let mut heights = [0; 4];
-    for (i, component) in components.iter().enumerate() {
-        heights[i] = u32::from(component.v());
+    for component in components {
+        heights[usize::from(component.index())] = u32::from(component.v());
     }
     heights
 }

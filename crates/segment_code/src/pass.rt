@@ -1,8 +1,8 @@
 // A pass over a file's scan, from segment to segment.
-ghost use Rattle.std.specs.Prelude.{◌≡◌, ◌<◌, ◌≤◌, ℕ, Bool, List, IfOk, OnOk, IsErrOf, length, map, None, Err};
+ghost use Rattle.std.specs.Prelude.{◌≡◌, ◌<◌, ◌≤◌, ℕ, Bool, List, IfOk, OnOk, IsErrOf, length, None, Err};
 ghost use Rattle.std.specs.List.{AllByRecursion};
 ghost use Rattle.jpeg_marker.specs.HeaderPlan.{Accepts};
-ghost use Rattle.huff_table.specs.ComponentTables.{tables_of};
+ghost use Rattle.huff_table.specs.ComponentTables.{codes_of};
 ghost use Rattle.scan_spec.specs.Items.{Refuses};
 ghost use Rattle.scan_spec.specs.Scans.{Mcu};
 ghost use Rattle.scan_spec.specs.Slots.{shape_of};
@@ -60,7 +60,7 @@ impl<'a> ScanPass<'a> {
         most: u32,
     ) -> ScanPass<'a>
         requires plan { Accepts bytes.now plan.now }
-        requires codes { codes.now ≡ map tables_of plan.now.components }
+        requires codes { codes.now ≡ codes_of plan.now.components }
         requires some { 0 < most }
         ensures is { IsPass result }
         ensures plan { result.plan ≡ plan.now }

@@ -1,20 +1,15 @@
-use Rattle.std.proofs.Common.{rules, ◌≡◌, ◌<◌, ℤ, List, [], drop, length, map, sym, ap, ◌∙◌, arith}
+use Rattle.std.proofs.Common.{rules, ◌≡◌, ◌<◌, ℤ, List, [], drop, length, sym, ap, ◌∙◌, arith}
 use Rattle.std.specs.List.{list_all}
 use Rattle.std.proofs.lemmas.List.{drop_all}
-use Rattle.jpeg_marker.specs.declared.component.Component.{Component}
-use Rattle.jpeg_marker.proofs.Choices.{Rising, rising_is}
-use Rattle.huff_table.proofs.FrameComponents.{index_below}
+use Rattle.huff_table.proofs.FrameComponents.{low_index}
 use Rattle.box_format.proofs.Coded.{zeroed, is_zero, unused_is}
 use Rattle.box_format.proofs.starts.are_unused_zeros.Goals as goal
 
 pub array_set_of-unused : goal.array_set_of-unused
 array_set_of-unused c =
-    let components = c.components-components.result.now in
-    let rising : Rising 0 4 (map (λ (x : Component). x.index) components) =
-    rw (c.components-components.ensures.value) (rising_is 0 4 _ c.components-components.ensures.kept.indexes) in
-    let low : c.index.result < 4 =
-    rw (c.index.ensures, c.component-item.is)
-    (index_below 0 components c.loop-component.component-index c.component-item.result rising c.loop-component-test.true) in
+    let is = c.components-components.ensures in
+    let low : c.index.result < 4 = rw (c.index.ensures, c.component-item.is)
+    (low_index c.components-components.result.now c.args.plan.now.components c.loop-component.component-index c.component-item.result is.value is.kept.indexes c.loop-component-test.true) in
     omega (arith, low, c.from.ensures)
 
 pub returns : goal.returns

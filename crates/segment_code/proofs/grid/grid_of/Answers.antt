@@ -7,31 +7,31 @@ use Rattle.segment_code.proofs.SlotsOfGrid.{slots_of_grid}
 use Rattle.segment_code.proofs.grid.grid_of.Goals as goal
 
 pub new-requires-clause-narrow : goal.new-requires-clause-narrow
-new-requires-clause-narrow c = rw (c.across.ensures) (has_grid c.args.plan.now c.components.ensures.kept).narrow
+new-requires-clause-narrow c = rw (c.across.ensures) (has_grid c.args.plan.now c.mcu_extents.ensures.kept).narrow
 
 pub new-requires-clause-wide : goal.new-requires-clause-wide
 new-requires-clause-wide c = λ n below.
-    let e = rw (c.components.ensures.value) at c.mcu_extents.ensures in
-    subst (λ (x : Extents). slice_index x.widths n ≤ 4) (sym e) ((has_grid c.args.plan.now c.components.ensures.kept).wide n below)
+    let e = c.mcu_extents.ensures.value in
+    subst (λ (x : Extents). slice_index x.widths n ≤ 4) (sym e) ((has_grid c.args.plan.now c.mcu_extents.ensures.kept).wide n below)
 
 pub new-requires-clause-high : goal.new-requires-clause-high
 new-requires-clause-high c = λ n below.
-    let e = rw (c.components.ensures.value) at c.mcu_extents.ensures in
-    subst (λ (x : Extents). slice_index x.heights n ≤ 4) (sym e) ((has_grid c.args.plan.now c.components.ensures.kept).high n below)
+    let e = c.mcu_extents.ensures.value in
+    subst (λ (x : Extents). slice_index x.heights n ≤ 4) (sym e) ((has_grid c.args.plan.now c.mcu_extents.ensures.kept).high n below)
 
 pub new-requires-clause-some : goal.new-requires-clause-some
 new-requires-clause-some c =
-    let e = rw (c.components.ensures.value) at c.mcu_extents.ensures in
-    subst (λ (x : Extents). 1 ≤ block_count x) (sym e) (has_grid c.args.plan.now c.components.ensures.kept).some
+    let e = c.mcu_extents.ensures.value in
+    subst (λ (x : Extents). 1 ≤ block_count x) (sym e) (has_grid c.args.plan.now c.mcu_extents.ensures.kept).some
 
 pub new-requires-clause-few : goal.new-requires-clause-few
 new-requires-clause-few c =
-    let e = rw (c.components.ensures.value) at c.mcu_extents.ensures in
-    subst (λ (x : Extents). block_count x ≤ 10) (sym e) (has_grid c.args.plan.now c.components.ensures.kept).few
+    let e = c.mcu_extents.ensures.value in
+    subst (λ (x : Extents). block_count x ≤ 10) (sym e) (has_grid c.args.plan.now c.mcu_extents.ensures.kept).few
 
 pub returns-clause-blocks : goal.returns-clause-blocks
 returns-clause-blocks c =
-    let is = c.components.ensures.kept in
-    let e = rw (c.components.ensures.value) at c.mcu_extents.ensures in
-    slots_of_grid c.args.plan.now.components is.some is.few ∙ ap block_count (sym e)
+    let is = c.mcu_extents.ensures.kept in
+    let e = c.mcu_extents.ensures.value in
+    slots_of_grid c.args.plan.now is ∙ ap block_count (sym e)
     ∙ ap (λ (g : Grid). block_count g.mcu) (sym c.new.ensures)

@@ -1,6 +1,10 @@
-use Rattle.std.proofs.Common.{◌≡◌, ◌++◌, ◌-◌, replicate, take, map}
+use Rattle.std.proofs.Common.{◌≡◌, drop, length, replicate}
 use Rattle.jpeg_marker.specs.declared.component.Component.{Component}
+use Rattle.huff_table.proofs.FrameComponents.{put_all}
 use Rattle.segment_code.proofs.grid.heights.Given as goal
 
-abbrev pub invariant-loop-i : goal.invariant-loop-i
-invariant-loop-i l = l.heights ≡ take l.i (map (λ (c : Component). c.v) l.components) ++ replicate (4 - l.i) 0
+abbrev pub invariant-loop-component : goal.invariant-loop-component
+invariant-loop-component l = record {
+  long : length l.heights ≡ 4;
+  rest : put_all (λ (part : Component). part.v) l.heights (drop l.component-index l.components) ≡ put_all (λ (part : Component). part.v) (replicate 4 0) l.components;
+}

@@ -1,13 +1,13 @@
 use Rattle.std.proofs.Common.{◌≡◌, drop, length, replicate}
 use Rattle.std.specs.List.{AllByRecursion}
 use Rattle.huff_table.specs.BuiltCodes.{AreTables}
-use Rattle.huff_table.specs.ComponentTables.{no_codes}
-use Rattle.huff_table.proofs.PlanComponents.{set_all}
+use Rattle.huff_table.specs.ComponentTables.{tables_of, no_codes}
+use Rattle.huff_table.proofs.FrameComponents.{put_all}
 use Rattle.huff_table.proofs.plan_codes.PlanCodes.build.Given as goal
 
 abbrev pub invariant-loop-component : goal.invariant-loop-component
 invariant-loop-component l = record {
   long : length l.all ≡ 4;
-  rest : set_all l.all (drop l.component-index l.components) ≡ set_all (replicate 4 no_codes) l.components;
+  rest : put_all tables_of l.all (drop l.component-index l.components) ≡ put_all tables_of (replicate 4 no_codes) l.components;
   tables : AllByRecursion AreTables l.all;
 }
