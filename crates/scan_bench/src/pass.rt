@@ -1,6 +1,6 @@
 // One pass over a scan.
-ghost use Rattle.std.specs.Prelude.{◌≡◌, map};
-ghost use Rattle.huff_table.specs.ComponentTables.{tables_of};
+ghost use Rattle.std.specs.Prelude.{◌≡◌};
+ghost use Rattle.huff_table.specs.ComponentTables.{codes_of};
 
 use bit_list::Piece;
 use coef_block::Block;
@@ -20,7 +20,7 @@ pub(crate) struct Passed {
 
 /// The bit that the first interval of a scan that pads any is padded with, 1 if none does.
 pub(crate) fn pad_of(plan: &Plan, codes: &PlanCodes, bytes: &[u8]) -> Option<bool>
-    requires { codes.now ≡ map tables_of plan.now.components }
+    requires { codes.now ≡ codes_of plan.now.components }
 {
     let mut reader = Reader::start(plan, codes, bytes, plan.header_length());
     let mut blocks = [Block::zero(); MOST_SLOTS];
@@ -38,7 +38,7 @@ pub(crate) fn pad_of(plan: &Plan, codes: &PlanCodes, bytes: &[u8]) -> Option<boo
 
 /// Reads the scan of these bytes, unless it is refused.
 pub(crate) fn read(plan: &Plan, codes: &PlanCodes, bytes: &[u8]) -> Option<Passed>
-    requires { codes.now ≡ map tables_of plan.now.components }
+    requires { codes.now ≡ codes_of plan.now.components }
 {
     let start = plan.header_length();
     let mut reader = Reader::start(plan, codes, bytes, start);
@@ -64,7 +64,7 @@ pub(crate) fn both(
     bytes: &[u8],
     pad: bool,
 ) -> Option<Passed>
-    requires { codes.now ≡ map tables_of plan.now.components }
+    requires { codes.now ≡ codes_of plan.now.components }
 {
     let start = plan.header_length();
     let mut reader = Reader::start(plan, codes, bytes, start);
