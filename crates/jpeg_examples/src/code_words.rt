@@ -25,7 +25,7 @@ const WORDS: &[(usize, bool, &[Word])] = &[
 #[test]
 fn words_of_the_standard(rt: HostRuntime) {
     let all = standard_codes(&rt, rt.alloc());
-    assert!(rt; all.components().len() == 2);
+    assert!(rt; all.components().len() == 4);
     for (component, is_ac, words) in WORDS {
         let codes = codes_at(&rt, &all, *component, *is_ac);
         are_words(&rt, codes, words);
@@ -47,6 +47,9 @@ fn values_without_a_word(rt: HostRuntime) {
     let codes = standard_codes(&rt, rt.alloc());
     assert!(rt; codes_at(&rt, &codes, 1, false).word(12) == None);
     assert!(rt; codes_at(&rt, &codes, 0, true).word(0x0b) == None);
+    // The frame has two components.
+    assert!(rt; codes_at(&rt, &codes, 2, false).word(0) == None);
+    assert!(rt; codes_at(&rt, &codes, 3, true).word(0) == None);
 }
 
 // Each word is the one stated, and is found by the bits that begin with it.
@@ -134,7 +137,7 @@ const BITS: &[(&[u8], Result<u8, CodeFault>)] = &[
 #[test]
 fn bits_that_are_no_word(rt: HostRuntime) {
     let codes = short_codes(&rt, rt.alloc());
-    assert!(rt; codes.components().len() == 1);
+    assert!(rt; codes.components().len() == 4);
     for (bytes, value) in BITS {
         assert!(rt; is_read(codes.dc(0), bytes, *value), "{bytes:?}");
     }
@@ -165,7 +168,7 @@ const NINE_BITS: &[(u16, Option<(u8, u8)>, Option<(u8, u8)>)] = &[
 #[test]
 fn words_of_one_bit_are_found_by_nine_bits(rt: HostRuntime) {
     let codes = short_codes(&rt, rt.alloc());
-    assert!(rt; codes.components().len() == 1);
+    assert!(rt; codes.components().len() == 4);
     for (index, of_both, of_one) in NINE_BITS {
         assert!(rt; is_found(codes.ac(0), *index, *of_both), "{index}");
         assert!(rt; is_found(codes.dc(0), *index, *of_one), "{index}");
@@ -197,7 +200,7 @@ const LAST: &[(&[u8], [Result<u8, CodeFault>; 3])] = &[
 #[test]
 fn last_symbols(rt: HostRuntime) {
     let codes = standard_codes(&rt, rt.alloc());
-    assert!(rt; codes.components().len() == 2);
+    assert!(rt; codes.components().len() == 4);
     for (bytes, values) in LAST {
         assert!(rt; are_read(codes.ac(0), bytes, *values), "{bytes:?}");
     }

@@ -1,6 +1,6 @@
 // Rows of MCUs that are read, and written, from what those before hand over.
-ghost use Rattle.std.specs.Prelude.{◌≡◌, ◌*◌, ◌<◌, map};
-ghost use Rattle.huff_table.specs.ComponentTables.{tables_of};
+ghost use Rattle.std.specs.Prelude.{◌≡◌, ◌*◌, ◌<◌};
+ghost use Rattle.huff_table.specs.ComponentTables.{codes_of};
 ghost use Rattle.scan_spec.specs.Slots.{shape_of};
 ghost use Rattle.cut_spec.specs.RowHandovers.{markers_before};
 
@@ -140,7 +140,7 @@ fn writer_from<'a>(
     pads: Pads<'a>,
     row: u32,
 ) -> Writer<'a>
-    requires { codes.now ≡ map tables_of plan.now.components }
+    requires { codes.now ≡ codes_of plan.now.components }
 {
     let handover = reader.handover();
     assert!(rt; row < plan.down());
@@ -196,7 +196,7 @@ fn resumed<'a>(
     whole: &Reader,
     row: u32,
 ) -> Reader<'a>
-    requires { codes.now ≡ map tables_of plan.now.components }
+    requires { codes.now ≡ codes_of plan.now.components }
 {
     let handover = whole.handover();
     assert!(rt; row < plan.down());

@@ -100,7 +100,7 @@ fn block_bits(
     coefficients: Coefficients,
 ) -> Result<Vec<bool>, PlainError> {
     let block = block_of(rt, coefficients);
-    assert!(rt; codes.components().len() == 1);
+    assert!(rt; codes.components().len() == 4);
     assert!(rt; before.unsigned_abs() <= 32767);
     plain_block(alloc, &codes.components()[0], before, &block)
 }
@@ -120,7 +120,7 @@ const TWO_MCUS: &[(usize, i16)] = &[(0, 4), (0, 5), (1, 5), (0, 5), (0, 4), (1, 
 #[test]
 fn mcus_are_spelled(rt: HostRuntime) {
     let codes = codes_of(&rt, rt.alloc(), SHORT_K5);
-    assert!(rt; codes.components().len() == 1);
+    assert!(rt; codes.components().len() == 4);
     let bits = mcus_bits(&rt, rt.alloc(), &codes.components()[0]);
     assert!(rt; are_bits(bits, b"0101101001011010100101101000101001001010001010"));
 }
