@@ -1,6 +1,6 @@
 -- Two ways to read the same bytes as segments are one.
 use Rattle.std.proofs.Common.{◌≡◌, ℕ, not, List, [], ◌∷◌, ◌++◌, length, take, drop, flat_map, Some, refl, ap, sym, ◌∙◌, append_assoc, subst, eqb, IsTrue, inl, inr}
-use Rattle.std.proofs.lemmas.List.{append-nil, drop_at}
+use Rattle.std.proofs.lemmas.List.{append-nil, drop_at, take_at}
 use Rattle.std.proofs.lemmas.Bool.{false≢true}
 use Rattle.jpeg_marker.specs.declared.refusal.HeaderRefusal.{HeaderRefusal}
 use Rattle.jpeg_marker.specs.declared.scans.Scans.{Scans}
@@ -9,7 +9,7 @@ use Rattle.jpeg_marker.specs.MarkerSegments.{Segment, segment_text}
 use Rattle.jpeg_marker.specs.Walks.{Walk, first_walk, next_walk, walk_text, walk_place}
 use Rattle.jpeg_marker.specs.Plans.{PlanFields}
 use Rattle.jpeg_marker.specs.GoodSegments.{IsGood, AreGoodAfter, HaveNoScan, ArePassed, fault_of, length_place, stuck_at}
-use Rattle.jpeg_marker.specs.HeaderPlan.{IsHeader, Begins, Stops, Accepts, Refuses, IsStuck, plan_of}
+use Rattle.jpeg_marker.specs.HeaderPlan.{IsHeader, Begins, BeginsNot, Stops, Accepts, Refuses, IsStuck, plan_of}
 use Rattle.jpeg_marker.specs.OneHeader.{OneList, OnePlan, OneRefusal, NeverBoth, OneNextPlan, OneNextRefusal, NeverBothNext}
 use Rattle.jpeg_marker.proofs.OneSegment.{one_segment, whole_not_stuck}
 use Rattle.jpeg_marker.proofs.Walking.{walk_text-push}
@@ -90,6 +90,9 @@ one_next_plan plan bytes place next other a b = one_begins (next_walk plan.known
 start_is : (scans : Scans) (bytes rest : List ℕ) (segments : List Segment) → bytes ≡ walk_text (first_walk scans) segments ++ rest → take 2 bytes ≡ 255 ∷ 216 ∷ []
 start_is scans bytes rest segments text = ap (take 2) text
 
+began : (w : Walk) (bytes rest : List ℕ) (segments : List Segment) → bytes ≡ walk_text w segments ++ rest → take (length w.start) bytes ≡ w.start
+began w bytes rest segments text = ap (take (length w.start)) (text ∙ append_assoc w.start (flat_map segment_text segments) rest) ∙ take_at w.start (flat_map segment_text segments ++ rest) (length w.start) refl
+
 one_stuck : (w : Walk) (before : List Segment) (rest : List ℕ) (r q : HeaderRefusal) → IsStuck w before rest r → IsStuck w before rest q → r ≡ q
 one_stuck w before rest r q (inl a) (inl b) = some_is_one r q (sym a ∙ b)
 one_stuck w before rest r q (inl a) (inr b) = let none = ap (stuck_at (walk_place w before)) b.3 ∙ whole_not_stuck (walk_place w before) b.0 b.1 b.2 in cc
@@ -113,6 +116,13 @@ one_opening_refusal scans bytes r q (inr a) (inr b) = one_stop (first_walk scans
 pub one_next_refusal : OneNextRefusal
 one_next_refusal plan bytes place r q a b = one_stop (next_walk plan.known place) (drop place bytes) r q a b
 
+-- bytes that begin with no header have one refusal
+pub one_begins_not : (w : Walk) (bytes : List ℕ) (r q : HeaderRefusal) → BeginsNot w bytes r → BeginsNot w bytes q → r ≡ q
+one_begins_not w bytes r q (inl a) (inl b) = a.1 ∙ sym b.1
+one_begins_not w bytes r q (inl a) (inr b) = absurd (a.0 (began w bytes b.rest b.before b.text))
+one_begins_not w bytes r q (inr a) (inl b) = absurd (b.0 (began w bytes a.rest a.before a.text))
+one_begins_not w bytes r q (inr a) (inr b) = one_stop w bytes r q a b
+
 scan_not_stuck : (w : Walk) (before : List Segment) (scan : Segment) (after rest : List ℕ) (r : HeaderRefusal) → IsGood w before scan → segment_text scan ++ after ≡ rest → IsStuck w before rest r → ⊥
 scan_not_stuck w before scan after rest r good text (inl stuck) =
     let none = ap (stuck_at (walk_place w before)) (sym text) ∙ whole_not_stuck (walk_place w before) scan after good.whole in cc
@@ -126,6 +136,11 @@ pub never_stopped : (w : Walk) (bytes : List ℕ) (plan : PlanFields) (r : Heade
 never_stopped w bytes plan r a b =
     let same = same_reading w bytes (segment_text a.scan ++ a.rest) b.rest a.before b.before a.header.passed b.passed (scan_ends w a.before a.scan a.rest a.header) (stuck_ends w b.before b.rest r b.stuck) (header_split w bytes a.rest a.before a.scan a.text) b.text in
     scan_not_stuck w b.before a.scan a.rest b.rest r (subst (λ (before : List Segment). IsGood w before a.scan) same.0 a.header.good) same.1 b.stuck
+
+-- and don't begin with one
+pub begins_apart : (w : Walk) (bytes : List ℕ) (plan : PlanFields) (r : HeaderRefusal) → Begins w bytes plan → BeginsNot w bytes r → ⊥
+begins_apart w bytes plan r a (inl b) = b.0 (began w bytes a.rest (a.before ++ a.scan ∷ []) a.text)
+begins_apart w bytes plan r a (inr b) = never_stopped w bytes plan r a b
 
 pub never_both_opening : NeverBoth
 never_both_opening scans bytes plan r a (inl b) = b.0 (start_is scans bytes a.rest (a.before ++ a.scan ∷ []) a.text)

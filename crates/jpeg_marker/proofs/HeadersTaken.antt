@@ -17,11 +17,11 @@ use Rattle.jpeg_marker.specs.MarkerSegments.{Segment, segment_text}
 use Rattle.jpeg_marker.specs.HuffmanTables.{TableFields}
 use Rattle.jpeg_marker.specs.HeldTables.{table_in}
 use Rattle.jpeg_marker.specs.Frames.{FrameFields, IsFrame}
-use Rattle.jpeg_marker.specs.Plans.{PlanFields, IsPlan, part_of, parts_at, plan_with, plan_after, plan_fault, range_fault, order_fault, indexes_fault, scan_fault, scan_selectors, selectors_of, scan_count, scan_components, indexes_from, are_indexes, is_coded, coded_after, components_of, components_at, component_of, component_with, with_prefix, blocks_of, most_blocks}
-use Rattle.jpeg_marker.specs.Walks.{Walk, first_walk, next_walk, walk_from, walk_text}
+use Rattle.jpeg_marker.specs.Plans.{PlanFields, IsPlan, plan_at, part_of, parts_at, plan_with, plan_after, plan_fault, range_fault, order_fault, indexes_fault, scan_fault, scan_selectors, selectors_of, scan_count, scan_components, indexes_from, are_indexes, is_coded, coded_after, components_of, components_at, component_of, component_with, with_prefix, blocks_of, most_blocks}
+use Rattle.jpeg_marker.specs.Walks.{Walk, nothing_known, first_walk, next_walk, walk_from, walk_text}
 use Rattle.jpeg_marker.specs.GoodSegments.{length_place, body_fault, known_after}
-use Rattle.jpeg_marker.specs.HeaderPlan.{Begins, Accepts}
-use Rattle.jpeg_marker.specs.AcceptedPlans.{AreBytes, IsSound, HasTables, IsKnown, HasPlan, AcceptedHasPlan, NextHasPlan}
+use Rattle.jpeg_marker.specs.HeaderPlan.{Begins, Accepts, Opens}
+use Rattle.jpeg_marker.specs.AcceptedPlans.{AreBytes, IsSound, HasTables, IsKnown, AreKnown, CanScan, HasPlan, BegunHasPlan, AcceptedHasPlan, NextHasPlan}
 use Rattle.jpeg_marker.proofs.Choices.{rising_is, rising_test, rising_more, rising_few, named_rising, named_long, Rising, chosen_are, chosen_within}
 use Rattle.jpeg_marker.proofs.TablesTaken.{table_sound, known_sound, bytes_first, bytes_last, bodies_are_bytes}
 use Rattle.jpeg_marker.proofs.FramesTaken.{frame_passed, frame_stays, mcus_some, first_within}
@@ -159,6 +159,7 @@ record IsPlanned (known : Definitions) (f : FrameFields) (size : ℕ) (plan : Pl
   size_is : length (map (λ (c : Component). c.index) plan.components) ≡ size
   coded : plan.known.coded ≡ coded_after known.coded (map (λ (c : Component). c.index) plan.components)
   blocks : plan.known.blocks ≡ known.blocks + plan.blocks
+  few : plan.known.blocks ≤ most_blocks
 
 planned : (known : Definitions) (f : FrameFields) (size header_length : ℕ) (components : List Component) → IsFrame f → AreChosen known.coded f.parts size components → known.blocks + blocks_of f (map part_of components) ≤ most_blocks → IsPlanned known f size (plan_with known f header_length components) header_length
 planned known f size header_length components frame chosen few =
@@ -191,6 +192,7 @@ planned known f size header_length components frame chosen few =
       size_is = ap length whole.indexes_are ∙ chosen.size_is;
       coded = refl;
       blocks = refl;
+      few = few;
     }
 
 plan_found : (known : Definitions) (f : FrameFields) (size header_length : ℕ) (found : Option (List Component)) (plan : PlanFields) → IsFrame f → ((cs : List Component) → found ≡ Some cs → AreChosen known.coded f.parts size cs) → plan_fault known.blocks f found ≡ None → option_map (plan_with known f header_length) found ≡ Some plan → IsPlanned known f size plan header_length
@@ -292,6 +294,47 @@ known_is w bytes plan is = record {
   tables = subst (AllByRecursion (λ t. IfSome t IsSound)) (sym is.planned.kept) is.tables;
 }
 
+pub begun_has_plan : BegunHasPlan
+begun_has_plan w bytes plan all known is =
+    let has = taken w bytes plan all known.frame known.tables is in
+    record {
+      is_plan = has.planned.is;
+      tables = has.planned.tables;
+      within = has.within;
+      alone = has.alone;
+      known = known_is w bytes plan has;
+      fresh = ap (λ (coded : List Bool). list_any (is_coded coded) (map (λ (c : Component). c.index) plan.components)) (sym has.coded) ∙ has.planned.fresh;
+      coded = has.planned.coded ∙ ap (λ (coded : List Bool). coded_after coded (map (λ (c : Component). c.index) plan.components)) has.coded;
+      blocks = has.planned.blocks ∙ ap (λ n. n + plan.blocks) has.blocks;
+      few = has.planned.few;
+    }
+
+pub bytes_from : (n : ℕ) (xs : List ℕ) → AreBytes xs → AreBytes (drop n xs)
+bytes_from zero xs all = all
+bytes_from (suc n) [] all = tt
+bytes_from (suc n) (x ∷ xs) all = bytes_from n xs all.1
+
+-- so its scan can follow it
+pub can_scan : (w : Walk) (bytes : List ℕ) (plan : PlanFields) → AreBytes bytes → AreKnown w.known → Begins w bytes plan → CanScan bytes plan
+can_scan w bytes plan all known is =
+    let has = begun_has_plan w bytes plan all known is in
+    record { is_plan = has.is_plan; tables = has.tables; within = has.within }
+
+-- the same of a header at a place
+pub can_scan_at : (w : Walk) (bytes : List ℕ) (place : ℕ) (plan : PlanFields) → AreBytes bytes → AreKnown w.known → place ≤ length bytes → Begins w (drop place bytes) plan → CanScan bytes (plan_at place plan)
+can_scan_at w bytes place plan all known here is =
+    let can = can_scan w (drop place bytes) plan (bytes_from place bytes all) known is in
+    let p = can.is_plan in
+    record {
+      is_plan = record { some = p.some; few = p.few; indexes = p.indexes; components = p.components; grid = p.grid; blocks = p.blocks; wide = p.wide; high = p.high };
+      tables = can.tables;
+      within = (let h = can.within in omega (arith, h, here, length-drop place bytes));
+    }
+
+-- nothing is known before a file's first header
+pub none_known : AreKnown nothing_known
+none_known = record { frame = tt; tables = (tt, (tt, (tt, (tt, (tt, (tt, (tt, (tt, tt)))))))) }
+
 pub opened_has_plan : AcceptedHasPlan
 opened_has_plan scans bytes plan all is =
     let has = taken (first_walk scans) bytes plan all tt (tt, (tt, (tt, (tt, (tt, (tt, (tt, (tt, tt)))))))) is in
@@ -310,10 +353,9 @@ if_known : (o : Option FrameFields) (f : FrameFields) → o ≡ Some f → IsFra
 if_known None f is frame = tt
 if_known (Some g) f is frame = subst IsFrame (sym (some_is_one g f is)) frame
 
-bytes_from : (n : ℕ) (xs : List ℕ) → AreBytes xs → AreBytes (drop n xs)
-bytes_from zero xs all = all
-bytes_from (suc n) [] all = tt
-bytes_from (suc n) (x ∷ xs) all = bytes_from n xs all.1
+-- a frame and tables are known before a further header
+pub next_known : (known : Definitions) → IsKnown known → AreKnown known
+next_known known is = record { frame = if_known known.frame is.frame is.there is.is_frame; tables = is.tables }
 
 pub next_has_plan : NextHasPlan
 next_has_plan plan bytes place next all known is =
@@ -357,4 +399,26 @@ accepted_has_all bytes plan all is =
       rising = has.planned.rising;
       long = has.planned.size_is ∙ one_whole has.known.coded has.frame.parts has.at has.body has.order;
       coded = has.planned.coded ∙ ap (λ (coded : List Bool). coded_after coded (map (λ (c : Component). c.index) plan.components)) has.coded;
+    }
+
+-- what holds of a first header, whatever scans the file may have
+pub record HasSome (scans : Scans) (bytes : List ℕ) (plan : PlanFields) (is : Opens scans bytes plan) : Type 0 where
+  pub frame : FrameFields
+  pub found : (known_after nothing_known is.before).frame ≡ Some frame
+  pub there : plan.known.frame ≡ Some frame
+  pub few : length frame.parts ≤ 4
+  pub long : length (map (λ (c : Component). c.index) plan.components) ≡ scan_count is.scan.body
+  pub coded : plan.known.coded ≡ coded_after (replicate 4 false) (map (λ (c : Component). c.index) plan.components)
+
+pub opened_has_some : (scans : Scans) (bytes : List ℕ) (plan : PlanFields) → AreBytes bytes → (is : Opens scans bytes plan) → HasSome scans bytes plan is
+unfolding taken
+opened_has_some scans bytes plan all is =
+    let has = taken (first_walk scans) bytes plan all tt (tt, (tt, (tt, (tt, (tt, (tt, (tt, (tt, tt)))))))) is in
+    record {
+      frame = has.frame;
+      found = has.there;
+      there = has.planned.frame ∙ has.there;
+      few = has.is_frame.few;
+      long = has.planned.size_is;
+      coded = has.planned.coded;
     }

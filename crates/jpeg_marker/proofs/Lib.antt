@@ -14,3 +14,4 @@ pub mod HeadersTaken
 pub mod MovedHeaders
 pub mod OneScans
 pub mod TablesTaken
+pub mod CodedComponents

@@ -46,6 +46,11 @@ pub record Stops (w : Walk) (bytes : List ℕ) (refusal : HeaderRefusal) : Type 
   pub text : bytes ≡ walk_text w before ++ rest
   pub stuck : IsStuck w before rest refusal
 
+-- they don't begin with one that is accepted, and the first check that fails gives this refusal
+abbrev pub BeginsNot : Walk → List ℕ → HeaderRefusal → Type 0
+BeginsNot w bytes refusal =
+    ((take (length w.start) bytes ≢ w.start) × (refusal ≡ NotJpeg)) ⊎ Stops w bytes refusal
+
 -- the bytes begin with the first header of a file of one scan, or of a file that may have several, and it says this
 abbrev pub Opens : Scans → List ℕ → PlanFields → Type 0
 Opens scans bytes plan = Begins (first_walk scans) bytes plan

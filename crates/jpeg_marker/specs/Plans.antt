@@ -226,6 +226,10 @@ plan_after known None header_length body = None
 plan_after known (Some f) header_length body =
     option_map (plan_with known f header_length) (scan_components known f body)
 
+-- the plan of a header that is at a place of a file, with all bytes before its scan as its header
+abbrev pub plan_at : ℕ → PlanFields → PlanFields
+plan_at place plan = record plan { header_length = place + plan.header_length }
+
 -- whether indexes rise, from `from` on and below `below`
 abbrev pub are_indexes : ℕ → ℕ → List ℕ → Bool
 are_indexes from below [] = true

@@ -1,6 +1,6 @@
 // The headers of a file (ITU-T T.81, B.2.1).
 ghost use Rattle.std.specs.Prelude.{◌≡◌, ◌≤◌, ◌<◌, ◌+◌, ◌^◌, length, take, IfOk, IfErr};
-ghost use Rattle.jpeg_marker.specs.AcceptedPlans.{AcceptedHasPlan, NextHasPlan, OneIsLast, OneIsSeveral};
+ghost use Rattle.jpeg_marker.specs.AcceptedPlans.{BegunHasPlan, AcceptedHasPlan, NextHasPlan, OneIsLast, OneIsSeveral, SeveralIsOne};
 ghost use Rattle.jpeg_marker.specs.HeaderPlan.{Begins, Stops, Opens, OpensNot, Accepts, Refuses, AcceptsNext, RefusesNext};
 ghost use Rattle.jpeg_marker.specs.OneHeader.{OneList, OnePlan, OneRefusal, NeverBoth, OneNextPlan, OneNextRefusal, NeverBothNext};
 ghost use Rattle.jpeg_marker.specs.Walks.{walk_from};
@@ -99,13 +99,15 @@ pub fn header_has_one_plan()
 /// than the bytes, and the header alone determines the plan, whatever follows it. In a further header the frame stays,
 /// and the scan has no component that a scan before had.
 pub fn an_accepted_header_has_a_plan()
+    ensures any { BegunHasPlan }
     ensures first { AcceptedHasPlan }
     ensures next { NextHasPlan }
 {}
 
 /// The header of a file of one scan is a first header of a file that may have several, and says the same. Its scan is
-/// the last.
+/// the last; and a first header whose scan is the last is that of a file of one scan.
 pub fn one_scan_is_the_last()
     ensures last { OneIsLast }
     ensures several { OneIsSeveral }
+    ensures back { SeveralIsOne }
 {}

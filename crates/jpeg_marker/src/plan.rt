@@ -41,9 +41,9 @@ impl Model for Plan {
 }
 
 impl Plan {
-    ghost use Rattle.std.specs.Prelude.{◌≡◌, ◌↔◌, ◌≤◌, ◌+◌, ◌-◌, ◌*◌, ◌++◌, length, take, map, replicate, IsSome, IfSome};
+    ghost use Rattle.std.specs.Prelude.{◌≡◌, ◌↔◌, ◌<◌, ◌≤◌, ◌^◌, ◌+◌, ◌-◌, ◌*◌, ◌++◌, length, take, map, replicate, IsSome, IfSome};
     ghost use Rattle.jpeg_marker.specs.Frames.{IsFrame};
-    ghost use Rattle.jpeg_marker.specs.Plans.{IsPlan, IsChoice, parts_at, part_of, plan_with, most_blocks, blocks_of, are_all_coded};
+    ghost use Rattle.jpeg_marker.specs.Plans.{IsPlan, IsChoice, parts_at, part_of, plan_at, plan_with, most_blocks, blocks_of, are_all_coded};
     ghost use Rattle.jpeg_marker.specs.Components.{no_component};
 
     /// The plan of a scan of these components of the frame, after what is known, unless it has too many blocks with
@@ -96,6 +96,16 @@ impl Plan {
         ensures { result.now ≡ self.now.known }
     {
         &self.known
+    }
+
+    /// The same plan of a header that is at `place` of a file, with all bytes before its scan as its header.
+    pub fn at(&self, place: usize) -> Plan
+        requires { place + self.now.header_length < 2 ^ 64 }
+        ensures { result ≡ plan_at place self.now }
+    {
+        let mut plan = *self;
+        plan.header_length += place;
+        plan
     }
 
     /// Whether the scans up to this one had all of the frame's components, so that none follows.
