@@ -9,15 +9,18 @@ use Rattle.std.proofs.Math.Nat.{one-le-mul}
 use Rattle.jpeg_marker.specs.Frames.{area}
 use Rattle.jpeg_marker.specs.Plans.{PlanFields, IsPlan, part_of, blocks_in_mcu}
 use Rattle.jpeg_marker.specs.declared.component.Component.{Component}
-use Rattle.jpeg_marker.specs.AcceptedPlans.{HasTables}
+use Rattle.jpeg_marker.specs.AcceptedPlans.{HasTables, CanScan}
 use Rattle.jpeg_marker.proofs.PlanGrids.{some_block, few_in_mcu}
-use Rattle.jpeg_marker.proofs.HeadersTaken.{accepted_has_plan}
+use Rattle.jpeg_marker.specs.FirstWalks.{only_walk}
+use Rattle.jpeg_marker.specs.HeaderPlan.{Accepts}
+use Rattle.jpeg_marker.proofs.HeadersTaken.{begun_has_plan, none_known}
 use Rattle.jpeg_marker.proofs.Choices.{Rising, rising_is}
 use Rattle.huff_table.proofs.FrameComponents.{index_of}
+use Rattle.bit_list.specs.Bits.{IsByte}
 use Rattle.scan_spec.specs.Slots.{slot_of, slots_of, shape_of}
 use Rattle.scan_spec.specs.ShapeInside.{most_slots}
 use Rattle.scan_spec.specs.ScanLaws.{IsSlot, IsShape}
-use Rattle.scan_spec.specs.FileLaws.{AcceptedIsShape}
+use Rattle.scan_spec.specs.FileLaws.{BegunIsShape}
 use Rattle.scan_spec.specs.declared.slot.Slot.{Slot}
 
 slot_is : (c : Component) → c.index < 4 → HasTables c → IsSlot (slot_of c)
@@ -73,7 +76,15 @@ shape_is plan is tables =
       omega (arith, count, few_in_mcu (map part_of plan.components) is.components),
     )
 
-pub accepted_is_shape : AcceptedIsShape
-accepted_is_shape bytes plan all is =
-    let has = accepted_has_plan bytes plan all is in
+-- of a plan whose scan can follow its header
+pub can_be_shape : (bytes : List ℕ) (plan : PlanFields) → CanScan bytes plan → IsShape (shape_of plan) × (length (shape_of plan).slots ≤ most_slots)
+can_be_shape bytes plan can = shape_is plan can.is_plan can.tables
+
+pub begun_is_shape : BegunIsShape
+begun_is_shape w bytes plan all known is =
+    let has = begun_has_plan w bytes plan all known is in
     shape_is plan has.is_plan has.tables
+
+-- the same of a file of one scan
+pub accepted_is_shape : (bytes : List ℕ) (plan : PlanFields) → AllByRecursion IsByte bytes → Accepts bytes plan → IsShape (shape_of plan) × (length (shape_of plan).slots ≤ most_slots)
+accepted_is_shape bytes plan all is = begun_is_shape only_walk bytes plan all none_known is

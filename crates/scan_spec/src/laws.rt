@@ -8,7 +8,7 @@ ghost use Rattle.scan_spec.specs.BlockRows.{rows};
 ghost use Rattle.scan_spec.specs.PadRows.{listed, summed, spelled};
 ghost use Rattle.scan_spec.specs.ScanRows.{written, put, done, read, sampled, stuck};
 ghost use Rattle.scan_spec.specs.ScanLaws.{IsPutInParts, IsBlockSpelled, IsBlockReadAgain, AreBlocksSpelled, AreBlocksReadAgain, IsMcuSpelled, IsMcuReadAgain, IsSpelled, IsReadAgain, IsSummed, OneScan, IsRefusalOfItems, IsEndOfItems, OneOutcome, IsLongest, IsPutWhole, IsDoneWhole, IsDoneInParts, IsDoneInOrder, ZigzagDetermines, IsSetInZigzag, TextsAreShort};
-ghost use Rattle.scan_spec.specs.FileLaws.{AcceptedIsShape, OneFile};
+ghost use Rattle.scan_spec.specs.FileLaws.{BegunIsShape, OneScanOf, OneFile, OneIsAll};
 ghost use Rattle.scan_spec.specs.declared.slot.Slot.{Slot};
 
 /// EXTEND turns additional bits back into their value, and a value's bits are those that it is read from (Figure F.12).
@@ -98,9 +98,11 @@ pub fn scans_are_text()
     ensures one { OneScan }
 {}
 
-/// A file determines its header's plan, its MCUs, the pad bit of each of its intervals and what follows the scan. An
-/// accepted header gives the shape of a scan.
+/// A file determines its scans: of each its header's plan, its MCUs and the pad bit of each of its intervals; and what
+/// follows them. An accepted header gives the shape of a scan. A file of one scan is one of a list of one.
 pub fn a_file_has_one_reading()
-    ensures shape { AcceptedIsShape }
+    ensures shape { BegunIsShape }
+    ensures scan { OneScanOf }
     ensures one { OneFile }
+    ensures all { OneIsAll }
 {}
