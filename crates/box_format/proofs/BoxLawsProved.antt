@@ -52,7 +52,7 @@ some_if cut some = by_case (nat_lt cut.from cut.to) some where
   by_case true some = let h = some refl in ne_eqb cut.segments 0 (λ e. omega arith)
   by_case false some = refl
 
-not_wrong : (most : ℕ) (cut : Cut) → IsCut cut → cut.segments ≤ most → are_wrong most cut ≡ false
+pub not_wrong : (most : ℕ) (cut : Cut) → IsCut cut → cut.segments ≤ most → are_wrong most cut ≡ false
 not_wrong most cut is few =
     or_from (nat_lt most cut.segments)
     ((not (nat_lt cut.to cut.from) && nat_lt (cut.to - cut.from) cut.segments)
@@ -366,6 +366,7 @@ migrated_is plan b whole is =
     let more = most_more b.version in
     let few = is.few in
     record {
+      known = is.known;
       header = is.header;
       whole = is.whole;
       few = omega (arith, more, few);

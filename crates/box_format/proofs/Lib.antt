@@ -10,6 +10,7 @@ pub mod ByteParts
 pub mod PartedLists
 pub mod Places
 pub mod PassedBox
+pub mod Sliced
 pub mod Spelled
 pub mod Written
 pub mod BoxLawsProved

@@ -4,16 +4,15 @@ use Rattle.jpeg_marker.specs.Plans.{PlanFields}
 use Rattle.std.specs.Prelude.{Option, Some, None, is_some}
 use Rattle.scan_spec.specs.Slots.{Shape, shape_of}
 use Rattle.scan_spec.specs.Pads.{PadBits, Same, Listed}
-use Rattle.box_format.specs.Versions.{layout_of, version_in}
-use Rattle.box_format.specs.Parts.{BoxParts, IsBox, box_bytes, can_pad, migrated, relaid}
-use Rattle.box_format.specs.BoxChecks.{PassesChecks}
+use Rattle.box_format.specs.Versions.{decoded, layout_of, version_in}
+use Rattle.box_format.specs.Parts.{BoxParts, IsBox, IsBoxOf, box_bytes, can_pad, migrated, relaid}
 use Rattle.box_format.specs.BoxLaws.{RelaidIsMigrated, SecondStays}
 use Rattle.box_format.specs.declared.chunk.Chunk.{Chunk}
 use Rattle.box_format.specs.declared.version.Version.{Version}
 use Rattle.box_format.specs.declared.version.Version.TheVariants.{First, Second, Third, Fifth}
 use Rattle.box_format.proofs.Fronts.{front_low}
 use Rattle.box_format.proofs.Passed.{early_of}
-use Rattle.box_format.proofs.BoxLawsProved.{parts_same}
+use Rattle.box_format.proofs.BoxLawsProved.{all_read, box_passes, parts_same}
 use Rattle.box_format.proofs.Written.{after_fields, nested, nested_is}
 
 same_parts : (b : BoxParts) (v : Version) (places : Option (List ℕ)) → b.version ≡ v
@@ -64,9 +63,11 @@ migrated_stays plan b is second =
     sym (same_parts b Second None second none)
 
 -- there are all bytes up to the pad list's length
-pub front_there : (versions : List Version) (plan : PlanFields) (bytes : List ℕ)
-    → PassesChecks versions plan bytes → 15 ≤ length bytes
-front_there versions plan bytes passes =
-    let long = (early_of versions bytes passes.early).whole.fields in
-    let low = front_low (version_in bytes) in
-    omega (arith, long, low)
+pub front_there : (plan : PlanFields) (b : BoxParts) (bytes : List ℕ) → IsBoxOf plan b bytes
+    → 15 ≤ length bytes
+front_there plan b bytes is =
+    let passes = (box_passes decoded plan b (all_read b.version) is.box).0 in
+    let long = (early_of decoded (box_bytes b) passes.early).whole.fields in
+    let low = front_low (version_in (box_bytes b)) in
+    let same = ap length is.text in
+    omega (arith, long, low, same)

@@ -8,7 +8,7 @@ use Rattle.byteorder.specs.Endian.{big_bytes, big_number}
 use Rattle.bit_list.specs.Bits.{IsByte}
 use Rattle.jpeg_marker.specs.Plans.{PlanFields}
 use Rattle.jpeg_marker.specs.HeaderPlan.{Accepts}
-use Rattle.jpeg_marker.proofs.HeadersTaken.{accepted_has_plan}
+use Rattle.jpeg_marker.proofs.HeadersTaken.{accepted_has_plan, none_known}
 use Rattle.scan_spec.specs.Slots.{shape_of}
 use Rattle.handover.specs.Handovers.{HandoverFields, IsHandover}
 use Rattle.cut_spec.specs.Cuts.{Cut}
@@ -118,7 +118,7 @@ in_grid plan header trailer None n is = omega arith
 in_grid plan header trailer (Some c) n is = is.within
 
 -- what holds of lengths
-all_lengths : (P : ℕ → Type 0) (streams : List (List ℕ))
+pub all_lengths : (P : ℕ → Type 0) (streams : List (List ℕ))
     → AllByRecursion P (map (λ (s : List ℕ). length s) streams)
     → AllByRecursion (λ (s : List ℕ). P (length s)) streams
 all_lengths P [] h = tt
@@ -328,6 +328,7 @@ module _ (versions : List Version) (plan : PlanFields) (bytes : List ℕ)
         let small_too = four_small (drop 11 bytes) (all_drop IsByte 11 bytes are) in
         let long_too = trailer_is bytes early.whole in
         record {
+          known = none_known;
           header = accepts;
           whole = omega arith;
           few = omega arith;

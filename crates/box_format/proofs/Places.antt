@@ -36,7 +36,7 @@ pub ended_last : (f : ℕ → ℕ) (n end : ℕ) → slice_index (ended f n end)
 ended_last f n end = get_or_at (map f (numbers 0 n)) end [] 0 n (length_values f 0 n)
 
 -- one of them
-ended_any : (f : ℕ → ℕ) (n end i : ℕ) → i ≤ n
+pub ended_any : (f : ℕ → ℕ) (n end i : ℕ) → i ≤ n
     → slice_index (ended f n end) i ≡ (if nat_lt i n then f i else end)
 ended_any f n end i within = by_case (nat_lt i n) refl where
   by_case : (b : Bool) → nat_lt i n ≡ b → slice_index (ended f n end) i ≡ (if b then f i else end)
@@ -126,13 +126,14 @@ pub one_listed : (bytes : List ℕ) (i : ℕ) → i ≤ segments_in bytes
     ≡ (if nat_lt i (segments_in bytes) then place_in bytes i else scan_end bytes)
 one_listed bytes i within = ended_any (place_in bytes) (segments_in bytes) (scan_end bytes) i within
 
+pub kept : (placed : Bool) (ps : List ℕ) → placed ≡ true
+    → (if placed then Some ps else None) ≡ Some ps
+kept true ps e = refl
+kept false ps e = cc
+
 pub places_kept : (bytes : List ℕ) → (layout_of (version_in bytes)).placed ≡ true
     → places_in bytes ≡ Some (listed_in bytes)
-places_kept bytes placed = kept (layout_of (version_in bytes)).placed (listed_in bytes) placed where
-  kept : (placed : Bool) (ps : List ℕ) → placed ≡ true
-      → (if placed then Some ps else None) ≡ Some ps
-  kept true ps e = refl
-  kept false ps e = cc
+places_kept bytes placed = kept (layout_of (version_in bytes)).placed (listed_in bytes) placed
 
 pub places_there : (bytes : List ℕ) (v : Version)
     → is_some (places_at v bytes) ≡ (layout_of v).placed

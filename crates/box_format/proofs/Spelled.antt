@@ -86,7 +86,7 @@ handover_spelled bytes i are long =
     (all_drop IsByte (record_place bytes i) bytes are)))
 
 -- which is one that a segment can start from
-is_handover_in : (bytes : List ℕ) → AllByRecursion IsByte bytes
+pub is_handover_in : (bytes : List ℕ) → AllByRecursion IsByte bytes
     → is_handover (handover_in bytes) ≡ true → IsHandover (handover_in bytes)
 unfolding handover_in
 is_handover_in bytes are e = handover_of_test (handover_in bytes) e refl (all_at bytes are 0)

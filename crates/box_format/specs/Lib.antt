@@ -1,6 +1,7 @@
 pub mod Versions
 pub mod Parts
 pub mod Raws
+pub mod Slices
 pub mod BoxChecks
 pub mod Whole
 pub mod BoxLaws

@@ -5,7 +5,10 @@ use Rattle.byteorder.specs.Endian.{big_bytes}
 use Rattle.byte_window.specs.Slices.{Cover, slice}
 use Rattle.bit_list.specs.Bits.{IsByte, bits_of}
 use Rattle.jpeg_marker.specs.Plans.{PlanFields}
-use Rattle.jpeg_marker.specs.HeaderPlan.{Accepts}
+use Rattle.jpeg_marker.specs.AcceptedPlans.{AreKnown}
+use Rattle.jpeg_marker.specs.FirstWalks.{only_walk}
+use Rattle.jpeg_marker.specs.HeaderPlan.{Begins}
+use Rattle.jpeg_marker.specs.Walks.{Walk}
 use Rattle.scan_spec.specs.Pads.{PadBits, Same, Listed, interval_count, list_room}
 use Rattle.scan_spec.specs.Slots.{Shape, shape_of}
 use Rattle.handover.specs.Handovers.{HandoverFields, IsHandover}
@@ -175,9 +178,10 @@ abbrev pub can_pad : Bool → Shape → PadBits → Bool
 can_pad listed shape (Same pad) = true
 can_pad listed shape (Listed bytes) = listed && is_list shape bytes
 
--- the parts of a container whose header has this plan
-pub record IsBox (plan : PlanFields) (b : BoxParts) : Type 0 where
-  pub header : Accepts b.header plan
+-- the parts of a container, or of a scan in one of several, whose header is one that a walk passes and has this plan
+pub record IsBoxIn (w : Walk) (plan : PlanFields) (b : BoxParts) : Type 0 where
+  pub known : AreKnown w.known
+  pub header : Begins w b.header plan
   pub whole : plan.header_length ≡ length b.header
   pub few : length b.handovers ≤ (layout_of b.version).most
   pub cut : IsCut (box_cut plan b.chunk (length b.handovers))
@@ -198,6 +202,14 @@ pub record IsBox (plan : PlanFields) (b : BoxParts) : Type 0 where
   pub header_bytes : AllByRecursion IsByte b.header
   pub trailer_bytes : AllByRecursion IsByte b.trailer
   pub stream_bytes : AllByRecursion (AllByRecursion IsByte) b.streams
+
+-- the parts of a container of one scan
+abbrev pub IsBox : PlanFields → BoxParts → Type 0
+IsBox plan b = IsBoxIn only_walk plan b
+
+-- the parts of a scan in a container, whatever comes before its header
+abbrev pub IsScanBox : PlanFields → BoxParts → Type 0
+IsScanBox plan b = (w : Walk) × IsBoxIn w plan b
 
 -- the bytes are the container of these parts
 pub record IsBoxOf (plan : PlanFields) (b : BoxParts) (bytes : List ℕ) : Type 0 where

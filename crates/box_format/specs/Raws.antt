@@ -68,9 +68,21 @@ chunk_in bytes =
       to = big_number 4 (drop 47 bytes);
     }) else None
 
+-- the handover fields in the record at a place
+abbrev pub handover_from : List ℕ → ℕ → HandoverFields
+handover_from bytes place = handover_in (take 14 (drop place bytes))
+
+-- the length of the stream there
+abbrev pub length_from : List ℕ → ℕ → ℕ
+length_from bytes place = big_number 8 (drop (place + 14) bytes)
+
+-- and the place of the segment's first byte, in a version that has places
+abbrev pub place_from : List ℕ → ℕ → ℕ
+place_from bytes place = big_number 8 (drop (place + 22) bytes)
+
 -- the length of a segment's stream
 abbrev pub stream_length : List ℕ → ℕ → ℕ
-stream_length bytes i = big_number 8 (drop (record_place bytes i + 14) bytes)
+stream_length bytes i = length_from bytes (record_place bytes i)
 
 -- the lengths of all streams
 abbrev pub stream_lengths : List ℕ → List ℕ
@@ -78,7 +90,7 @@ stream_lengths bytes = map (stream_length bytes) (numbers 0 (segments_in bytes))
 
 -- the place of a segment's first byte, in a version that has places
 abbrev pub place_in : List ℕ → ℕ → ℕ
-place_in bytes i = big_number 8 (drop (record_place bytes i + 22) bytes)
+place_in bytes i = place_from bytes (record_place bytes i)
 
 -- and that of the scan's end
 abbrev pub scan_end : List ℕ → ℕ
@@ -116,9 +128,9 @@ abbrev pub parted : List ℕ → List ℕ → List (List ℕ)
 parted [] bytes = []
 parted (n ∷ lengths) bytes = take n bytes ∷ parted lengths (drop n bytes)
 
--- the handover fields in a record
+-- the handover fields in the record of segment i
 abbrev pub handover_at : List ℕ → ℕ → HandoverFields
-handover_at bytes i = handover_in (take 14 (drop (record_place bytes i) bytes))
+handover_at bytes i = handover_from bytes (record_place bytes i)
 
 -- the fields
 unfoldable pub raw_of : List ℕ → Raw

@@ -1,13 +1,11 @@
 -- View: what contracts see of a container that was read, and what one is written from (own).
 use Rattle.std.specs.Prelude.{ℕ, ◌+◌, List, length, map, sum, Option, Some, None, option_map}
-use Rattle.std.specs.List.{AllByRecursion}
-use Rattle.bit_list.specs.Bits.{IsByte}
 use Rattle.jpeg_marker.specs.Plans.{PlanFields}
 use Rattle.scan_spec.specs.Pads.{pads_given}
-use Rattle.box_format.specs.Versions.{layout_of, decoded}
-use Rattle.box_format.specs.Parts.{BoxParts, list_bytes}
-use Rattle.box_format.specs.Raws.{raw_of, parts_of}
-use Rattle.box_format.specs.BoxChecks.{PassesChecks}
+use Rattle.box_format.specs.Versions.{layout_of}
+use Rattle.box_format.specs.Parts.{BoxParts, IsScanBox, list_bytes}
+use Rattle.box_format.specs.Raws.{parted, pads_in}
+use Rattle.box_format.specs.Slices.{handovers_in, lengths_in, places_with, HasSegments}
 use Rattle.box_format.specs.declared.chunk.Chunk.{Chunk}
 use Rattle.box_format.specs.declared.view.BoxView.TheInside.{Inside}
 use Rattle.box_format.specs.declared.parts.Parts.{Parts}
@@ -19,14 +17,26 @@ pub record BoxSeen : Type 0 where
   pub plan : PlanFields
   pub parts : BoxParts
 
--- those of the bytes
+-- those of the slices
 abbrev pub seen_of : Inside → BoxSeen
-seen_of v = record { plan = v.plan; parts = parts_of (raw_of v.bytes.now) }
+seen_of v = record {
+  plan = v.plan;
+  parts = record {
+    version = v.version;
+    chunk = v.chunk;
+    places = places_with v.version v.segments v.records.now v.end;
+    pads = pads_in v.pad v.list.now;
+    header = v.header.now;
+    trailer = v.trailer.now;
+    handovers = handovers_in v.version v.segments v.records.now;
+    streams = parted (lengths_in v.version v.segments v.records.now) v.streams.now;
+  };
+}
 
--- the bytes are a container with this plan
+-- they are the parts of a scan with this plan
 pub record IsView (v : Inside) : Type 0 where
-  pub checks : PassesChecks decoded v.plan v.bytes.now
-  pub bytes : AllByRecursion IsByte v.bytes.now
+  pub scan : IsScanBox v.plan (seen_of v).parts
+  pub whole : HasSegments v.version v.segments v.records.now v.streams.now
 
 -- the version that is written: the third one for a chunk, the fifth one with places, else the second one
 abbrev pub version_for : Option Chunk → Option (List ℕ) → Version

@@ -2,10 +2,10 @@
 ghost use Rattle.std.specs.Prelude.{◌≡◌, ◌&&◌, ◌+◌, ◌++◌, ◌∷◌, [], ◌==◌, ◌<◌, ◌≤◌, ◌^◌, bytes_eq, length, map, nat_lt, not, slice_index, take, true};
 ghost use Rattle.box_format.specs.BoxChecks.{are_bad_places, are_wrong, early_fault, is_bad_chunk, is_cut, late_fault, where_failed};
 ghost use Rattle.box_format.specs.Versions.{is_version, layout_of, version_in};
-ghost use Rattle.box_format.specs.Parts.{are_rising, header_part, magic};
+ghost use Rattle.box_format.specs.Parts.{are_rising, box_cut, header_part, magic};
 ghost use Rattle.box_format.specs.Raws.{header_length, named_end, numbers, place_in, places_in, raw_of, scan_end, segments_in};
 ghost use Rattle.box_format.specs.declared.refusal.BoxRefusal.TheVariants.{BoxLong};
-ghost use Rattle.box_format.specs.Whole.{IsWhole, field_fault, record_fault, rows_cut};
+ghost use Rattle.box_format.specs.Whole.{IsWhole, field_fault, record_fault};
 
 use crate::chunk::{Chunk, rows_of};
 use crate::fields::{
@@ -19,7 +19,7 @@ use crate::version::Version;
 use jpeg_marker::Plan;
 
 /// The bytes that a container begins with.
-pub(crate) const MAGIC: [u8; 4] = [0x4c, 0x50, 0x53, 0x47];
+pub const MAGIC: [u8; 4] = [0x4c, 0x50, 0x53, 0x47];
 
 /// The first check before the header's that fails, where these versions are read.
 #[tactic(auto, unfolding(crate::specs::BoxChecks::early_fault))]
@@ -37,8 +37,8 @@ pub(crate) fn early_fault(bytes: &[u8], versions: &[Version]) -> Option<BoxRefus
     }
 }
 
-// Whether the bytes begin with `LPSG`.
-fn has_magic(bytes: &[u8]) -> bool
+/// Whether the bytes begin with `LPSG`.
+pub fn has_magic(bytes: &[u8]) -> bool
     ensures { result ≡ bytes_eq (take 4 bytes.now) magic }
 {
     bytes.starts_with(&MAGIC)
@@ -86,7 +86,7 @@ fn field_fault(bytes: &[u8], plan: &Plan) -> Option<BoxRefusal>
     let place = plan.header_length();
     if place < header_length(bytes) as usize {
         Some(BoxRefusal::HeaderLong { place })
-    } else if are_wrong(bytes, plan) {
+    } else if are_wrong(plan, chunk_in(bytes), version, segments_in(bytes)) {
         Some(BoxRefusal::BoxSegments)
     } else if is_bad_chunk(
         plan.down(),
@@ -102,15 +102,13 @@ fn field_fault(bytes: &[u8], plan: &Plan) -> Option<BoxRefusal>
     }
 }
 
-// Whether there can't be so many segments.
-fn are_wrong(bytes: &[u8], plan: &Plan) -> bool
-    requires { IsWhole bytes.now }
-    ensures { result
-        ≡ are_wrong (layout_of (version_in bytes.now)).most (rows_cut plan.now bytes.now) }
+/// Whether a scan can't have this number of segments in a container of this version: it is more than the version has or
+/// than rows, or 0 though there are rows.
+pub fn are_wrong(plan: &Plan, chunk: Option<Chunk>, version: Version, segments: u8) -> bool
+    ensures { result ≡ are_wrong (layout_of version).most (box_cut plan.now chunk segments) }
 {
-    let segments = segments_in(bytes);
-    let (from, to) = rows_of(plan, chunk_in(bytes));
-    segments > version_in(bytes).most_segments()
+    let (from, to) = rows_of(plan, chunk);
+    segments > version.most_segments()
         || (to >= from && u32::from(segments) > to - from)
         || (to > from && segments == 0)
 }

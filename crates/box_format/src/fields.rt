@@ -1,16 +1,17 @@
 // The numbers that a container's fields have, and where its parts start.
 ghost use Rattle.std.specs.Prelude.{◌≡◌, ◌+◌, ◌*◌, ◌^◌, ◌<◌, ◌≤◌, if◌then◌else◌, true, nat_lt, length, take, drop, map, sum, slice_index};
 ghost use Rattle.byteorder.specs.Endian.{big_number};
-ghost use Rattle.box_format.specs.Raws.{chunk_in, front_room, header_length, header_place, list_long, list_place, named_end, numbers, place_in, record_place, scan_end, segments_in, stream_length, streams_place, trailer_length, trailer_place};
+ghost use Rattle.box_format.specs.Raws.{chunk_in, front_room, header_length, header_place, list_long, list_place, named_end, numbers, place_in, record_place, record_room, scan_end, segments_in, stream_length, streams_place, trailer_length, trailer_place};
 ghost use Rattle.box_format.specs.Versions.{layout_of, version_in};
 ghost use Rattle.box_format.specs.Whole.{IsWhole, header_in, list_in, trailer_in};
 
 use crate::chunk::Chunk;
+use crate::records::{length_at, place_among, place_at};
 use crate::version::Version;
 use byteorder::{BigEndian, ByteOrder};
 
 /// The byte at a place, 0 where it is missing.
-pub(crate) fn byte_in(bytes: &[u8], place: usize) -> u8
+pub fn byte_in(bytes: &[u8], place: usize) -> u8
     ensures { result ≡ slice_index bytes.now place }
 {
     match bytes.get(place) {
@@ -122,7 +123,7 @@ fn segment_place(bytes: &[u8], segment: u8) -> u64
     requires segment { segment < segments_in bytes.now }
     ensures { result ≡ place_in bytes.now segment }
 {
-    BigEndian::read_u64(&bytes[record_place(bytes, segment) + 22..])
+    place_at(bytes, record_place(bytes, segment))
 }
 
 // The place of the scan's end, in a version that has places.
@@ -132,6 +133,18 @@ fn scan_end(bytes: &[u8]) -> u64
     ensures { result ≡ scan_end bytes.now }
 {
     BigEndian::read_u64(&bytes[19..])
+}
+
+/// The place of the scan's end, 0 in a version that has no places.
+pub(crate) fn end_in(bytes: &[u8]) -> u64
+    requires { front_room bytes.now ≤ length bytes.now }
+    ensures { result ≡ (if (layout_of (version_in bytes.now)).placed then scan_end bytes.now else 0) }
+{
+    if version_in(bytes).is_placed() {
+        scan_end(bytes)
+    } else {
+        0
+    }
 }
 
 /// Where the header starts.
@@ -149,7 +162,7 @@ pub(crate) fn stream_length(bytes: &[u8], segment: u8) -> u64
     requires segment { segment < segments_in bytes.now }
     ensures { result ≡ stream_length bytes.now segment }
 {
-    BigEndian::read_u64(&bytes[record_place(bytes, segment) + 14..])
+    length_at(bytes, record_place(bytes, segment))
 }
 
 /// Where the stream of a segment starts, and after the last one the end that the fields name. Lengths of 64 bits each
@@ -207,28 +220,24 @@ pub(crate) fn trailer_in(bytes: &[u8]) -> &[u8]
     trailer
 }
 
-/// The stream of a segment.
-pub(crate) fn stream_in(bytes: &[u8], segment: u8) -> &[u8]
-    requires whole { IsWhole bytes.now }
-    requires segment { segment + 1 ≤ segments_in bytes.now }
-    ensures { result.now ≡ take (stream_length bytes.now segment) (drop (streams_place bytes.now
-        + sum (map (stream_length bytes.now) (numbers 0 segment))) bytes.now) }
+/// The records of all segments.
+pub(crate) fn records_in(bytes: &[u8]) -> &[u8]
+    requires { list_place bytes.now ≤ length bytes.now }
+    ensures { result.now ≡ take (record_room bytes.now * segments_in bytes.now)
+        (drop (front_room bytes.now) bytes.now) }
 {
-    let place = stream_place(bytes, segment) as usize;
-    let (_, rest) = bytes.split_at(place);
-    let (stream, _) = rest.split_at(stream_length(bytes, segment) as usize);
-    stream
+    let version = version_in(bytes);
+    let (_, rest) = bytes.split_at(version.front());
+    let (records, _) = rest.split_at(place_among(version, segments_in(bytes)));
+    records
 }
 
-/// The record of a segment without the length of its stream and its place.
-pub(crate) fn record_in(bytes: &[u8], segment: u8) -> [u8; 14]
-    requires fields { list_place bytes.now ≤ length bytes.now }
-    requires segment { segment < segments_in bytes.now }
-    ensures { result ≡ take 14 (drop (record_place bytes.now segment) bytes.now) }
+/// What follows the trailer.
+pub(crate) fn streams_in(bytes: &[u8]) -> &[u8]
+    requires { IsWhole bytes.now }
+    ensures { result.now ≡ drop (streams_place bytes.now) bytes.now }
 {
-    let mut record = [0; 14];
-    let (_, rest) = bytes.split_at(record_place(bytes, segment));
-    let (first, _) = rest.split_at(14);
-    record.copy_from_slice(first);
-    record
+    let place = header_place(bytes) + header_length(bytes) as usize;
+    let (_, streams) = bytes.split_at(place + trailer_length(bytes) as usize);
+    streams
 }

@@ -23,17 +23,18 @@ pub fn migrate(alloc: Global, bytes: &[u8]) -> Result<Vec<u8>, Migrate>
         → IsRefusedBy migratable bytes.now refusal }
 {
     let view = read_box_of(bytes, &MIGRATABLE)?;
-    Ok(migrated(alloc, &view)?)
+    Ok(migrated(alloc, &view, bytes)?)
 }
 
 // The bytes of a container, in version 2.
-fn migrated(alloc: Global, view: &BoxView) -> Result<Vec<u8>, NoMemory>
-    requires { IsRead migratable view.now.parts.version }
+fn migrated(alloc: Global, view: &BoxView, bytes: &[u8]) -> Result<Vec<u8>, NoMemory>
+    requires read { IsRead migratable view.now.parts.version }
+    requires text { IsBoxOf view.now.plan view.now.parts bytes.now }
     ensures { IfOk result (λ made. made.items ≡ box_bytes (migrated view.now.parts)) }
 {
     match view.version() {
-        Version::First => relaid(alloc, view.bytes),
-        Version::Second => from_slice(alloc, view.bytes),
+        Version::First => relaid(alloc, bytes),
+        Version::Second => from_slice(alloc, bytes),
         Version::Third | Version::Fifth => unreachable!(),
     }
 }

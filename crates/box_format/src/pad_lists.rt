@@ -10,7 +10,7 @@ ghost use Rattle.box_format.specs.Parts.{is_list};
 use jpeg_marker::Plan;
 
 /// Whether a version that has lists, or none, can't say a pad byte with this list.
-pub(crate) fn is_bad_pad(listed: bool, plan: &Plan, pad: u8, list: &[u8]) -> bool
+pub fn is_bad_pad(listed: bool, plan: &Plan, pad: u8, list: &[u8]) -> bool
     ensures { result ≡ is_bad_pad listed (shape_of plan.now) pad list.now }
 {
     if listed && pad == 2 {

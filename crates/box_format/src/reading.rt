@@ -36,5 +36,5 @@ pub fn read_box_of<'a>(bytes: &'a [u8], versions: &[Version]) -> Result<BoxView<
     if let Some(refusal) = late_fault(bytes, &plan) {
         return Err(refusal);
     }
-    Ok(BoxView { bytes, plan })
+    Ok(BoxView::of_bytes(bytes, &plan))
 }

@@ -1,44 +1,64 @@
 // Whether a segment can start from what its record has.
-ghost use Rattle.std.specs.Prelude.{◌≡◌, ◌<◌, ◌≤◌, ◌==◌, ◌^◌, length, true, unsigned_abs};
+ghost use Rattle.std.specs.Prelude.{◌≡◌, ◌+◌, ◌<◌, ◌≤◌, ◌==◌, ◌^◌, length, true, unsigned_abs, IfSome};
 ghost use Rattle.std.specs.List.{list_all};
 ghost use Rattle.handover.specs.HandoverBytes.{is_handover};
 ghost use Rattle.scan_spec.specs.Slots.{shape_of};
 ghost use Rattle.cut_spec.specs.Cuts.{first_mcu};
 ghost use Rattle.cut_spec.specs.RowHandovers.{markers_before};
 ghost use Rattle.box_format.specs.Parts.{bad_start, box_cut, can_start, is_start};
-ghost use Rattle.box_format.specs.Raws.{handover_at, list_place, segments_in};
-ghost use Rattle.box_format.specs.Whole.{bad_segment, are_unused_zeros, rows_cut};
+ghost use Rattle.box_format.specs.Raws.{handover_from, list_place};
+ghost use Rattle.box_format.specs.Slices.{handovers_in, place_among};
+ghost use Rattle.box_format.specs.Whole.{bad_segment, are_unused_zeros};
 
 use crate::chunk::{Chunk, rows_of};
-use crate::fields::{chunk_in, record_in, segments_in};
+use crate::fields::{chunk_in, records_in, segments_in, version_in};
+use crate::records::{place_among, record_at};
+use crate::version::Version;
 use handover::Handover;
 use jpeg_marker::Plan;
 
-/// The first segment that can't start from its record.
+/// The first segment of a container that can't start from its record.
 pub(crate) fn bad_segment(bytes: &[u8], plan: &Plan) -> Option<u8>
     requires { list_place bytes.now ≤ length bytes.now }
     ensures { result ≡ bad_segment plan.now bytes.now }
 {
-    let segments = segments_in(bytes);
+    first_bad_segment(
+        plan,
+        chunk_in(bytes),
+        version_in(bytes),
+        segments_in(bytes),
+        records_in(bytes),
+    )
+}
+
+/// The first segment of a scan that can't start from its record, by the records of its segments.
+pub fn first_bad_segment(
+    plan: &Plan,
+    chunk: Option<Chunk>,
+    version: Version,
+    segments: u8,
+    records: &[u8],
+) -> Option<u8>
+    requires { place_among version segments ≤ length records.now }
+    ensures value { result ≡ bad_start (shape_of plan.now) (box_cut plan.now chunk segments) 0
+        (handovers_in version segments records.now) }
+    ensures within { IfSome result (λ segment. segment < segments) }
+{
     for i in 0..segments {
-        if !can_start_at(bytes, plan, i) {
+        let count = first_mcu(plan, chunk, i, segments);
+        if !can_start_at(plan, count, records, place_among(version, i)) {
             return Some(i);
         }
     }
     None
 }
 
-// Whether a segment can start from its record.
-fn can_start_at(bytes: &[u8], plan: &Plan, segment: u8) -> bool
-    requires fields { list_place bytes.now ≤ length bytes.now }
-    requires segment { segment < segments_in bytes.now }
-    ensures { result
-        ≡ can_start (shape_of plan.now)
-        (first_mcu (rows_cut plan.now bytes.now) segment)
-        (handover_at bytes.now segment) }
+// Whether a segment after `count` MCUs can start from the record at a place.
+fn can_start_at(plan: &Plan, count: u64, records: &[u8], place: usize) -> bool
+    requires { place + 14 ≤ length records.now }
+    ensures { result ≡ can_start (shape_of plan.now) count (handover_from records.now place) }
 {
-    let count = first_mcu(plan, chunk_in(bytes), segment, segments_in(bytes));
-    match Handover::from_bytes(&record_in(bytes, segment)) {
+    match Handover::from_bytes(&record_at(records, place)) {
         Some(handover) => can_start(plan, count, &handover),
         None => false,
     }

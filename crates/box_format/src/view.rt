@@ -1,29 +1,48 @@
-// A container that was read.
+// A scan's part of a container that was read.
 ghost use Rattle.std.specs.Prelude.{◌≡◌, ◌≤◌, ◌<◌, ◌^◌, length, get_or, [], true, option_map, slice_index, IfSome, IfNone, Some};
 ghost use Rattle.handover.specs.Handovers.{start};
 ghost use Rattle.scan_spec.specs.Pads.{is_long_for, pads_given};
 ghost use Rattle.scan_spec.specs.Slots.{shape_of};
-ghost use Rattle.box_format.specs.Parts.{IsBox, file_end, list_bytes};
-ghost use Rattle.box_format.specs.Versions.{layout_of, most_segments};
+ghost use Rattle.box_format.specs.BoxChecks.{PassesChecks};
+ghost use Rattle.box_format.specs.Parts.{IsScanBox, file_end, list_bytes};
+ghost use Rattle.box_format.specs.Raws.{parts_of, raw_of};
+ghost use Rattle.box_format.specs.Slices.{HasSegments, scan_parts};
+ghost use Rattle.box_format.specs.Versions.{decoded, layout_of, most_segments};
+ghost use Rattle.box_format.specs.declared.version.Version.TheVariants.{Second};
 
 use crate::chunk::Chunk;
 use crate::fields::{
-    byte_in, chunk_in, header_in, list_in, place_in, record_in, segments_in, stream_in, trailer_in,
+    byte_in, chunk_in, end_in, header_in, list_in, records_in, segments_in, streams_in, trailer_in,
     version_in,
 };
+use crate::records::{place_among, place_at, record_at, stream_among};
 use crate::version::Version;
 use handover::Handover;
 use jpeg_marker::Plan;
 use scan_spec::Pads;
 use std::marker::Model;
 
-/// A container that was read, by its parts, which it borrows.
+/// A scan's part of a container that was read, by its parts, which it borrows: the whole container, or a scan of a
+/// container of several.
 ///
 /// Clauses see the plan of its header, and its parts.
 #[derive(Drop)]
 pub struct BoxView<'a> {
-    pub(crate) bytes: &'a [u8],
-    pub(crate) plan: Plan,
+    plan: Plan,
+    version: Version,
+    chunk: Option<Chunk>,
+    // The pad byte and the pad list.
+    pad: u8,
+    list: &'a [u8],
+    header: &'a [u8],
+    trailer: &'a [u8],
+    segments: u8,
+    // All records of the scan.
+    records: &'a [u8],
+    // The place of the scan's end, in a version that has places; else 0.
+    end: u64,
+    // All streams of the scan, one after another.
+    streams: &'a [u8],
 }
 
 impl<'a> Model for BoxView<'a> {
@@ -36,12 +55,68 @@ impl<'a> Model for BoxView<'a> {
     ghost invariant = { IsView };
 }
 
-#[tactic(auto, unfolding(crate::specs::Raws::raw_of))]
 impl<'a> BoxView<'a> {
+    /// The view of a container of one scan, whose checks pass.
+    pub fn of_bytes(bytes: &'a [u8], plan: &Plan) -> BoxView<'a>
+        requires { PassesChecks decoded plan.now bytes.now }
+        ensures { result ≡ record { plan = plan.now; parts = parts_of (raw_of bytes.now) } }
+    {
+        let version = version_in(bytes);
+        BoxView {
+            plan: *plan,
+            version,
+            chunk: chunk_in(bytes),
+            pad: byte_in(bytes, 5),
+            list: list_in(bytes),
+            header: header_in(bytes),
+            trailer: trailer_in(bytes),
+            segments: segments_in(bytes),
+            records: records_in(bytes),
+            end: end_in(bytes),
+            streams: streams_in(bytes),
+        }
+    }
+
+    /// A scan's part of a container of several, by its slices: the pad byte and the pad list, the header, the trailer,
+    /// a record of 22 bytes for each segment, and the streams, one after another. It has the parts of a container of
+    /// version 2.
+    pub fn of_scan(
+        plan: &Plan,
+        pad: u8,
+        list: &'a [u8],
+        header: &'a [u8],
+        trailer: &'a [u8],
+        segments: u8,
+        records: &'a [u8],
+        streams: &'a [u8],
+    ) -> BoxView<'a>
+        requires scan { IsScanBox plan.now
+            (scan_parts pad list.now header.now trailer.now segments records.now streams.now) }
+        requires whole { HasSegments Second segments records.now streams.now }
+        ensures { result ≡ record {
+          plan = plan.now;
+          parts = scan_parts pad list.now header.now trailer.now segments records.now streams.now;
+        } }
+    {
+        BoxView {
+            plan: *plan,
+            version: Version::Second,
+            chunk: None,
+            pad,
+            list,
+            header,
+            trailer,
+            segments,
+            records,
+            end: 0,
+            streams,
+        }
+    }
+
     /// What the header says.
     pub fn plan(&self) -> &Plan
         ensures value { result.now ≡ self.now.plan }
-        ensures sound { IsBox self.now.plan self.now.parts }
+        ensures sound { IsScanBox self.now.plan self.now.parts }
     {
         &self.plan
     }
@@ -50,14 +125,14 @@ impl<'a> BoxView<'a> {
     pub fn version(&self) -> Version
         ensures { result ≡ self.now.parts.version }
     {
-        version_in(self.bytes)
+        self.version
     }
 
     /// The chunk, if it has a chunk of a file. Its rows are rows of the header's.
     pub fn chunk(&self) -> Option<Chunk>
         ensures { result ≡ self.now.parts.chunk }
     {
-        chunk_in(self.bytes)
+        self.chunk
     }
 
     /// The bits that fill up the last byte of each restart interval.
@@ -66,8 +141,8 @@ impl<'a> BoxView<'a> {
         ensures long { is_long_for (shape_of self.now.plan) (pads_given result) ≡ true }
         ensures fits { length (list_bytes (pads_given result)) < 2 ^ 32 }
     {
-        match byte_in(self.bytes, 5) {
-            2 => Pads::Each(list_in(self.bytes)),
+        match self.pad {
+            2 => Pads::Each(self.list),
             pad => Pads::All(pad != 0),
         }
     }
@@ -78,10 +153,12 @@ impl<'a> BoxView<'a> {
         requires { segment ≤ length self.now.parts.handovers }
         ensures { result ≡ option_map (λ places. slice_index places segment) self.now.parts.places }
     {
-        if version_in(self.bytes).is_placed() {
-            Some(place_in(self.bytes, segment))
-        } else {
+        if !self.version.is_placed() {
             None
+        } else if segment < self.segments {
+            Some(place_at(self.records, place_among(self.version, segment)))
+        } else {
+            Some(self.end)
         }
     }
 
@@ -105,7 +182,7 @@ impl<'a> BoxView<'a> {
         ensures of_version { result ≤ (layout_of self.now.parts.version).most }
         ensures few { result ≤ most_segments }
     {
-        segments_in(self.bytes)
+        self.segments
     }
 
     /// The file's bytes up to its scan.
@@ -113,7 +190,7 @@ impl<'a> BoxView<'a> {
         ensures bytes { result.now ≡ self.now.parts.header }
         ensures fits { length result.now < 2 ^ 32 }
     {
-        header_in(self.bytes)
+        self.header
     }
 
     /// The file's bytes after its scan, or the chunk's part of them.
@@ -121,7 +198,7 @@ impl<'a> BoxView<'a> {
         ensures bytes { result.now ≡ self.now.parts.trailer }
         ensures fits { length result.now < 2 ^ 32 }
     {
-        trailer_in(self.bytes)
+        self.trailer
     }
 
     /// What a segment starts from; the first one has number 0.
@@ -129,7 +206,8 @@ impl<'a> BoxView<'a> {
         requires { segment < length self.now.parts.handovers }
         ensures { result ≡ get_or self.now.parts.handovers segment start }
     {
-        match Handover::from_bytes(&record_in(self.bytes, segment)) {
+        let place = place_among(self.version, segment);
+        match Handover::from_bytes(&record_at(self.records, place)) {
             Some(handover) => handover,
             None => Handover::start(),
         }
@@ -140,6 +218,6 @@ impl<'a> BoxView<'a> {
         requires { segment < length self.now.parts.handovers }
         ensures { result.now ≡ get_or self.now.parts.streams segment [] }
     {
-        stream_in(self.bytes, segment)
+        stream_among(self.version, self.records, self.streams, segment)
     }
 }

@@ -94,7 +94,7 @@ pub(crate) fn put_front(
 }
 
 /// The byte of pad bits.
-pub(crate) fn pad_byte(pads: &Pads) -> u8
+pub fn pad_byte(pads: &Pads) -> u8
     ensures { result ≡ pad_byte (pads_given pads.now) }
 {
     match *pads {
@@ -105,7 +105,7 @@ pub(crate) fn pad_byte(pads: &Pads) -> u8
 }
 
 /// The pad list, if there is one.
-pub(crate) fn list_of<'a>(pads: &Pads<'a>) -> &'a [u8]
+pub fn list_of<'a>(pads: &Pads<'a>) -> &'a [u8]
     ensures { result.now ≡ list_bytes (pads_given pads.now) }
 {
     match *pads {
@@ -173,8 +173,8 @@ pub(crate) fn put_place_field(bytes: &mut Vec<u8>, places: &[u64], i: usize) -> 
     extend_from_slice(bytes, &places[i].to_be_bytes())
 }
 
-// A record for each segment.
-fn put_records(bytes: &mut Vec<u8>, parts: &Parts) -> Result<(), NoMemory>
+/// Appends a record for each segment.
+pub fn put_records(bytes: &mut Vec<u8>, parts: &Parts) -> Result<(), NoMemory>
     requires streams { length parts.now.handovers.now ≡ length parts.now.streams.now }
     requires places { IfSome (parts_given parts.now).places
         (λ places. length parts.now.handovers.now ≤ length places) }
@@ -203,8 +203,8 @@ pub(crate) fn put_record(
     Ok(())
 }
 
-// The streams, one after another.
-fn put_streams(bytes: &mut Vec<u8>, streams: &[Vec<u8>]) -> Result<(), NoMemory>
+/// Appends the streams, one after another.
+pub fn put_streams(bytes: &mut Vec<u8>, streams: &[Vec<u8>]) -> Result<(), NoMemory>
     ensures { OnOk result (bytes.new.items
         ≡ bytes.old.items ++ flat_map (λ stream. stream) (map (λ v. v.items) streams.now)) }
 {

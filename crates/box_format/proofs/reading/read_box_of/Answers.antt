@@ -1,6 +1,9 @@
 use Rattle.std.proofs.Common.{rules, ◌∙◌, sym, subst, refl, inl, inr, List, ℕ}
 use Rattle.jpeg_marker.specs.HeaderPlan.{Accepts, Refuses}
 use Rattle.box_format.specs.BoxChecks.{PassesChecks}
+use Rattle.box_format.specs.Parts.{IsBoxOf}
+use Rattle.box_format.specs.Seen.{BoxSeen}
+use Rattle.box_format.specs.Versions.{IsRead}
 use Rattle.handover.proofs.FieldBytes.{all_of}
 use Rattle.box_format.proofs.BoxLawsProved.{widened}
 use Rattle.box_format.proofs.Passed.{early_of}
@@ -40,15 +43,12 @@ returns-in-Some-late_fault-clause-refused c =
       ),
     )
 
-pub invariant_of-result : goal.invariant_of-result
-invariant_of-result c = record {
-  checks = record {
-    early = widened c.args.versions.now c.args.bytes.now (sym c.early_fault.ensures ∙ c.in_default.is);
-    header = subst (λ (l : List ℕ). Accepts l c.in-Ok.plan) (c.header_in.ensures
-        ∙ raw_header c.args.bytes.now) c.in-Ok.ensures.accepted;
-    late = sym c.late_fault.ensures ∙ c.in_default-late_fault.is;
-  };
-  bytes = all_of c.args.bytes.now (λ i. let h = c.type_inv.bytes i in search rules);
+pub of_bytes-requires : goal.of_bytes-requires
+of_bytes-requires c = record {
+  early = widened c.args.versions.now c.args.bytes.now (sym c.early_fault.ensures ∙ c.in_default.is);
+  header = subst (λ (l : List ℕ). Accepts l c.in-Ok.plan) (c.header_in.ensures
+      ∙ raw_header c.args.bytes.now) c.in-Ok.ensures.accepted;
+  late = sym c.late_fault.ensures ∙ c.in_default-late_fault.is;
 }
 
 pub returns-clause-taken : goal.returns-clause-taken
@@ -59,6 +59,7 @@ returns-clause-taken c =
           ∙ raw_header c.args.bytes.now) c.in-Ok.ensures.accepted;
       late = sym c.late_fault.ensures ∙ c.in_default-late_fault.is;
     } in
+    subst (λ (s : BoxSeen). IsBoxOf s.plan s.parts c.args.bytes.now) (sym c.of_bytes.ensures)
     (passed_is_box c.args.versions.now c.in-Ok.plan c.args.bytes.now
     (all_of c.args.bytes.now (λ i. let h = c.type_inv.bytes i in search rules)) passes).0
 
@@ -70,5 +71,6 @@ returns-clause-version c =
           ∙ raw_header c.args.bytes.now) c.in-Ok.ensures.accepted;
       late = sym c.late_fault.ensures ∙ c.in_default-late_fault.is;
     } in
+    subst (λ (s : BoxSeen). IsRead c.args.versions.now s.parts.version) (sym c.of_bytes.ensures)
     (passed_is_box c.args.versions.now c.in-Ok.plan c.args.bytes.now
     (all_of c.args.bytes.now (λ i. let h = c.type_inv.bytes i in search rules)) passes).1

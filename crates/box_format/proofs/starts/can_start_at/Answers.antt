@@ -1,6 +1,6 @@
 use Rattle.std.proofs.Common.{◌≡◌, ◌&&◌, Bool, true, false, List, ℕ, refl, ap, ◌∙◌}
 use Rattle.handover.specs.HandoverBytes.{handover_in, is_handover}
-use Rattle.box_format.specs.Raws.{handover_at}
+use Rattle.box_format.specs.Raws.{handover_from}
 use Rattle.box_format.proofs.starts.can_start_at.Goals as goal
 
 first_fails : (a b : Bool) → (a ≡ true → ⊥) → false ≡ (a && b)
@@ -9,6 +9,6 @@ first_fails false b f = refl
 
 pub returns-in-None : goal.returns-in-None
 returns-in-None c =
-    first_fails (is_handover (handover_at c.args.bytes.now c.args.segment)) _
+    first_fails (is_handover (handover_from c.args.records.now c.args.place)) _
     (λ e. c.in-None.ensures.none
-    (ap (λ (l : List ℕ). is_handover (handover_in l)) c.record_in.ensures ∙ e))
+    (ap (λ (l : List ℕ). is_handover (handover_in l)) c.record_at.ensures ∙ e))

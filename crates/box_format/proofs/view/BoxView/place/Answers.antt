@@ -1,32 +1,39 @@
-use Rattle.std.proofs.Common.{◌≤◌, ℕ, length, sym, ap, ◌∙◌, arith}
+use Rattle.std.proofs.Common.{◌≡◌, ◌≤◌, Bool, false, if◌then◌else◌, nat_lt, ℕ, length, sym, ap, ◌∙◌, arith}
 use Rattle.std.specs.Prelude.{Some, option_map, slice_index}
-use Rattle.box_format.specs.Raws.{segments_in}
+use Rattle.std.proofs.lemmas.Bool.{le-ltb, lt-ltb}
+use Rattle.box_format.specs.Raws.{place_from}
+use Rattle.box_format.specs.Slices.{place_among}
 use Rattle.box_format.specs.Seen.{BoxSeen}
-use Rattle.box_format.specs.Versions.{decoded, layout_of}
-use Rattle.box_format.proofs.Passed.{early_of}
-use Rattle.box_format.proofs.RawParts.{handovers_count, place_seen}
+use Rattle.box_format.proofs.Sliced.{handovers_long, place_sliced}
 use Rattle.box_format.proofs.view.BoxView.place.Goals as goal
 
-pub place_in-requires-clause-segment : goal.place_in-requires-clause-segment
-place_in-requires-clause-segment c =
+pub returns-then-segment-self : goal.returns-then-segment-self
+returns-then-segment-self c =
+    let i = c.self.inside in
     let count = sym (ap (λ (s : BoxSeen). length s.parts.handovers) c.self.view_is)
-    ∙ handovers_count c.self.inside.bytes.now in
-    let within = c.requires in
-    omega arith
+    ∙ handovers_long i.version i.segments i.records.now in
+    let within : c.args.segment ≤ i.segments = let h = c.requires in omega (arith, h, count) in
+    let placed = sym c.is_placed.ensures ∙ c.if-not-is_placed.false in
+    let test = lt-ltb c.args.segment i.segments c.if-segment-self.true in
+    ap (λ (n : ℕ). Some n) (c.place_at.ensures
+    ∙ ap (place_from i.records.now) c.place_among.ensures.value)
+    ∙ sym (ap (λ (b : Bool). Some (if b
+    then place_from i.records.now (place_among i.version c.args.segment) else i.end)) test)
+    ∙ sym (place_sliced i.version i.segments i.records.now i.end c.args.segment placed within)
+    ∙ ap (λ (s : BoxSeen). option_map (λ places. slice_index places c.args.segment) s.parts.places)
+    c.self.view_is
 
-pub place_in-requires-clause-fields : goal.place_in-requires-clause-fields
-place_in-requires-clause-fields c =
-    (early_of decoded c.self.inside.bytes.now c.self.invariant.checks.early).whole.fields
-
-pub returns-then-is_placed : goal.returns-then-is_placed
-returns-then-is_placed c =
-    let bytes = c.self.inside.bytes.now in
+pub returns-else-segment-self : goal.returns-else-segment-self
+returns-else-segment-self c =
+    let i = c.self.inside in
     let count = sym (ap (λ (s : BoxSeen). length s.parts.handovers) c.self.view_is)
-    ∙ handovers_count bytes in
-    let within : c.args.segment ≤ segments_in bytes = let h = c.requires in omega arith in
-    let placed = ap (λ v. (layout_of v).placed) (sym c.version_in.ensures)
-    ∙ sym c.is_placed.ensures ∙ c.if-is_placed.true in
-    ap (λ (n : ℕ). Some n) c.place_in.ensures
-    ∙ sym (place_seen bytes c.args.segment placed within)
+    ∙ handovers_long i.version i.segments i.records.now in
+    let within : c.args.segment ≤ i.segments = let h = c.requires in omega (arith, h, count) in
+    let placed = sym c.is_placed.ensures ∙ c.if-not-is_placed.false in
+    let past = c.if-segment-self.false in
+    let test : nat_lt c.args.segment i.segments ≡ false = le-ltb c.args.segment i.segments (omega (arith, past)) in
+    sym (ap (λ (b : Bool). Some (if b
+    then place_from i.records.now (place_among i.version c.args.segment) else i.end)) test)
+    ∙ sym (place_sliced i.version i.segments i.records.now i.end c.args.segment placed within)
     ∙ ap (λ (s : BoxSeen). option_map (λ places. slice_index places c.args.segment) s.parts.places)
     c.self.view_is

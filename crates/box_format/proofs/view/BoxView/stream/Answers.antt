@@ -1,25 +1,23 @@
 use Rattle.std.proofs.Common.{◌<◌, length, get_or, [], sym, ap, ◌∙◌, arith}
-use Rattle.box_format.specs.Raws.{segments_in}
 use Rattle.box_format.specs.Seen.{BoxSeen}
-use Rattle.box_format.specs.Versions.{decoded}
-use Rattle.box_format.proofs.Passed.{early_of}
-use Rattle.box_format.proofs.RawParts.{handovers_count, stream_seen}
+use Rattle.box_format.proofs.Sliced.{handovers_long, has_first, stream_sliced}
 use Rattle.box_format.proofs.view.BoxView.stream.Goals as goal
 
-pub stream_in-requires-clause-whole : goal.stream_in-requires-clause-whole
-stream_in-requires-clause-whole c =
-    (early_of decoded c.self.inside.bytes.now c.self.invariant.checks.early).whole
-
-pub stream_in-requires-clause-segment : goal.stream_in-requires-clause-segment
-stream_in-requires-clause-segment c =
+pub stream_among-requires : goal.stream_among-requires
+stream_among-requires c =
+    let i = c.self.inside in
     let count = sym (ap (λ (s : BoxSeen). length s.parts.handovers) c.self.view_is)
-    ∙ handovers_count c.self.inside.bytes.now in
-    omega arith
+    ∙ handovers_long i.version i.segments i.records.now in
+    let below : c.args.segment < i.segments = let h = c.requires in omega (arith, h, count) in
+    has_first i.version c.args.segment i.segments i.records.now i.streams.now below
+    c.self.invariant.whole
 
 pub returns : goal.returns
 returns c =
+    let i = c.self.inside in
     let count = sym (ap (λ (s : BoxSeen). length s.parts.handovers) c.self.view_is)
-    ∙ handovers_count c.self.inside.bytes.now in
-    let below : c.args.segment < segments_in c.self.inside.bytes.now = omega arith in
-    c.stream_in.ensures ∙ sym (stream_seen c.self.inside.bytes.now c.args.segment below)
+    ∙ handovers_long i.version i.segments i.records.now in
+    let below : c.args.segment < i.segments = let h = c.requires in omega (arith, h, count) in
+    c.stream_among.ensures
+    ∙ sym (stream_sliced i.version i.segments i.records.now i.streams.now c.args.segment below)
     ∙ ap (λ (s : BoxSeen). get_or s.parts.streams c.args.segment []) c.self.view_is

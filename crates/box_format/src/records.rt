@@ -1,0 +1,80 @@
+// The records of a scan's segments, wherever they are, and the streams whose lengths they have.
+ghost use Rattle.std.specs.Prelude.{◌≡◌, ◌+◌, ◌*◌, ◌^◌, ◌<◌, ◌≤◌, length, take, drop, sum};
+ghost use Rattle.box_format.specs.Raws.{length_from, place_from};
+ghost use Rattle.box_format.specs.Slices.{HasSegments, lengths_in, place_among};
+
+use crate::version::Version;
+use byteorder::{BigEndian, ByteOrder};
+
+/// The record at a place without the length of its stream and the segment's place.
+pub(crate) fn record_at(bytes: &[u8], place: usize) -> [u8; 14]
+    requires { place + 14 ≤ length bytes.now }
+    ensures { result ≡ take 14 (drop place bytes.now) }
+{
+    let mut record = [0; 14];
+    let (_, rest) = bytes.split_at(place);
+    let (first, _) = rest.split_at(14);
+    record.copy_from_slice(first);
+    record
+}
+
+/// The length of the stream, in the record at a place.
+pub fn length_at(bytes: &[u8], place: usize) -> u64
+    requires { place + 22 ≤ length bytes.now }
+    ensures { result ≡ length_from bytes.now place }
+{
+    BigEndian::read_u64(&bytes[place + 14..])
+}
+
+/// The place of the segment's first byte, in the record at a place, in a version that has places.
+pub(crate) fn place_at(bytes: &[u8], place: usize) -> u64
+    requires { place + 30 ≤ length bytes.now }
+    ensures { result ≡ place_from bytes.now place }
+{
+    BigEndian::read_u64(&bytes[place + 22..])
+}
+
+/// Where the record of a segment starts among those of its scan.
+pub(crate) fn place_among(version: Version, segment: u8) -> usize
+    ensures value { result ≡ place_among version segment }
+    ensures few { result ≤ 30 * segment }
+{
+    version.record_room() * usize::from(segment)
+}
+
+/// The length of a segment's stream, from the records of its scan.
+pub(crate) fn length_among(version: Version, records: &[u8], segment: u8) -> u64
+    requires { place_among version (segment + 1) ≤ length records.now }
+    ensures { result ≡ length_from records.now (place_among version segment) }
+{
+    length_at(records, place_among(version, segment))
+}
+
+// Where the stream of a segment starts among those of its scan.
+fn start_among(version: Version, records: &[u8], segment: u8) -> usize
+    requires each { place_among version segment ≤ length records.now }
+    requires fits { sum (lengths_in version segment records.now) < 2 ^ 64 }
+    ensures { result ≡ sum (lengths_in version segment records.now) }
+{
+    let mut place = 0;
+    for i in 0..segment {
+        place += length_among(version, records, i) as usize;
+    }
+    place
+}
+
+/// The stream of a segment among those of its scan.
+pub(crate) fn stream_among<'a>(
+    version: Version,
+    records: &[u8],
+    streams: &'a [u8],
+    segment: u8,
+) -> &'a [u8]
+    requires { HasSegments version (segment + 1) records.now streams.now }
+    ensures { result.now ≡ take (length_from records.now (place_among version segment))
+        (drop (sum (lengths_in version segment records.now)) streams.now) }
+{
+    let (_, rest) = streams.split_at(start_among(version, records, segment));
+    let (stream, _) = rest.split_at(length_among(version, records, segment) as usize);
+    stream
+}
