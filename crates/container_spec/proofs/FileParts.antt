@@ -5,26 +5,27 @@ use Rattle.std.specs.List.{AllByRecursion}
 use Rattle.std.proofs.Math.Nat.{mul-le-mul_right, div-le_self}
 use Rattle.std.proofs.lemmas.List.{take-append-drop, length-take-le, drop_at}
 use Rattle.bit_list.specs.Bits.{IsByte}
-use Rattle.jpeg_marker.specs.AcceptedPlans.{HasPlan}
-use Rattle.jpeg_marker.specs.HeaderPlan.{Accepts}
+use Rattle.jpeg_marker.specs.AcceptedPlans.{HasBegun}
+use Rattle.jpeg_marker.specs.HeaderPlan.{Begins}
+use Rattle.jpeg_marker.specs.Walks.{Walk}
 use Rattle.jpeg_marker.specs.Plans.{IsPlan, most_blocks}
-use Rattle.jpeg_marker.proofs.HeadersTaken.{accepted_has_plan}
+use Rattle.jpeg_marker.proofs.HeadersTaken.{begun_has_plan}
 use Rattle.jpeg_marker.proofs.PlanGrids.{few_mcus}
 use Rattle.scan_spec.specs.Pads.{Same, Listed, pad_list, bits_sum}
 use Rattle.scan_spec.specs.Scans.{padded, pad_counts, pad_at, intervals_of}
 use Rattle.scan_spec.specs.Slots.{Shape, shape_of}
 use Rattle.scan_spec.proofs.PadSpelling.{list_is_clean}
 use Rattle.scan_spec.proofs.PadsAlike.{are_long, intervals_are}
-use Rattle.scan_spec.proofs.PlanShapes.{slots_count, accepted_is_shape}
+use Rattle.scan_spec.proofs.PlanShapes.{slots_count, begun_is_shape}
 use Rattle.handover.specs.Handovers.{HandoverFields, IsHandover}
 use Rattle.cut_spec.specs.RowHandovers.{mcus_between}
-use Rattle.box_format.specs.Parts.{IsBox, ArePlaces, cut_in, bad_start, list_bytes}
+use Rattle.box_format.specs.Parts.{IsBoxIn, ArePlaces, cut_in, bad_start, list_bytes}
 use Rattle.box_format.specs.Versions.{layout_of}
 use Rattle.box_format.specs.declared.version.Version.{Version}
 use Rattle.box_format.specs.Raws.{numbers}
 use Rattle.box_format.proofs.PartedLists.{all_values}
 use Rattle.container_spec.specs.ScanStream.{grid_of, blocks_of, stream_of}
-use Rattle.container_spec.specs.Files.{IsContainerOf, segment_mcus, segment_start, segment_place, parts_of_file, told_pads}
+use Rattle.container_spec.specs.Files.{IsContainerIn, segment_mcus, segment_start, segment_place, parts_of_file, told_pads}
 use Rattle.container_spec.specs.SegmentLaws.{Suits}
 use Rattle.container_spec.proofs.CutsOfPlans.{AreCuts, starts_at, plan_cuts, cut_within}
 use Rattle.container_spec.proofs.McuSizes.{IsSmall}
@@ -54,16 +55,16 @@ number_few : (t : Bool) (n k : ℕ) → (if t then 0 else n / k) ≤ n
 number_few true n k = omega arith
 number_few false n k = div-le_self n k
 
-module _ (version : Version) (most : ℕ) (made file : List ℕ) (some : 0 < most)
-    (is : IsContainerOf version most made file) where
-  has_plan : HasPlan file is.plan
-  has_plan = accepted_has_plan file is.plan is.bytes is.is.header
+module _ {w : Walk} (version : Version) (most : ℕ) (made file : List ℕ) (some : 0 < most)
+    (is : IsContainerIn w version most made file) where
+  has_plan : HasBegun w file is.plan
+  has_plan = begun_has_plan w file is.plan is.bytes is.known is.is.header
 
   pub plan_is : IsPlan is.plan
   plan_is = has_plan.is_plan
 
   pub suits : Suits (shape_of is.plan) (grid_of is.plan)
-  suits = plan_suits file is.plan is.bytes is.is.header
+  suits = plan_suits w file is.plan is.bytes is.known is.is.header
 
   -- how many segments, and where they start
   abbrev pub segments : ℕ
@@ -80,7 +81,7 @@ module _ (version : Version) (most : ℕ) (made file : List ℕ) (some : 0 < mos
 
   pub small : IsSmall (shape_of is.plan)
   small =
-      record { is = suits.shape_is; few = (accepted_is_shape file is.plan is.bytes is.is.header).1 }
+      record { is = suits.shape_is; few = (begun_is_shape w file is.plan is.bytes is.known is.is.header).1 }
 
   pub mcus_few : is.plan.across * is.plan.down ≤ most_blocks
   mcus_few = few_mcus is.plan plan_is
@@ -91,10 +92,10 @@ module _ (version : Version) (most : ℕ) (made file : List ℕ) (some : 0 < mos
   pub header_long : length (take is.plan.header_length file) ≡ is.plan.header_length
   header_long = length-take-le is.plan.header_length file has_plan.within
 
-  header_taken : Accepts (take is.plan.header_length file) is.plan
+  header_taken : Begins w (take is.plan.header_length file) is.plan
   header_taken =
-      subst (λ (l : List ℕ). Accepts l is.plan) (append-nil (take is.plan.header_length file))
-      (has_plan.alone [])
+      subst (λ (l : List ℕ). Begins w l is.plan) (append-nil (take is.plan.header_length file))
+      (has_plan.alone w.place [])
 
   -- the file's parts one after another
   pub file_is : file ≡ take is.plan.header_length file ++ (is.is.scan ++ is.trailer)
@@ -202,7 +203,7 @@ module _ (version : Version) (most : ℕ) (made file : List ℕ) (some : 0 < mos
       mcus_few)
 
   pub box_is : most ≤ (layout_of version).most
-      → IsBox is.plan (parts_of_file version is.plan is.mcus is.pads
+      → IsBoxIn w is.plan (parts_of_file version is.plan is.mcus is.pads
       (take is.plan.header_length file) is.trailer most)
   box_is allowed =
       let start : ℕ → HandoverFields = segment_start is.plan is.mcus is.pads most in
@@ -210,6 +211,7 @@ module _ (version : Version) (most : ℕ) (made file : List ℕ) (some : 0 < mos
       let many = mapped_long start 0 segments in
       let count = some_segments in
       record {
+        known = is.known;
         header = header_taken;
         whole = sym header_long;
         few = omega (arith, many, allowed);

@@ -6,17 +6,17 @@ use Rattle.std.proofs.lemmas.Bool.{and_parts, eqb-true}
 use Rattle.std.proofs.lemmas.List.{take_at, drop_at}
 use Rattle.huff_table.proofs.Pairs.{all-append}
 use Rattle.bit_list.specs.Bits.{IsByte, bits_of}
-use Rattle.jpeg_marker.specs.HeaderPlan.{Accepts}
-use Rattle.jpeg_marker.specs.MarkerSegments.{header_text}
+use Rattle.jpeg_marker.specs.HeaderPlan.{Begins}
+use Rattle.jpeg_marker.specs.Walks.{Walk, walk_text}
 use Rattle.jpeg_marker.specs.Plans.{PlanFields, IsPlan}
-use Rattle.jpeg_marker.proofs.HeadersTaken.{accepted_has_plan}
+use Rattle.jpeg_marker.proofs.HeadersTaken.{begun_has_plan}
 use Rattle.jpeg_marker.proofs.PlanGrids.{few_mcus}
 use Rattle.scan_spec.specs.Pads.{PadBits, Same, Listed, bit_for, intervals_sum, is_spelled, interval_count, list_room}
 use Rattle.scan_spec.specs.Scans.{AreMcus, IsScan, pad_counts, pad_at, intervals_of}
 use Rattle.scan_spec.specs.ScanLaws.{bytes_in}
 use Rattle.scan_spec.specs.Slots.{Shape, shape_of}
 use Rattle.scan_spec.specs.Spots.{first_spot, mcus_put, count_in, spot_in, bytes_done}
-use Rattle.scan_spec.specs.FileParts.{IsFileOf}
+use Rattle.scan_spec.specs.FileParts.{IsScanOf}
 use Rattle.scan_spec.proofs.PadSpelling.{CanTell, kept, kept_are, kept_agree, told_again}
 use Rattle.scan_spec.proofs.PadsAlike.{pads_alike, intervals_are}
 use Rattle.scan_spec.proofs.PutWhole.{put_whole}
@@ -24,7 +24,7 @@ use Rattle.handover.specs.declared.pads.PadSum.{PadSum}
 use Rattle.handover.specs.Handovers.{HandoverFields, start}
 use Rattle.cut_spec.specs.Cuts.{first_mcu}
 use Rattle.cut_spec.specs.RowHandovers.{handover_of, handover_at, mcus_between}
-use Rattle.box_format.specs.Parts.{BoxParts, ArePlaces, IsBox, box_bytes, cut_in, can_pad, is_list, list_bytes}
+use Rattle.box_format.specs.Parts.{BoxParts, ArePlaces, IsBox, IsBoxIn, box_bytes, cut_in, can_pad, is_list, list_bytes}
 use Rattle.box_format.specs.Versions.{layout_of, version_byte, version_in, version_of}
 use Rattle.box_format.specs.declared.version.Version.{Version}
 use Rattle.box_format.specs.declared.version.Version.TheVariants.{First, Second, Third, Fifth}
@@ -34,7 +34,7 @@ use Rattle.container_spec.specs.ScanStream.{grid_of, blocks_of, blocks_stream, s
 use Rattle.container_spec.specs.SegmentLaws.{Suits}
 use Rattle.container_spec.specs.Segments.{segment_output}
 use Rattle.container_spec.specs.Meanings.{Meaning, segment_in, outputs_of, joined, meaning_of}
-use Rattle.container_spec.specs.Files.{IsContainerOf, parts_of_file, places_of_file, told_pads}
+use Rattle.container_spec.specs.Files.{IsContainerIn, IsContainerOf, parts_of_file, places_of_file, told_pads}
 use Rattle.container_spec.specs.Indexed.{indexed, places_found}
 use Rattle.container_spec.specs.MeaningLaws.{RestoredIsContainer}
 use Rattle.container_spec.proofs.ChainedSegments.{Chained, chained}
@@ -53,15 +53,15 @@ use Rattle.container_spec.proofs.SpotsKept.{first_is_spot}
 use Rattle.container_spec.proofs.StartsOfSegments.{first_handover}
 
 -- a header is taken, whatever follows it
-accepts_more : (header rest : List ℕ) (plan : PlanFields) → Accepts header plan
-    → Accepts (header ++ rest) plan
-accepts_more header rest plan is = record {
+begins_more : (w : Walk) (header rest : List ℕ) (plan : PlanFields) → Begins w header plan
+    → Begins w (header ++ rest) plan
+begins_more w header rest plan is = record {
   before = is.before;
   scan = is.scan;
   rest = is.rest ++ rest;
   header = is.header;
   text = ap (λ l. l ++ rest) is.text
-      ∙ append_assoc (header_text (is.before ++ is.scan ∷ [])) is.rest rest;
+      ∙ append_assoc (walk_text w (is.before ++ is.scan ∷ [])) is.rest rest;
   says = is.says;
 }
 
@@ -121,9 +121,10 @@ placed_by true None all placed each = cc
 placed_by false (Some places) all placed each = cc
 placed_by false None all placed each = refl
 
-module _ (plan : PlanFields) (parts : BoxParts) (file : List ℕ) (is : IsBox plan (whole parts))
+module _ {w : Walk} (plan : PlanFields) (parts : BoxParts) (file : List ℕ)
+    (is : IsBoxIn w plan (whole parts))
     (so : IsRestored (whole parts) (joined (outputs_of plan (whole parts))) file) where
-  abbrev b : BoxParts
+  abbrev pub b : BoxParts
   b = whole parts
 
   abbrev shape : Shape
@@ -142,18 +143,18 @@ module _ (plan : PlanFields) (parts : BoxParts) (file : List ℕ) (is : IsBox pl
   scan = (joined (outputs_of plan b)).bytes
 
   plan_is : IsPlan plan
-  plan_is = (accepted_has_plan b.header plan is.header_bytes is.header).is_plan
+  plan_is = (begun_has_plan w b.header plan is.header_bytes is.known is.header).is_plan
 
   pub some : 0 < length b.handovers
   some = is.cut.some plan_is.high
 
-  few : shape.mcus ≤ 2 ^ 32
+  pub few : shape.mcus ≤ 2 ^ 32
   few = let h = few_mcus plan plan_is in omega (arith, h)
 
-  suits : Suits (shape_of plan) (grid_of plan)
-  suits = plan_suits b.header plan is.header_bytes is.header
+  pub suits : Suits (shape_of plan) (grid_of plan)
+  suits = plan_suits w b.header plan is.header_bytes is.known is.header
 
-  cuts : AreCuts (starts_at plan (length b.handovers)) (length b.handovers) (shape_of plan).mcus
+  pub cuts : AreCuts (starts_at plan (length b.handovers)) (length b.handovers) (shape_of plan).mcus
   cuts = plan_cuts plan count some
 
   reached : Reached plan b 0 count first_spot
@@ -165,7 +166,7 @@ module _ (plan : PlanFields) (parts : BoxParts) (file : List ℕ) (is : IsBox pl
         ∙ sym (first_handover shape);
   }
 
-  chain : Chained plan b few suits.grid_is is.each cuts 0 count first_spot
+  pub chain : Chained plan b few suits.grid_is is.each cuts 0 count first_spot
   chain =
       chained plan b few suits.grid_is is.each cuts count 0 first_spot (omega arith) reached so.none
 
@@ -181,7 +182,7 @@ module _ (plan : PlanFields) (parts : BoxParts) (file : List ℕ) (is : IsBox pl
   counts = pad_counts shape.slots (intervals_of shape chain.mcus)
 
   -- the pad bits of the file
-  abbrev bits : List Bool
+  abbrev pub bits : List Bool
   bits = kept b.pads 0 counts
 
   spelled : is_spelled b.pads (intervals_sum b.pads 0 counts) ≡ true
@@ -215,17 +216,17 @@ module _ (plan : PlanFields) (parts : BoxParts) (file : List ℕ) (is : IsBox pl
       sym (ap (take plan.header_length) file_is
       ∙ take_at b.header (scan ++ b.trailer) plan.header_length (sym is.whole))
 
-  file_of : IsFileOf file plan chain.mcus bits b.trailer
+  pub file_of : IsScanOf w file plan chain.mcus bits b.trailer
   file_of = record {
-    header = subst (λ l. Accepts l plan) (sym file_is)
-        (accepts_more b.header (scan ++ b.trailer) plan is.header);
+    header = subst (λ l. Begins w l plan) (sym file_is)
+        (begins_more w b.header (scan ++ b.trailer) plan is.header);
     scan = scan;
     is = is_scan;
     text = ap (drop plan.header_length) file_is
         ∙ drop_at b.header (scan ++ b.trailer) plan.header_length (sym is.whole);
   }
 
-  all_bytes : AllByRecursion IsByte file
+  pub all_bytes : AllByRecursion IsByte file
   all_bytes =
       subst (AllByRecursion IsByte) (sym file_is)
       (all-append IsByte b.header (scan ++ b.trailer) is.header_bytes
@@ -310,7 +311,7 @@ module _ (plan : PlanFields) (parts : BoxParts) (file : List ℕ) (is : IsBox pl
       place_is plan b places (length b.header) count k some (kept_places places some) few so.none
       ∙ bytes_there k few
 
-  places_are : b.places ≡ places_of_file (layout_of b.version).placed plan chain.mcus bits count
+  pub places_are : b.places ≡ places_of_file (layout_of b.version).placed plan chain.mcus bits count
   places_are =
       placed_by (layout_of b.version).placed b.places
       (map (placed (min count plan.down)) (numbers 0 (min count plan.down + 1))) is.placed
@@ -322,10 +323,10 @@ module _ (plan : PlanFields) (parts : BoxParts) (file : List ℕ) (is : IsBox pl
       ∙ ap (λ n. map (placed n) (numbers 0 (n + 1))) as_many)
 
   -- the same parts in another version, with its places
-  abbrev parts_in : Version → Option (List ℕ) → BoxParts
+  abbrev pub parts_in : Version → Option (List ℕ) → BoxParts
   parts_in version places = record b { version = version; places = places }
 
-  parts_are : (version : Version) (places : Option (List ℕ))
+  pub parts_are : (version : Version) (places : Option (List ℕ))
       → places ≡ places_of_file (layout_of version).placed plan chain.mcus bits count
       → parts_in version places
       ≡ parts_of_file version plan chain.mcus bits (take plan.header_length file) b.trailer count
@@ -340,8 +341,9 @@ module _ (plan : PlanFields) (parts : BoxParts) (file : List ℕ) (is : IsBox pl
       → can_pad (layout_of version).listed shape b.pads ≡ true
       → places ≡ places_of_file (layout_of version).placed plan chain.mcus bits count
       → (made : List ℕ) → made ≡ box_bytes (parts_in version places)
-      → IsContainerOf version count made file
+      → IsContainerIn w version count made file
   container_in version places chunked can there made text = record {
+    known = is.known;
     whole = chunked;
     bytes = all_bytes;
     plan = plan;
@@ -356,7 +358,7 @@ module _ (plan : PlanFields) (parts : BoxParts) (file : List ℕ) (is : IsBox pl
   }
 
   pub container_is : (layout_of b.version).chunked ≡ false → (made : List ℕ) → made ≡ box_bytes b
-      → IsContainerOf b.version count made file
+      → IsContainerIn w b.version count made file
   container_is chunked made text =
       container_in b.version b.places chunked is.pads places_are made text
 
@@ -367,7 +369,7 @@ module _ (plan : PlanFields) (parts : BoxParts) (file : List ℕ) (is : IsBox pl
       found_is plan b (placed count) so.none bytes_there
       ∙ ap (λ n. map (placed n) (numbers 0 (n + 1))) as_many
 
-  pub indexed_is : IsContainerOf Fifth count (box_bytes (indexed plan b)) file
+  pub indexed_is : IsContainerIn w Fifth count (box_bytes (indexed plan b)) file
   indexed_is =
       container_in Fifth (Some (places_found plan b)) refl
       (can_list (layout_of b.version).listed shape b.pads is.pads)

@@ -2,7 +2,8 @@
 use Rattle.std.proofs.Common.{ℕ, Bool, List, [], take, inl, inr, sym, ap, ap₂, ◌∙◌}
 use Rattle.jpeg_marker.specs.Plans.{PlanFields}
 use Rattle.scan_spec.specs.Scans.{Mcu}
-use Rattle.scan_spec.proofs.FilesOnce.{one_file}
+use Rattle.jpeg_marker.specs.FirstWalks.{only_walk}
+use Rattle.scan_spec.proofs.FilesOnce.{one_scan_of}
 use Rattle.box_format.specs.Parts.{BoxParts, box_bytes}
 use Rattle.box_format.specs.declared.refusal.BoxRefusal.{BoxRefusal}
 use Rattle.box_format.specs.declared.version.Version.{Version}
@@ -33,7 +34,8 @@ box_of version most file plan mcus pads trailer =
 pub one_container : OneContainer
 one_container version most made other file x y =
     let same =
-    one_file file x.trailer y.trailer x.plan y.plan x.mcus y.mcus x.pads y.pads x.bytes x.is y.is in
+    one_scan_of only_walk file x.trailer y.trailer x.plan y.plan x.mcus y.mcus x.pads y.pads x.bytes
+    x.known x.is y.is in
     x.spelled
     ∙ ap₂ (λ plan mcus. box_of version most file plan mcus x.pads x.trailer) same.0 same.1
     ∙ ap₂ (λ pads trailer. box_of version most file y.plan y.mcus pads trailer) same.2 same.3

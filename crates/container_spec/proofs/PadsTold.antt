@@ -29,11 +29,11 @@ can_tell shape pads true bit count =
     ∙ clean.1)
 
 pub second_can_pad : SecondCanPad
-second_can_pad file trailer plan mcus pads bytes is =
+second_can_pad w file trailer plan mcus pads bytes known is =
     let shape = shape_of plan in
     let counts = pad_counts shape.slots (intervals_of shape mcus) in
     let sum = bits_sum counts pads in
-    let suits : Suits shape (grid_of plan) = plan_suits file plan bytes is.header in
+    let suits : Suits shape (grid_of plan) = plan_suits w file plan bytes known is.header in
     let some = suits.shape_is.mcus in
     let grid = is.is.grid.count in
     can_tell shape pads (sum.zero && sum.one) (not sum.zero)

@@ -3,6 +3,7 @@ use Rattle.std.proofs.Common.{◌≡◌, ℕ, zero, suc, ◌+◌, ◌*◌, ◌^�
 use Rattle.std.specs.Prelude.{slice_index}
 use Rattle.std.specs.List.{AllByRecursion}
 use Rattle.std.proofs.lemmas.Bool.{le-ltb}
+use Rattle.jpeg_marker.specs.FirstWalks.{only_walk}
 use Rattle.jpeg_marker.specs.Plans.{PlanFields}
 use Rattle.handover.specs.declared.outcome.Outcome.{Outcome}
 use Rattle.scan_spec.specs.TextBounds.{mcu_room}
@@ -85,7 +86,7 @@ places_are_found plan b box =
       fit = found_fit output count 0 (length b.header)
           (λ i within.
           let z : 0 + i ≡ i = omega arith in
-          let short = segment_is_short plan b i box within in
+          let short = segment_is_short only_walk plan b i box within in
           let same = ap (λ n. length (output n).0) z in
           omega (arith, short, same))
           (omega (arith, most, few, header));

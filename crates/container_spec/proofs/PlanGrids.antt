@@ -8,16 +8,18 @@ use Rattle.std.proofs.lemmas.List.Sums.{sum_by-cons}
 use Rattle.bit_list.specs.Bits.{IsByte}
 use Rattle.coef_block.specs.TwoRows.{block_count}
 use Rattle.jpeg_marker.specs.Frames.{area}
-use Rattle.jpeg_marker.specs.HeaderPlan.{Accepts}
+use Rattle.jpeg_marker.specs.AcceptedPlans.{AreKnown}
+use Rattle.jpeg_marker.specs.HeaderPlan.{Begins}
+use Rattle.jpeg_marker.specs.Walks.{Walk}
 use Rattle.jpeg_marker.specs.Plans.{PlanFields, IsPlan, part_of, blocks_in_mcu}
 use Rattle.jpeg_marker.specs.declared.component.Component.{Component}
 use Rattle.jpeg_marker.proofs.Choices.{Rising, rising_is}
-use Rattle.jpeg_marker.proofs.HeadersTaken.{accepted_has_plan}
+use Rattle.jpeg_marker.proofs.HeadersTaken.{begun_has_plan}
 use Rattle.jpeg_marker.proofs.PlanGrids.{some_block}
 use Rattle.huff_table.specs.ComponentTables.{component_at}
 use Rattle.huff_table.proofs.FrameComponents.{index_of, none_below}
 use Rattle.scan_spec.specs.Slots.{shape_of}
-use Rattle.scan_spec.proofs.PlanShapes.{slots_count, accepted_is_shape}
+use Rattle.scan_spec.proofs.PlanShapes.{slots_count, begun_is_shape}
 use Rattle.block_spec.specs.Grid.{IsGrid}
 use Rattle.container_spec.specs.ScanStream.{number_or_zero, extents_by, mcu_extents, grid_of}
 use Rattle.container_spec.specs.SegmentLaws.{Suits}
@@ -115,12 +117,12 @@ grid_is plan is =
     let some = some_block (map part_of plan.components) long is.components in
     record { across = is.wide; mcu = omega (arith, count, some) }
 
-pub plan_suits : (bytes : List ℕ) (plan : PlanFields) → AllByRecursion IsByte bytes
-    → Accepts bytes plan → Suits (shape_of plan) (grid_of plan)
-plan_suits bytes plan all accepts =
-    let is = (accepted_has_plan bytes plan all accepts).is_plan in
+pub plan_suits : (w : Walk) (bytes : List ℕ) (plan : PlanFields) → AllByRecursion IsByte bytes
+    → AreKnown w.known → Begins w bytes plan → Suits (shape_of plan) (grid_of plan)
+plan_suits w bytes plan all known begins =
+    let is = (begun_has_plan w bytes plan all known begins).is_plan in
     record {
-      shape_is = (accepted_is_shape bytes plan all accepts).0;
+      shape_is = (begun_is_shape w bytes plan all known begins).0;
       grid_is = grid_is plan is;
       blocks = slots_count plan.components is.some
           ∙ sym (counted plan.components is.some (rising_is 0 4 _ is.indexes));

@@ -4,6 +4,7 @@ use Rattle.std.specs.Prelude.{slice_get}
 use Rattle.std.proofs.lemmas.Bool.{cases_lt}
 use Rattle.std.proofs.lemmas.List.{take_all}
 use Rattle.jpeg_marker.specs.Plans.{PlanFields}
+use Rattle.jpeg_marker.specs.Walks.{Walk}
 use Rattle.scan_spec.specs.Pads.{PadBits, bit_for, is_spelled}
 use Rattle.scan_spec.specs.Scans.{scan_bytes, pad_counts, pad_at, intervals_of}
 use Rattle.scan_spec.specs.Slots.{Shape, shape_of}
@@ -24,7 +25,7 @@ use Rattle.box_format.specs.declared.version.Version.{Version}
 use Rattle.container_spec.specs.ScanStream.{grid_of, stream_of}
 use Rattle.container_spec.specs.Segments.{SegmentFields, segment_output}
 use Rattle.container_spec.specs.SegmentLaws.{AreKept, IsNextStart, mcus_sum, segment_between}
-use Rattle.container_spec.specs.Files.{IsContainerOf, segment_mcus, segment_start, parts_of_file, told_pads}
+use Rattle.container_spec.specs.Files.{IsContainerIn, segment_mcus, segment_start, parts_of_file, told_pads}
 use Rattle.container_spec.specs.Meanings.{Verdict, Restored, PadSpelled, kept_in, outputs_of, joined, meaning_by, meaning_of}
 use Rattle.container_spec.specs.MeaningLaws.{ContainerIsRestored}
 use Rattle.container_spec.proofs.CutsOfPlans.{cut_within}
@@ -66,8 +67,8 @@ abbrev segment_at : PlanFields → BoxParts → ℕ → ℕ → SegmentFields
 segment_at plan b n i =
     segment_with plan b n i (get_or b.streams i []) (get_or b.handovers i start)
 
-module _ (version : Version) (most : ℕ) (made file : List ℕ) (some : 0 < most)
-    (is : IsContainerOf version most made file) where
+module _ {w : Walk} (version : Version) (most : ℕ) (made file : List ℕ) (some : 0 < most)
+    (is : IsContainerIn w version most made file) where
   abbrev shape : Shape
   shape = shape_of is.plan
 
@@ -208,7 +209,7 @@ module _ (version : Version) (most : ℕ) (made file : List ℕ) (some : 0 < mos
   verdict_is true e = refl
   verdict_is false e = absurd (let f : false ≡ true = e in cc)
 
-  meaning_is : meaning_of is.plan file_box ≡ record { bytes = file; verdict = Restored }
+  pub meaning_is : meaning_of is.plan file_box ≡ record { bytes = file; verdict = Restored }
   unfolding meaning_of
   meaning_is =
       let header = take is.plan.header_length file in

@@ -5,10 +5,10 @@ use Rattle.std.proofs.Math.Nat.{mul-le-mul_left}
 use Rattle.std.proofs.lemmas.List.{length-take}
 use Rattle.std.proofs.lemmas.List.Elements.{All-from_recursion}
 use Rattle.bit_list.specs.Bits.{low_bits}
-use Rattle.jpeg_marker.proofs.HeadersTaken.{accepted_has_plan}
+use Rattle.jpeg_marker.proofs.HeadersTaken.{begun_has_plan}
 use Rattle.jpeg_marker.proofs.PlanGrids.{few_mcus}
 use Rattle.scan_spec.specs.Pads.{bit_for}
-use Rattle.scan_spec.proofs.PlanShapes.{accepted_is_shape}
+use Rattle.scan_spec.proofs.PlanShapes.{begun_is_shape}
 use Rattle.handover.specs.Handovers.{HandoverFields, IsHandover, start}
 use Rattle.handover.specs.HandoverBytes.{handover_bytes}
 use Rattle.handover.specs.declared.outcome.StreamCause.{StreamCause}
@@ -85,10 +85,10 @@ start_few h is =
     let few = is.few in omega (arith, long, few)
 
 pub segment_is_short : SegmentIsShort
-segment_is_short plan b i box within =
-    let has = accepted_has_plan b.header plan box.header_bytes box.header in
-    let shape = accepted_is_shape b.header plan box.header_bytes box.header in
-    let suits = plan_suits b.header plan box.header_bytes box.header in
+segment_is_short w plan b i box within =
+    let has = begun_has_plan w b.header plan box.header_bytes box.known box.header in
+    let shape = begun_is_shape w b.header plan box.header_bytes box.known box.header in
+    let suits = plan_suits w b.header plan box.header_bytes box.known box.header in
     let s : SegmentFields = segment_in plan b i in
     let kept = All-from_recursion IsHandover b.handovers box.each i start within in
     let each = mcus_short s.count s (first_progress s) (record { is = shape.0; few = shape.1 })

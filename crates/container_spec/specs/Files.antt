@@ -3,7 +3,10 @@ use Rattle.std.specs.Prelude.{ℕ, ◌≡◌, ◌+◌, ◌<◌, ◌^◌, Bool, t
 use Rattle.std.specs.List.{AllByRecursion}
 use Rattle.bit_list.specs.Bits.{IsByte}
 use Rattle.jpeg_marker.specs.Plans.{PlanFields}
-use Rattle.scan_spec.specs.FileParts.{IsFileOf}
+use Rattle.jpeg_marker.specs.AcceptedPlans.{AreKnown}
+use Rattle.jpeg_marker.specs.FirstWalks.{only_walk}
+use Rattle.jpeg_marker.specs.Walks.{Walk}
+use Rattle.scan_spec.specs.FileParts.{IsScanOf}
 use Rattle.scan_spec.specs.Slots.{shape_of}
 use Rattle.scan_spec.specs.Scans.{Mcu, intervals_of, pad_counts, pad_at}
 use Rattle.scan_spec.specs.Pads.{PadBits, bits_sum, spelling_of}
@@ -73,19 +76,24 @@ parts_of_file version plan mcus pads header trailer most =
       streams = map (λ i. stream_of plan (segment_mcus plan mcus most i)) segments;
     }
 
--- `made` is the container of a file in a version of whole files, with at most `most` segments, by the plan of the
--- file's header, its MCUs, the pad bit of each of its intervals and its trailer; the lengths of header and trailer have
--- fields of four bytes, and the version can say the pad bits
-pub record IsContainerOf (version : Version) (most : ℕ) (made file : List ℕ) : Type 0 where
+-- `made` is the container in a version of whole files, with at most `most` segments, of bytes that begin with a header,
+-- which a walk passes, and its scan: by the plan of the header, the MCUs, the pad bit of each interval and what follows
+-- the scan; the lengths of header and trailer have fields of four bytes, and the version can say the pad bits
+pub record IsContainerIn (w : Walk) (version : Version) (most : ℕ) (made file : List ℕ) : Type 0 where
+  pub known : AreKnown w.known
   pub whole : (layout_of version).chunked ≡ false
   pub bytes : AllByRecursion IsByte file
   pub plan : PlanFields
   pub mcus : List Mcu
   pub pads : List Bool
   pub trailer : List ℕ
-  pub is : IsFileOf file plan mcus pads trailer
+  pub is : IsScanOf w file plan mcus pads trailer
   pub header_fits : plan.header_length < 2 ^ 32
   pub trailer_fits : length trailer < 2 ^ 32
   pub can : can_pad (layout_of version).listed (shape_of plan) (told_pads plan mcus pads) ≡ true
   pub spelled : made
       ≡ box_bytes (parts_of_file version plan mcus pads (take plan.header_length file) trailer most)
+
+-- `made` is the container of a file of one scan
+abbrev pub IsContainerOf : Version → ℕ → List ℕ → List ℕ → Type 0
+IsContainerOf version most made file = IsContainerIn only_walk version most made file

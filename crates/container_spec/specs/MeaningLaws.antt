@@ -3,13 +3,15 @@ use Rattle.std.specs.Prelude.{ℕ, ◌≡◌, ◌*◌, ◌^◌, ◌<◌, ◌≤�
 use Rattle.std.specs.List.{AllByRecursion}
 use Rattle.bit_list.specs.Bits.{IsByte}
 use Rattle.jpeg_marker.specs.Plans.{PlanFields}
+use Rattle.jpeg_marker.specs.Walks.{Walk}
 use Rattle.scan_spec.specs.TextBounds.{mcu_room}
-use Rattle.scan_spec.specs.FileParts.{IsFileOf}
+use Rattle.jpeg_marker.specs.AcceptedPlans.{AreKnown}
+use Rattle.scan_spec.specs.FileParts.{IsScanOf}
 use Rattle.scan_spec.specs.Pads.{bits_sum}
 use Rattle.scan_spec.specs.Scans.{Mcu, intervals_of, pad_counts}
 use Rattle.scan_spec.specs.Slots.{shape_of}
 use Rattle.box_format.specs.Versions.{layout_of, version_in, migratable, IsRead}
-use Rattle.box_format.specs.Parts.{BoxParts, ArePlaces, IsBox, IsBoxOf, can_pad, box_bytes, migrated}
+use Rattle.box_format.specs.Parts.{BoxParts, ArePlaces, IsBox, IsBoxIn, IsBoxOf, can_pad, box_bytes, migrated}
 use Rattle.box_format.specs.declared.version.Version.{Version}
 use Rattle.box_format.specs.declared.version.Version.TheVariants.{First, Second, Fifth}
 use Rattle.container_spec.specs.Segments.{segment_output}
@@ -54,11 +56,11 @@ AcceptedIsNotRefused =
     (version : Version) (most : ℕ) (made file : List ℕ)
     → IsContainerOf version most made file → IsRefusedFile file → ⊥
 
--- the second version can say the pad bits of each file
+-- the second version can say the pad bits of each scan
 abbrev pub SecondCanPad : Type 0
 SecondCanPad =
-    (file trailer : List ℕ) (plan : PlanFields) (mcus : List Mcu) (pads : List Bool)
-    → AllByRecursion IsByte file → IsFileOf file plan mcus pads trailer
+    (w : Walk) (file trailer : List ℕ) (plan : PlanFields) (mcus : List Mcu) (pads : List Bool)
+    → AllByRecursion IsByte file → AreKnown w.known → IsScanOf w file plan mcus pads trailer
     → can_pad (layout_of Second).listed (shape_of plan) (told_pads plan mcus pads) ≡ true
 
 -- and the first one can exactly where no two intervals are padded with different bits
@@ -80,7 +82,7 @@ ContainerIsShort =
 -- a segment's bytes are few: room for an MCU is enough for each of its MCUs, and there are fewer than 2^32
 abbrev pub SegmentIsShort : Type 0
 SegmentIsShort =
-    (plan : PlanFields) (b : BoxParts) (i : ℕ) → IsBox plan b → i < length b.handovers
+    (w : Walk) (plan : PlanFields) (b : BoxParts) (i : ℕ) → IsBoxIn w plan b → i < length b.handovers
     → length (segment_output (segment_in plan b i)).0 ≤ mcu_room * 2 ^ 32
 
 -- a container that is migrated and the same one in the second version stand for the same
