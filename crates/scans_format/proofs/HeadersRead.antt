@@ -1,0 +1,186 @@
+-- Headers that are read one by one.
+use Rattle.std.proofs.Common.{◌≡◌, ◌<◌, ◌≤◌, ◌+◌, ◌-◌, if◌then◌else◌, Bool, true, false, ℕ, suc, List, [], ◌∷◌, ◌++◌, length, take, map, replicate, nat_lt, slice_set, refl, sym, ap, ◌∙◌, arith, subst, append_assoc, inl, inr}
+use Rattle.std.specs.List.{AllByRecursion}
+use Rattle.std.proofs.lemmas.Bool.{ltb-true, ltb-false}
+use Rattle.std.proofs.lemmas.List.{append-nil, length-set, take_all, take_more_set}
+use Rattle.bit_list.specs.Bits.{IsByte}
+use Rattle.jpeg_marker.specs.AcceptedPlans.{AreKnown}
+use Rattle.jpeg_marker.specs.Plans.{PlanFields}
+use Rattle.jpeg_marker.specs.Walks.{Walk, next_walk}
+use Rattle.jpeg_marker.specs.FirstWalks.{opening_walk}
+use Rattle.jpeg_marker.specs.HeaderPlan.{Begins}
+use Rattle.jpeg_marker.proofs.HeadersTaken.{begun_has_plan, next_known}
+use Rattle.box_format.specs.Raws.{Raw, numbers}
+use Rattle.box_format.specs.declared.refusal.BoxRefusal.{BoxRefusal}
+use Rattle.scans_format.specs.ScansRaw.{scans_in, scan_raw, raws_of}
+use Rattle.scans_format.specs.ScansChecks.{HeadersPass, HeadersFail}
+use Rattle.scans_format.specs.ScansWhole.{HasPlan, HasNoPlan, HavePlans, header_at, raws_from}
+
+-- a header that begins and is no longer than its plan's
+pub one_plan : (w : Walk) (header : List ℕ) (plan : PlanFields) → AllByRecursion IsByte header
+    → AreKnown w.known → Begins w header plan → length header ≤ plan.header_length
+    → HasPlan w header plan
+one_plan w header plan are known is long =
+    let has = begun_has_plan w header plan are known is in
+    let within = has.within in
+    record { begins = is; whole = omega (arith, within, long); known = next_known plan.known has.known }
+
+-- ---- the fields of scans, one by one
+
+pub raws_first : (bytes : List ℕ) (j : ℕ) → j < scans_in bytes
+    → raws_from bytes j ≡ scan_raw bytes j ∷ raws_from bytes (j + 1)
+raws_first bytes j below =
+    let k : scans_in bytes - j ≡ suc (scans_in bytes - (j + 1)) = omega arith in
+    ap (λ (k : ℕ). map (scan_raw bytes) (numbers j k)) k
+
+pub raws_last : (bytes : List ℕ) (j : ℕ) → scans_in bytes ≤ j → raws_from bytes j ≡ []
+raws_last bytes j past =
+    let k : scans_in bytes - j ≡ 0 = omega arith in
+    ap (λ (k : ℕ). map (scan_raw bytes) (numbers j k)) k
+
+pub raws_all : (bytes : List ℕ) → raws_of bytes ≡ raws_from bytes 0
+raws_all bytes =
+    let k : scans_in bytes ≡ scans_in bytes - 0 = omega arith in
+    ap (λ (k : ℕ). map (scan_raw bytes) (numbers 0 k)) k
+
+raw_header : (bytes : List ℕ) (j : ℕ) → header_at bytes j ≡ (scan_raw bytes j).header
+unfolding scan_raw
+raw_header bytes j = refl
+
+-- ---- a header more
+
+fails_here : (w : Walk) (raw : Raw) (raws : List Raw) (refusal : BoxRefusal)
+    → HasNoPlan w raw.header refusal → HeadersFail w (raw ∷ raws) refusal
+fails_here w raw raws refusal (inl p) = inl p
+fails_here w raw raws refusal (inr p) = inr (p.0, p.1, inl (p.2, p.3))
+
+pub fails_at : (w : Walk) (bytes : List ℕ) (j : ℕ) (refusal : BoxRefusal) → j < scans_in bytes
+    → HasNoPlan w (header_at bytes j) refusal → HeadersFail w (raws_from bytes j) refusal
+fails_at w bytes j refusal below has =
+    subst (λ (raws : List Raw). HeadersFail w raws refusal) (sym (raws_first bytes j below))
+    (fails_here w (scan_raw bytes j) (raws_from bytes (j + 1)) refusal
+    (subst (λ (header : List ℕ). HasNoPlan w header refusal) (raw_header bytes j) has))
+
+fails_later : (w : Walk) (raw : Raw) (raws : List Raw) (plan : PlanFields) (refusal : BoxRefusal)
+    → HasPlan w raw.header plan → HeadersFail (next_walk plan.known 0) raws refusal
+    → HeadersFail w (raw ∷ raws) refusal
+fails_later w raw raws plan refusal has later = inr (plan, has.begins, inr (has.whole, later))
+
+pub fails_after : (w : Walk) (bytes : List ℕ) (j : ℕ) (plan : PlanFields) (refusal : BoxRefusal)
+    → j < scans_in bytes → HasPlan w (header_at bytes j) plan
+    → HeadersFail (next_walk plan.known 0) (raws_from bytes (j + 1)) refusal
+    → HeadersFail w (raws_from bytes j) refusal
+fails_after w bytes j plan refusal below has later =
+    subst (λ (raws : List Raw). HeadersFail w raws refusal) (sym (raws_first bytes j below))
+    (fails_later w (scan_raw bytes j) (raws_from bytes (j + 1)) plan refusal
+    (subst (λ (header : List ℕ). HasPlan w header plan) (raw_header bytes j) has) later)
+
+passes_more : (w : Walk) (raw : Raw) (raws : List Raw) (plan : PlanFields)
+    (plans : List PlanFields) → HasPlan w raw.header plan
+    → HeadersPass (next_walk plan.known 0) raws plans → HeadersPass w (raw ∷ raws) (plan ∷ plans)
+passes_more w raw raws plan plans has later = (has.begins, has.whole, later)
+
+pub passes_after : (w : Walk) (bytes : List ℕ) (j : ℕ) (plan : PlanFields)
+    (plans : List PlanFields) → j < scans_in bytes → HasPlan w (header_at bytes j) plan
+    → HeadersPass (next_walk plan.known 0) (raws_from bytes (j + 1)) plans
+    → HeadersPass w (raws_from bytes j) (plan ∷ plans)
+passes_after w bytes j plan plans below has later =
+    subst (λ (raws : List Raw). HeadersPass w raws (plan ∷ plans)) (sym (raws_first bytes j below))
+    (passes_more w (scan_raw bytes j) (raws_from bytes (j + 1)) plan plans
+    (subst (λ (header : List ℕ). HasPlan w header plan) (raw_header bytes j) has) later)
+
+-- ---- the first headers were read, up to that of a plan
+
+pub record HaveRead (bytes : List ℕ) (j : ℕ) (plan : PlanFields) (plans : List PlanFields)
+    : Type 0 where
+  pub room : length plans ≡ 4
+  pub known : AreKnown plan.known
+  pub more : List PlanFields
+  pub none : j ≤ 4 → more ≡ []
+  pub pass : (later : List PlanFields)
+      → HeadersPass (next_walk plan.known 0) (raws_from bytes j) later
+      → HeadersPass opening_walk (raws_of bytes) (take j plans ++ (more ++ later))
+  pub fail : (refusal : BoxRefusal)
+      → HeadersFail (next_walk plan.known 0) (raws_from bytes j) refusal
+      → HeadersFail opening_walk (raws_of bytes) refusal
+
+pub one_read : (bytes : List ℕ) (plan : PlanFields) → 1 ≤ scans_in bytes
+    → HasPlan opening_walk (header_at bytes 0) plan → HaveRead bytes 1 plan (replicate 4 plan)
+one_read bytes plan some has = record {
+  room = refl;
+  known = has.known;
+  more = [];
+  none = λ few. refl;
+  pass = λ later passes. subst (λ (raws : List Raw). HeadersPass opening_walk raws (plan ∷ later))
+      (sym (raws_all bytes)) (passes_after opening_walk bytes 0 plan later some has passes);
+  fail = λ refusal fails. subst (λ (raws : List Raw). HeadersFail opening_walk raws refusal)
+      (sym (raws_all bytes)) (fails_after opening_walk bytes 0 plan refusal some has fails);
+}
+
+-- the plans with one more
+abbrev pub with_next : List PlanFields → ℕ → PlanFields → List PlanFields
+with_next plans j next = if nat_lt j 4 then slice_set plans j next else plans
+
+-- it is one of the first four, or not
+record IsListed (plans more : List PlanFields) (j : ℕ) (next : PlanFields)
+    (b : Bool) : Type 0 where
+  room : length (if b then slice_set plans j next else plans) ≡ 4
+  none : j + 1 ≤ 4 → (if b then more else more ++ next ∷ []) ≡ []
+  all : (later : List PlanFields) → take j plans ++ (more ++ next ∷ later)
+      ≡ take (j + 1) (if b then slice_set plans j next else plans)
+      ++ ((if b then more else more ++ next ∷ []) ++ later)
+
+listed : (plans more : List PlanFields) (j : ℕ) (next : PlanFields) (b : Bool)
+    → nat_lt j 4 ≡ b → length plans ≡ 4 → (j ≤ 4 → more ≡ []) → IsListed plans more j next b
+listed plans more j next true e room none =
+    let below : j < 4 = ltb-true j 4 e in
+    let nothing : more ≡ [] = none (omega (arith, below)) in
+    let put = take_more_set plans j next (omega (arith, below, room)) in
+    record {
+      room = length-set plans j next ∙ room;
+      none = λ few. nothing;
+      all = λ later. rw (nothing, put) (sym (append_assoc (take j plans) (next ∷ []) later));
+    }
+listed plans more j next false e room none =
+    let past : 4 ≤ j = ltb-false j 4 e in
+    let here : take j plans ≡ plans = take_all j plans (omega (arith, past, room)) in
+    let after : take (j + 1) plans ≡ plans = take_all (j + 1) plans (omega (arith, past, room)) in
+    record {
+      room = room;
+      none = λ few. absurd (omega (arith, past, few));
+      all = λ later. rw (here, after)
+          (ap (λ (l : List PlanFields). plans ++ l) (sym (append_assoc more (next ∷ []) later)));
+    }
+
+pub more_read : (bytes : List ℕ) (j : ℕ) (plan : PlanFields) (plans : List PlanFields)
+    (next : PlanFields) → j < scans_in bytes → HaveRead bytes j plan plans
+    → HasPlan (next_walk plan.known 0) (header_at bytes j) next
+    → HaveRead bytes (j + 1) next (with_next plans j next)
+more_read bytes j plan plans next below read has =
+    let is = listed plans read.more j next (nat_lt j 4) refl read.room read.none in
+    record {
+      room = is.room;
+      known = has.known;
+      more = if nat_lt j 4 then read.more else read.more ++ next ∷ [];
+      none = is.none;
+      pass = λ later passes. subst (λ (l : List PlanFields). HeadersPass opening_walk (raws_of bytes) l)
+          (is.all later) (read.pass (next ∷ later)
+          (passes_after (next_walk plan.known 0) bytes j next later below has passes));
+      fail = λ refusal fails. read.fail refusal
+          (fails_after (next_walk plan.known 0) bytes j next refusal below has fails);
+    }
+
+pub all_read : (bytes : List ℕ) (j : ℕ) (plan : PlanFields) (plans : List PlanFields)
+    → j ≡ scans_in bytes → HaveRead bytes j plan plans → HavePlans bytes plans
+all_read bytes j plan plans end read =
+    let past : scans_in bytes ≤ j = omega (arith, end) in
+    let none = raws_last bytes j past in
+    record {
+      more = read.more;
+      none = λ few. read.none (omega (arith, end, few));
+      pass = subst (λ (k : ℕ). HeadersPass opening_walk (raws_of bytes) (take k plans ++ read.more))
+          end (subst (λ (l : List PlanFields). HeadersPass opening_walk (raws_of bytes)
+          (take j plans ++ l)) (append-nil read.more)
+          (read.pass [] (subst (λ (raws : List Raw). HeadersPass (next_walk plan.known 0) raws [])
+          (sym none) tt)));
+    }

@@ -1,0 +1,75 @@
+-- A container of several scans has one spelling.
+use Rattle.std.proofs.Common.{◌≡◌, ℕ, List, sym, ap, ◌∙◌, subst, inl, inr}
+use Rattle.std.specs.Prelude.{◌⊎◌, Some}
+use Rattle.jpeg_marker.specs.Plans.{PlanFields}
+use Rattle.jpeg_marker.specs.FirstWalks.{opening_walk}
+use Rattle.box_format.specs.Seen.{BoxSeen}
+use Rattle.box_format.specs.declared.refusal.BoxRefusal.{BoxRefusal}
+use Rattle.scans_format.specs.Scans.{IsScansOf}
+use Rattle.scans_format.specs.ScansRaw.{raws_of}
+use Rattle.scans_format.specs.ScansChecks.{PassesScans, HeadersPass, HeadersFail, late_fault, boxes_of}
+use Rattle.scans_format.specs.ScansLaws.{OneListOfScans, OneScansRefusal, NeverBothScans}
+use Rattle.scans_format.proofs.OneHeaders.{same_plans, one_fail, pass_apart}
+use Rattle.scans_format.proofs.ScansChecked.{plans_in}
+pub use Rattle.scans_format.proofs.ScansPassed.{scans_pass}
+
+checked : (scans : List BoxSeen) (bytes : List ℕ) → IsScansOf scans bytes
+    → PassesScans (plans_in scans) bytes × (boxes_of (plans_in scans) (raws_of bytes) ≡ scans)
+checked scans bytes is =
+    let P : List ℕ → Type 0 = λ l.
+    PassesScans (plans_in scans) l × (boxes_of (plans_in scans) (raws_of l) ≡ scans) in
+    subst P (sym is.text) (scans_pass scans is.are)
+
+pub one_list_of_scans : OneListOfScans
+one_list_of_scans scans others bytes p q =
+    let x = checked scans bytes p in
+    let y = checked others bytes q in
+    let plans = same_plans opening_walk (raws_of bytes) (plans_in scans) (plans_in others)
+    x.0.headers y.0.headers in
+    sym x.1 ∙ ap (λ (l : List PlanFields). boxes_of l (raws_of bytes)) plans ∙ y.1
+
+some_is_one : {A : Type 0} (x y : A) → Some x ≡ Some y → x ≡ y
+some_is_one x y e = cc
+
+-- a header that is refused, or a check after them that fails
+abbrev FailsLate : List ℕ → BoxRefusal → Type 0
+FailsLate bytes refusal =
+    HeadersFail opening_walk (raws_of bytes) refusal
+    ⊎ ((plans : List PlanFields) × HeadersPass opening_walk (raws_of bytes) plans
+    × (late_fault plans bytes ≡ Some refusal))
+
+one_late : (bytes : List ℕ) (refusal other : BoxRefusal) → FailsLate bytes refusal
+    → FailsLate bytes other → refusal ≡ other
+one_late bytes refusal other (inl a) (inl b) = one_fail opening_walk (raws_of bytes) refusal other a b
+one_late bytes refusal other (inl a) (inr b) =
+    absurd (pass_apart opening_walk (raws_of bytes) b.0 refusal b.1 a)
+one_late bytes refusal other (inr a) (inl b) =
+    absurd (pass_apart opening_walk (raws_of bytes) a.0 other a.1 b)
+one_late bytes refusal other (inr a) (inr b) =
+    let same = same_plans opening_walk (raws_of bytes) a.0 b.0 a.1 b.1 in
+    some_is_one refusal other
+    (sym a.2 ∙ ap (λ (plans : List PlanFields). late_fault plans bytes) same ∙ b.2)
+
+pub one_scans_refusal : OneScansRefusal
+one_scans_refusal bytes refusal other (inl p) (inl q) = some_is_one refusal other (sym p ∙ q)
+one_scans_refusal bytes refusal other (inl p) (inr q) = let e = q.0 in cc
+one_scans_refusal bytes refusal other (inr p) (inl q) = let e = p.0 in cc
+one_scans_refusal bytes refusal other (inr p) (inr q) = one_late bytes refusal other p.1 q.1
+
+late_apart : (bytes : List ℕ) (plans : List PlanFields) (refusal : BoxRefusal)
+    → PassesScans plans bytes → FailsLate bytes refusal → ⊥
+late_apart bytes plans refusal passes (inl a) =
+    pass_apart opening_walk (raws_of bytes) plans refusal passes.headers a
+late_apart bytes plans refusal passes (inr a) =
+    let same = same_plans opening_walk (raws_of bytes) plans a.0 passes.headers a.1 in
+    let e = ap (λ (plans : List PlanFields). late_fault plans bytes) same in
+    let f = a.2 in
+    let g = passes.late in
+    cc
+
+pub never_both_scans : NeverBothScans
+never_both_scans bytes scans refusal is (inl p) =
+    let e = (checked scans bytes is).0.early in
+    cc
+never_both_scans bytes scans refusal is (inr p) =
+    late_apart bytes (plans_in scans) refusal (checked scans bytes is).0 p.1

@@ -1,0 +1,11 @@
+use Rattle.std.proofs.Common.{ℕ, List, map, take, sym, ap, ◌∙◌}
+use Rattle.box_format.specs.Seen.{BoxSeen}
+use Rattle.scans_format.proofs.FilesViewed.{plans_back}
+use Rattle.scans_format.proofs.view.FileView.plans.Goals as goal
+
+pub returns : goal.returns
+returns c =
+    let i = c.self.inside in
+    ap (λ (n : ℕ). take n i.plans) c.from.ensures
+    ∙ sym (plans_back (take i.count i.plans) i.bytes.now c.self.invariant.passed)
+    ∙ ap (λ (l : List BoxSeen). map (λ (s : BoxSeen). s.plan) l) c.self.view_is

@@ -1,0 +1,11 @@
+use Rattle.std.proofs.Common.{arith}
+use Rattle.scans_format.proofs.FilesViewed.{count_is}
+use Rattle.scans_format.proofs.view.FileView.scans.Goals as goal
+
+pub returns-clause-count : goal.returns-clause-count
+returns-clause-count c =
+    let i = c.self.inside in
+    let few = c.self.invariant.few in
+    let room = c.self.invariant.room in
+    count_is i.plans i.bytes.now c.args.self.now i.count c.self.invariant.passed c.self.view_is
+    (omega (arith, few, room))

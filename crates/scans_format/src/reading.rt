@@ -1,0 +1,56 @@
+// From bytes to the scans of a container.
+ghost use Rattle.std.specs.Prelude.{◌≡◌, true, false, IfOk, IfErr};
+ghost use Rattle.scans_format.specs.Containers.{IsContainer, IsRefusedContainer, names_several};
+
+use crate::checks::{early_fault, late_fault};
+use crate::fields::{names_several, scans_in};
+use crate::headers::read_plans;
+use crate::view::FileView;
+use box_format::{BoxRefusal, read_box};
+
+/// Reads a container of one scan or of several: its scans, or the refusal of the first check that fails. It takes no
+/// memory, and sums of lengths don't overflow, whatever the fields say.
+pub fn read_container(bytes: &[u8]) -> Result<FileView<'_>, BoxRefusal>
+    ensures taken { IfOk result (λ scans. IsContainer scans bytes.now) }
+    ensures refused { IfErr result (λ refusal. IsRefusedContainer bytes.now refusal) }
+{
+    if names_several(bytes) {
+        read_several(bytes)
+    } else {
+        read_one(bytes)
+    }
+}
+
+// A container of one scan.
+fn read_one(bytes: &[u8]) -> Result<FileView<'_>, BoxRefusal>
+    requires { names_several bytes.now ≡ false }
+    ensures taken { IfOk result (λ scans. IsContainer scans bytes.now) }
+    ensures refused { IfErr result (λ refusal. IsRefusedContainer bytes.now refusal) }
+{
+    match read_box(bytes) {
+        Ok(view) => Ok(FileView::of_one(bytes, view.plan())),
+        Err(refusal) => Err(refusal),
+    }
+}
+
+// A container of several.
+fn read_several(bytes: &[u8]) -> Result<FileView<'_>, BoxRefusal>
+    requires { names_several bytes.now ≡ true }
+    ensures taken { IfOk result (λ scans. IsContainer scans bytes.now) }
+    ensures refused { IfErr result (λ refusal. IsRefusedContainer bytes.now refusal) }
+{
+    if let Some(refusal) = early_fault(bytes) {
+        return Err(refusal);
+    }
+    if scans_in(bytes) == 0 {
+        return Err(BoxRefusal::BoxSegments);
+    }
+    let plans = match read_plans(bytes) {
+        Ok(plans) => plans,
+        Err(refusal) => return Err(refusal),
+    };
+    if let Some(refusal) = late_fault(bytes, &plans) {
+        return Err(refusal);
+    }
+    Ok(FileView::of_several(bytes, plans))
+}

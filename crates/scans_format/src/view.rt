@@ -1,0 +1,106 @@
+// A container that was read.
+ghost use Rattle.std.specs.Prelude.{◌≡◌, ◌≤◌, ◌<◌, [], ◌∷◌, true, false, Some, length, map, take, slice_get};
+ghost use Rattle.box_format.specs.BoxChecks.{PassesChecks};
+ghost use Rattle.box_format.specs.Raws.{parts_of, raw_of};
+ghost use Rattle.box_format.specs.Versions.{decoded, most_segments};
+ghost use Rattle.scans_format.specs.Containers.{names_several};
+ghost use Rattle.scans_format.specs.Scans.{segment_count};
+ghost use Rattle.scans_format.specs.ScansRaw.{scans_in, raws_of};
+ghost use Rattle.scans_format.specs.ScansChecks.{PassesScans, boxes_of};
+
+use crate::fields::{names_several, scans_in};
+use crate::slices::scan_view;
+use box_format::BoxView;
+use jpeg_marker::Plan;
+use std::marker::Model;
+
+/// A container that was read, of one scan or of several. Clauses see its scans.
+#[derive(Drop)]
+pub struct FileView<'a> {
+    bytes: &'a [u8],
+    // The plans of the scans. The first plan fills the places after them.
+    plans: [Plan; 4],
+    count: u8,
+}
+
+impl<'a> Model for FileView<'a> {
+    ghost use Rattle.std.specs.Prelude.{List};
+    ghost use Rattle.box_format.specs.Seen.{BoxSeen};
+    ghost use Rattle.scans_format.specs.FilesSeen.{scans_seen, IsFileView};
+
+    ghost Value = { List BoxSeen };
+
+    ghost view = { scans_seen };
+
+    ghost invariant = { IsFileView };
+}
+
+impl<'a> FileView<'a> {
+    /// The view of a container of one scan, whose checks pass.
+    pub(crate) fn of_one(bytes: &'a [u8], plan: &Plan) -> FileView<'a>
+        requires one { names_several bytes.now ≡ false }
+        requires passes { PassesChecks decoded plan.now bytes.now }
+        ensures { result ≡ record { plan = plan.now; parts = parts_of (raw_of bytes.now) } ∷ [] }
+    {
+        FileView {
+            bytes,
+            plans: [*plan; 4],
+            count: 1,
+        }
+    }
+
+    /// The view of a container of several scans, whose checks pass.
+    pub(crate) fn of_several(bytes: &'a [u8], plans: [Plan; 4]) -> FileView<'a>
+        requires several { names_several bytes.now ≡ true }
+        requires passes { PassesScans (take (scans_in bytes.now) plans) bytes.now }
+        ensures { result ≡ boxes_of (take (scans_in bytes.now) plans) (raws_of bytes.now) }
+    {
+        let count = scans_in(bytes);
+        FileView {
+            bytes,
+            plans,
+            count,
+        }
+    }
+
+    /// How many scans there are, one to four.
+    pub fn scans(&self) -> u8
+        ensures count { result ≡ length self.now }
+        ensures some { 1 ≤ result }
+        ensures few { result ≤ 4 }
+    {
+        self.count
+    }
+
+    // The plans of the scans.
+    fn plans(&self) -> &[Plan]
+        ensures { result.now ≡ map (λ seen. seen.plan) self.now }
+    {
+        &self.plans[..usize::from(self.count)]
+    }
+
+    /// A scan's part of the container; the first scan has number 0.
+    pub fn scan(&self, scan: u8) -> BoxView<'a>
+        requires { scan < length self.now }
+        ensures { slice_get self.now scan ≡ Some result }
+    {
+        let plan = &self.plans()[usize::from(scan)];
+        if names_several(self.bytes) {
+            scan_view(self.bytes, plan, scan)
+        } else {
+            BoxView::of_bytes(self.bytes, plan)
+        }
+    }
+
+    /// How many segments all scans have.
+    pub fn segments(&self) -> u8
+        ensures count { result ≡ segment_count self.now }
+        ensures few { result ≤ most_segments }
+    {
+        let mut count = 0;
+        for scan in 0..self.count {
+            count += self.scan(scan).segments();
+        }
+        count
+    }
+}
