@@ -1,0 +1,9 @@
+pub mod ScanParts
+pub mod ScansRestored
+pub mod FilesRefused
+pub mod OneContainers
+pub mod RestoredScans
+pub mod BoxesOnce
+pub mod ScansSizes
+pub mod JoinedLists
+pub mod JoinedScans

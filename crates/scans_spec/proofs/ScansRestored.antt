@@ -1,0 +1,237 @@
+-- The container of a file of several scans stands for the file.
+use Rattle.std.proofs.Common.{◌≡◌, ℕ, zero, suc, ◌+◌, ◌*◌, ◌^◌, ◌<◌, ◌≤◌, true, false, ◌==◌, List, [], ◌∷◌, ◌++◌, length, map, replicate, inl, inr, refl, sym, ap, ap₂, ◌∙◌, arith, append_assoc, append-nil}
+use Rattle.std.specs.Prelude.{sum}
+use Rattle.std.specs.List.{AllByRecursion}
+use Rattle.std.proofs.lemmas.List.{length-replicate}
+use Rattle.std.proofs.lemmas.List.Folds.{sum_by-replicate}
+use Rattle.bit_list.specs.Bits.{IsByte}
+use Rattle.jpeg_marker.specs.AcceptedPlans.{AreKnown}
+use Rattle.jpeg_marker.specs.FirstWalks.{opening_walk}
+use Rattle.jpeg_marker.specs.Walks.{Walk, next_walk}
+use Rattle.jpeg_marker.proofs.CodedComponents.{HaveCoded, none_coded, more_coded, few_coded}
+use Rattle.jpeg_marker.proofs.HeadersTaken.{none_known}
+use Rattle.scan_spec.proofs.FilesOnce.{known_on}
+use Rattle.box_format.specs.Parts.{BoxParts, box_bytes}
+use Rattle.box_format.specs.Seen.{BoxSeen}
+use Rattle.box_format.specs.Versions.{version_byte, most_segments}
+use Rattle.box_format.specs.declared.version.Version.{Version}
+use Rattle.box_format.specs.declared.version.Version.TheVariants.{First, Second, Third, Fifth}
+use Rattle.box_format.proofs.Lists.{sum_first}
+use Rattle.container_spec.specs.Meanings.{Meaning, Restored, IsMeaning, meaning_of}
+use Rattle.container_spec.proofs.RestoredFiles.{container_is_restored}
+use Rattle.scans_format.specs.Scans.{AreBoxes, IsScans, all_parts, scans_bytes, segment_count, several_byte}
+use Rattle.scans_spec.specs.ScansFiles.{AreScansIn, IsContainerOfScans, share_of}
+use Rattle.scans_spec.specs.ScansMeaningLaws.{ScansAreRestored, FileIsRestored}
+use Rattle.scans_format.specs.Containers.{names_several}
+use Rattle.scans_spec.specs.ScansMeanings.{StandsFor, verdict_after, meaning_after, followed_by, meaning_from, scans_meaning}
+use Rattle.scans_spec.proofs.ScanParts.{has, header, scan, bytes_are, rest_bytes, own, is_second, trailer_is, segments_are, is_box, means}
+
+-- a file that is restored
+abbrev pub restored : List ℕ → Meaning
+restored file = record { bytes = file; verdict = Restored }
+
+-- what a scan stands for, by what its parts do
+abbrev numbered : ℕ → Meaning → Meaning
+numbered first m = record { bytes = m.bytes; verdict = verdict_after first m.verdict }
+
+numbered_is : (first : ℕ) (s : BoxSeen) (file : List ℕ)
+    → meaning_of s.plan s.parts ≡ restored file → meaning_after first s ≡ restored file
+numbered_is first s file e = ap (numbered first) e
+
+-- bytes that are followed by others
+joined_is : (header scan rest bytes : List ℕ) → bytes ≡ header ++ (scan ++ rest)
+    → (header ++ (scan ++ [])) ++ rest ≡ bytes
+joined_is header scan rest bytes e =
+    append_assoc header (scan ++ []) rest
+    ∙ ap (λ (l : List ℕ). header ++ (l ++ rest)) (append-nil scan) ∙ sym e
+
+-- what is known of scans from a walk on
+record AreRestored (w : Walk) (first : ℕ) (mosts bytes : List ℕ) (scans : List BoxSeen) : Type 0
+  where
+    boxes : AreBoxes w scans
+    versions : AllByRecursion (λ (s : BoxSeen). s.parts.version ≡ Second) scans
+    few : segment_count scans ≤ sum mosts
+    meaning : meaning_from first scans ≡ restored bytes
+
+are_restored : (w : Walk) (first : ℕ) (mosts bytes trailer : List ℕ) (scans : List BoxSeen)
+    → AreKnown w.known → AllByRecursion IsByte bytes → length trailer < 2 ^ 32
+    → AllByRecursion (λ most. 0 < most) mosts → sum mosts ≤ most_segments
+    → AreScansIn w mosts bytes trailer scans → AreRestored w first mosts bytes scans
+are_restored w first [] bytes trailer [] known all fits some few are = absurd are
+are_restored w first (most ∷ mosts) bytes trailer [] known all fits some few are = absurd are
+are_restored w first [] bytes trailer (s ∷ scans) known all fits some few are = absurd are
+are_restored w first (most ∷ mosts) bytes trailer (s ∷ []) known all fits some few are =
+    let is = are.0 in
+    let sum_is = sum_first most mosts in
+    let tail = rest_bytes w bytes trailer s.plan is.mcus is.pads all is.is in
+    let below : most ≤ most_segments = omega (arith, few, sum_is) in
+    let many = segments_are w most bytes trailer trailer s known all tail fits is in
+    let one = sum_first (length s.parts.handovers) [] in
+    record {
+      boxes = (is_box w most bytes trailer trailer s known all tail fits is some.0 below, are.1);
+      versions = (is_second w most bytes trailer trailer s known all tail fits is, tt);
+      few = omega (arith, many, sum_is, one);
+      meaning = numbered_is first s (own w most bytes trailer trailer s known all tail fits is)
+          (means w most bytes trailer trailer s known all tail fits is some.0 below)
+          ∙ ap restored (sym (bytes_are w most bytes trailer trailer s known all tail fits is));
+    }
+are_restored w first (most ∷ mosts) bytes trailer (s ∷ t ∷ scans) known all fits some few are =
+    let rest : List ℕ = are.0 in
+    let is = are.1 in
+    let sum_is = sum_first most mosts in
+    let below : most ≤ most_segments = omega (arith, few, sum_is) in
+    let others : sum mosts ≤ most_segments = omega (arith, few, sum_is) in
+    let none : length {A = ℕ} [] < 2 ^ 32 = omega arith in
+    let many = segments_are w most bytes rest [] s known all tt none is in
+    let here = numbered_is first s (own w most bytes rest [] s known all tt none is)
+    (means w most bytes rest [] s known all tt none is some.0 below) in
+    let more = are_restored (next_walk s.plan.known 0) (first + length s.parts.handovers) mosts rest
+    trailer (t ∷ scans) (known_on w bytes rest s.plan is.mcus is.pads all known is.is)
+    (rest_bytes w bytes rest s.plan is.mcus is.pads all is.is) fits some.1 others are.3 in
+    let text = joined_is (header w most bytes rest [] s known all tt none is)
+    (scan w most bytes rest [] s known all tt none is) rest bytes
+    (bytes_are w most bytes rest [] s known all tt none is) in
+    let one = sum_first (length s.parts.handovers)
+    (map (λ (s : BoxSeen). length s.parts.handovers) (t ∷ scans)) in
+    let fewer = more.few in
+    record {
+      boxes = (
+        is_box w most bytes rest [] s known all tt none is some.0 below,
+        are.2,
+        trailer_is w most bytes rest [] s known all tt none is,
+        more.boxes,
+      );
+      versions = (is_second w most bytes rest [] s known all tt none is, more.versions);
+      few = omega (arith, many, sum_is, one, fewer);
+      meaning = ap₂ (λ (m next : Meaning). followed_by m.bytes m.verdict next) here more.meaning
+          ∙ ap restored text;
+    }
+
+-- there are four scans at most
+pub scans_few : (w : Walk) (before : ℕ) (mosts bytes trailer : List ℕ) (scans : List BoxSeen)
+    → AreKnown w.known → HaveCoded w.known before → AllByRecursion IsByte bytes
+    → length trailer < 2 ^ 32 → AreScansIn w mosts bytes trailer scans
+    → before + length scans ≤ 4
+scans_few w before [] bytes trailer [] known coded all fits are = absurd are
+scans_few w before (most ∷ mosts) bytes trailer [] known coded all fits are = absurd are
+scans_few w before [] bytes trailer (s ∷ scans) known coded all fits are = absurd are
+scans_few w before (most ∷ mosts) bytes trailer (s ∷ []) known coded all fits are =
+    let is = are.0 in
+    let tail = rest_bytes w bytes trailer s.plan is.mcus is.pads all is.is in
+    let few = few_coded s.plan.known (suc before) (more_coded w bytes s.plan before
+    (has w most bytes trailer trailer s known all tail fits is) coded) in
+    omega (arith, few)
+scans_few w before (most ∷ mosts) bytes trailer (s ∷ t ∷ scans) known coded all fits are =
+    let rest : List ℕ = are.0 in
+    let is = are.1 in
+    let none : length {A = ℕ} [] < 2 ^ 32 = omega arith in
+    let more = scans_few (next_walk s.plan.known 0) (suc before) mosts rest trailer (t ∷ scans)
+    (known_on w bytes rest s.plan is.mcus is.pads all known is.is)
+    (more_coded w bytes s.plan before (has w most bytes rest [] s known all tt none is) coded)
+    (rest_bytes w bytes rest s.plan is.mcus is.pads all is.is) fits are.3 in
+    omega (arith, more)
+
+pub several_named : (scans : List BoxParts) → names_several (scans_bytes scans) ≡ true
+unfolding scans_bytes
+several_named scans = refl
+
+meaning_is : (scans : List BoxSeen) → scans_meaning scans ≡ meaning_from 0 scans
+unfolding scans_meaning
+meaning_is scans = refl
+
+-- they are scans of a container
+pub are_scans : (mosts made file : List ℕ) → AllByRecursion (λ most. 0 < most) mosts
+    → sum mosts ≤ most_segments → (is : IsContainerOfScans mosts made file) → IsScans is.scans
+are_scans mosts made file some few is =
+    let all = are_restored opening_walk 0 mosts file is.trailer is.scans none_known is.bytes
+    is.trailer_fits some few is.are in
+    let count = scans_few opening_walk 0 mosts file is.trailer is.scans none_known none_coded
+    is.bytes is.trailer_fits is.are in
+    let segments = all.few in
+    record {
+      several = is.several;
+      most = omega (arith, count);
+      each = all.boxes;
+      versions = all.versions;
+      few = omega (arith, segments, few);
+    }
+
+pub scans_are_restored : ScansAreRestored
+scans_are_restored mosts made file some few is =
+    let all = are_restored opening_walk 0 mosts file is.trailer is.scans none_known is.bytes
+    is.trailer_fits some few is.are in
+    inr (
+      is.scans,
+      inr (
+        ap names_several is.spelled ∙ several_named (all_parts is.scans),
+        record { are = are_scans mosts made file some few is; text = is.spelled },
+      ),
+      sym (meaning_is is.scans ∙ all.meaning),
+    )
+
+-- ---- a file of one scan
+
+version_not : (v : Version) → version_byte v == several_byte ≡ false
+version_not First = refl
+version_not Second = refl
+version_not Third = refl
+version_not Fifth = refl
+
+pub one_named : (b : BoxParts) → names_several (box_bytes b) ≡ false
+unfolding box_bytes
+one_named b = version_not b.version
+
+one_stands : (made file : List ℕ) → IsMeaning made (restored file) → StandsFor made (restored file)
+one_stands made file (inl refused) =
+    absurd (let f = ap (λ (m : Meaning). m.verdict) refused.2 in cc)
+one_stands made file (inr (plan, b, of, e)) =
+    let s : BoxSeen = record { plan = plan; parts = b } in
+    inr (
+      s ∷ [],
+      inl (ap names_several of.text ∙ one_named b, s, refl, of),
+      sym (meaning_is (s ∷ []) ∙ numbered_is 0 s file (sym e)),
+    )
+
+-- ---- any file
+
+share_few : (most n : ℕ) → n ≤ 4 → most ≤ 64 → n * share_of most n ≤ 64
+share_few most zero few below = omega arith
+share_few most (suc zero) few below = omega arith
+share_few most (suc (suc zero)) few below = omega arith
+share_few most (suc (suc (suc zero))) few below = omega arith
+share_few most (suc (suc (suc (suc zero)))) few below = omega arith
+share_few most (suc (suc (suc (suc (suc n))))) few below = absurd (omega arith)
+
+replicated : (n x : ℕ) → 0 < x → AllByRecursion (λ most. 0 < most) (replicate n x)
+replicated zero x some = tt
+replicated (suc n) x some = (some, replicated n x some)
+
+-- the numbers of segments of a file's scans, which share them
+pub record AreShares (n share : ℕ) (scans : List BoxSeen) : Type 0 where
+  pub some : AllByRecursion (λ most. 0 < most) (replicate n share)
+  pub few : sum (replicate n share) ≤ most_segments
+  pub count : length scans ≤ 4
+
+pub shares_are : (most n : ℕ) (made file : List ℕ) → most ≤ most_segments
+    → (is : IsContainerOfScans (replicate n (share_of most n)) made file)
+    → AreShares n (share_of most n) is.scans
+shares_are most n made file few is =
+    let share : ℕ = share_of most n in
+    let count = scans_few opening_walk 0 (replicate n share) file is.trailer is.scans none_known
+    none_coded is.bytes is.trailer_fits is.are in
+    let long = length-replicate n share in
+    let counted = is.counted in
+    let all = sum_by-replicate (λ (x : ℕ). x) n share in
+    let below = share_few most n (omega (arith, count, long, counted)) few in
+    record {
+      some = replicated n share (omega arith);
+      few = omega (arith, all, below);
+      count = omega (arith, count);
+    }
+
+pub file_is_restored : FileIsRestored
+file_is_restored most made file some few (inl is) =
+    one_stands made file (container_is_restored Second most made file some few is)
+file_is_restored most made file some few (inr (n, two, is)) =
+    let shares = shares_are most n made file few is in
+    scans_are_restored (replicate n (share_of most n)) made file shares.some shares.few is

@@ -1,0 +1,210 @@
+-- How long the container of a file of several scans can be.
+use Rattle.std.proofs.Common.{◌≡◌, ℕ, ◌+◌, ◌*◌, ◌^◌, ◌<◌, ◌≤◌, List, replicate, [], ◌∷◌, ◌++◌, length, sym, ap, ◌∙◌, arith, length-append, zero-add, inl, inr}
+use Rattle.std.specs.Prelude.{min, flat_map, sum}
+use Rattle.std.specs.List.{AllByRecursion}
+use Rattle.bit_list.specs.Bits.{IsByte}
+use Rattle.jpeg_marker.specs.AcceptedPlans.{AreKnown, HasBegun}
+use Rattle.jpeg_marker.specs.FirstWalks.{opening_walk}
+use Rattle.jpeg_marker.specs.Plans.{most_blocks}
+use Rattle.jpeg_marker.specs.Walks.{Walk, next_walk}
+use Rattle.jpeg_marker.proofs.HeadersTaken.{none_known}
+use Rattle.scan_spec.specs.Slots.{shape_of}
+use Rattle.scan_spec.proofs.FilesOnce.{known_on}
+use Rattle.scan_spec.proofs.PlanShapes.{slots_count}
+use Rattle.handover.specs.Handovers.{IsHandover}
+use Rattle.box_format.specs.Parts.{BoxParts, box_bytes, list_bytes}
+use Rattle.box_format.specs.Seen.{BoxSeen}
+use Rattle.box_format.specs.Versions.{most_segments}
+use Rattle.box_format.specs.declared.version.Version.TheVariants.{Second}
+use Rattle.box_format.proofs.Lists.{sum_first}
+use Rattle.container_spec.specs.Files.{IsContainerIn, segment_mcus}
+use Rattle.container_spec.specs.ScanStream.{stream_of}
+use Rattle.container_spec.proofs.ContainerSizes.{records_long, container_is_short}
+use Rattle.container_spec.proofs.FileParts.{cut, cuts, stream_long, list_long, mcus_few}
+use Rattle.container_spec.proofs.StreamSizes.{streams_short}
+use Rattle.scans_format.specs.Scans.{all_parts, scan_fields, scan_header, scan_streams, trailer_of, scans_bytes}
+use Rattle.scans_spec.specs.ScansFiles.{IsScanIn, AreScansIn, share_of}
+use Rattle.scans_spec.specs.ScansMeaningLaws.{ContainerOfFileIsShort}
+use Rattle.scans_spec.proofs.ScanParts.{has, header, bytes_are, rest_bytes, own, contained, trailer_is, segments_are, is_box}
+use Rattle.scans_spec.proofs.ScansRestored.{shares_are}
+
+-- ---- one scan
+
+fields_long : (b : BoxParts) → AllByRecursion IsHandover b.handovers
+    → length (scan_fields b) ≤ 10 + 30 * length b.handovers
+fields_long b each =
+    let few = records_long b.places 0 b.handovers b.streams each in
+    simp length-append (omega (arith, few))
+
+header_is : (b : BoxParts) → length (scan_header b) ≡ length (list_bytes b.pads) + length b.header
+header_is b = length-append (list_bytes b.pads) b.header
+
+-- the room of a scan's fields, its pad list and its streams
+record IsShort (s : BoxSeen) : Type 0 where
+  fields : length (scan_fields s.parts) ≤ 1930
+  list : length (list_bytes s.parts.pads) ≤ 2097152
+  streams : length (scan_streams s.parts) ≤ 64 + 1141 * s.plan.blocks
+
+module _ (w : Walk) (most : ℕ) (bytes rest trailer : List ℕ) (s : BoxSeen) (known : AreKnown w.known)
+    (all : AllByRecursion IsByte bytes) (tail : AllByRecursion IsByte trailer)
+    (fits : length trailer < 2 ^ 32) (is : IsScanIn w most bytes rest trailer s) (some : 0 < most)
+    (few : most ≤ most_segments) where
+  abbrev made : List ℕ
+  made = own w most bytes rest trailer s known all tail fits is
+
+  abbrev container : IsContainerIn w Second most (box_bytes s.parts) made
+  container = contained w most bytes rest trailer s known all tail fits is
+
+  -- its header comes before the bytes that follow it
+  header_before : length s.parts.header + length rest ≤ length bytes
+  header_before =
+      let first : List ℕ = header w most bytes rest trailer s known all tail fits is in
+      let text = ap length (bytes_are w most bytes rest trailer s known all tail fits is) in
+      let same = ap (λ (b : BoxParts). length b.header) is.parts in
+      omega (arith, text, same, length-append first (is.is.scan ++ rest), length-append is.is.scan rest)
+
+  trailer_long : length s.parts.trailer ≡ length trailer
+  trailer_long = ap length (trailer_is w most bytes rest trailer s known all tail fits is)
+
+  begun : HasBegun w bytes s.plan
+  begun = has w most bytes rest trailer s known all tail fits is
+
+  scan_is_short : IsShort s
+  scan_is_short =
+      let b : BoxParts = s.parts in
+      let plan : HasBegun w bytes s.plan = begun in
+      let many = segments_are w most bytes rest trailer s known all tail fits is in
+      let box = is_box w most bytes rest trailer s known all tail fits is some few in
+      let fields = fields_long b box.each in
+      let list = list_long Second most (box_bytes b) made some container in
+      let pads = ap (λ (b : BoxParts). length (list_bytes b.pads)) is.parts in
+      let mcus = mcus_few Second most (box_bytes b) made some container in
+      let count : ℕ = min most s.plan.down in
+      let d : ℕ → ℕ = cut Second most (box_bytes b) made some container in
+      let rise = cuts Second most (box_bytes b) made some container in
+      let n : ℕ = length (shape_of s.plan).slots in
+      let stream : ℕ → List ℕ = λ j. stream_of s.plan (segment_mcus s.plan is.mcus most j) in
+      let streams = streams_short stream d n count 0
+      (λ j after within. rise.order j (omega (arith, within)))
+      (λ j after within. stream_long Second most (box_bytes b) made some container j
+      (omega (arith, within))) in
+      let whole : d (0 + count) * n ≡ s.plan.across * s.plan.down * n =
+      ap (λ m. d m * n) (zero-add count) ∙ ap (λ m. m * n) rise.whole in
+      let blocks : s.plan.across * s.plan.down * n ≡ s.plan.blocks =
+      ap (λ m. s.plan.across * s.plan.down * m) (slots_count s.plan.components plan.is_plan.some)
+      ∙ sym plan.is_plan.grid in
+      let text = ap (λ (b : BoxParts). length (scan_streams b)) is.parts in
+      record {
+        fields = omega (arith, fields, many, few);
+        list = omega (arith, list, pads, mcus);
+        streams = omega (arith, streams, whole, blocks, text, few);
+      }
+
+-- ---- all scans
+
+-- the bytes of one and then of others
+first_long : (f : BoxParts → List ℕ) (b : BoxParts) (others : List BoxParts)
+    → length (flat_map f (b ∷ others)) ≡ length (f b) + length (flat_map f others)
+first_long f b others = length-append (f b) (flat_map f others)
+
+record AreShort (w : Walk) (bytes trailer : List ℕ) (scans : List BoxSeen) : Type 0 where
+  fields : length (flat_map scan_fields (all_parts scans)) ≤ 1930 * length scans
+  headers : length (flat_map scan_header (all_parts scans)) + length (trailer_of (all_parts scans))
+      ≤ 2097152 * length scans + length bytes
+  streams : length (flat_map scan_streams (all_parts scans)) + 1141 * w.known.blocks
+      ≤ 64 * length scans + 1141 * most_blocks
+
+are_short : (w : Walk) (mosts bytes trailer : List ℕ) (scans : List BoxSeen) → AreKnown w.known
+    → AllByRecursion IsByte bytes → length trailer < 2 ^ 32
+    → AllByRecursion (λ most. 0 < most) mosts → sum mosts ≤ most_segments
+    → AreScansIn w mosts bytes trailer scans → AreShort w bytes trailer scans
+are_short w [] bytes trailer [] known all fits some few are = absurd are
+are_short w (most ∷ mosts) bytes trailer [] known all fits some few are = absurd are
+are_short w [] bytes trailer (s ∷ scans) known all fits some few are = absurd are
+are_short w (most ∷ mosts) bytes trailer (s ∷ []) known all fits some few are =
+    let is = are.0 in
+    let b : BoxParts = s.parts in
+    let tail = rest_bytes w bytes trailer s.plan is.mcus is.pads all is.is in
+    let sum_is = sum_first most mosts in
+    let below : most ≤ most_segments = omega (arith, few, sum_is) in
+    let one = scan_is_short w most bytes trailer trailer s known all tail fits is some.0 below in
+    let before = header_before w most bytes trailer trailer s known all tail fits is some.0 below in
+    let same = trailer_long w most bytes trailer trailer s known all tail fits is some.0 below in
+    let plan = begun w most bytes trailer trailer s known all tail fits is some.0 below in
+    let blocks = plan.blocks in
+    let most_few = plan.few in
+    let fields = one.fields in
+    let list = one.list in
+    let streams = one.streams in
+    record {
+      fields = omega (arith, fields, first_long scan_fields b []);
+      headers = omega (
+        arith,
+        list,
+        before,
+        same,
+        header_is b,
+        first_long scan_header b [],
+        first_long (λ (b : BoxParts). b.trailer) b [],
+      );
+      streams = omega (arith, streams, blocks, most_few, first_long scan_streams b []);
+    }
+are_short w (most ∷ mosts) bytes trailer (s ∷ t ∷ scans) known all fits some few are =
+    let rest : List ℕ = are.0 in
+    let is = are.1 in
+    let b : BoxParts = s.parts in
+    let others : List BoxParts = all_parts (t ∷ scans) in
+    let none : length {A = ℕ} [] < 2 ^ 32 = omega arith in
+    let sum_is = sum_first most mosts in
+    let below : most ≤ most_segments = omega (arith, few, sum_is) in
+    let fewer : sum mosts ≤ most_segments = omega (arith, few, sum_is) in
+    let one = scan_is_short w most bytes rest [] s known all tt none is some.0 below in
+    let before = header_before w most bytes rest [] s known all tt none is some.0 below in
+    let same = trailer_long w most bytes rest [] s known all tt none is some.0 below in
+    let plan = begun w most bytes rest [] s known all tt none is some.0 below in
+    let more = are_short (next_walk s.plan.known 0) mosts rest trailer (t ∷ scans)
+    (known_on w bytes rest s.plan is.mcus is.pads all known is.is)
+    (rest_bytes w bytes rest s.plan is.mcus is.pads all is.is) fits some.1 fewer are.3 in
+    let blocks = plan.blocks in
+    let fields = one.fields in
+    let list = one.list in
+    let streams = one.streams in
+    let more_fields = more.fields in
+    let more_headers = more.headers in
+    let more_streams = more.streams in
+    record {
+      fields = omega (arith, fields, more_fields, first_long scan_fields b others);
+      headers = omega (
+        arith,
+        list,
+        before,
+        same,
+        more_headers,
+        header_is b,
+        first_long scan_header b others,
+        first_long (λ (b : BoxParts). b.trailer) b others,
+      );
+      streams = omega (arith, streams, blocks, more_streams, first_long scan_streams b others);
+    }
+
+scans_long : (scans : List BoxParts)
+    → length (scans_bytes scans)
+    ≡ 10 + length (flat_map scan_fields scans) + length (flat_map scan_header scans)
+    + length (trailer_of scans) + length (flat_map scan_streams scans)
+unfolding scans_bytes
+scans_long scans = simp length-append (omega arith)
+
+pub container_of_file_is_short : ContainerOfFileIsShort
+container_of_file_is_short most made file some few (inl is) short =
+    container_is_short Second most made file some few is short
+container_of_file_is_short most made file some few (inr (n, two, is)) short =
+    let shares = shares_are most n made file few is in
+    let all = are_short opening_walk (replicate n (share_of most n)) file is.trailer is.scans
+    none_known is.bytes is.trailer_fits shares.some shares.few is.are in
+    let text = ap length is.spelled in
+    let long = scans_long (all_parts is.scans) in
+    let count = shares.count in
+    let fields = all.fields in
+    let headers = all.headers in
+    let streams = all.streams in
+    omega (arith, text, long, count, fields, headers, streams, short)

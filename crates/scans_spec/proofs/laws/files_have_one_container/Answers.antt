@@ -1,0 +1,16 @@
+use Rattle.scans_spec.proofs.FilesRefused.{one_file_refusal}
+use Rattle.scans_spec.proofs.OneContainers.{one_container_of_file, contained_is_not_refused}
+use Rattle.scans_spec.proofs.ScansSizes.{container_of_file_is_short}
+use Rattle.scans_spec.proofs.laws.files_have_one_container.Goals as goal
+
+pub returns-clause-one : goal.returns-clause-one
+returns-clause-one c = one_container_of_file
+
+pub returns-clause-apart : goal.returns-clause-apart
+returns-clause-apart c = contained_is_not_refused
+
+pub returns-clause-refusal : goal.returns-clause-refusal
+returns-clause-refusal c = one_file_refusal
+
+pub returns-clause-short : goal.returns-clause-short
+returns-clause-short c = container_of_file_is_short

@@ -1,0 +1,4 @@
+pub mod ScansMeanings
+pub mod ScansJoined
+pub mod ScansFiles
+pub mod ScansMeaningLaws
