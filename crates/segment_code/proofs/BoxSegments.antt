@@ -5,16 +5,16 @@ use Rattle.std.specs.List.{list_all}
 use Rattle.std.proofs.Math.Nat.{lt_of_mul-lt-mul_left}
 use Rattle.std.proofs.lemmas.Bool.{and_parts, eqb-true}
 use Rattle.jpeg_marker.specs.Plans.{PlanFields}
-use Rattle.jpeg_marker.proofs.HeadersTaken.{accepted_has_plan}
+use Rattle.jpeg_marker.proofs.HeadersTaken.{begun_has_plan}
 use Rattle.scan_spec.specs.Pads.{PadBits}
 use Rattle.scan_spec.specs.Slots.{Shape, shape_of}
-use Rattle.scan_spec.proofs.PlanShapes.{accepted_is_shape}
+use Rattle.scan_spec.proofs.PlanShapes.{begun_is_shape}
 use Rattle.handover.specs.Handovers.{HandoverFields, start}
 use Rattle.handover.specs.HandoverBytes.{is_handover}
 use Rattle.cut_spec.specs.Cuts.{Cut, row_of, first_mcu}
 use Rattle.cut_spec.specs.RowHandovers.{markers_before}
 use Rattle.box_format.specs.declared.chunk.Chunk.{Chunk}
-use Rattle.box_format.specs.Parts.{BoxParts, IsBox, bad_start, box_cut, box_rows, can_start, is_start, is_unused_zero}
+use Rattle.box_format.specs.Parts.{BoxParts, IsScanBox, bad_start, box_cut, box_rows, can_start, is_start, is_unused_zero}
 use Rattle.box_format.proofs.PassedBox.{ordered, in_grid}
 use Rattle.container_spec.proofs.CutsOfPlans.{each_has_mcus}
 use Rattle.container_spec.specs.ScanStream.{grid_of}
@@ -59,21 +59,21 @@ restarts_are shape count h can =
 
 -- ---- its rows
 
-pub box_suits : (plan : PlanFields) (b : BoxParts) → IsBox plan b
+pub box_suits : (plan : PlanFields) (b : BoxParts) → IsScanBox plan b
     → Suits (shape_of plan) (grid_of plan)
-box_suits plan b box =
-    let has = accepted_has_plan b.header plan box.header_bytes box.header in
+box_suits plan b (w, box) =
+    let has = begun_has_plan w b.header plan box.header_bytes box.known box.header in
     let is = has.is_plan in
     let grid = has_grid plan is in
     record {
-      shape_is = (accepted_is_shape b.header plan box.header_bytes box.header).0;
+      shape_is = (begun_is_shape w b.header plan box.header_bytes box.known box.header).0;
       grid_is = record { across = is.wide; mcu = grid.some };
       blocks = slots_of_grid plan is;
     }
 
 -- a segment's row and MCUs were counted
 pub record IsCounted (plan : PlanFields) (b : BoxParts) (i row count : ℕ) : Type 0 where
-  pub box : IsBox plan b
+  pub box : IsScanBox plan b
   pub under : i < length b.handovers
   pub is_row : row ≡ row_of (box_cut plan b.chunk (length b.handovers)) i
   pub counted : first_mcu (box_cut plan b.chunk (length b.handovers)) i + count
@@ -83,7 +83,7 @@ pub record IsCounted (plan : PlanFields) (b : BoxParts) (i row count : ℕ) : Ty
 
 -- for a plan, a chunk and a number of segments that are a container's
 pub counted_in : (plan p q : PlanFields) (b : BoxParts) (k : Option Chunk) (n i row count : ℕ)
-    → q ≡ p → p ≡ plan → k ≡ b.chunk → n ≡ length b.handovers → IsBox p b → i < length b.handovers
+    → q ≡ p → p ≡ plan → k ≡ b.chunk → n ≡ length b.handovers → IsScanBox p b → i < length b.handovers
     → row ≡ row_of (box_cut q k n) i
     → first_mcu (box_cut q k n) i + count ≡ first_mcu (box_cut q k n) (i + 1)
     → first_mcu (box_cut q k n) i + count ≤ q.across * q.down → IsCounted plan b i row count
@@ -92,7 +92,7 @@ counted_in plan p q b k n i row count same here chunk many box under is_row coun
     let cut : box_cut q k n ≡ box_cut plan b.chunk (length b.handovers) =
     ap₂ (λ (r : PlanFields) (c : Option Chunk). box_cut r c n) all chunk
     ∙ ap (box_cut plan b.chunk) many in record {
-      box = subst (λ (r : PlanFields). IsBox r b) here box;
+      box = subst (λ (r : PlanFields). IsScanBox r b) here box;
       under = under;
       is_row = is_row ∙ ap (λ (c : Cut). row_of c i) cut;
       counted = subst (λ (c : Cut). first_mcu c i + count ≡ first_mcu c (i + 1)) cut counted;
@@ -103,15 +103,15 @@ counted_in plan p q b k n i row count same here chunk many box under is_row coun
 
 -- a container's rows are in order, and rows of the grid
 pub rows_ordered : (p q : PlanFields) (b : BoxParts) (k : Option Chunk) → q ≡ p → k ≡ b.chunk
-    → IsBox p b → (box_rows q k).from ≤ (box_rows q k).to
-rows_ordered p q b k same chunk box =
+    → IsScanBox p b → (box_rows q k).from ≤ (box_rows q k).to
+rows_ordered p q b k same chunk (w, box) =
     subst (λ (c : Option Chunk). (box_rows q c).from ≤ (box_rows q c).to) (sym chunk)
     (subst (λ (r : PlanFields). (box_rows r b.chunk).from ≤ (box_rows r b.chunk).to) (sym same)
     (ordered p b.header b.trailer b.chunk 0 box.chunk))
 
 pub rows_in_grid : (p q : PlanFields) (b : BoxParts) (k : Option Chunk) → q ≡ p → k ≡ b.chunk
-    → IsBox p b → (box_rows q k).to ≤ q.down
-rows_in_grid p q b k same chunk box =
+    → IsScanBox p b → (box_rows q k).to ≤ q.down
+rows_in_grid p q b k same chunk (w, box) =
     subst (λ (c : Option Chunk). (box_rows q c).to ≤ q.down) (sym chunk)
     (subst (λ (r : PlanFields). (box_rows r b.chunk).to ≤ r.down) (sym same)
     (in_grid p b.header b.trailer b.chunk 0 box.chunk))
@@ -123,8 +123,8 @@ module _ (plan : PlanFields) (b : BoxParts) (i row count : ℕ)
 
   pub some_mcus : 0 < count
   some_mcus =
-      let box = is.box in
-      let has = accepted_has_plan b.header plan box.header_bytes box.header in
+      let box = is.box.1 in
+      let has = begun_has_plan is.box.0 b.header plan box.header_bytes box.known box.header in
       let is_plan = has.is_plan in
       let more =
       each_has_mcus (box_cut plan b.chunk (length b.handovers)) i box.cut.rows is.under is_plan.wide
@@ -145,7 +145,7 @@ module _ (plan : PlanFields) (b : BoxParts) (i row count : ℕ)
   pub starts_there : (get_or b.handovers i start).restarts
       ≡ markers_before (shape_of plan) (plan.across * row)
   starts_there =
-      let box = is.box in
+      let box = is.box.1 in
       restarts_are (shape_of plan) (first_mcu (box_cut plan b.chunk (length b.handovers)) i)
       (get_or b.handovers i start)
       (let none : 0 + i ≡ i = omega arith in

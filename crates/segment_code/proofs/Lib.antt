@@ -21,3 +21,6 @@ mod RowStarts
 mod StartsFound
 mod StepPaying
 mod StepsTaken
+mod FaultNumbers
+mod FileSteps
+mod ScanDecoders

@@ -6,8 +6,7 @@ use Rattle.std.proofs.lemmas.List.{append_cancel_left, length-append, map-append
 use Rattle.bit_list.specs.Bits.{IsByte}
 use Rattle.coef_block.specs.Block.{IsBlock}
 use Rattle.jpeg_marker.specs.Plans.{PlanFields}
-use Rattle.jpeg_marker.specs.HeaderPlan.{Accepts}
-use Rattle.jpeg_marker.proofs.HeadersTaken.{accepted_has_plan}
+use Rattle.jpeg_marker.specs.AcceptedPlans.{CanScan}
 use Rattle.huff_table.specs.ComponentTables.{codes_of}
 use Rattle.huff_table.specs.declared.plan_codes.ComponentCodes.{ComponentCodes}
 use Rattle.scan_spec.specs.Items.{Refuses}
@@ -62,7 +61,7 @@ pub record IsNext (p : PassFields) : Type 0 where
 
 pub is_next : (p : PassFields) → IsPass p → 0 < segments_left p → IsNext p
 is_next p is some =
-    let wide = (accepted_has_plan p.bytes p.plan is.bytes is.accepted).is_plan.wide in
+    let wide = is.can.is_plan.wide in
     let under : passed p < min p.most p.plan.down = omega (arith, some) in
     let cut = pass_cut p in
     let rows = has_rows cut (passed p) (omega arith) under in
@@ -84,7 +83,7 @@ is_next p is some =
 -- before the first segment
 pub first_pass : (plan : PlanFields) (codes : List ComponentCodes) (bytes : List ℕ) (most : ℕ)
     (reader : ScanReader) (starts : StartsFields) (pads : FoundPads)
-    → AllByRecursion IsByte bytes → Accepts bytes plan
+    → AllByRecursion IsByte bytes → CanScan bytes plan
     → codes ≡ codes_of plan.components → 0 < most → most < 2 ^ 32
     → reader ≡ reader_at (shape_of plan) bytes plan.header_length
     → starts ≡ no_starts → pads ≡ none_found
@@ -97,7 +96,7 @@ pub first_pass : (plan : PlanFields) (codes : List ComponentCodes) (bytes : List
       starts = starts;
       pads = pads;
     })
-first_pass plan codes bytes most reader starts pads are accepts tables some few reader_is starts_is pads_is =
+first_pass plan codes bytes most reader starts pads are can tables some few reader_is starts_is pads_is =
     let first = reader_at (shape_of plan) bytes plan.header_length in
     let cut = plan_cut plan most in
     let none : length starts.rows ≡ 0 = ap (λ (s : StartsFields). length s.rows) starts_is in
@@ -105,7 +104,7 @@ first_pass plan codes bytes most reader starts pads are accepts tables some few 
     ap (first_mcu cut) none ∙ first_of_all cut refl in
     record {
       bytes = are;
-      accepted = accepts;
+      can = can;
       codes = tables;
       some = some;
       few = few;
@@ -147,7 +146,7 @@ has_passed p reader starts pads read is some on starts_are pads_are =
     record {
       is = record {
         bytes = is.bytes;
-        accepted = is.accepted;
+        can = is.can;
         codes = is.codes;
         some = is.some;
         few = is.few;
@@ -177,7 +176,7 @@ has_refused p refusal is some refused =
     let next = is_next p is some in
     let ends = next.ends in
     let within = next.has.within in
-    scan_refused p.bytes p.plan refusal is.bytes is.accepted
+    scan_refused p.bytes p.plan refusal is.can
     (refused_in (mcus_passed p) (next_part p).mcus (first_reader p).shape.mcus (first_reader p)
     p.reader is.read.0 refusal is.read.1 (omega (arith, ends, within)) refused)
 
@@ -286,7 +285,7 @@ pub has_ended : (p : PassFields) → IsPass p → segments_left p ≡ 0
 has_ended p is none =
     let first = first_reader p in
     let cut = pass_cut p in
-    let high = (accepted_has_plan p.bytes p.plan is.bytes is.accepted).is_plan.high in
+    let high = is.can.is_plan.high in
     let most = is.some in
     let within = is.within in
     let some : 0 < cut.segments = omega (arith, high, most) in
@@ -299,7 +298,7 @@ has_ended p is none =
     let pads : p.pads ≡ pads_through (shape_of p.plan).mcus first none_found =
     is.pads ∙ ap (λ (n : ℕ). pads_through n first none_found) all in
     let starts : p.starts ≡ found first cut cut.segments = is.starts ∙ ap (found first cut) last in
-    let are = are_starts p.bytes p.plan p.most is.read.0 p.reader.at is.bytes is.accepted most scan
+    let are = are_starts p.bytes p.plan p.most is.read.0 p.reader.at is.bytes is.can most scan
     p.pads pads in
     subst (λ (s : StartsFields). AreStarts p.plan p.bytes p.most
     (record s { pads = spelling_of p.pads.bits p.pads.sum; trailer = p.reader.at.cursor.next }))

@@ -11,7 +11,7 @@ use Rattle.adapt_bins.specs.Events.{bools_of}
 use Rattle.adapt_bins.specs.PutEvents.{HasPut}
 use Rattle.adapt_bins.specs.declared.put.Put.{Put}
 use Rattle.jpeg_marker.specs.Plans.{PlanFields}
-use Rattle.jpeg_marker.specs.HeaderPlan.{Accepts}
+use Rattle.jpeg_marker.specs.AcceptedPlans.{CanScan}
 use Rattle.scan_spec.specs.Slots.{shape_of}
 use Rattle.scan_spec.specs.Scans.{Mcu, IsMcu}
 use Rattle.scan_spec.specs.ScanLaws.{zigzag_of}
@@ -21,7 +21,7 @@ use Rattle.scan_spec.specs.Items.{Refuses}
 use Rattle.scan_spec.specs.declared.slot.Slot.{Slot}
 use Rattle.scan_spec.specs.declared.refusal.ScanRefusal.{ScanRefusal}
 use Rattle.scan_spec.proofs.ItemsRead.{refused_so}
-use Rattle.scan_spec.proofs.PlanShapes.{accepted_is_shape}
+use Rattle.scan_spec.proofs.PlanShapes.{can_be_shape}
 use Rattle.scan_spec.proofs.ZigzagLaws.{zigzag_tells}
 use Rattle.block_spec.specs.Grid.{Grid}
 use Rattle.block_spec.specs.SegmentEvents.{segment_events}
@@ -64,12 +64,12 @@ mcus_once slots (x ∷ xs) (y ∷ ys) a b e =
 
 -- one that isn't is refused for its first item that doesn't stand
 pub scan_refused : (bytes : List ℕ) (plan : PlanFields) (refusal : ScanRefusal)
-    → AllByRecursion IsByte bytes → Accepts bytes plan
+    → CanScan bytes plan
     → scan_at (shape_of plan) bytes plan.header_length ≡ Err refusal
     → Refuses (shape_of plan) bytes plan.header_length refusal
-scan_refused bytes plan refusal are accepts read =
+scan_refused bytes plan refusal can read =
     refused_so (shape_of plan) bytes plan.header_length refusal
-    (accepted_is_shape bytes plan are accepts).0 read
+    (can_be_shape bytes plan can).0 read
 
 -- the events of all blocks were put
 no_events : (g : Grid) → segment_events g [] ≡ []

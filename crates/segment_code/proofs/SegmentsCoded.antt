@@ -6,7 +6,6 @@ use Rattle.std.proofs.Math.Nat.{mul-le-mul_left}
 use Rattle.bit_list.specs.Bits.{IsByte}
 use Rattle.coef_block.specs.Block.{IsBlock}
 use Rattle.jpeg_marker.specs.Plans.{PlanFields, IsPlan}
-use Rattle.jpeg_marker.proofs.HeadersTaken.{accepted_has_plan}
 use Rattle.scan_spec.specs.Slots.{shape_of}
 use Rattle.scan_spec.specs.Scans.{Mcu, IsMcu, pad_at}
 use Rattle.scan_spec.specs.Spots.{Spot, bytes_done, spot_at}
@@ -16,7 +15,7 @@ use Rattle.scan_spec.specs.ScanReading.{Standing, standing_at}
 use Rattle.scan_spec.specs.declared.slot.Slot.{Slot}
 use Rattle.scan_spec.specs.declared.refusal.ScanRefusal.{ScanRefusal}
 use Rattle.scan_spec.proofs.BitsTaken.{both_fine}
-use Rattle.scan_spec.proofs.PlanShapes.{accepted_is_shape}
+use Rattle.scan_spec.proofs.PlanShapes.{can_be_shape}
 use Rattle.handover.specs.Handovers.{HandoverFields, start}
 use Rattle.cut_spec.specs.Cuts.{Cut, first_mcu, row_of}
 use Rattle.cut_spec.specs.HandedOver.{reader_from}
@@ -103,9 +102,9 @@ pub good_of : (bytes : List ℕ) (plan : PlanFields) (mcus : List Mcu) (pads : L
     → AllByRecursion IsByte bytes → IsFileAt bytes plan mcus pads trailer → IsGood bytes plan
 good_of bytes plan mcus pads trailer are file =
     record {
-      shape = (accepted_is_shape bytes plan are file.header).0;
+      shape = (can_be_shape bytes plan file.can).0;
       is_plan =
-          (accepted_has_plan bytes plan are file.header).is_plan;
+          file.can.is_plan;
     }
 
 -- the restart markers before a row, by its handover

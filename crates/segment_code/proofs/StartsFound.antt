@@ -4,8 +4,7 @@ use Rattle.std.specs.Prelude.{ℤ, Ok, min}
 use Rattle.std.specs.List.{AllByRecursion}
 use Rattle.bit_list.specs.Bits.{IsByte}
 use Rattle.jpeg_marker.specs.Plans.{PlanFields}
-use Rattle.jpeg_marker.specs.HeaderPlan.{Accepts}
-use Rattle.jpeg_marker.proofs.HeadersTaken.{accepted_has_plan}
+use Rattle.jpeg_marker.specs.AcceptedPlans.{CanScan}
 use Rattle.scan_spec.specs.Slots.{shape_of}
 use Rattle.scan_spec.specs.Pads.{PadBits, spelling_of}
 use Rattle.scan_spec.specs.Scans.{Mcu, pad_at}
@@ -15,7 +14,7 @@ use Rattle.scan_spec.specs.ScanLaws.{Begins, IsShape}
 use Rattle.scan_spec.specs.ScanReading.{Standing, scan_at}
 use Rattle.scan_spec.specs.ScanPads.{scan_pads}
 use Rattle.scan_spec.proofs.ScanTaken.{spelled, summed_again}
-use Rattle.scan_spec.proofs.PlanShapes.{accepted_is_shape}
+use Rattle.scan_spec.proofs.PlanShapes.{can_be_shape}
 use Rattle.handover.specs.Handovers.{HandoverFields}
 use Rattle.cut_spec.specs.Cuts.{Cut, first_mcu, row_of}
 use Rattle.cut_spec.specs.HandedOver.{spot_in}
@@ -110,7 +109,7 @@ starts_are plan mcus pads bytes after most is begins some =
     handovers
 
 pub are_starts : (bytes : List ℕ) (plan : PlanFields) (most : ℕ) (read : List (List (List ℤ)))
-    (end : Standing) → AllByRecursion IsByte bytes → Accepts bytes plan → 0 < most
+    (end : Standing) → AllByRecursion IsByte bytes → CanScan bytes plan → 0 < most
     → scan_at (shape_of plan) bytes plan.header_length ≡ Ok (read, end)
     → (pads : FoundPads) → pads
     ≡ pads_through (shape_of plan).mcus (reader_at (shape_of plan) bytes plan.header_length)
@@ -118,20 +117,19 @@ pub are_starts : (bytes : List ℕ) (plan : PlanFields) (most : ℕ) (read : Lis
     → AreStarts plan bytes most (record (found (reader_at (shape_of plan) bytes plan.header_length)
     (plan_cut plan most) (plan_cut plan most).segments)
     { pads = spelling_of pads.bits pads.sum; trailer = end.cursor.next })
-are_starts bytes plan most read end are accepts some scan found_pads pads_are =
-    let shape = (accepted_is_shape bytes plan are accepts).0 in
-    let has = accepted_has_plan bytes plan are accepts in
+are_starts bytes plan most read end are can some scan found_pads pads_are =
+    let shape = (can_be_shape bytes plan can).0 in
     let place = plan.header_length in
-    let told = spelled (shape_of plan) bytes place read end shape are has.within scan in
+    let told = spelled (shape_of plan) bytes place read end shape are can.within scan in
     let pads = scan_pads (shape_of plan) bytes place in
-    let high = has.is_plan.high in
+    let high = can.is_plan.high in
     let sum = summed_again (shape_of plan) bytes place end.cursor.next told.0 pads shape told.2 in
     let same : spelling_of found_pads.bits found_pads.sum ≡ told_pads plan told.0 pads =
     ap (λ (f : FoundPads). spelling_of f.bits f.sum) pads_are ∙ ap (spelling_of pads) sum in
     record {
       mcus = told.0;
       pads = pads;
-      file = record { header = accepts; scan = told.2 };
+      file = record { can = can; scan = told.2 };
       are = ap (λ (p : PadBits). record (found (reader_at (shape_of plan) bytes place)
           (plan_cut plan most) (plan_cut plan most).segments)
           { pads = p; trailer = end.cursor.next }) same

@@ -14,3 +14,5 @@ pub mod Decoding
 pub mod DecodedPieces
 pub mod BegunSegments
 pub mod DecoderInside
+pub mod FileDecoding
+pub mod FileDecoderInside

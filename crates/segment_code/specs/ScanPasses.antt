@@ -2,7 +2,7 @@
 use Rattle.std.specs.Prelude.{ℕ, ◌≡◌, ◌^◌, ◌+◌, ◌-◌, ◌*◌, ◌<◌, ◌≤◌, Bool, List, length, ℤ}
 use Rattle.std.specs.List.{AllByRecursion}
 use Rattle.bit_list.specs.Bits.{IsByte}
-use Rattle.jpeg_marker.specs.HeaderPlan.{Accepts}
+use Rattle.jpeg_marker.specs.AcceptedPlans.{CanScan}
 use Rattle.jpeg_marker.specs.Plans.{PlanFields}
 use Rattle.huff_table.specs.ComponentTables.{codes_of}
 use Rattle.huff_table.specs.declared.plan_codes.ComponentCodes.{ComponentCodes}
@@ -55,7 +55,7 @@ mcus_passed p = first_mcu (pass_cut p) (passed p)
 -- the pass is between two segments: the reader has read the MCUs of those before, and their starts and pads were found
 pub record IsPass (p : PassFields) : Type 0 where
   pub bytes : AllByRecursion IsByte p.bytes
-  pub accepted : Accepts p.bytes p.plan
+  pub can : CanScan p.bytes p.plan
   pub codes : p.codes ≡ codes_of p.plan.components
   pub some : 0 < p.most
   pub few : p.most < 2 ^ 32

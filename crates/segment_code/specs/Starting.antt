@@ -1,7 +1,7 @@
 -- Steps: a file by the place of its trailer, and where its segments start (own).
 use Rattle.std.specs.Prelude.{ℕ, ◌≡◌, Bool, List}
 use Rattle.jpeg_marker.specs.Plans.{PlanFields}
-use Rattle.jpeg_marker.specs.HeaderPlan.{Accepts}
+use Rattle.jpeg_marker.specs.AcceptedPlans.{CanScan}
 use Rattle.scan_spec.specs.Slots.{shape_of}
 use Rattle.scan_spec.specs.Scans.{Mcu}
 use Rattle.scan_spec.specs.ScanLaws.{Begins}
@@ -10,7 +10,7 @@ use Rattle.segment_code.specs.FileStarts.{StartsFields, starts_of}
 -- a file by its header's plan, its MCUs, its pad bits and the place of its trailer (T.81 B.2.1)
 pub record IsFileAt (bytes : List ℕ) (plan : PlanFields) (mcus : List Mcu) (pads : List Bool)
     (trailer : ℕ) : Type 0 where
-  pub header : Accepts bytes plan
+  pub can : CanScan bytes plan
   pub scan : Begins (shape_of plan) mcus pads bytes plan.header_length trailer
 
 -- the starts of a file's segments, of at most `most`

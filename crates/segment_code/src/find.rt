@@ -1,6 +1,6 @@
 // Where the segments of a file start, in one pass over its scan.
 ghost use Rattle.std.specs.Prelude.{◌≡◌, ◌+◌, ◌<◌, ◌≤◌, ℤ, List, length, None, Ok, Err, IfOk, OnOk, IsErrOf};
-ghost use Rattle.jpeg_marker.specs.HeaderPlan.{Accepts};
+ghost use Rattle.jpeg_marker.specs.AcceptedPlans.{CanScan};
 ghost use Rattle.box_format.specs.Raws.{numbers};
 ghost use Rattle.scan_spec.specs.Items.{Refuses};
 ghost use Rattle.scan_spec.specs.ScanCalls.{ScanReader};
@@ -21,15 +21,15 @@ use jpeg_marker::Plan;
 use scan_decode::Reader;
 use std::alloc::Global;
 
-/// Where the segments of a file start, whose header's plan this is: at most `segments`, and at most as many as rows of
-/// MCUs. One pass over the scan; memory is for the starts alone.
+/// Where the segments of the scan of a plan start, which follows the bytes that the plan has as its header: at most
+/// `segments`, and at most as many as rows of MCUs. One pass over the scan; memory is for the starts alone.
 pub fn find_starts(
     alloc: Global,
     plan: &Plan,
     bytes: &[u8],
     segments: u32,
 ) -> Result<Starts, ScanError>
-    requires plan { Accepts bytes.now plan.now }
+    requires plan { CanScan bytes.now plan.now }
     requires some { 0 < segments }
     ensures starts { IfOk result (λ starts. AreStarts plan.now bytes.now segments starts) }
     ensures refused { (refusal : ScanRefusal) → IsErrOf result (ScanError.Scan refusal)
@@ -45,7 +45,7 @@ pub fn find_starts(
 
 /// Where each row of MCUs of a file starts, if it is a segment of its own. A cut at any rows needs no other starts.
 pub fn find_rows(alloc: Global, plan: &Plan, bytes: &[u8]) -> Result<Starts, ScanError>
-    requires plan { Accepts bytes.now plan.now }
+    requires plan { CanScan bytes.now plan.now }
     ensures starts { IfOk result (λ starts. AreStarts plan.now bytes.now plan.now.down starts) }
     ensures rows { IfOk result (λ starts. starts.rows ≡ numbers 0 plan.now.down) }
     ensures refused { (refusal : ScanRefusal) → IsErrOf result (ScanError.Scan refusal)

@@ -6,17 +6,19 @@
 //! `ScanPass` goes over a scan from segment to segment, and keeps where each starts. It reads a segment and codes it,
 //! or only reads it, and gives a `SegmentPart` that is coded beside the pass. `find_starts` is a pass that codes
 //! nothing, and `find_rows` one that finds where each row starts. By these starts `encode_segment` codes one segment
-//! of a file, or of a chunk's rows of it. `SegmentDecoder` decodes the segments of a container, each in steps of a
-//! piece of bytes.
+//! of a file, or of a chunk's rows of it. `SegmentDecoder` decodes the segments of a scan, each in steps of a piece of
+//! bytes; `FileDecoder` those of several scans, with the header that comes before a scan.
 //!
 //! Two MCU rows of blocks are kept, as neighbours. What a block's events are is `block_spec`'s, what a scan's bytes
 //! are is `scan_spec`'s, and what a segment's stream stands for is `container_spec`'s.
 #![tactic(auto)]
 
+mod bytes_put;
 mod causes;
 mod cuts;
 mod decoder;
 mod error;
+mod file_decoder;
 mod find;
 mod grid;
 mod laws;
@@ -30,6 +32,7 @@ mod step;
 pub use cuts::row_of;
 pub use decoder::SegmentDecoder;
 pub use error::ScanError;
+pub use file_decoder::FileDecoder;
 pub use find::{find_rows, find_starts};
 pub use laws::{rows_of_pieces, segments_come_in_pieces};
 pub use part::SegmentPart;

@@ -1,7 +1,7 @@
 // A pass over a file's scan, from segment to segment.
 ghost use Rattle.std.specs.Prelude.{◌≡◌, ◌<◌, ◌≤◌, ℕ, Bool, List, IfOk, OnOk, IsErrOf, length, None, Err};
 ghost use Rattle.std.specs.List.{AllByRecursion};
-ghost use Rattle.jpeg_marker.specs.HeaderPlan.{Accepts};
+ghost use Rattle.jpeg_marker.specs.AcceptedPlans.{CanScan};
 ghost use Rattle.huff_table.specs.ComponentTables.{codes_of};
 ghost use Rattle.scan_spec.specs.Items.{Refuses};
 ghost use Rattle.scan_spec.specs.Scans.{Mcu};
@@ -51,7 +51,7 @@ impl<'a> Model for ScanPass<'a> {
 }
 
 impl<'a> ScanPass<'a> {
-    /// Before the first segment of a file, whose header's plan this is.
+    /// Before the first segment of the scan of a plan, which follows the bytes that the plan has as its header.
     pub fn start(
         alloc: Global,
         plan: &'a Plan,
@@ -59,7 +59,7 @@ impl<'a> ScanPass<'a> {
         bytes: &'a [u8],
         most: u32,
     ) -> ScanPass<'a>
-        requires plan { Accepts bytes.now plan.now }
+        requires plan { CanScan bytes.now plan.now }
         requires codes { codes.now ≡ codes_of plan.now.components }
         requires some { 0 < most }
         ensures is { IsPass result }

@@ -1,5 +1,4 @@
 use Rattle.std.proofs.Common.{rules, ◌≡◌, length, ◌∙◌, ap, arith}
-use Rattle.jpeg_marker.proofs.HeadersTaken.{accepted_has_plan}
 use Rattle.scan_spec.specs.ScanCalls.{reader_at}
 use Rattle.scan_spec.specs.Slots.{shape_of}
 use Rattle.segment_code.specs.FileStarts.{StartsFields}
@@ -18,8 +17,7 @@ returns-clause-is c =
 
 pub returns-clause-some : goal.returns-clause-some
 returns-clause-some c =
-    let are = bytes_all c.args.bytes.now (λ i. let h = c.type_inv.bytes i in search rules) in
-    let high = (accepted_has_plan c.args.bytes.now c.args.plan.now are c.requires.plan).is_plan.high in
+    let high = c.requires.plan.is_plan.high in
     let none : length c.none.result.rows ≡ 0 =
     ap (λ (s : StartsFields). length s.rows) c.none.ensures in
     let some = c.requires.some in
