@@ -6,9 +6,10 @@ use Rattle.std.proofs.lemmas.List.{length-drop}
 use Rattle.byte_window.specs.Slices.{Cover, slice}
 use Rattle.byte_window.proofs.SliceParts.{most_is_counted}
 use Rattle.bit_list.specs.Bits.{IsByte}
+use Rattle.jpeg_marker.specs.FirstWalks.{only_walk}
 use Rattle.jpeg_marker.specs.Plans.{IsPlan, most_blocks}
 use Rattle.jpeg_marker.specs.AcceptedPlans.{HasPlan}
-use Rattle.jpeg_marker.proofs.HeadersTaken.{accepted_has_plan}
+use Rattle.jpeg_marker.proofs.HeadersTaken.{accepted_has_plan, none_known}
 use Rattle.scan_spec.specs.Scans.{pad_at}
 use Rattle.scan_spec.specs.Slots.{shape_of}
 use Rattle.handover.specs.Handovers.{HandoverFields, IsHandover}
@@ -169,6 +170,7 @@ module _ (most size i : ℕ) (made file : List ℕ) (some : 0 < most)
 
   abbrev whole_is : IsContainerOf Second most whole_box file
   whole_is = record {
+    known = none_known;
     whole = refl;
     bytes = is.bytes;
     plan = is.plan;
@@ -178,7 +180,7 @@ module _ (most size i : ℕ) (made file : List ℕ) (some : 0 < most)
     is = is.is;
     header_fits = header_fits;
     trailer_fits = trailer_fits;
-    can = second_can_pad file is.trailer is.plan is.mcus is.pads is.bytes is.is;
+    can = second_can_pad only_walk file is.trailer is.plan is.mcus is.pads is.bytes none_known is.is;
     spelled = refl;
   }
 
@@ -307,6 +309,7 @@ module _ (most size i : ℕ) (made file : List ℕ) (some : 0 < most)
       let many = mapped_long start 0 segments in
       let file_box = whole.box_is Second most whole_box file some whole_is allowed in
       record {
+        known = file_box.known;
         header = file_box.header;
         whole = file_box.whole;
         few = omega (arith, many, allowed);

@@ -9,6 +9,7 @@ use Rattle.byte_window.specs.Slices.{Cover, slice, has_place, with_part, cover}
 use Rattle.bit_list.specs.Bits.{IsByte}
 use Rattle.jpeg_marker.specs.Plans.{PlanFields}
 use Rattle.jpeg_marker.specs.AcceptedPlans.{HasPlan}
+use Rattle.jpeg_marker.specs.HeaderPlan.{Accepts}
 use Rattle.jpeg_marker.proofs.HeadersTaken.{accepted_has_plan}
 use Rattle.handover.specs.Handovers.{HandoverFields, start}
 use Rattle.scan_spec.specs.FileParts.{IsFileOf}
@@ -16,7 +17,7 @@ use Rattle.scan_spec.specs.Pads.{PadBits}
 use Rattle.scan_spec.specs.Scans.{pad_at}
 use Rattle.scan_spec.specs.Slots.{shape_of}
 use Rattle.scan_spec.specs.Spots.{bytes_done}
-use Rattle.scan_spec.proofs.PlanShapes.{accepted_is_shape}
+use Rattle.scan_spec.proofs.PlanShapes.{can_be_shape}
 use Rattle.cut_spec.specs.Cuts.{Cut, first_mcu, row_of}
 use Rattle.cut_spec.specs.RowHandovers.{handover_at, mcus_between}
 use Rattle.chunk_spec.specs.Chunks.{FileParts, IsParted, row_place, rows_within, rows_cut, trailer_part, chunk_from, chunk_to}
@@ -81,14 +82,14 @@ row_below cut i order fits under =
     omega (arith, more, last)
 
 module _ (plan : PlanFields) (bytes : List ℕ) (starts : StartsFields)
-    (are : AllByRecursion IsByte bytes) (have : AreStarts plan bytes plan.down starts)
+    (are : AllByRecursion IsByte bytes) (accepts : Accepts bytes plan) (have : AreStarts plan bytes plan.down starts)
     (each : starts.rows ≡ numbers 0 plan.down) where
   abbrev pub trailer : List ℕ
   trailer = drop starts.trailer bytes
 
   abbrev pub file : IsFileOf bytes plan have.mcus have.pads trailer
   file = record {
-    header = have.file.header;
+    header = accepts;
     scan = have.file.scan.scan;
     is = have.file.scan.is;
     text = have.file.scan.text;
@@ -99,14 +100,14 @@ module _ (plan : PlanFields) (bytes : List ℕ) (starts : StartsFields)
   parts = parted plan have.mcus have.pads (take plan.header_length bytes) have.file.scan.scan trailer
 
   has_plan : HasPlan bytes plan
-  has_plan = accepted_has_plan bytes plan are have.file.header
+  has_plan = accepted_has_plan bytes plan are accepts
 
   header_long : length (take plan.header_length bytes) ≡ plan.header_length
   header_long = length-take-le plan.header_length bytes has_plan.within
 
   is_parted : IsParted parts
   is_parted = record {
-    shape_is = (accepted_is_shape bytes plan are have.file.header).0;
+    shape_is = (can_be_shape bytes plan have.file.can).0;
     mcus_are = have.file.scan.is.grid;
     text = have.file.scan.is.text;
     rows = refl;

@@ -1,9 +1,11 @@
 -- A chunk of a file has one container of each number of segments.
 use Rattle.std.proofs.Common.{◌≡◌, ℕ, Bool, List, length, take, sym, ap, ap₂, ◌∙◌}
+use Rattle.jpeg_marker.specs.FirstWalks.{only_walk}
+use Rattle.jpeg_marker.proofs.HeadersTaken.{none_known}
 use Rattle.jpeg_marker.specs.Plans.{PlanFields}
 use Rattle.scan_spec.specs.Scans.{Mcu, pad_at, scan_bytes}
 use Rattle.scan_spec.specs.Slots.{shape_of}
-use Rattle.scan_spec.proofs.FilesOnce.{one_file}
+use Rattle.scan_spec.proofs.FilesOnce.{one_scan_of}
 use Rattle.chunk_spec.specs.Chunks.{chunk_from, chunk_to}
 use Rattle.box_format.specs.Parts.{box_bytes}
 use Rattle.container_spec.specs.Files.{told_pads}
@@ -20,7 +22,8 @@ box_of most size i file plan mcus pads scan trailer =
 pub one_chunk : OneChunk
 one_chunk most size i made other file x y =
     let same =
-    one_file file x.trailer y.trailer x.plan y.plan x.mcus y.mcus x.pads y.pads x.bytes x.is y.is in
+    one_scan_of only_walk file x.trailer y.trailer x.plan y.plan x.mcus y.mcus x.pads y.pads x.bytes
+    none_known x.is y.is in
     let text =
     sym x.is.is.text
     ∙ ap₂ (λ (plan : PlanFields) mcus. scan_bytes (shape_of plan) (pad_at x.pads) mcus) same.0 same.1

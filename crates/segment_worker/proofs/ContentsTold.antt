@@ -6,7 +6,7 @@ use Rattle.handover.specs.PadSums.{no_pads}
 use Rattle.handover.specs.declared.outcome.Outcome.{Outcome}
 use Rattle.handover.specs.declared.outcome.Outcome.TheVariants.{Good}
 use Rattle.board_core.specs.BoardInvariants.{bytes_at}
-use Rattle.box_format.specs.Parts.{IsBox}
+use Rattle.box_format.specs.Parts.{IsScanBox}
 use Rattle.container_spec.specs.Segments.{Output, segment_output}
 use Rattle.container_spec.specs.Meanings.{segment_in}
 use Rattle.container_spec.proofs.Numbered.{mapped_long, mapped_at, got_at, got_none}
@@ -63,12 +63,12 @@ outcome_within v i o is =
     (cases_lt i v.count)
 
 -- none is long
-pub are_short : (v : Stretch) → IsBox v.container.plan v.container.parts
+pub are_short : (v : Stretch) → IsScanBox v.container.plan v.container.parts
     → v.first + v.count ≤ length v.container.parts.handovers → AreShort v
 are_short v is fits i =
     ⊎_elim (λ (within : i < v.count).
     subst (λ (xs : List ℕ). length xs ≤ segment_room) (sym (bytes_of v i within))
-    (segment_is_short v.container.plan v.container.parts (v.first + i) is (omega (arith, within, fits))))
+    (segment_is_short is.0 v.container.plan v.container.parts (v.first + i) is.1 (omega (arith, within, fits))))
     (λ (past : v.count ≤ i).
     let long = bytes_long v in
     let none = ap length (past_end (segments_bytes v) i (omega (arith, long, past))) in

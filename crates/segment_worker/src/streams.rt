@@ -1,5 +1,5 @@
 // The streams of the segments of a file, or of a chunk's rows of it, side by side.
-ghost use Rattle.jpeg_marker.specs.HeaderPlan.{Accepts};
+ghost use Rattle.jpeg_marker.specs.AcceptedPlans.{CanScan};
 ghost use Rattle.std.specs.Prelude.{◌≡◌, ◌<◌, ◌≤◌, ◌+◌, ◌-◌, ℕ, Bool, List, map, Ok, IfOk, IsErrOf};
 ghost use Rattle.scan_spec.specs.Items.{Refuses};
 ghost use Rattle.scan_spec.specs.Scans.{Mcu};
@@ -23,8 +23,8 @@ use segment_code::{ScanError, ScanPass, SegmentPart, Starts, encode_segment};
 use std::alloc::Global;
 use std::thread::Threads;
 
-/// Where the segments of a file start, whose header's plan this is, and the stream of each, in order: at most
-/// `segments`, and at most as many as rows of MCUs. One pass over the scan finds the starts. Each segment but the
+/// Where the segments of the scan of a plan start, which follows the bytes that the plan has as its header, and the
+/// stream of each, in order: at most `segments`, and at most as many as rows of MCUs. One pass over the scan finds the starts. Each segment but the
 /// last is coded in a thread of its own, if one can be had, once the pass is there; the pass codes the last one.
 pub fn encode_scan<R: Threads + Sync>(
     rt: &R,
@@ -33,7 +33,7 @@ pub fn encode_scan<R: Threads + Sync>(
     bytes: &[u8],
     segments: u8,
 ) -> Result<(Starts, Vec<Vec<u8>>), ScanError>
-    requires plan { Accepts bytes.now plan.now }
+    requires plan { CanScan bytes.now plan.now }
     requires some { 0 < segments }
     ensures starts { IfOk result (λ made. AreStarts plan.now bytes.now segments made.0) }
     ensures streams { (mcus : List Mcu) (pads : List Bool) (trailer : ℕ)

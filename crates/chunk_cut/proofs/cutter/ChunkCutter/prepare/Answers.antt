@@ -1,10 +1,19 @@
 use Rattle.std.proofs.Common.{rules, ◌≡◌, ap, Err}
 use Rattle.std.proofs.lemmas.Result.{err_from_is_err_and}
+use Rattle.jpeg_marker.specs.FirstWalks.{only_walk}
+use Rattle.jpeg_marker.proofs.HeadersTaken.{can_scan, none_known}
 use Rattle.bool_coder.proofs.FirstBits.{all_bytes}
 use Rattle.chunk_cut.specs.declared.error.CutError.TheVariants.{Scan}
 use Rattle.chunk_cut.specs.Errors.{error_of}
 use Rattle.chunk_cut.proofs.FaultsFound.{scan_found}
 use Rattle.chunk_cut.proofs.cutter.ChunkCutter.prepare.Goals as goal
+
+pub find_rows-requires : goal.find_rows-requires
+find_rows-requires c = record {
+  plan = can_scan only_walk c.args.bytes.now c.in_ok-plan.plan
+      (all_bytes c.args.bytes.now (λ i. let h = c.type_inv.bytes i in search rules)) none_known
+      c.in_ok-plan.ensures.accepted;
+}
 
 pub returns-in_err-starts-clause-scan : goal.returns-in_err-starts-clause-scan
 returns-in_err-starts-clause-scan c =
