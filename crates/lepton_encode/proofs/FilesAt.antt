@@ -3,8 +3,10 @@ use Rattle.std.proofs.Common.{◌≡◌, ℕ, suc, ◌<◌, ◌≤◌, ◌^◌, 
 use Rattle.std.specs.List.{AllByRecursion}
 use Rattle.std.specs.Prelude.{Some, None}
 use Rattle.bit_list.specs.Bits.{IsByte}
+use Rattle.jpeg_marker.specs.FirstWalks.{only_walk}
+use Rattle.jpeg_marker.specs.HeaderPlan.{Accepts}
 use Rattle.jpeg_marker.specs.Plans.{PlanFields}
-use Rattle.jpeg_marker.proofs.HeadersTaken.{accepted_has_plan}
+use Rattle.jpeg_marker.proofs.HeadersTaken.{none_known}
 use Rattle.scan_spec.specs.FileParts.{IsFileOf}
 use Rattle.scan_spec.specs.Slots.{shape_of}
 use Rattle.box_format.specs.Parts.{BoxParts, IsBox, box_bytes, can_pad}
@@ -24,16 +26,17 @@ are_bytes [] below = tt
 are_bytes (x ∷ xs) below = (below 0, are_bytes xs (λ i. below (suc i)))
 
 module _ (plan : PlanFields) (bytes : List ℕ) (most : ℕ) (starts : StartsFields)
-    (have : AreStarts plan bytes most starts) (are : AllByRecursion IsByte bytes)
+    (accepts : Accepts bytes plan) (have : AreStarts plan bytes most starts)
+    (are : AllByRecursion IsByte bytes)
     (short : length bytes < 2 ^ 32) (some : 0 < most) where
   header_within : plan.header_length ≤ length bytes
-  header_within = (accepted_has_plan bytes plan are have.file.header).within
+  header_within = have.file.can.within
 
   file : IsFileOf bytes plan have.mcus have.pads (drop starts.trailer bytes)
   file =
       let scan = have.file.scan in
       record {
-        header = have.file.header;
+        header = accepts;
         scan = scan.scan;
         is = scan.is;
         text = scan.text;
@@ -52,6 +55,7 @@ module _ (plan : PlanFields) (bytes : List ℕ) (most : ℕ) (starts : StartsFie
         let within = header_within in
         let long = length-drop starts.trailer bytes in
         record {
+          known = none_known;
           whole = whole;
           bytes = are;
           plan = plan;
@@ -62,7 +66,7 @@ module _ (plan : PlanFields) (bytes : List ℕ) (most : ℕ) (starts : StartsFie
           header_fits = omega (arith, within, short);
           trailer_fits = omega (arith, long, short);
           can = ap (λ (t : Bool). can_pad t (shape_of plan) (told_pads plan have.mcus have.pads)) listed
-              ∙ second_can_pad bytes (drop starts.trailer bytes) plan have.mcus have.pads are file;
+              ∙ second_can_pad only_walk bytes (drop starts.trailer bytes) plan have.mcus have.pads are none_known file;
           spelled = refl;
         }
 

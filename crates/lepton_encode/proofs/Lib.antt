@@ -1,3 +1,5 @@
 mod FaultsFound
 mod FilesAt
 mod PlacesMade
+mod HeadsFound
+mod ScansContained

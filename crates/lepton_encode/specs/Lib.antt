@@ -1,2 +1,4 @@
 pub mod Errors
 pub mod PartsMade
+pub mod FileHeads
+pub mod ScansMade

@@ -81,6 +81,7 @@ fn coded<R: Threads + Sync>(
     segments: u8,
 ) -> Result<(Plan, Starts, Vec<Vec<u8>>), EncodeError>
     requires { 0 < segments }
+    ensures accepted { IfOk result (λ coded. Accepts bytes.now coded.0) }
     ensures starts { IfOk result (λ coded. AreStarts coded.0 bytes.now segments coded.1) }
     ensures streams { IfOk result (λ coded. AreStreamsOf coded.0 bytes.now segments coded.1
         (map (λ v. v.items) coded.2.items)) }
@@ -109,8 +110,8 @@ fn places_of(alloc: Global, starts: &Starts) -> Result<Vec<u64>, NoMemory>
     Ok(places)
 }
 
-// The container of a file with these starts and streams: of version 5 if its places are kept, else of version 2.
-fn write_parts(
+/// The container of a file with these starts and streams: of version 5 if its places are kept, else of version 2.
+pub(crate) fn write_parts(
     alloc: Global,
     bytes: &[u8],
     plan: &Plan,

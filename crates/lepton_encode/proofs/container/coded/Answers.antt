@@ -1,10 +1,19 @@
-use Rattle.std.proofs.Common.{◌≡◌, ap}
+use Rattle.std.proofs.Common.{rules, ◌≡◌, ap}
 use Rattle.std.specs.Prelude.{Err}
 use Rattle.std.proofs.lemmas.Result.{err_from_is_err_and}
+use Rattle.jpeg_marker.specs.FirstWalks.{only_walk}
+use Rattle.jpeg_marker.proofs.HeadersTaken.{can_scan, none_known}
 use Rattle.lepton_encode.specs.declared.error.EncodeError.TheVariants.{Scan}
 use Rattle.lepton_encode.specs.Errors.{error_of}
 use Rattle.lepton_encode.proofs.FaultsFound.{scan_found}
+use Rattle.lepton_encode.proofs.FilesAt.{are_bytes}
 use Rattle.lepton_encode.proofs.container.coded.Goals as goal
+
+pub encode_scan-requires-clause-plan : goal.encode_scan-requires-clause-plan
+encode_scan-requires-clause-plan g c κs within =
+    can_scan only_walk c.args.bytes.now c.in_ok-plan.plan
+    (are_bytes c.args.bytes.now (λ i. let h = c.type_inv.bytes i in search rules)) none_known
+    c.in_ok-plan.ensures.accepted
 
 pub returns-in_err-starts-clause-scan : goal.returns-in_err-starts-clause-scan
 returns-in_err-starts-clause-scan g c =

@@ -17,10 +17,10 @@ write_parts-requires-clause-parts g c =
     are_bytes bytes (λ i. let h = c.type_inv.bytes i in search rules) in
     let streams = ap (map (λ v. v.items)) c.as_slice-streams.ensures.value
     ∙ c.in_ok-plan.ensures.streams have.mcus have.pads have.file in
-    let same = found plan bytes c.args.segments starts have are c.requires.length c.requires.some
+    let same = found plan bytes c.args.segments starts c.in_ok-plan.ensures.accepted have are c.requires.length c.requires.some
     (map (λ v. v.items) c.as_slice-streams.result.now) streams in
     subst (IsBox plan) (sym same)
-    (is_box plan bytes c.args.segments starts have are c.requires.length c.requires.some Second refl
+    (is_box plan bytes c.args.segments starts c.in_ok-plan.ensures.accepted have are c.requires.length c.requires.some Second refl
     refl c.requires.few)
 
 pub returns-clause-made : goal.returns-clause-made
@@ -33,9 +33,9 @@ returns-clause-made g c =
     are_bytes bytes (λ i. let h = c.type_inv.bytes i in search rules) in
     let streams = ap (map (λ v. v.items)) c.as_slice-streams.ensures.value
     ∙ c.in_ok-plan.ensures.streams have.mcus have.pads have.file in
-    let same = found plan bytes c.args.segments starts have are c.requires.length c.requires.some
+    let same = found plan bytes c.args.segments starts c.in_ok-plan.ensures.accepted have are c.requires.length c.requires.some
     (map (λ v. v.items) c.as_slice-streams.result.now) streams in
     subst (λ (m : List ℕ). IsContainerOf Second c.args.segments m bytes)
     (sym (c.in_ok-made.ensures ∙ ap box_bytes same))
-    (has_container plan bytes c.args.segments starts have are c.requires.length c.requires.some Second
+    (has_container plan bytes c.args.segments starts c.in_ok-plan.ensures.accepted have are c.requires.length c.requires.some Second
     refl refl)

@@ -22,10 +22,10 @@ write_parts-requires-clause-parts g c =
     let kept = c.as_slice-places.ensures.value ∙ c.in_ok-places.ensures in
     let same = ap (λ (ps : List ℕ). parts_made plan bytes starts (Some ps)
     (map (λ v. v.items) c.as_slice-streams.result.now)) kept
-    ∙ found_placed plan bytes c.args.segments starts have are c.requires.length c.requires.some
+    ∙ found_placed plan bytes c.args.segments starts c.in_ok-plan.ensures.accepted have are c.requires.length c.requires.some
     (map (λ v. v.items) c.as_slice-streams.result.now) streams in
     subst (IsBox plan) (sym same)
-    (is_box plan bytes c.args.segments starts have are c.requires.length c.requires.some Fifth refl
+    (is_box plan bytes c.args.segments starts c.in_ok-plan.ensures.accepted have are c.requires.length c.requires.some Fifth refl
     refl c.requires.few)
 
 pub returns-clause-made : goal.returns-clause-made
@@ -41,9 +41,9 @@ returns-clause-made g c =
     let kept = c.as_slice-places.ensures.value ∙ c.in_ok-places.ensures in
     let same = ap (λ (ps : List ℕ). parts_made plan bytes starts (Some ps)
     (map (λ v. v.items) c.as_slice-streams.result.now)) kept
-    ∙ found_placed plan bytes c.args.segments starts have are c.requires.length c.requires.some
+    ∙ found_placed plan bytes c.args.segments starts c.in_ok-plan.ensures.accepted have are c.requires.length c.requires.some
     (map (λ v. v.items) c.as_slice-streams.result.now) streams in
     subst (λ (m : List ℕ). IsContainerOf Fifth c.args.segments m bytes)
     (sym (c.in_ok-made.ensures ∙ ap box_bytes same))
-    (has_container plan bytes c.args.segments starts have are c.requires.length c.requires.some Fifth
+    (has_container plan bytes c.args.segments starts c.in_ok-plan.ensures.accepted have are c.requires.length c.requires.some Fifth
     refl refl)

@@ -1,0 +1,76 @@
+// The headers of a file of several scans.
+ghost use Rattle.std.specs.Prelude.{◌≡◌, ◌≤◌, ◌<◌, ◌^◌, false, length, List, IfOk, IsErrOf, ℕ};
+ghost use Rattle.jpeg_marker.specs.FirstWalks.{opening_walk};
+ghost use Rattle.jpeg_marker.specs.HeaderPlan.{Begins, RefusesNext};
+ghost use Rattle.jpeg_marker.specs.Walks.{Walk};
+ghost use Rattle.jpeg_marker.specs.declared.refusal.HeaderRefusal.{HeaderRefusal};
+ghost use Rattle.scan_spec.specs.FileParts.{is_last};
+ghost use Rattle.scan_spec.specs.Items.{Refuses as ScanRefuses};
+ghost use Rattle.scan_spec.specs.Slots.{shape_of};
+ghost use Rattle.scan_spec.specs.declared.refusal.ScanRefusal.{ScanRefusal};
+ghost use Rattle.scans_spec.specs.ScansFiles.{FileIsRefused, Header, Scan};
+ghost use Rattle.lepton_encode.specs.FileHeads.{AreHeads, EndsAt, Follows, IsHead};
+
+use crate::error::EncodeError;
+use growth::{push, with_capacity};
+use jpeg_marker::{Plan, read_next};
+use segment_code::find_starts;
+use std::alloc::Global;
+
+/// A header of a file of several scans: its place, and its plan with all bytes before its scan as its header.
+#[derive(Drop)]
+pub(crate) struct Head {
+    pub(crate) place: usize,
+    pub(crate) plan: Plan,
+}
+
+/// The headers of a file whose first one has this plan and isn't the last. A refusal is the first one from left to
+/// right: a header's, or that of a scan but the last.
+pub(crate) fn find_heads(
+    alloc: Global,
+    bytes: &[u8],
+    first: &Plan,
+) -> Result<Vec<Head>, EncodeError>
+    requires opens { Begins opening_walk bytes.now first.now }
+    requires more { is_last first.now ≡ false }
+    requires length { length bytes.now < 2 ^ 32 }
+    ensures heads { IfOk result (λ heads. AreHeads opening_walk bytes.now heads.items) }
+    ensures several { IfOk result (λ heads. 2 ≤ length heads.items) }
+    ensures header { (refusal : HeaderRefusal) → IsErrOf result (EncodeError.Header refusal)
+        → FileIsRefused bytes.now (Header refusal) }
+    ensures scan { (refusal : ScanRefusal) → IsErrOf result (EncodeError.Scan refusal)
+        → FileIsRefused bytes.now (Scan refusal) }
+{
+    let mut heads = with_capacity(alloc, 4)?;
+    let mut head = Head {
+        place: 0,
+        plan: first.at(0),
+    };
+    'headers: while !head.plan.is_last() {
+        let next = next_head(alloc, bytes, &head)?;
+        push(&mut heads, head)?;
+        head = next;
+    }
+    push(&mut heads, head)?;
+    Ok(heads)
+}
+
+// The header after a header and its scan.
+fn next_head(alloc: Global, bytes: &[u8], head: &Head) -> Result<Head, EncodeError>
+    requires head { (w : Walk) × IsHead w bytes.now head.now }
+    requires length { length bytes.now < 2 ^ 32 }
+    ensures next { IfOk result (λ next. Follows bytes.now head.now next) }
+    ensures header { (refusal : HeaderRefusal) → IsErrOf result (EncodeError.Header refusal)
+        → (after : ℕ) × EndsAt bytes.now head.now after
+        × RefusesNext head.now.plan bytes.now after refusal }
+    ensures scan { (refusal : ScanRefusal) → IsErrOf result (EncodeError.Scan refusal)
+        → ScanRefuses (shape_of head.now.plan) bytes.now head.now.plan.header_length refusal }
+{
+    let starts = find_starts(alloc, &head.plan, bytes, 1)?;
+    let place = starts.trailer();
+    let plan = read_next(&head.plan, bytes, place)?;
+    Ok(Head {
+        place,
+        plan: plan.at(place),
+    })
+}
