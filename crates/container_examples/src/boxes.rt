@@ -1,6 +1,6 @@
 // Worked containers. Bytes that are none are in `tests/rows`.
 ghost use Rattle.std.specs.Prelude.{◌≡◌, map, option_map, IfOk, IfSome};
-ghost use Rattle.box_format.specs.Parts.{box_bytes};
+ghost use Rattle.box_format.specs.Parts.{IsBox, box_bytes};
 ghost use Rattle.box_format.specs.Seen.{version_for};
 
 use crate::pads::are_told;
@@ -338,11 +338,11 @@ fn joined(rt: &impl Abort, alloc: Global, front: &[u8], rest: &[&[u8]]) -> Vec<u
 
 // The container of what was read.
 fn again(alloc: Global, view: &BoxView) -> Result<Vec<u8>, AllocError>
-    requires { view.now.parts.version
+    requires parts { IsBox view.now.plan view.now.parts }
+    requires version { view.now.parts.version
         ≡ version_for view.now.parts.chunk view.now.parts.places }
     ensures { IfOk result (λ bytes. bytes.items ≡ box_bytes view.now.parts) }
 {
-    let _ = view.plan();
     let places = places_of(alloc, view)?;
     let handovers = handovers_of(alloc, view)?;
     let streams = streams_of(alloc, view)?;

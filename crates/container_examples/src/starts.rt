@@ -1,10 +1,11 @@
 // Where the segments of small files start, and their streams.
-ghost use Rattle.std.specs.Prelude.{◌≡◌, ◌<◌, length};
+ghost use Rattle.std.specs.Prelude.{◌≡◌, ◌<◌, IfOk, length};
+ghost use Rattle.jpeg_marker.specs.AcceptedPlans.{CanScan};
 
 use crate::pads::are_told;
 use box_format::Chunk;
 use handover::Handover;
-use jpeg_marker::read_header;
+use jpeg_marker::{HeaderRefusal, Plan, read_header};
 use scan_spec::ScanRefusal;
 use segment_code::{ScanError, Starts, encode_segment, find_rows, find_starts, row_of};
 use segment_worker::{encode_all, encode_scan};
@@ -188,7 +189,7 @@ fn are_found(
     trailer: usize,
     pads: (u8, u8),
 ) -> Result<bool, AllocError> {
-    let Ok(plan) = read_header(bytes) else {
+    let Ok(plan) = plan_of(bytes) else {
         return Ok(false);
     };
     if segments == 0 {
@@ -254,10 +255,17 @@ fn sixty_four_segments_start(rt: HostRuntime) {
     assert!(rt; are_sixty_four(rt.alloc(), &bytes, u32::MAX));
 }
 
+// What a file's header says; its scan can follow it.
+fn plan_of(bytes: &[u8]) -> Result<Plan, HeaderRefusal>
+    ensures { IfOk result (λ plan. CanScan bytes.now plan) }
+{
+    read_header(bytes)
+}
+
 fn are_sixty_four(alloc: Global, bytes: &[u8], segments: u32) -> bool
     requires { 0 < segments }
 {
-    let Ok(plan) = read_header(bytes) else {
+    let Ok(plan) = plan_of(bytes) else {
         return false;
     };
     let Ok(starts) = find_starts(alloc, &plan, bytes, segments) else {
@@ -289,7 +297,7 @@ fn three_hundred_rows_start(rt: HostRuntime) {
 }
 
 fn rows_start(alloc: Global, bytes: &[u8], rows: u32) -> bool {
-    let Ok(plan) = read_header(bytes) else {
+    let Ok(plan) = plan_of(bytes) else {
         return false;
     };
     match find_rows(alloc, &plan, bytes) {
@@ -316,7 +324,7 @@ fn are_alike<R: Threads + Sync>(
 ) -> Result<bool, AllocError>
     requires { 0 < segments }
 {
-    let Ok(plan) = read_header(bytes) else {
+    let Ok(plan) = plan_of(bytes) else {
         return Ok(false);
     };
     let Ok((starts, streams)) = encode_scan(rt, alloc, &plan, bytes, segments) else {
@@ -359,7 +367,7 @@ fn are_coded_apart<R: Threads + Sync>(
     alloc: Global,
     bytes: &[u8],
 ) -> Result<bool, AllocError> {
-    let Ok(plan) = read_header(bytes) else {
+    let Ok(plan) = plan_of(bytes) else {
         return Ok(false);
     };
     let Ok(starts) = find_rows(alloc, &plan, bytes) else {
@@ -411,7 +419,7 @@ fn a_cut_scan_is_refused_beside_threads(rt: HostRuntime) {
 fn refused_beside<R: Threads + Sync>(rt: &R, alloc: Global, bytes: &[u8], segments: u8) -> bool
     requires { 0 < segments }
 {
-    let Ok(plan) = read_header(bytes) else {
+    let Ok(plan) = plan_of(bytes) else {
         return false;
     };
     match encode_scan(rt, alloc, &plan, bytes, segments) {
@@ -430,7 +438,7 @@ fn a_scan_is_cut(rt: HostRuntime) -> Result<(), Fail> {
 }
 
 fn refusal(alloc: Global, bytes: &[u8], segments: u32) -> Option<ScanRefusal> {
-    let Ok(plan) = read_header(bytes) else {
+    let Ok(plan) = plan_of(bytes) else {
         return None;
     };
     if segments == 0 {

@@ -1,5 +1,5 @@
 //! What a row of `tests/rows.txt` can't say of the top call: sources and sinks that fail, threads that meet, each byte
-//! changed, samples by their digests, chunks and ranges.
+//! changed, samples by their digests, chunks and ranges; and a file of two scans, which the top call refuses.
 #![tactic(auto)]
 
 #[cfg(test)]
@@ -22,6 +22,8 @@ mod ranges;
 mod rows;
 #[cfg(test)]
 mod samples;
+#[cfg(test)]
+mod scans;
 #[cfg(test)]
 mod segments;
 #[cfg(test)]

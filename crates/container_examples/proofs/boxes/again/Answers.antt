@@ -16,11 +16,11 @@ write_box-requires c =
     (option_map (λ kept. kept.now) c.kept_in.result) (pads_given c.pad.result)
     c.header.result.now c.trailer.result.now c.as_slice-2.result.now
     (map (λ v. v.items) c.as_slice-3.result.now) c.args.view.now.parts
-    (ap₂ version_for c.chunk.ensures c.kept_in.ensures ∙ sym c.requires) c.chunk.ensures
+    (ap₂ version_for c.chunk.ensures c.kept_in.ensures ∙ sym c.requires.version) c.chunk.ensures
     c.kept_in.ensures c.pad.ensures.value
     c.header.ensures.bytes c.trailer.ensures.bytes handovers streams in (
       c.args.view.now.plan,
-      subst (IsBox c.args.view.now.plan) (sym same) c.plan.ensures.sound,
+      subst (IsBox c.args.view.now.plan) (sym same) c.requires.parts,
     )
 
 pub returns : goal.returns
@@ -33,7 +33,7 @@ returns c =
     (option_map (λ kept. kept.now) c.kept_in.result) (pads_given c.pad.result)
     c.header.result.now c.trailer.result.now c.as_slice-2.result.now
     (map (λ v. v.items) c.as_slice-3.result.now) c.args.view.now.parts
-    (ap₂ version_for c.chunk.ensures c.kept_in.ensures ∙ sym c.requires) c.chunk.ensures
+    (ap₂ version_for c.chunk.ensures c.kept_in.ensures ∙ sym c.requires.version) c.chunk.ensures
     c.kept_in.ensures c.pad.ensures.value
     c.header.ensures.bytes c.trailer.ensures.bytes handovers streams in
     subst (λ (b : BoxParts). c.in_ok-write_box.field-0.items ≡ box_bytes b) same

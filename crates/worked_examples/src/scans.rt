@@ -1,0 +1,180 @@
+// A file of two scans, encoded, read, and decoded segment by segment (docs/FORMAT.md, Version 4).
+ghost use Rattle.std.specs.Prelude.{◌≡◌, ℕ, List, true};
+ghost use Rattle.handover.specs.declared.outcome.Outcome.{Outcome};
+ghost use Rattle.segment_code.specs.FileDecoding.{FileOwes};
+
+use crate::trial::assert_holds;
+use bit_list::Piece;
+use jpeg_marker::HeaderRefusal;
+use lepton_encode::{EncodeError, encode_file};
+use scan_spec::ScanRefusal;
+use scans_format::read_container;
+use segment_code::{FileDecoder, Step};
+use std::alloc::{AllocError, Global};
+use std::process::Abort;
+use std::thread::Threads;
+
+// More steps than any segment here takes.
+const STEPS: u8 = 4;
+
+// Two components of 8 by 8 samples, each in a scan of its own, with one code word in each table: a block of zeros is
+// `00`.
+const FRAME: &[u8] = b"\xff\xd8\xff\xc0\0\x0e\x08\0\x08\0\x08\x02\x01\x11\0\x02\x11\0";
+
+const DC: &[u8] = b"\xff\xc4\0\x14\0\x01\0\0\0\0\0\0\0\0\0\0\0\0\0\0\0\0";
+
+const AC: &[u8] = b"\xff\xc4\0\x14\x10\x01\0\0\0\0\0\0\0\0\0\0\0\0\0\0\0\0";
+
+const FIRST: &[u8] = b"\xff\xda\0\x08\x01\x01\0\0\x3f\0";
+
+const SECOND: &[u8] = b"\xff\xda\0\x08\x01\x02\0\0\x3f\0";
+
+const ZEROS: &[u8] = b"\x3f";
+
+const END: &[u8] = b"\xff\xd9";
+
+const FILE: &[&[u8]] = &[FRAME, DC, AC, FIRST, ZEROS, SECOND, ZEROS, END];
+
+// The second scan has the first component again, there is none, or it has no byte.
+const TWICE: &[&[u8]] = &[FRAME, DC, AC, FIRST, ZEROS, FIRST, ZEROS, END];
+
+const ONE_SCAN: &[&[u8]] = &[FRAME, DC, AC, FIRST, ZEROS, END];
+
+const CUT: &[&[u8]] = &[FRAME, DC, AC, FIRST, ZEROS, SECOND];
+
+// What a segment starts from, and the length of its stream.
+const RECORD: &[u8] = b"\0\0\0\0\0\0\0\0\0\0\0\0\0\0\0\0\0\0\0\0\0\x03";
+
+const STREAM: &[u8] = b"\0\0\0";
+
+const CONTAINER: &[&[u8]] = &[
+    b"LPSG\x04\x02\0\0\0\x02",
+    b"\x01\x01\0\0\0\x48\0\0\0\0",
+    RECORD,
+    b"\x01\x01\0\0\0\x0a\0\0\0\0",
+    RECORD,
+    FRAME,
+    DC,
+    AC,
+    FIRST,
+    SECOND,
+    END,
+    STREAM,
+    STREAM,
+];
+
+#[test]
+fn two_scans_are_encoded(rt: HostRuntime) {
+    let container = joined(rt.alloc(), CONTAINER).expect(&rt, "memory");
+    for segments in [1u8, 2, 8, 64] {
+        let holds = is_made(&rt, rt.alloc(), FILE, segments, container.as_slice());
+        assert_holds(&rt, holds, "segments", u64::from(segments));
+    }
+}
+
+// Whether a file is encoded to this container.
+fn is_made<R: Threads + Sync + Abort>(
+    rt: &R,
+    alloc: Global,
+    file: &[&[u8]],
+    segments: u8,
+    container: &[u8],
+) -> bool {
+    let file = joined(alloc, file).expect(rt, "memory");
+    assert!(rt; file.len() < 1 << 32);
+    assert!(rt; 0 < segments && segments <= 64);
+    match encode_file(rt, alloc, file.as_slice(), segments) {
+        Ok(made) => made.as_slice() == container,
+        Err(_) => false,
+    }
+}
+
+#[test]
+fn scans_are_refused_by_their_places_in_the_file(rt: HostRuntime) {
+    let twice = EncodeError::Header(HeaderRefusal::MultiScan);
+    assert!(rt; is_refused(&rt, rt.alloc(), TWICE, twice));
+    let none = EncodeError::Header(HeaderRefusal::MarkerBad { place: 74 });
+    assert!(rt; is_refused(&rt, rt.alloc(), ONE_SCAN, none));
+    let cut = EncodeError::Scan(ScanRefusal::ScanCut { place: 83 });
+    assert!(rt; is_refused(&rt, rt.alloc(), CUT, cut));
+}
+
+// Whether a file is refused for this cause.
+fn is_refused<R: Threads + Sync + Abort>(
+    rt: &R,
+    alloc: Global,
+    file: &[&[u8]],
+    cause: EncodeError,
+) -> bool {
+    let file = joined(alloc, file).expect(rt, "memory");
+    assert!(rt; file.len() < 1 << 32);
+    match encode_file(rt, alloc, file.as_slice(), 8) {
+        Ok(_) => false,
+        Err(error) => error == cause,
+    }
+}
+
+#[test]
+fn two_scans_are_decoded(rt: HostRuntime) {
+    let container = joined(rt.alloc(), CONTAINER).expect(&rt, "memory");
+    let file = joined(rt.alloc(), FILE).expect(&rt, "memory");
+    let found = restored(rt.alloc(), container.as_slice()).expect(&rt, "memory");
+    assert!(rt; found.as_slice() == file.as_slice());
+}
+
+// The file of a container of two scans of a segment each; no bytes of another.
+fn restored(alloc: Global, bytes: &[u8]) -> Result<Vec<u8>, AllocError> {
+    let mut file = Vec::new(alloc);
+    let Ok(view) = read_container(bytes) else {
+        return Ok(file);
+    };
+    if view.scans() != 2 {
+        return Ok(file);
+    }
+    let first = view.scan(0);
+    let second = view.scan(1);
+    if first.segments() != 1 || second.segments() != 1 {
+        return Ok(file);
+    }
+    let mut decoder = FileDecoder::prepare(alloc, &[*first.plan(), *second.plan()])?;
+    file.extend_from_slice(first.header())?;
+    decoder.begin(&first, 0, 0, 0);
+    put_segment(alloc, &mut decoder, &mut file)?;
+    decoder.begin(&second, 1, 1, 0);
+    put_segment(alloc, &mut decoder, &mut file)?;
+    file.extend_from_slice(second.trailer())?;
+    Ok(file)
+}
+
+// Appends what a decoder gives of the segment that it began.
+fn put_segment(
+    alloc: Global,
+    decoder: &mut FileDecoder,
+    file: &mut Vec<u8>,
+) -> Result<(), AllocError>
+    requires running { decoder.old.running ≡ true }
+    requires owes { (bytes : List ℕ) × (outcome : Outcome) × FileOwes decoder.old bytes outcome }
+    ensures plans { decoder.new.plans ≡ decoder.old.plans }
+    ensures begun { decoder.new.begun ≡ decoder.old.begun }
+{
+    let mut piece = Piece::new(alloc)?;
+    for _taken in 0..STEPS {
+        let step = decoder.step(&mut piece);
+        file.extend_from_slice(piece.bytes())?;
+        match step {
+            Step::More => {}
+            Step::Done { .. } => return Ok(()),
+            Step::Fault(_) => return Ok(()),
+        }
+    }
+    Ok(())
+}
+
+// All parts, one after another.
+fn joined(alloc: Global, parts: &[&[u8]]) -> Result<Vec<u8>, AllocError> {
+    let mut all = Vec::new(alloc);
+    for part in parts {
+        all.extend_from_slice(part)?;
+    }
+    Ok(all)
+}
