@@ -35,12 +35,111 @@ const END: &[u8] = b"\xff\xd9";
 
 const FILE: &[&[u8]] = &[FRAME, DC, AC, FIRST, ZEROS, SECOND, ZEROS, END];
 
-// The second scan has the first component again, there is none, or it has no byte.
-const TWICE: &[&[u8]] = &[FRAME, DC, AC, FIRST, ZEROS, FIRST, ZEROS, END];
+// What the bytes after the first scan of that file are refused for; its header ends at 72.
+const REFUSED: &[(&[&[u8]], EncodeError)] = &[
+    (&[], EncodeError::Header(HeaderRefusal::HeaderCut)),
+    (&[b"\xff"], EncodeError::Header(HeaderRefusal::HeaderCut)),
+    (
+        &[END],
+        EncodeError::Header(HeaderRefusal::MarkerBad { place: 74 }),
+    ),
+    (
+        &[b"\xff\xc0\0\x0e\x08\0\x08\0\x08\x02\x01\x11\0\x02\x11\0"],
+        EncodeError::Header(HeaderRefusal::FrameTwice),
+    ),
+    (&[FIRST], EncodeError::Header(HeaderRefusal::MultiScan)),
+    (
+        &[b"\xff\xda\0\x0a\x02\x01\0\x02\0\0\x3f\0"],
+        EncodeError::Header(HeaderRefusal::MultiScan),
+    ),
+    (
+        &[b"\xff\xda\0\x08\x01\x01\x44\0\x3f\x01"],
+        EncodeError::Header(HeaderRefusal::MultiScan),
+    ),
+    (
+        &[b"\xff\xda\0\x06\0\0\x3f\0"],
+        EncodeError::Header(HeaderRefusal::ScanParams),
+    ),
+    (
+        &[b"\xff\xda\0\x08\x01\x04\0\0\x3f\0"],
+        EncodeError::Header(HeaderRefusal::ScanParams),
+    ),
+    (
+        &[b"\xff\xda\0\x0a\x02\x02\0\x02\0\0\x3f\0"],
+        EncodeError::Header(HeaderRefusal::ScanParams),
+    ),
+    (
+        &[b"\xff\xda\0\x0c\x03\x01\0\x02\0\x03\0\0\x3f\0"],
+        EncodeError::Header(HeaderRefusal::ScanParams),
+    ),
+    (
+        &[b"\xff\xda\0\x08\x01\x02\0\0\x3f\x01"],
+        EncodeError::Header(HeaderRefusal::ScanParams),
+    ),
+    (
+        &[b"\xff\xda\0\x08\x01\x02\x11\0\x3f\0"],
+        EncodeError::Header(HeaderRefusal::NoTable),
+    ),
+    (
+        &[SECOND],
+        EncodeError::Scan(ScanRefusal::ScanCut { place: 83 }),
+    ),
+    (
+        &[SECOND, END],
+        EncodeError::Scan(ScanRefusal::MarkerInScan { place: 83 }),
+    ),
+    (
+        &[SECOND, b"\x3e", END],
+        EncodeError::Scan(ScanRefusal::MixedPad { place: 83 }),
+    ),
+];
 
-const ONE_SCAN: &[&[u8]] = &[FRAME, DC, AC, FIRST, ZEROS, END];
+// 17 by 9 samples of three components, the first one sampled two by two.
+const SAMPLED: &[u8] = b"\xff\xd8\xff\xc0\0\x11\x08\0\x09\0\x11\x03\x01\x22\0\x02\x11\0\x03\x11\0";
 
-const CUT: &[&[u8]] = &[FRAME, DC, AC, FIRST, ZEROS, SECOND];
+const THIRD: &[u8] = b"\xff\xda\0\x08\x01\x03\0\0\x3f\0";
+
+const SECOND_AND_THIRD: &[u8] = b"\xff\xda\0\x0a\x02\x02\0\x03\0\0\x3f\0";
+
+const FIRST_AND_THIRD: &[u8] = b"\xff\xda\0\x0a\x02\x01\0\x03\0\0\x3f\0";
+
+const INTERVAL: &[u8] = b"\xff\xdd\0\x04\0\x01";
+
+const FOUR: &[u8] = b"\x0f";
+
+const SIX: &[u8] = b"\0\x0f";
+
+// Files of several scans, and how many bytes their containers have in at most eight segments: an interval before the
+// second scan; a second scan that pads with 0; three scans, of two segments and of one; two of three components.
+const LENGTHS: &[(&[&[u8]], usize)] = &[
+    (
+        &[FRAME, DC, AC, FIRST, ZEROS, INTERVAL, SECOND, ZEROS, END],
+        170,
+    ),
+    (&[FRAME, DC, AC, FIRST, ZEROS, SECOND, b"\0", END], 164),
+    (
+        &[SAMPLED, DC, AC, FIRST, SIX, SECOND, FOUR, THIRD, FOUR, END],
+        243,
+    ),
+    (
+        &[SAMPLED, DC, AC, FIRST, SIX, SECOND_AND_THIRD, b"\0", END],
+        200,
+    ),
+    (
+        &[
+            SAMPLED,
+            DC,
+            AC,
+            FIRST_AND_THIRD,
+            b"\0\0\x0f",
+            INTERVAL,
+            SECOND,
+            b"\x3f\xff\xd0\x3f",
+            END,
+        ],
+        182,
+    ),
+];
 
 // What a segment starts from, and the length of its stream.
 const RECORD: &[u8] = b"\0\0\0\0\0\0\0\0\0\0\0\0\0\0\0\0\0\0\0\0\0\x03";
@@ -90,13 +189,31 @@ fn is_made<R: Threads + Sync + Abort>(
 }
 
 #[test]
-fn scans_are_refused_by_their_places_in_the_file(rt: HostRuntime) {
-    let twice = EncodeError::Header(HeaderRefusal::MultiScan);
-    assert!(rt; is_refused(&rt, rt.alloc(), TWICE, twice));
-    let none = EncodeError::Header(HeaderRefusal::MarkerBad { place: 74 });
-    assert!(rt; is_refused(&rt, rt.alloc(), ONE_SCAN, none));
-    let cut = EncodeError::Scan(ScanRefusal::ScanCut { place: 83 });
-    assert!(rt; is_refused(&rt, rt.alloc(), CUT, cut));
+fn later_scans_are_refused_by_their_places_in_the_file(rt: HostRuntime) {
+    let front = joined(rt.alloc(), &[FRAME, DC, AC, FIRST, ZEROS]).expect(&rt, "memory");
+    for (rest, cause) in REFUSED {
+        let rest = joined(rt.alloc(), rest).expect(&rt, "memory");
+        let file = &[front.as_slice(), rest.as_slice()];
+        assert!(rt; is_refused(&rt, rt.alloc(), file, *cause), "{cause:?}");
+    }
+}
+
+#[test]
+fn containers_of_several_scans_have_their_lengths(rt: HostRuntime) {
+    for (file, length) in LENGTHS {
+        let made = length_of(&rt, rt.alloc(), file);
+        assert!(rt; made == *length, "{length}");
+    }
+}
+
+// How many bytes a file's container has in at most eight segments; 0 if it is refused.
+fn length_of<R: Threads + Sync + Abort>(rt: &R, alloc: Global, file: &[&[u8]]) -> usize {
+    let file = joined(alloc, file).expect(rt, "memory");
+    assert!(rt; file.len() < 1 << 32);
+    match encode_file(rt, alloc, file.as_slice(), 8) {
+        Ok(made) => made.len(),
+        Err(_) => 0,
+    }
 }
 
 // Whether a file is refused for this cause.
