@@ -1,7 +1,7 @@
 -- View: how the code words of a table are kept by value (own).
 use Rattle.std.specs.Prelude.{◌≡◌, List, fold, replicate, slice_set}
 use Rattle.jpeg_marker.specs.HuffmanTables.{TableFields, IsTable}
-use Rattle.jpeg_marker.specs.AcceptedPlans.{AreBytes}
+use Rattle.jpeg_marker.specs.KnownBefore.{AreBytes}
 use Rattle.huff_table.specs.CodeWords.{CodeWord, words_of}
 use Rattle.huff_table.specs.ShortWords.{by_bits}
 use Rattle.huff_table.specs.declared.word.Word.{Word}

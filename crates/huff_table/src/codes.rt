@@ -3,7 +3,7 @@ ghost use Rattle.std.specs.Prelude.{◌≡◌, ℕ, ◌+◌, ◌*◌, ◌-◌, �
 ghost use Rattle.bit_list.specs.Bits.{low_bits};
 ghost use Rattle.bit_list.specs.Units.{bits_at};
 ghost use Rattle.jpeg_marker.specs.HuffmanTables.{IsTable, no_table};
-ghost use Rattle.jpeg_marker.specs.AcceptedPlans.{AreBytes};
+ghost use Rattle.jpeg_marker.specs.KnownBefore.{AreBytes};
 ghost use Rattle.huff_table.specs.CodeWords.{word_of};
 ghost use Rattle.huff_table.specs.Decoding.{value_at};
 ghost use Rattle.huff_table.specs.CodesInside.{placed};

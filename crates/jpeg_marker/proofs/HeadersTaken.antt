@@ -21,7 +21,8 @@ use Rattle.jpeg_marker.specs.Plans.{PlanFields, IsPlan, plan_at, part_of, parts_
 use Rattle.jpeg_marker.specs.Walks.{Walk, nothing_known, first_walk, next_walk, walk_from, walk_text}
 use Rattle.jpeg_marker.specs.GoodSegments.{length_place, body_fault, known_after}
 use Rattle.jpeg_marker.specs.HeaderPlan.{Begins, Accepts, Opens}
-use Rattle.jpeg_marker.specs.AcceptedPlans.{AreBytes, IsSound, HasTables, IsKnown, AreKnown, CanScan, HasPlan, BegunHasPlan, AcceptedHasPlan, NextHasPlan}
+use Rattle.jpeg_marker.specs.AcceptedPlans.{HasTables, IsKnown, CanScan, HasPlan, BegunHasPlan, AcceptedHasPlan, NextHasPlan}
+use Rattle.jpeg_marker.specs.KnownBefore.{AreBytes, IsSound, AreKnown}
 use Rattle.jpeg_marker.proofs.Choices.{rising_is, rising_test, rising_more, rising_few, named_rising, named_long, Rising, chosen_are, chosen_within}
 use Rattle.jpeg_marker.proofs.TablesTaken.{table_sound, known_sound, bytes_first, bytes_last, bodies_are_bytes}
 use Rattle.jpeg_marker.proofs.FramesTaken.{frame_passed, frame_stays, mcus_some, first_within}

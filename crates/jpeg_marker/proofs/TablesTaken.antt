@@ -14,7 +14,7 @@ use Rattle.jpeg_marker.specs.declared.definitions.Definitions.{Definitions}
 use Rattle.jpeg_marker.specs.declared.scans.Scans.{Scans}
 use Rattle.jpeg_marker.specs.TableFaults.{is_table, table_fault, tables_fault}
 use Rattle.jpeg_marker.specs.GoodSegments.{IsGood, AreGoodAfter, length_place, body_fault, known_after}
-use Rattle.jpeg_marker.specs.AcceptedPlans.{AreBytes, IsSound}
+use Rattle.jpeg_marker.specs.KnownBefore.{AreBytes, IsSound}
 use Rattle.jpeg_marker.proofs.Repeats.{both_hold, IsDistinct-from_distinct}
 
 -- parts of lists

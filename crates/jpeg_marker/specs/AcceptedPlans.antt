@@ -1,19 +1,16 @@
 -- Law: what holds of the plan of every header that is accepted (ITU-T T.81, B.2).
 use Rattle.std.specs.Prelude.{ℕ, ◌+◌, ◌<◌, ◌≤◌, ◌≡◌, true, false, List, ◌++◌, length, take, drop, map, Some, IfSome}
 use Rattle.std.specs.List.{AllByRecursion, list_any}
-use Rattle.jpeg_marker.specs.HuffmanTables.{TableFields, IsTable}
+use Rattle.jpeg_marker.specs.HuffmanTables.{IsTable}
 use Rattle.jpeg_marker.specs.Frames.{FrameFields, IsFrame}
 use Rattle.jpeg_marker.specs.Plans.{PlanFields, IsPlan, is_coded, coded_after, are_all_coded, most_blocks}
+use Rattle.jpeg_marker.specs.KnownBefore.{AreBytes, AreKnown, IsSound}
 use Rattle.jpeg_marker.specs.HeaderPlan.{Begins, Accepts, Opens, AcceptsNext}
 use Rattle.jpeg_marker.specs.Walks.{Walk, walk_from}
 use Rattle.jpeg_marker.specs.declared.component.Component.{Component}
 use Rattle.jpeg_marker.specs.declared.scans.Scans.{Scans}
 use Rattle.jpeg_marker.specs.declared.scans.Scans.TheVariants.{One, Several}
 use Rattle.jpeg_marker.specs.declared.definitions.Definitions.{Definitions}
-
--- numbers that are bytes
-abbrev pub AreBytes : List ℕ → Type 0
-AreBytes numbers = AllByRecursion (λ n. n < 256) numbers
 
 -- both tables of a component are tables, and their values bytes (B.2.4.2)
 pub record HasTables (c : Component) : Type 0 where
@@ -22,11 +19,6 @@ pub record HasTables (c : Component) : Type 0 where
   pub dc_bytes : AreBytes c.dc.values
   pub ac_bytes : AreBytes c.ac.values
 
--- a table whose values are bytes (B.2.4.2)
-pub record IsSound (t : TableFields) : Type 0 where
-  pub table : IsTable t
-  pub bytes : AreBytes t.values
-
 -- a frame, and tables
 pub record IsKnown (known : Definitions) : Type 0 where
   pub frame : FrameFields
@@ -34,15 +26,10 @@ pub record IsKnown (known : Definitions) : Type 0 where
   pub is_frame : IsFrame frame
   pub tables : AllByRecursion (λ t. IfSome t IsSound) known.tables
 
--- if there is a frame, it is one, and the tables are tables
-pub record AreKnown (known : Definitions) : Type 0 where
-  pub frame : IfSome known.frame IsFrame
-  pub tables : AllByRecursion (λ t. IfSome t IsSound) known.tables
-
--- A plan of bytes that begin with a header of a file, whichever one (B.2.1): it is one that `Plan` keeps; its components
--- have tables; the header is no longer than the bytes, and determines the plan wherever it is and whatever follows it;
--- a frame and tables are known after it; the scan has no component that a scan before had, and its components and blocks
--- are counted with those before.
+-- A plan of bytes that begin with a header of a file, whichever one (B.2.1): it is one that `Plan` keeps; its
+-- components have tables; the header is no longer than the bytes, and determines the plan wherever it is and whatever
+-- follows it; a frame and tables are known after it; the scan has no component that a scan before had, and its
+-- components and blocks are counted with those before.
 pub record HasBegun (w : Walk) (bytes : List ℕ) (plan : PlanFields) : Type 0 where
   pub is_plan : IsPlan plan
   pub tables : AllByRecursion HasTables plan.components
@@ -62,8 +49,8 @@ BegunHasPlan =
     (w : Walk) (bytes : List ℕ) (plan : PlanFields) → AreBytes bytes → AreKnown w.known
     → Begins w bytes plan → HasBegun w bytes plan
 
--- bytes can have the scan of a plan after its header: it is a plan that `Plan` keeps, its components have tables, and the
--- header is no longer than the bytes
+-- bytes can have the scan of a plan after its header: it is a plan that `Plan` keeps, its components have tables, and
+-- the header is no longer than the bytes
 pub record CanScan (bytes : List ℕ) (plan : PlanFields) : Type 0 where
   pub is_plan : IsPlan plan
   pub tables : AllByRecursion HasTables plan.components

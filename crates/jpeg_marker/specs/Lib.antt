@@ -1,3 +1,4 @@
+pub mod KnownBefore
 pub mod AcceptedPlans
 pub mod Components
 pub mod FrameInside

@@ -156,7 +156,7 @@ impl Plan {
         self.interval
     }
 
-    /// Bytes of the header.
+    /// How many bytes come before the scan: those of the header, or after `at` all of the file's.
     pub fn header_length(&self) -> usize
         ensures { result ≡ self.now.header_length }
     {

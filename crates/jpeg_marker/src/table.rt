@@ -33,7 +33,7 @@ impl RawTable {
     ghost use Rattle.jpeg_marker.specs.HuffmanTables.{TableFields, IsTable};
     ghost use Rattle.jpeg_marker.specs.HuffmanTables.{no_table};
     ghost use Rattle.jpeg_marker.specs.TableFaults.{is_table};
-    ghost use Rattle.jpeg_marker.specs.AcceptedPlans.{AreBytes};
+    ghost use Rattle.jpeg_marker.specs.KnownBefore.{AreBytes};
 
     /// How many code words there are of each length.
     pub fn counts(&self) -> &[u8; 16]
@@ -84,7 +84,7 @@ impl RawTable {
 
 ghost use Rattle.std.specs.Prelude.{◌≡◌, ◌≤◌, ◌<◌, ◌++◌, ◌-◌, replicate, length, take, IsTrue};
 ghost use Rattle.jpeg_marker.specs.HuffmanTables.{distinct, code_space};
-ghost use Rattle.jpeg_marker.specs.AcceptedPlans.{AreBytes};
+ghost use Rattle.jpeg_marker.specs.KnownBefore.{AreBytes};
 
 // The first values, which are bytes.
 fn first_values(values: &[u8], count: usize) -> &[u8]
