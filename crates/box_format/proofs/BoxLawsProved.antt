@@ -4,8 +4,10 @@ use Rattle.std.specs.Prelude.{slice_index, bytes_eq, sum, Option, Some, None, If
 use Rattle.std.proofs.lemmas.Bool.{le-ltb, lt-ltb, eq-eqb, ne_eqb, eqb-true, ltb-true, or_from, and_right}
 use Rattle.std.proofs.lemmas.List.{take_at, drop_at, drop-drop}
 use Rattle.jpeg_marker.specs.Plans.{PlanFields}
-use Rattle.jpeg_marker.specs.HeaderPlan.{Accepts}
-use Rattle.jpeg_marker.proofs.HeaderLaws as header_laws
+use Rattle.jpeg_marker.specs.FirstWalks.{opening_walk}
+use Rattle.jpeg_marker.specs.HeaderPlan.{Begins}
+use Rattle.jpeg_marker.proofs.HeaderLaws.{one_begins, one_begins_not, begins_apart}
+use Rattle.jpeg_marker.proofs.OneScans.{one_is_several, one_is_last}
 use Rattle.scan_spec.specs.Slots.{Shape, shape_of}
 use Rattle.handover.specs.Handovers.{HandoverFields}
 use Rattle.scan_spec.specs.Pads.{PadBits, Same, Listed}
@@ -219,6 +221,7 @@ module _ (versions : List Version) (plan : PlanFields) (b : BoxParts) (bytes : L
       let end = end_is in
       record {
         header = omega arith;
+        last = one_is_last b.header plan is.header_bytes is.header;
         segments = ap₂ (λ (v : Version) (c : Option Chunk). are_wrong (layout_of v).most
             (box_cut plan c (segments_in bytes))) laid.version laid.chunk
             ∙ ap (λ (k : ℕ). are_wrong (layout_of b.version).most (box_cut plan b.chunk k))
@@ -244,9 +247,11 @@ module _ (versions : List Version) (plan : PlanFields) (b : BoxParts) (bytes : L
         end = omega arith;
       }
 
-  header_taken : Accepts (raw_of bytes).header plan
+  header_taken : Begins opening_walk (raw_of bytes).header plan
   unfolding raw_of
-  header_taken = subst (λ (l : List ℕ). Accepts l plan) (sym header_again) is.header
+  header_taken =
+      subst (λ (l : List ℕ). Begins opening_walk l plan) (sym header_again)
+      (one_is_several b.header plan is.header)
 
   passes : PassesChecks versions plan bytes
   passes = record {
@@ -298,7 +303,7 @@ pub one_box : OneBox
 one_box plan other a b bytes p q =
     let x = checked decoded plan a bytes (all_read a.version) p in
     let y = checked decoded other b bytes (all_read b.version) q in
-    (header_laws.one_plan (raw_of bytes).header plan other x.0.header y.0.header, sym x.1 ∙ y.1)
+    (one_begins opening_walk (raw_of bytes).header plan other x.0.header y.0.header, sym x.1 ∙ y.1)
 
 some_is_one : {A : Type 0} (x y : A) → Some x ≡ Some y → x ≡ y
 some_is_one x y e = cc
@@ -306,13 +311,13 @@ some_is_one x y e = cc
 one_after : (raw : Raw) (refusal other : BoxRefusal) → FailsAfter raw refusal → FailsAfter raw other
     → refusal ≡ other
 one_after raw refusal other (inl p) (inl q) = p.2
-    ∙ ap BoxHeader (header_laws.one_refusal raw.header p.0 q.0 p.1 q.1) ∙ sym q.2
+    ∙ ap BoxHeader (one_begins_not opening_walk raw.header p.0 q.0 p.1 q.1) ∙ sym q.2
 one_after raw refusal other (inl p) (inr q) =
-    absurd (header_laws.never_both raw.header q.0 p.0 q.1 p.1)
+    absurd (begins_apart opening_walk raw.header q.0 p.0 q.1 p.1)
 one_after raw refusal other (inr p) (inl q) =
-    absurd (header_laws.never_both raw.header p.0 q.0 p.1 q.1)
+    absurd (begins_apart opening_walk raw.header p.0 q.0 p.1 q.1)
 one_after raw refusal other (inr p) (inr q) =
-    let same = header_laws.one_plan raw.header p.0 q.0 p.1 q.1 in
+    let same = one_begins opening_walk raw.header p.0 q.0 p.1 q.1 in
     some_is_one refusal other (sym p.2 ∙ ap (λ plan. late_fault plan raw) same ∙ q.2)
 
 pub one_box_refusal : OneBoxRefusal
@@ -323,12 +328,12 @@ one_box_refusal versions bytes refusal other (inr p) (inl q) = let e = p.0 in cc
 one_box_refusal versions bytes refusal other (inr p) (inr q) =
     one_after (raw_of bytes) refusal other p.1 q.1
 
-apart_after : (raw : Raw) (plan : PlanFields) (refusal : BoxRefusal) → Accepts raw.header plan
-    → late_fault plan raw ≡ None → FailsAfter raw refusal → ⊥
+apart_after : (raw : Raw) (plan : PlanFields) (refusal : BoxRefusal)
+    → Begins opening_walk raw.header plan → late_fault plan raw ≡ None → FailsAfter raw refusal → ⊥
 apart_after raw plan refusal taken none (inl p) =
-    header_laws.never_both raw.header plan p.0 taken p.1
+    begins_apart opening_walk raw.header plan p.0 taken p.1
 apart_after raw plan refusal taken none (inr p) =
-    let same = header_laws.one_plan raw.header plan p.0 taken p.1 in
+    let same = one_begins opening_walk raw.header plan p.0 taken p.1 in
     let e = ap (λ plan. late_fault plan raw) same in
     let f = p.2 in
     cc

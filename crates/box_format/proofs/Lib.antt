@@ -16,3 +16,4 @@ pub mod Written
 pub mod BoxLawsProved
 pub mod Migrated
 pub mod Placed
+pub mod PartialHeaders

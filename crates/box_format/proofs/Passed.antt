@@ -1,10 +1,11 @@
 -- What checks say that pass.
-use Rattle.std.proofs.Common.{◌≡◌, ◌≤◌, ◌-◌, ℕ, List, length, take, drop, refl, sym, ap, ◌∙◌, arith, true, false, Bool, nat_lt, ◌&&◌, not, cond, length-drop}
+use Rattle.std.proofs.Common.{◌≡◌, ◌≤◌, ◌-◌, ℕ, List, length, take, drop, refl, sym, ap, ◌∙◌, arith, true, false, Bool, nat_lt, ◌&&◌, ◌||◌, not, cond, length-drop}
 use Rattle.std.specs.Prelude.{Option, Some, None, option_map, bytes_eq, slice_index}
 use Rattle.std.proofs.lemmas.Bool.{ltb-false, le-ltb, or_parts, or_from}
 use Rattle.std.proofs.lemmas.Bool.Decides.{nat_tests}
 use Rattle.std.proofs.lemmas.List.{length-take-le}
 use Rattle.jpeg_marker.specs.Plans.{PlanFields}
+use Rattle.scan_spec.specs.FileParts.{is_last}
 use Rattle.scan_spec.specs.Slots.{shape_of}
 use Rattle.box_format.specs.Versions.{layout_of, version_in, is_version}
 use Rattle.box_format.specs.Parts.{magic}
@@ -33,6 +34,10 @@ bad_count plan bytes = are_wrong (most_in bytes) (rows_cut plan bytes)
 abbrev pub bad_chunk : PlanFields → List ℕ → Bool
 bad_chunk plan bytes =
     is_bad_chunk plan.down (header_in bytes) (trailer_in bytes) (chunk_in bytes)
+
+-- whether the header's scan isn't the last, or there can't be so many segments
+abbrev pub bad_segments : PlanFields → List ℕ → Bool
+bad_segments plan bytes = not (is_last plan) || bad_count plan bytes
 
 -- whether the places can't be those of this header
 abbrev pub bad_places : List ℕ → Bool
@@ -125,13 +130,14 @@ late_is plan bytes whole =
     ∙ rest_is (named_end bytes) (length bytes) in
     rw (count, long, rest)
     (or_five (where_failed (nat_lt plan.header_length (header_length bytes))
-    (HeaderLong plan.header_length)) (where_failed (bad_count plan bytes) BoxSegments)
+    (HeaderLong plan.header_length)) (where_failed (bad_segments plan bytes) BoxSegments)
     (where_failed (bad_chunk plan bytes) BoxChunk) (where_failed (bad_pad plan bytes) BoxPad)
     (record_fault plan bytes))
 
 -- what they say
 pub record IsLate (plan : PlanFields) (bytes : List ℕ) : Type 0 where
   pub header : header_length bytes ≤ plan.header_length
+  pub last : is_last plan ≡ true
   pub segments : bad_count plan bytes ≡ false
   pub chunk : bad_chunk plan bytes ≡ false
   pub pad : bad_pad plan bytes ≡ false
@@ -146,10 +152,10 @@ late_of plan bytes whole e =
     (sym (late_is plan bytes whole) ∙ e) in
     let fields = or_none
     (where_failed (nat_lt plan.header_length (header_length bytes)) (HeaderLong plan.header_length))
-    (or_else (where_failed (bad_count plan bytes) BoxSegments)
+    (or_else (where_failed (bad_segments plan bytes) BoxSegments)
     (or_else (where_failed (bad_chunk plan bytes) BoxChunk)
     (where_failed (bad_pad plan bytes) BoxPad))) parts.0 in
-    let more = or_none (where_failed (bad_count plan bytes) BoxSegments)
+    let more = or_none (where_failed (bad_segments plan bytes) BoxSegments)
     (or_else (where_failed (bad_chunk plan bytes) BoxChunk)
     (where_failed (bad_pad plan bytes) BoxPad)) fields.1 in
     let last = or_none (where_failed (bad_chunk plan bytes) BoxChunk)
@@ -159,11 +165,14 @@ late_of plan bytes whole e =
     (where_failed (nat_lt (named_end bytes) (length bytes)) BoxLong)) parts.1 in
     let ends = or_none (where_failed (bad_places bytes) BoxPlaces)
     (where_failed (nat_lt (named_end bytes) (length bytes)) BoxLong) records.1 in
+    let segments = or_parts (not (is_last plan)) (bad_count plan bytes)
+    (passes (bad_segments plan bytes) BoxSegments more.0) in
     record {
       header = ltb-false plan.header_length (header_length bytes)
           (passes (nat_lt plan.header_length (header_length bytes)) (HeaderLong plan.header_length)
           fields.0);
-      segments = passes (bad_count plan bytes) BoxSegments more.0;
+      last = not_false (is_last plan) segments.0;
+      segments = segments.1;
       chunk = passes (bad_chunk plan bytes) BoxChunk last.0;
       pad = passes (bad_pad plan bytes) BoxPad last.1;
       starts = none_mapped (bad_segment plan bytes) records.0;
@@ -202,10 +211,11 @@ pub late_none : (plan : PlanFields) (bytes : List ℕ) → IsWhole bytes → IsL
     → late_fault plan (raw_of bytes) ≡ None
 late_none plan bytes whole late =
     late_is plan bytes whole
-    ∙ seven_none (nat_lt plan.header_length (header_length bytes)) (bad_count plan bytes)
+    ∙ seven_none (nat_lt plan.header_length (header_length bytes)) (bad_segments plan bytes)
     (bad_chunk plan bytes) (bad_pad plan bytes) (bad_places bytes)
     (nat_lt (named_end bytes) (length bytes)) (bad_segment plan bytes)
     (HeaderLong plan.header_length) BoxSegments BoxChunk BoxPad BoxPlaces BoxLong
-    (le-ltb plan.header_length (header_length bytes) late.header) late.segments late.chunk
-    late.pad late.starts late.places
+    (le-ltb plan.header_length (header_length bytes) late.header)
+    (or_from (not (is_last plan)) (bad_count plan bytes) (ap not late.last) late.segments)
+    late.chunk late.pad late.starts late.places
     (le-ltb (named_end bytes) (length bytes) late.end)

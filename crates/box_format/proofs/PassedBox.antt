@@ -7,8 +7,10 @@ use Rattle.std.proofs.lemmas.List.{length-take-le}
 use Rattle.byteorder.specs.Endian.{big_bytes, big_number}
 use Rattle.bit_list.specs.Bits.{IsByte}
 use Rattle.jpeg_marker.specs.Plans.{PlanFields}
-use Rattle.jpeg_marker.specs.HeaderPlan.{Accepts}
+use Rattle.jpeg_marker.specs.FirstWalks.{opening_walk}
+use Rattle.jpeg_marker.specs.HeaderPlan.{Begins, Accepts}
 use Rattle.jpeg_marker.proofs.HeadersTaken.{accepted_has_plan, none_known}
+use Rattle.jpeg_marker.proofs.OneScans.{several_is_one}
 use Rattle.scan_spec.specs.Slots.{shape_of}
 use Rattle.handover.specs.Handovers.{HandoverFields, IsHandover}
 use Rattle.cut_spec.specs.Cuts.{Cut}
@@ -311,6 +313,13 @@ module _ (versions : List Version) (plan : PlanFields) (bytes : List ℕ)
         (list_bytes pads) header trailer
         (flat_map (λ stream. stream) streams))
 
+    -- the header is that of a file of one scan, as its scan is the last
+    accepts_is : Begins opening_walk header plan → Accepts header plan
+    accepts_is begins =
+        several_is_one header plan
+        (all_take IsByte (header_length bytes) (drop (header_place bytes) bytes)
+        (all_drop IsByte (header_place bytes) bytes are)) begins late.last
+
     box_is : Accepts header plan → IsBox plan parts
     box_is accepts =
         let chunk = chunk_is_in plan.down header trailer (chunk_in bytes)
@@ -370,7 +379,8 @@ passed_is_box versions plan bytes are passes =
     let low = front_low (version_in bytes) in
     let more : nat_lt 4 (length bytes) ≡ true = lt-ltb 4 (length bytes) (omega (arith, long, low)) in (
       record {
-        box = box_is versions plan bytes are early late passes.header;
+        box = box_is versions plan bytes are early late
+            (accepts_is versions plan bytes are early late passes.header);
         text = text_is versions plan bytes are early late;
       },
       (version_is versions (nat_lt 4 (length bytes)) (slice_index bytes 4) more early.version).1,

@@ -1,8 +1,10 @@
 -- Statement: why bytes are no container: the first check that fails (docs/FORMAT.md, The container).
 use Rattle.std.specs.Prelude.{ℕ, ◌+◌, ◌-◌, ◌≡◌, ◌⊎◌, Bool, false, ◌&&◌, ◌||◌, not, ◌==◌, nat_lt, if◌then◌else◌, List, length, take, slice_index, bytes_eq, Option, Some, None, option_map}
 use Rattle.jpeg_marker.specs.Plans.{PlanFields}
-use Rattle.jpeg_marker.specs.HeaderPlan.{Accepts, Refuses as HeaderRefuses}
+use Rattle.jpeg_marker.specs.FirstWalks.{opening_walk}
+use Rattle.jpeg_marker.specs.HeaderPlan.{Begins, BeginsNot}
 use Rattle.jpeg_marker.specs.declared.refusal.HeaderRefusal.{HeaderRefusal}
+use Rattle.scan_spec.specs.FileParts.{is_last}
 use Rattle.scan_spec.specs.Slots.{Shape, shape_of}
 use Rattle.cut_spec.specs.Cuts.{Cut}
 use Rattle.box_format.specs.Versions.{layout_of, is_version, decoded}
@@ -65,13 +67,15 @@ are_bad_places header None = false
 are_bad_places header (Some places) =
     not (slice_index places 0 == header) || not (are_rising places)
 
--- the checks after a header that is accepted, in their order
+-- the checks after a header that is accepted, in their order; a header whose scan isn't the last is one of a file of
+-- several scans
 unfoldable pub late_fault : PlanFields → Raw → Option BoxRefusal
 late_fault plan raw =
     let cut = box_cut plan raw.chunk (length raw.handovers) in
     or_else (where_failed (nat_lt plan.header_length (length raw.header))
     (HeaderLong plan.header_length))
-    (or_else (where_failed (are_wrong (layout_of raw.version).most cut) BoxSegments)
+    (or_else (where_failed (not (is_last plan) || are_wrong (layout_of raw.version).most cut)
+    BoxSegments)
     (or_else (where_failed (is_bad_chunk plan.down raw.header raw.trailer raw.chunk) BoxChunk)
     (or_else (where_failed (is_bad_pad (layout_of raw.version).listed (shape_of plan) raw.pad
     raw.list) BoxPad)
@@ -80,11 +84,13 @@ late_fault plan raw =
     (or_else (where_failed (are_bad_places (length raw.header) raw.places) BoxPlaces)
     (where_failed (nat_lt 0 (length raw.rest)) BoxLong))))))
 
--- the header is refused, or it is accepted and a later check fails
+-- the header is refused as the first one of a file, or it is accepted and a later check fails
 abbrev pub FailsAfter : Raw → BoxRefusal → Type 0
 FailsAfter raw refusal =
-    ((inner : HeaderRefusal) × HeaderRefuses raw.header inner × (refusal ≡ BoxHeader inner))
-    ⊎ ((plan : PlanFields) × Accepts raw.header plan × (late_fault plan raw ≡ Some refusal))
+    ((inner : HeaderRefusal) × BeginsNot opening_walk raw.header inner
+    × (refusal ≡ BoxHeader inner))
+    ⊎ ((plan : PlanFields) × Begins opening_walk raw.header plan
+    × (late_fault plan raw ≡ Some refusal))
 
 -- the first check that fails, of who reads these versions
 abbrev pub IsRefusedBy : List Version → List ℕ → BoxRefusal → Type 0
@@ -100,5 +106,5 @@ IsRefusedBox = IsRefusedBy decoded
 pub record PassesChecks (versions : List Version) (plan : PlanFields)
     (bytes : List ℕ) : Type 0 where
   pub early : early_fault versions bytes ≡ None
-  pub header : Accepts (raw_of bytes).header plan
+  pub header : Begins opening_walk (raw_of bytes).header plan
   pub late : late_fault plan (raw_of bytes) ≡ None

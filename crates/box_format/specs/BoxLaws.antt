@@ -31,7 +31,7 @@ OneBox =
     (plan other : PlanFields) (a b : BoxParts) (bytes : List ℕ)
     → IsBoxOf plan a bytes → IsBoxOf other b bytes → (plan ≡ other) × (a ≡ b)
 
--- other bytes have one refusal
+-- bytes have at most one refusal
 abbrev pub OneBoxRefusal : Type 0
 OneBoxRefusal =
     (versions : List Version) (bytes : List ℕ) (refusal other : BoxRefusal)

@@ -9,7 +9,7 @@ use Rattle.scan_spec.specs.Pads.{Same, Listed}
 use Rattle.box_format.specs.Parts.{BoxParts, box_bytes, migrated}
 use Rattle.box_format.specs.Versions.{decoded, migratable}
 use Rattle.box_format.specs.Raws.{numbers, raw_of, parts_of}
-use Rattle.box_format.specs.BoxChecks.{early_fault, late_fault}
+use Rattle.box_format.specs.BoxChecks.{IsRefusedBox, IsRefusedBy, early_fault, late_fault}
 use Rattle.box_format.specs.declared.version.Version.TheVariants.{First, Second, Third, Fifth}
 use Rattle.box_format.specs.declared.refusal.BoxRefusal.TheVariants.{BoxMagic, BoxVersion, BoxCut, BoxSegments, BoxChunk, BoxPad, HandoverBad, BoxPlaces, BoxLong, HeaderLong}
 
@@ -171,6 +171,37 @@ placed_box =
     ++ 0 ∷ 2 ∷ replicate 12 0 ++ replicate 7 0 ++ 3 ∷ replicate 7 0 ++ 0x45 ∷ grey_header 16
     ++ 0xff ∷ 0xd9 ∷ zeros ++ zeros
 
+-- a header of two components with one code word in each table, and a scan of the first component: the first header of
+-- a file of several scans
+abbrev pub partial_header : List ℕ
+partial_header =
+    0xff ∷ 0xd8 ∷ 0xff ∷ 0xc0 ∷ 0x00 ∷ 0x0e ∷ 0x08 ∷ 0x00 ∷ 0x08 ∷ 0x00 ∷ 0x08 ∷ 0x02
+    ∷ 0x01 ∷ 0x11 ∷ 0x00 ∷ 0x02 ∷ 0x11 ∷ 0x00 ∷ []
+    ++ 0xff ∷ 0xc4 ∷ 0x00 ∷ 0x14 ∷ 0x00 ∷ 0x01 ∷ replicate 15 0 ++ 0x00 ∷ []
+    ++ 0xff ∷ 0xc4 ∷ 0x00 ∷ 0x14 ∷ 0x10 ∷ 0x01 ∷ replicate 15 0 ++ 0x00 ∷ []
+    ++ 0xff ∷ 0xda ∷ 0x00 ∷ 0x08 ∷ 0x01 ∷ 0x01 ∷ 0x00 ∷ 0x00 ∷ 0x3f ∷ 0x00 ∷ []
+
+-- its plan
+abbrev pub partial_plan : PlanFields
+partial_plan = record (grey_plan 1) {
+  header_length = 72;
+  known = record (grey_plan 1).known {
+    frame = Some (record {
+      height = 8;
+      width = 8;
+      parts = record { id = 1; h = 1; v = 1 } ∷ record { id = 2; h = 1; v = 1 } ∷ [];
+    });
+  };
+}
+
+-- the bytes of a container with it, in the first version
+abbrev pub partial_box : List ℕ
+partial_box = box_bytes (record least_parts { header = partial_header })
+
+-- and in the second
+abbrev pub partial_second : List ℕ
+partial_second = box_bytes (record least_parts { version = Second; header = partial_header })
+
 -- bytes and parts, both ways
 abbrev pub laid_out : Type 0
 laid_out =
@@ -274,3 +305,18 @@ abbrev pub prefixes : Type 0
 prefixes =
     map (λ n. early_fault decoded (take n least_box)) (numbers 0 111)
     ≡ replicate 4 (Some BoxMagic) ++ replicate 107 (Some BoxCut)
+
+-- a container with that header is refused for its segments, whatever its version, before its pad byte is looked at; and
+-- if the header ends before its length, for that. If its scan were the last, no check would fail
+abbrev pub several : Type 0
+several =
+    (length partial_header ≡ 72)
+    × IsRefusedBox partial_box BoxSegments
+    × IsRefusedBy migratable partial_second BoxSegments
+    × IsRefusedBox (slice_set (slice_set partial_box 10 0x49) 14 1) (HeaderLong 72)
+    × (late_fault partial_plan (raw_of (slice_set partial_second 5 3)) ≡ Some BoxSegments)
+    × (late_fault (record partial_plan {
+      known = record partial_plan.known {
+        coded = true ∷ true ∷ replicate 2 false;
+      };
+    }) (raw_of partial_box) ≡ None)

@@ -5,7 +5,7 @@ use Rattle.byteorder.specs.Endian.{big_bytes}
 use Rattle.byte_window.specs.Slices.{Cover, slice}
 use Rattle.bit_list.specs.Bits.{IsByte, bits_of}
 use Rattle.jpeg_marker.specs.Plans.{PlanFields}
-use Rattle.jpeg_marker.specs.AcceptedPlans.{AreKnown}
+use Rattle.jpeg_marker.specs.KnownBefore.{AreKnown}
 use Rattle.jpeg_marker.specs.FirstWalks.{only_walk}
 use Rattle.jpeg_marker.specs.HeaderPlan.{Begins}
 use Rattle.jpeg_marker.specs.Walks.{Walk}
@@ -32,6 +32,11 @@ pub record BoxParts : Type 0 where
   pub trailer : List ℕ
   pub handovers : List HandoverFields
   pub streams : List (List ℕ)
+
+-- the parts with the plan of the header
+pub record BoxSeen : Type 0 where
+  pub plan : PlanFields
+  pub parts : BoxParts
 
 -- `LPSG`
 abbrev pub magic : List ℕ
@@ -86,13 +91,13 @@ box_bytes b =
     ++ b.header ++ b.trailer ++ flat_map (λ stream. stream) b.streams
 
 -- whether a component has blocks in the scan
-abbrev pub is_coded : Shape → ℕ → Bool
-is_coded shape component = list_any (λ slot. slot.component == component) shape.slots
+abbrev pub has_blocks : Shape → ℕ → Bool
+has_blocks shape component = list_any (λ slot. slot.component == component) shape.slots
 
 -- the last DC of a component without blocks is 0
 abbrev pub is_unused_zero : Shape → HandoverFields → ℕ → Bool
 is_unused_zero shape h component =
-    is_coded shape component || unsigned_abs (slice_index_or h.preds component (pos 0)) == 0
+    has_blocks shape component || unsigned_abs (slice_index_or h.preds component (pos 0)) == 0
 
 -- nothing but zeros, as at the start of a scan
 abbrev pub is_start : HandoverFields → Bool
@@ -178,7 +183,7 @@ abbrev pub can_pad : Bool → Shape → PadBits → Bool
 can_pad listed shape (Same pad) = true
 can_pad listed shape (Listed bytes) = listed && is_list shape bytes
 
--- the parts of a container, or of a scan in one of several, whose header is one that a walk passes and has this plan
+-- the parts of a container, or of a scan in one of several, whose header is read by a walk and has this plan
 pub record IsBoxIn (w : Walk) (plan : PlanFields) (b : BoxParts) : Type 0 where
   pub known : AreKnown w.known
   pub header : Begins w b.header plan

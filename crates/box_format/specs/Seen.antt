@@ -1,9 +1,8 @@
 -- View: what contracts see of a container that was read, and what one is written from (own).
 use Rattle.std.specs.Prelude.{ℕ, ◌+◌, List, length, map, sum, Option, Some, None, option_map}
-use Rattle.jpeg_marker.specs.Plans.{PlanFields}
 use Rattle.scan_spec.specs.Pads.{pads_given}
 use Rattle.box_format.specs.Versions.{layout_of}
-use Rattle.box_format.specs.Parts.{BoxParts, IsScanBox, list_bytes}
+use Rattle.box_format.specs.Parts.{BoxParts, BoxSeen, IsScanBox, list_bytes}
 use Rattle.box_format.specs.Raws.{parted, pads_in}
 use Rattle.box_format.specs.Slices.{handovers_in, lengths_in, places_with, HasSegments}
 use Rattle.box_format.specs.declared.chunk.Chunk.{Chunk}
@@ -11,11 +10,6 @@ use Rattle.box_format.specs.declared.view.BoxView.TheInside.{Inside}
 use Rattle.box_format.specs.declared.parts.Parts.{Parts}
 use Rattle.box_format.specs.declared.version.Version.{Version}
 use Rattle.box_format.specs.declared.version.Version.TheVariants.{Second, Third, Fifth}
-
--- the header's plan, and the parts
-pub record BoxSeen : Type 0 where
-  pub plan : PlanFields
-  pub parts : BoxParts
 
 -- those of the slices
 abbrev pub seen_of : Inside → BoxSeen

@@ -1,8 +1,9 @@
 -- Steps: bytes that have every part that their fields name, and the checks on the parts in two groups (own).
-use Rattle.std.specs.Prelude.{ℕ, ◌≤◌, nat_lt, Bool, List, [], ◌∷◌, length, take, drop, slice_index, map, Option, option_map}
+use Rattle.std.specs.Prelude.{ℕ, ◌≤◌, nat_lt, Bool, ◌||◌, not, List, [], ◌∷◌, length, take, drop, slice_index, map, Option, option_map}
 use Rattle.std.specs.List.{list_all}
 use Rattle.handover.specs.Handovers.{HandoverFields}
 use Rattle.jpeg_marker.specs.Plans.{PlanFields}
+use Rattle.scan_spec.specs.FileParts.{is_last}
 use Rattle.scan_spec.specs.Slots.{Shape, shape_of}
 use Rattle.box_format.specs.Versions.{layout_of, version_in}
 use Rattle.cut_spec.specs.Cuts.{Cut}
@@ -42,8 +43,8 @@ abbrev pub field_fault : PlanFields → List ℕ → Option BoxRefusal
 field_fault plan bytes =
     or_else (where_failed (nat_lt plan.header_length (header_length bytes))
     (HeaderLong plan.header_length))
-    (or_else (where_failed (are_wrong (layout_of (version_in bytes)).most (rows_cut plan bytes))
-    BoxSegments)
+    (or_else (where_failed (not (is_last plan)
+    || are_wrong (layout_of (version_in bytes)).most (rows_cut plan bytes)) BoxSegments)
     (or_else (where_failed (is_bad_chunk plan.down (header_in bytes) (trailer_in bytes)
     (chunk_in bytes)) BoxChunk)
     (where_failed (is_bad_pad (layout_of (version_in bytes)).listed (shape_of plan)

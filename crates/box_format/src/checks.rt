@@ -1,11 +1,12 @@
 // The checks on bytes that may be a container, but for the header's own.
-ghost use Rattle.std.specs.Prelude.{◌≡◌, ◌&&◌, ◌+◌, ◌++◌, ◌∷◌, [], ◌==◌, ◌<◌, ◌≤◌, ◌^◌, bytes_eq, length, map, nat_lt, not, slice_index, take, true};
+ghost use Rattle.std.specs.Prelude.{◌≡◌, ◌&&◌, ◌||◌, ◌+◌, ◌++◌, ◌∷◌, [], ◌==◌, ◌<◌, ◌≤◌, ◌^◌, bytes_eq, length, map, nat_lt, not, slice_index, take, true};
+ghost use Rattle.scan_spec.specs.FileParts.{is_last};
 ghost use Rattle.box_format.specs.BoxChecks.{are_bad_places, are_wrong, early_fault, is_bad_chunk, is_cut, late_fault, where_failed};
 ghost use Rattle.box_format.specs.Versions.{is_version, layout_of, version_in};
 ghost use Rattle.box_format.specs.Parts.{are_rising, box_cut, header_part, magic};
 ghost use Rattle.box_format.specs.Raws.{header_length, named_end, numbers, place_in, places_in, raw_of, scan_end, segments_in};
 ghost use Rattle.box_format.specs.declared.refusal.BoxRefusal.TheVariants.{BoxLong};
-ghost use Rattle.box_format.specs.Whole.{IsWhole, field_fault, record_fault};
+ghost use Rattle.box_format.specs.Whole.{IsWhole, field_fault, record_fault, rows_cut};
 
 use crate::chunk::{Chunk, rows_of};
 use crate::fields::{
@@ -86,7 +87,7 @@ fn field_fault(bytes: &[u8], plan: &Plan) -> Option<BoxRefusal>
     let place = plan.header_length();
     if place < header_length(bytes) as usize {
         Some(BoxRefusal::HeaderLong { place })
-    } else if are_wrong(plan, chunk_in(bytes), version, segments_in(bytes)) {
+    } else if are_bad_segments(bytes, plan) {
         Some(BoxRefusal::BoxSegments)
     } else if is_bad_chunk(
         plan.down(),
@@ -100,6 +101,16 @@ fn field_fault(bytes: &[u8], plan: &Plan) -> Option<BoxRefusal>
     } else {
         None
     }
+}
+
+// Whether the header's scan isn't the last of its file, or can't have the segments that the fields name.
+fn are_bad_segments(bytes: &[u8], plan: &Plan) -> bool
+    requires { IsWhole bytes.now }
+    ensures { result ≡ (not (is_last plan.now)
+        || are_wrong (layout_of (version_in bytes.now)).most (rows_cut plan.now bytes.now)) }
+{
+    let (version, segments) = (version_in(bytes), segments_in(bytes));
+    !plan.is_last() || are_wrong(plan, chunk_in(bytes), version, segments)
 }
 
 /// Whether a scan can't have this number of segments in a container of this version: it is more than the version has or

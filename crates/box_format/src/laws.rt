@@ -1,6 +1,6 @@
 // What holds of all containers, and the definitions computed on worked ones.
 ghost use Rattle.box_format.specs.BoxLaws.{BoxPasses, PassedIsBox, OneBox, OneBoxRefusal, NeverBoth, MigratedIsBox, RelaidIsMigrated, SecondStays};
-ghost use Rattle.box_format.specs.BoxRows.{laid_out, early, late, chunks, places, prefixes};
+ghost use Rattle.box_format.specs.BoxRows.{laid_out, early, late, chunks, places, prefixes, several};
 
 /// A container has one plan and one list of parts, other bytes have one refusal, and no bytes are both. The parts of
 /// one that has no chunk are, without its places, those of one of the second version. If it's of the first version, the
@@ -24,4 +24,5 @@ pub fn rows_of_containers()
     ensures chunks { chunks }
     ensures places { places }
     ensures prefixes { prefixes }
+    ensures several { several }
 {}

@@ -13,9 +13,9 @@ pub struct Parts<'a> {
     pub places: Option<&'a [u64]>,
     /// The bits that fill up the last byte of each restart interval.
     pub pad: Pads<'a>,
-    /// The file's bytes up to its scan.
+    /// The header: the file's bytes from its first one, or from the end of the scan before, up to the scan.
     pub header: &'a [u8],
-    /// The file's bytes after its scan, or the chunk's part of them.
+    /// The file's bytes after its last scan, or the chunk's part of them; of a scan before the last one, none.
     pub trailer: &'a [u8],
     /// What each segment starts from.
     pub handovers: &'a [Handover],

@@ -38,7 +38,7 @@ pub fn write_placed(alloc: Global, view: &BoxView, places: &[u64]) -> Result<Vec
     Ok(made)
 }
 
-// How many bytes the container has, whatever its places, or as many as can be counted.
+// How many bytes the container has, whatever its places, or the most that is counted.
 fn room(view: &BoxView) -> usize
     ensures { (places : List ℕ)
         → result ≡ min (2 ^ 64 - 1) (room_of (with_places view.now.parts places)) }

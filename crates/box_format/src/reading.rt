@@ -9,7 +9,7 @@ use crate::fields::header_in;
 use crate::refusal::BoxRefusal;
 use crate::version::{DECODED, Version};
 use crate::view::BoxView;
-use jpeg_marker::read_header;
+use jpeg_marker::read_first;
 
 /// Reads a container of any version: its parts, or the refusal of the first check that fails. It takes no memory, and
 /// sums of lengths don't overflow, whatever the fields say.
@@ -29,7 +29,7 @@ pub fn read_box_of<'a>(bytes: &'a [u8], versions: &[Version]) -> Result<BoxView<
     if let Some(refusal) = early_fault(bytes, versions) {
         return Err(refusal);
     }
-    let plan = match read_header(header_in(bytes)) {
+    let plan = match read_first(header_in(bytes)) {
         Ok(plan) => plan,
         Err(refusal) => return Err(BoxRefusal::BoxHeader(refusal)),
     };

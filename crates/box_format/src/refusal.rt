@@ -11,11 +11,12 @@ pub enum BoxRefusal {
     BoxVersion,
     /// 32: the bytes end within the fields, or before the end that these name.
     BoxCut,
-    /// 33: the header's bytes are refused.
+    /// 33: the header's bytes are refused as the first header of a file of one scan or of several.
     BoxHeader(HeaderRefusal),
     /// 38: the header ends before its length, at this place in it.
     HeaderLong { place: usize },
-    /// 34: there is no segment for MCU rows, or there are more than the version can have or than the rows.
+    /// 34: the header's scan leaves components of the frame out, as in a file of several scans; or there is no segment
+    /// for MCU rows, or there are more than the version can have or than the rows.
     BoxSegments,
     /// 39: the chunk's rows are in the wrong order or none of the header's; or its length has no room for its parts of
     /// header and trailer; or it has other bytes and no row.

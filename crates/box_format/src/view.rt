@@ -46,7 +46,8 @@ pub struct BoxView<'a> {
 }
 
 impl<'a> Model for BoxView<'a> {
-    ghost use Rattle.box_format.specs.Seen.{BoxSeen, seen_of, IsView};
+    ghost use Rattle.box_format.specs.Seen.{seen_of, IsView};
+    ghost use Rattle.box_format.specs.Parts.{BoxSeen};
 
     ghost Value = { BoxSeen };
 
@@ -185,7 +186,7 @@ impl<'a> BoxView<'a> {
         self.segments
     }
 
-    /// The file's bytes up to its scan.
+    /// The header: the file's bytes from its first one, or from the end of the scan before, up to the scan.
     pub fn header(&self) -> &'a [u8]
         ensures bytes { result.now ≡ self.now.parts.header }
         ensures fits { length result.now < 2 ^ 32 }
@@ -193,7 +194,7 @@ impl<'a> BoxView<'a> {
         self.header
     }
 
-    /// The file's bytes after its scan, or the chunk's part of them.
+    /// The file's bytes after its last scan, or the chunk's part of them; of a scan before the last one, none.
     pub fn trailer(&self) -> &'a [u8]
         ensures bytes { result.now ≡ self.now.parts.trailer }
         ensures fits { length result.now < 2 ^ 32 }

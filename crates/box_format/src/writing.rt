@@ -47,7 +47,7 @@ pub fn write_box(alloc: Global, parts: &Parts) -> Result<Vec<u8>, NoMemory>
     Ok(bytes)
 }
 
-// How many bytes the container has, or as many as can be counted.
+// How many bytes the container has, or the most that is counted.
 fn room(parts: &Parts) -> usize
     ensures { result ≡ min (2 ^ 64 - 1) (room_of (parts_given parts.now)) }
 {

@@ -8,7 +8,7 @@ use Rattle.std.proofs.lemmas.List.Sums.{sum_by-cons}
 use Rattle.bit_list.specs.Bits.{IsByte}
 use Rattle.coef_block.specs.TwoRows.{block_count}
 use Rattle.jpeg_marker.specs.Frames.{area}
-use Rattle.jpeg_marker.specs.AcceptedPlans.{AreKnown}
+use Rattle.jpeg_marker.specs.KnownBefore.{AreKnown}
 use Rattle.jpeg_marker.specs.HeaderPlan.{Begins}
 use Rattle.jpeg_marker.specs.Walks.{Walk}
 use Rattle.jpeg_marker.specs.Plans.{PlanFields, IsPlan, part_of, blocks_in_mcu}

@@ -16,7 +16,7 @@ use Rattle.handover.proofs.FieldBytes.{test_is_exact}
 use Rattle.cut_spec.specs.Cuts.{Cut, first_mcu}
 use Rattle.cut_spec.specs.RowHandovers.{handover_of, handover_at, markers_before}
 use Rattle.cut_spec.proofs.SpotsBegun.{spots_are_begun}
-use Rattle.box_format.specs.Parts.{is_coded, is_unused_zero, is_start, can_start, bad_start}
+use Rattle.box_format.specs.Parts.{has_blocks, is_unused_zero, is_start, can_start, bad_start}
 use Rattle.box_format.specs.Raws.{numbers}
 use Rattle.container_spec.specs.SegmentLaws.{IsSpot}
 use Rattle.container_spec.proofs.SlicesMeant.{all_take}
@@ -78,7 +78,7 @@ module _ (shape : Shape) (pads : ℕ → Bool) (mcus : List Mcu) (scan : List �
   unused_is : (n c : ℕ) → is_unused_zero shape (handover_at shape pads mcus n) c ≡ true
   unused_is n c =
       let dcs = (spot_at shape pads mcus n).before in
-      unused_by (is_coded shape c) (slice_index_or dcs c (pos 0)) (λ none.
+      unused_by (has_blocks shape c) (slice_index_or dcs c (pos 0)) (λ none.
       let kept = unused_are_kept shape.slots c none in
       kept_put (λ l. slice_index_or l c (pos 0) ≡ pos 0) shape pads (take n mcus) first_spot
       (spot_at shape pads mcus n) (take (bytes_done shape pads mcus n) scan) kept

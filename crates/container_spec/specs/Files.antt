@@ -3,7 +3,7 @@ use Rattle.std.specs.Prelude.{ℕ, ◌≡◌, ◌+◌, ◌<◌, ◌^◌, Bool, t
 use Rattle.std.specs.List.{AllByRecursion}
 use Rattle.bit_list.specs.Bits.{IsByte}
 use Rattle.jpeg_marker.specs.Plans.{PlanFields}
-use Rattle.jpeg_marker.specs.AcceptedPlans.{AreKnown}
+use Rattle.jpeg_marker.specs.KnownBefore.{AreKnown}
 use Rattle.jpeg_marker.specs.FirstWalks.{only_walk}
 use Rattle.jpeg_marker.specs.Walks.{Walk}
 use Rattle.scan_spec.specs.FileParts.{IsScanOf}
@@ -17,13 +17,8 @@ use Rattle.cut_spec.specs.RowHandovers.{handover_at, mcus_between}
 use Rattle.box_format.specs.Parts.{BoxParts, box_bytes, can_pad}
 use Rattle.box_format.specs.Versions.{layout_of}
 use Rattle.box_format.specs.declared.version.Version.{Version}
-use Rattle.box_format.specs.declared.version.Version.TheVariants.{Second}
 use Rattle.box_format.specs.Raws.{numbers}
 use Rattle.container_spec.specs.ScanStream.{stream_of}
-
--- the version of each container that is encoded today
-abbrev pub written : Version
-written = Second
 
 -- the cut of a plan's rows in at most `most` segments
 abbrev pub plan_cut : PlanFields → ℕ → Cut

@@ -5,7 +5,7 @@ use Rattle.bit_list.specs.Bits.{IsByte}
 use Rattle.jpeg_marker.specs.Plans.{PlanFields}
 use Rattle.jpeg_marker.specs.Walks.{Walk}
 use Rattle.scan_spec.specs.TextBounds.{mcu_room}
-use Rattle.jpeg_marker.specs.AcceptedPlans.{AreKnown}
+use Rattle.jpeg_marker.specs.KnownBefore.{AreKnown}
 use Rattle.scan_spec.specs.FileParts.{IsScanOf}
 use Rattle.scan_spec.specs.Pads.{bits_sum}
 use Rattle.scan_spec.specs.Scans.{Mcu, intervals_of, pad_counts}

@@ -1,8 +1,10 @@
-use Rattle.std.proofs.Common.{refl}
+use Rattle.std.proofs.Common.{refl, [], ◌∷◌, inr}
 use Rattle.handover.specs.HandoverBytes.{handover_bytes, handover_in}
 use Rattle.box_format.specs.Parts.{box_bytes}
 use Rattle.box_format.specs.Raws.{raw_of}
 use Rattle.box_format.specs.BoxChecks.{early_fault, late_fault}
+use Rattle.box_format.specs.BoxRows.{partial_plan}
+use Rattle.box_format.proofs.PartialHeaders.{begins_partial}
 use Rattle.box_format.proofs.laws.rows_of_containers.Goals as goal
 
 pub returns-clause-laid_out : goal.returns-clause-laid_out
@@ -79,6 +81,17 @@ returns-clause-places c = (
   refl,
   refl,
   refl,
+  refl,
+  refl,
+)
+
+pub returns-clause-several : goal.returns-clause-several
+unfolding handover_bytes handover_in box_bytes raw_of early_fault late_fault
+returns-clause-several c = (
+  refl,
+  inr (refl, inr (partial_plan, begins_partial [], refl)),
+  inr (refl, inr (partial_plan, begins_partial [], refl)),
+  inr (refl, inr (partial_plan, begins_partial (0xff ∷ []), refl)),
   refl,
   refl,
 )

@@ -1,8 +1,8 @@
 use Rattle.std.proofs.Common.{rules, ◌∙◌, sym, subst, refl, inl, inr, List, ℕ}
-use Rattle.jpeg_marker.specs.HeaderPlan.{Accepts, Refuses}
+use Rattle.jpeg_marker.specs.FirstWalks.{opening_walk}
+use Rattle.jpeg_marker.specs.HeaderPlan.{Begins, BeginsNot}
 use Rattle.box_format.specs.BoxChecks.{PassesChecks}
-use Rattle.box_format.specs.Parts.{IsBoxOf}
-use Rattle.box_format.specs.Seen.{BoxSeen}
+use Rattle.box_format.specs.Parts.{IsBoxOf, BoxSeen}
 use Rattle.box_format.specs.Versions.{IsRead}
 use Rattle.handover.proofs.FieldBytes.{all_of}
 use Rattle.box_format.proofs.BoxLawsProved.{widened}
@@ -21,7 +21,7 @@ returns-in-Err-clause-refused c =
       sym c.early_fault.ensures ∙ c.in_default.is,
       inl (
         c.in-Err.refusal,
-        subst (λ (l : List ℕ). Refuses l c.in-Err.refusal) (c.header_in.ensures
+        subst (λ (l : List ℕ). BeginsNot opening_walk l c.in-Err.refusal) (c.header_in.ensures
             ∙ raw_header c.args.bytes.now) c.in-Err.ensures.refused,
         refl,
       ),
@@ -37,7 +37,7 @@ returns-in-Some-late_fault-clause-refused c =
       sym c.early_fault.ensures ∙ c.in_default.is,
       inr (
         c.in-Ok.plan,
-        subst (λ (l : List ℕ). Accepts l c.in-Ok.plan) (c.header_in.ensures
+        subst (λ (l : List ℕ). Begins opening_walk l c.in-Ok.plan) (c.header_in.ensures
             ∙ raw_header c.args.bytes.now) c.in-Ok.ensures.accepted,
         sym c.late_fault.ensures ∙ c.in-Some-late_fault.is,
       ),
@@ -46,7 +46,7 @@ returns-in-Some-late_fault-clause-refused c =
 pub of_bytes-requires : goal.of_bytes-requires
 of_bytes-requires c = record {
   early = widened c.args.versions.now c.args.bytes.now (sym c.early_fault.ensures ∙ c.in_default.is);
-  header = subst (λ (l : List ℕ). Accepts l c.in-Ok.plan) (c.header_in.ensures
+  header = subst (λ (l : List ℕ). Begins opening_walk l c.in-Ok.plan) (c.header_in.ensures
       ∙ raw_header c.args.bytes.now) c.in-Ok.ensures.accepted;
   late = sym c.late_fault.ensures ∙ c.in_default-late_fault.is;
 }
@@ -55,7 +55,7 @@ pub returns-clause-taken : goal.returns-clause-taken
 returns-clause-taken c =
     let passes : PassesChecks c.args.versions.now c.in-Ok.plan c.args.bytes.now = record {
       early = sym c.early_fault.ensures ∙ c.in_default.is;
-      header = subst (λ (l : List ℕ). Accepts l c.in-Ok.plan) (c.header_in.ensures
+      header = subst (λ (l : List ℕ). Begins opening_walk l c.in-Ok.plan) (c.header_in.ensures
           ∙ raw_header c.args.bytes.now) c.in-Ok.ensures.accepted;
       late = sym c.late_fault.ensures ∙ c.in_default-late_fault.is;
     } in
@@ -67,7 +67,7 @@ pub returns-clause-version : goal.returns-clause-version
 returns-clause-version c =
     let passes : PassesChecks c.args.versions.now c.in-Ok.plan c.args.bytes.now = record {
       early = sym c.early_fault.ensures ∙ c.in_default.is;
-      header = subst (λ (l : List ℕ). Accepts l c.in-Ok.plan) (c.header_in.ensures
+      header = subst (λ (l : List ℕ). Begins opening_walk l c.in-Ok.plan) (c.header_in.ensures
           ∙ raw_header c.args.bytes.now) c.in-Ok.ensures.accepted;
       late = sym c.late_fault.ensures ∙ c.in_default-late_fault.is;
     } in

@@ -2,10 +2,9 @@ use Rattle.std.proofs.Common.{◌<◌, ℕ, List, length, get_or, sym, ap, ◌�
 use Rattle.scan_spec.specs.Slots.{shape_of}
 use Rattle.handover.specs.Handovers.{start}
 use Rattle.handover.specs.HandoverBytes.{handover_in, is_handover}
-use Rattle.box_format.specs.Parts.{box_cut}
+use Rattle.box_format.specs.Parts.{box_cut, BoxSeen}
 use Rattle.box_format.specs.Raws.{handover_from}
 use Rattle.box_format.specs.Slices.{handovers_in, place_among}
-use Rattle.box_format.specs.Seen.{BoxSeen}
 use Rattle.box_format.proofs.Fronts.{room_low}
 use Rattle.box_format.proofs.RawParts.{starts_soundly}
 use Rattle.box_format.proofs.Sliced.{handover_sliced, handovers_long, record_among}

@@ -1,8 +1,7 @@
 use Rattle.std.proofs.Common.{rules, sym, ap, subst, arith}
 use Rattle.jpeg_marker.specs.FirstWalks.{only_walk}
 use Rattle.handover.proofs.FieldBytes.{all_of}
-use Rattle.box_format.specs.Parts.{BoxParts, IsScanBox}
-use Rattle.box_format.specs.Seen.{BoxSeen}
+use Rattle.box_format.specs.Parts.{BoxParts, IsScanBox, BoxSeen}
 use Rattle.box_format.specs.Versions.{decoded}
 use Rattle.box_format.proofs.Passed.{early_of}
 use Rattle.box_format.proofs.PassedBox.{passed_is_box}

@@ -3,7 +3,7 @@ use Rattle.std.specs.Prelude.{Some, option_map, slice_index}
 use Rattle.std.proofs.lemmas.Bool.{le-ltb, lt-ltb}
 use Rattle.box_format.specs.Raws.{place_from}
 use Rattle.box_format.specs.Slices.{place_among}
-use Rattle.box_format.specs.Seen.{BoxSeen}
+use Rattle.box_format.specs.Parts.{BoxSeen}
 use Rattle.box_format.proofs.Sliced.{handovers_long, place_sliced}
 use Rattle.box_format.proofs.view.BoxView.place.Goals as goal
 

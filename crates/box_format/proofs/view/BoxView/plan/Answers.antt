@@ -1,6 +1,5 @@
 use Rattle.std.proofs.Common.{subst}
-use Rattle.box_format.specs.Parts.{IsScanBox}
-use Rattle.box_format.specs.Seen.{BoxSeen}
+use Rattle.box_format.specs.Parts.{IsScanBox, BoxSeen}
 use Rattle.box_format.proofs.view.BoxView.plan.Goals as goal
 
 pub returns-clause-sound : goal.returns-clause-sound

@@ -1,5 +1,5 @@
 use Rattle.std.proofs.Common.{◌<◌, length, get_or, [], sym, ap, ◌∙◌, arith}
-use Rattle.box_format.specs.Seen.{BoxSeen}
+use Rattle.box_format.specs.Parts.{BoxSeen}
 use Rattle.box_format.proofs.Sliced.{handovers_long, has_first, stream_sliced}
 use Rattle.box_format.proofs.view.BoxView.stream.Goals as goal
 
