@@ -1,5 +1,5 @@
 -- What the checks say of a container that is read.
-use Rattle.std.proofs.Common.{◌≡◌, ◌<◌, ◌≤◌, ℕ, true, false, List, [], ◌∷◌, ◌++◌, take, map, refl, sym, ap, ◌∙◌, arith, subst, inl, inr}
+use Rattle.std.proofs.Common.{◌≡◌, ◌<◌, ◌≤◌, ℕ, true, false, List, [], ◌∷◌, ◌++◌, take, map, refl, sym, ap, ap₂, ◌∙◌, arith, subst, inl, inr}
 use Rattle.std.specs.Prelude.{◌⊎◌, Some, None}
 use Rattle.std.specs.List.{AllByRecursion}
 use Rattle.std.proofs.lemmas.List.{append-nil}
@@ -7,8 +7,8 @@ use Rattle.std.proofs.lemmas.Bool.{cases_lt}
 use Rattle.bit_list.specs.Bits.{IsByte}
 use Rattle.jpeg_marker.specs.Plans.{PlanFields}
 use Rattle.jpeg_marker.specs.FirstWalks.{opening_walk}
-use Rattle.box_format.specs.Parts.{BoxParts, IsBoxOf}
-use Rattle.box_format.specs.Raws.{Raw, numbers, raw_of}
+use Rattle.box_format.specs.Parts.{BoxParts, IsBoxOf, BoxSeen}
+use Rattle.box_format.specs.Raws.{Raw, numbers, parts_of, raw_of}
 use Rattle.box_format.specs.Versions.{decoded}
 use Rattle.box_format.specs.BoxChecks.{PassesChecks}
 use Rattle.box_format.specs.declared.refusal.BoxRefusal.{BoxRefusal}
@@ -37,6 +37,16 @@ pub one_taken : (plan : PlanFields) (bytes : List ℕ) → AllByRecursion IsByte
     → IsContainer (seen_with plan (raw_of bytes) ∷ []) bytes
 one_taken plan bytes are e passes =
     inl (e, seen_with plan (raw_of bytes), refl, (passed_is_box decoded plan bytes are passes).0)
+
+-- the scan that is viewed is the one that was read
+pub one_viewed_is : (plan at : PlanFields) (b : BoxParts) (bytes : List ℕ) → IsBoxOf plan b bytes
+    → at ≡ plan
+    → (let s : List BoxSeen = seen_with at (raw_of bytes) ∷ [] in s)
+    ≡ record { plan = plan; parts = b } ∷ []
+one_viewed_is plan at b bytes is e =
+    let again = ap (λ (l : List ℕ). parts_of (raw_of l)) is.text
+    ∙ (box_passes decoded plan b (all_read b.version) is.box).1 in
+    ap₂ (λ (p : PlanFields) (parts : BoxParts). record { plan = p; parts = parts } ∷ []) e again
 
 -- ---- several
 

@@ -1,24 +1,25 @@
 -- The scans of a container that was read.
-use Rattle.std.proofs.Common.{◌≡◌, ◌<◌, ◌≤◌, ◌+◌, if◌then◌else◌, Bool, true, false, ℕ, zero, suc, List, [], ◌∷◌, length, take, drop, map, get_or, refl, sym, ap, ap₂, ◌∙◌, arith, subst, inl, inr, drop-cons, add-one}
+use Rattle.std.proofs.Common.{◌≡◌, ◌<◌, ◌≤◌, ◌+◌, ◌++◌, append-nil, if◌then◌else◌, Bool, true, false, ℕ, zero, suc, List, [], ◌∷◌, length, take, drop, map, get_or, refl, sym, ap, ap₂, ◌∙◌, arith, subst, inl, inr, drop-cons, add-one}
 use Rattle.std.specs.List.{AllByRecursion}
 use Rattle.std.proofs.lemmas.List.{drop_all, length-take-le}
 use Rattle.bit_list.specs.Bits.{IsByte}
-use Rattle.std.specs.Prelude.{Some, slice_get}
+use Rattle.std.specs.Prelude.{Some, ◌==◌, slice_get}
 use Rattle.std.proofs.lemmas.Bool.{false≢true}
 use Rattle.std.proofs.lemmas.Option.{slice_get_read, slice_get_within, get_or_from_slice_get}
 use Rattle.jpeg_marker.specs.Plans.{PlanFields}
 use Rattle.jpeg_marker.specs.Walks.{Walk, next_walk}
 use Rattle.jpeg_marker.specs.FirstWalks.{opening_walk}
-use Rattle.box_format.specs.Parts.{IsScanBox}
+use Rattle.box_format.specs.Parts.{BoxParts, IsBoxOf, IsScanBox, box_bytes, BoxSeen}
 use Rattle.box_format.specs.Raws.{Raw, numbers, parts_of, raw_of}
-use Rattle.box_format.specs.Seen.{BoxSeen}
-use Rattle.box_format.specs.Versions.{decoded, most_segments}
+use Rattle.box_format.specs.Versions.{decoded, most_segments, version_byte}
+use Rattle.box_format.specs.declared.version.Version.{Version}
+use Rattle.box_format.specs.declared.version.Version.TheVariants.{First, Second, Third, Fifth}
 use Rattle.box_format.specs.BoxChecks.{PassesChecks}
 use Rattle.box_format.proofs.Fronts.{most_more}
 use Rattle.box_format.proofs.PassedBox.{passed_is_box}
 use Rattle.box_format.proofs.Lists.{length_values, sum_first}
 use Rattle.scans_format.specs.Containers.{IsContainer, names_several}
-use Rattle.scans_format.specs.Scans.{AreBoxes, IsScansOf, segment_count}
+use Rattle.scans_format.specs.Scans.{AreBoxes, IsScansOf, all_parts, segment_count, several_byte, trailer_of}
 use Rattle.scans_format.specs.ScansRaw.{scans_in, scan_raw, raws_of}
 use Rattle.scans_format.specs.ScansChecks.{PassesScans, HeadersPass, boxes_of}
 use Rattle.scans_format.specs.ScansWhole.{IsWhole}
@@ -276,3 +277,45 @@ several_many plans bytes are passes =
 pub segments_end : (scans : List BoxSeen) (j : ℕ) → length scans ≤ j
     → segment_count (drop j scans) ≡ 0
 segments_end scans j past = ap segment_count (drop_all j scans past)
+
+-- ---- what follows the last scan
+
+one_trailer : (x s : BoxSeen) (j : ℕ) → slice_get (x ∷ []) j ≡ Some s
+    → s.parts.trailer ≡ trailer_of (all_parts (x ∷ []))
+one_trailer x s zero e =
+    ap (λ (u : BoxSeen). u.parts.trailer) (sym (same_some x s e)) ∙ sym (append-nil x.parts.trailer)
+one_trailer x s (suc j) e = cc
+
+last_trailer : (w : Walk) (scans : List BoxSeen) (j : ℕ) (s : BoxSeen) → AreBoxes w scans
+    → slice_get scans j ≡ Some s → j + 1 ≡ length scans
+    → s.parts.trailer ≡ trailer_of (all_parts scans)
+last_trailer w [] j s are e last = absurd are
+last_trailer w (x ∷ []) j s are e last = one_trailer x s j e
+last_trailer w (x ∷ y ∷ scans) zero s are e last = absurd (omega (arith, last))
+last_trailer w (x ∷ y ∷ scans) (suc j) s are e last =
+    last_trailer (next_walk x.plan.known 0) (y ∷ scans) j s are.3 e (omega (arith, last))
+    ∙ ap (λ (l : List ℕ). l ++ trailer_of (all_parts (y ∷ scans))) (sym are.2)
+
+pub trailer_is : (scans : List BoxSeen) (bytes : List ℕ) (j : ℕ) (s : BoxSeen)
+    → IsContainer scans bytes → slice_get scans j ≡ Some s → j + 1 ≡ length scans
+    → s.parts.trailer ≡ trailer_of (all_parts scans)
+trailer_is scans bytes j s (inl p) e last =
+    subst (λ (l : List BoxSeen). s.parts.trailer ≡ trailer_of (all_parts l)) (sym p.2)
+    (one_trailer p.1 s j (ap (λ (l : List BoxSeen). slice_get l j) (sym p.2) ∙ e))
+trailer_is scans bytes j s (inr p) e last = last_trailer opening_walk scans j s p.1.are.each e last
+
+-- ---- a container of one scan names no version of several
+
+one_version : (v : Version) → (version_byte v == several_byte) ≡ false
+one_version First = refl
+one_version Second = refl
+one_version Third = refl
+one_version Fifth = refl
+
+pub named_one : (b : BoxParts) → names_several (box_bytes b) ≡ false
+unfolding box_bytes
+named_one b = one_version b.version
+
+pub names_one : (plan : PlanFields) (b : BoxParts) (bytes : List ℕ) → IsBoxOf plan b bytes
+    → names_several bytes ≡ false
+names_one plan b bytes is = ap names_several is.text ∙ named_one b

@@ -4,7 +4,7 @@ use Rattle.std.specs.List.{AllByRecursion}
 use Rattle.std.proofs.lemmas.Bool.{ltb-true, ltb-false}
 use Rattle.std.proofs.lemmas.List.{append-nil, length-set, take_all, take_more_set}
 use Rattle.bit_list.specs.Bits.{IsByte}
-use Rattle.jpeg_marker.specs.AcceptedPlans.{AreKnown}
+use Rattle.jpeg_marker.specs.KnownBefore.{AreKnown}
 use Rattle.jpeg_marker.specs.Plans.{PlanFields}
 use Rattle.jpeg_marker.specs.Walks.{Walk, next_walk}
 use Rattle.jpeg_marker.specs.FirstWalks.{opening_walk}
@@ -14,12 +14,12 @@ use Rattle.box_format.specs.Raws.{Raw, numbers}
 use Rattle.box_format.specs.declared.refusal.BoxRefusal.{BoxRefusal}
 use Rattle.scans_format.specs.ScansRaw.{scans_in, scan_raw, raws_of}
 use Rattle.scans_format.specs.ScansChecks.{HeadersPass, HeadersFail}
-use Rattle.scans_format.specs.ScansWhole.{HasPlan, HasNoPlan, HavePlans, header_at, raws_from}
+use Rattle.scans_format.specs.ScansWhole.{IsWholeHeader, IsNoHeader, HavePlans, header_at, raws_from}
 
 -- a header that begins and is no longer than its plan's
 pub one_plan : (w : Walk) (header : List ℕ) (plan : PlanFields) → AllByRecursion IsByte header
     → AreKnown w.known → Begins w header plan → length header ≤ plan.header_length
-    → HasPlan w header plan
+    → IsWholeHeader w header plan
 one_plan w header plan are known is long =
     let has = begun_has_plan w header plan are known is in
     let within = has.within in
@@ -50,44 +50,44 @@ raw_header bytes j = refl
 -- ---- a header more
 
 fails_here : (w : Walk) (raw : Raw) (raws : List Raw) (refusal : BoxRefusal)
-    → HasNoPlan w raw.header refusal → HeadersFail w (raw ∷ raws) refusal
+    → IsNoHeader w raw.header refusal → HeadersFail w (raw ∷ raws) refusal
 fails_here w raw raws refusal (inl p) = inl p
 fails_here w raw raws refusal (inr p) = inr (p.0, p.1, inl (p.2, p.3))
 
 pub fails_at : (w : Walk) (bytes : List ℕ) (j : ℕ) (refusal : BoxRefusal) → j < scans_in bytes
-    → HasNoPlan w (header_at bytes j) refusal → HeadersFail w (raws_from bytes j) refusal
+    → IsNoHeader w (header_at bytes j) refusal → HeadersFail w (raws_from bytes j) refusal
 fails_at w bytes j refusal below has =
     subst (λ (raws : List Raw). HeadersFail w raws refusal) (sym (raws_first bytes j below))
     (fails_here w (scan_raw bytes j) (raws_from bytes (j + 1)) refusal
-    (subst (λ (header : List ℕ). HasNoPlan w header refusal) (raw_header bytes j) has))
+    (subst (λ (header : List ℕ). IsNoHeader w header refusal) (raw_header bytes j) has))
 
 fails_later : (w : Walk) (raw : Raw) (raws : List Raw) (plan : PlanFields) (refusal : BoxRefusal)
-    → HasPlan w raw.header plan → HeadersFail (next_walk plan.known 0) raws refusal
+    → IsWholeHeader w raw.header plan → HeadersFail (next_walk plan.known 0) raws refusal
     → HeadersFail w (raw ∷ raws) refusal
 fails_later w raw raws plan refusal has later = inr (plan, has.begins, inr (has.whole, later))
 
 pub fails_after : (w : Walk) (bytes : List ℕ) (j : ℕ) (plan : PlanFields) (refusal : BoxRefusal)
-    → j < scans_in bytes → HasPlan w (header_at bytes j) plan
+    → j < scans_in bytes → IsWholeHeader w (header_at bytes j) plan
     → HeadersFail (next_walk plan.known 0) (raws_from bytes (j + 1)) refusal
     → HeadersFail w (raws_from bytes j) refusal
 fails_after w bytes j plan refusal below has later =
     subst (λ (raws : List Raw). HeadersFail w raws refusal) (sym (raws_first bytes j below))
     (fails_later w (scan_raw bytes j) (raws_from bytes (j + 1)) plan refusal
-    (subst (λ (header : List ℕ). HasPlan w header plan) (raw_header bytes j) has) later)
+    (subst (λ (header : List ℕ). IsWholeHeader w header plan) (raw_header bytes j) has) later)
 
 passes_more : (w : Walk) (raw : Raw) (raws : List Raw) (plan : PlanFields)
-    (plans : List PlanFields) → HasPlan w raw.header plan
+    (plans : List PlanFields) → IsWholeHeader w raw.header plan
     → HeadersPass (next_walk plan.known 0) raws plans → HeadersPass w (raw ∷ raws) (plan ∷ plans)
 passes_more w raw raws plan plans has later = (has.begins, has.whole, later)
 
 pub passes_after : (w : Walk) (bytes : List ℕ) (j : ℕ) (plan : PlanFields)
-    (plans : List PlanFields) → j < scans_in bytes → HasPlan w (header_at bytes j) plan
+    (plans : List PlanFields) → j < scans_in bytes → IsWholeHeader w (header_at bytes j) plan
     → HeadersPass (next_walk plan.known 0) (raws_from bytes (j + 1)) plans
     → HeadersPass w (raws_from bytes j) (plan ∷ plans)
 passes_after w bytes j plan plans below has later =
     subst (λ (raws : List Raw). HeadersPass w raws (plan ∷ plans)) (sym (raws_first bytes j below))
     (passes_more w (scan_raw bytes j) (raws_from bytes (j + 1)) plan plans
-    (subst (λ (header : List ℕ). HasPlan w header plan) (raw_header bytes j) has) later)
+    (subst (λ (header : List ℕ). IsWholeHeader w header plan) (raw_header bytes j) has) later)
 
 -- ---- the first headers were read, up to that of a plan
 
@@ -105,7 +105,7 @@ pub record HaveRead (bytes : List ℕ) (j : ℕ) (plan : PlanFields) (plans : Li
       → HeadersFail opening_walk (raws_of bytes) refusal
 
 pub one_read : (bytes : List ℕ) (plan : PlanFields) → 1 ≤ scans_in bytes
-    → HasPlan opening_walk (header_at bytes 0) plan → HaveRead bytes 1 plan (replicate 4 plan)
+    → IsWholeHeader opening_walk (header_at bytes 0) plan → HaveRead bytes 1 plan (replicate 4 plan)
 one_read bytes plan some has = record {
   room = refl;
   known = has.known;
@@ -154,7 +154,7 @@ listed plans more j next false e room none =
 
 pub more_read : (bytes : List ℕ) (j : ℕ) (plan : PlanFields) (plans : List PlanFields)
     (next : PlanFields) → j < scans_in bytes → HaveRead bytes j plan plans
-    → HasPlan (next_walk plan.known 0) (header_at bytes j) next
+    → IsWholeHeader (next_walk plan.known 0) (header_at bytes j) next
     → HaveRead bytes (j + 1) next (with_next plans j next)
 more_read bytes j plan plans next below read has =
     let is = listed plans read.more j next (nat_lt j 4) refl read.room read.none in

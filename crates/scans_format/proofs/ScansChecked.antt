@@ -8,9 +8,8 @@ use Rattle.jpeg_marker.specs.Plans.{PlanFields}
 use Rattle.jpeg_marker.specs.Walks.{Walk, next_walk}
 use Rattle.scan_spec.specs.Slots.{shape_of}
 use Rattle.scan_spec.specs.FileParts.{is_last}
-use Rattle.box_format.specs.Parts.{BoxParts, IsBoxIn, IsCut, pad_byte, list_bytes, can_pad, bad_start, box_cut, cut_in}
+use Rattle.box_format.specs.Parts.{BoxParts, IsBoxIn, IsCut, pad_byte, list_bytes, can_pad, bad_start, box_cut, cut_in, BoxSeen}
 use Rattle.box_format.specs.Raws.{Raw, parts_of, pads_in}
-use Rattle.box_format.specs.Seen.{BoxSeen}
 use Rattle.box_format.specs.Versions.{layout_of, most_segments}
 use Rattle.box_format.specs.BoxChecks.{are_wrong, is_bad_pad}
 use Rattle.box_format.specs.declared.chunk.Chunk.{Chunk}

@@ -5,9 +5,8 @@ use Rattle.std.specs.List.{AllByRecursion}
 use Rattle.std.proofs.lemmas.Bool.{le-ltb, or_from, and_right, eq-eqb}
 use Rattle.jpeg_marker.specs.FirstWalks.{opening_walk}
 use Rattle.scan_spec.specs.Slots.{shape_of}
-use Rattle.box_format.specs.Parts.{BoxParts, magic, pad_byte, list_bytes, bad_start, cut_in}
+use Rattle.box_format.specs.Parts.{BoxParts, magic, pad_byte, list_bytes, bad_start, cut_in, BoxSeen}
 use Rattle.box_format.specs.Raws.{Raw}
-use Rattle.box_format.specs.Seen.{BoxSeen}
 use Rattle.box_format.specs.Versions.{most_segments}
 use Rattle.box_format.specs.BoxChecks.{or_else, where_failed, is_bad_pad}
 use Rattle.box_format.specs.declared.refusal.BoxRefusal.{BoxRefusal}

@@ -3,7 +3,7 @@ use Rattle.std.proofs.Common.{◌≡◌, ℕ, List, sym, ap, ◌∙◌, subst, i
 use Rattle.std.specs.Prelude.{◌⊎◌, Some}
 use Rattle.jpeg_marker.specs.Plans.{PlanFields}
 use Rattle.jpeg_marker.specs.FirstWalks.{opening_walk}
-use Rattle.box_format.specs.Seen.{BoxSeen}
+use Rattle.box_format.specs.Parts.{BoxSeen}
 use Rattle.box_format.specs.declared.refusal.BoxRefusal.{BoxRefusal}
 use Rattle.scans_format.specs.Scans.{IsScansOf}
 use Rattle.scans_format.specs.ScansRaw.{raws_of}

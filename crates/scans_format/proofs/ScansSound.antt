@@ -5,7 +5,7 @@ use Rattle.std.specs.List.{AllByRecursion}
 use Rattle.std.proofs.lemmas.Bool.{or_parts, and_parts, false≢true}
 use Rattle.bit_list.specs.Bits.{IsByte}
 use Rattle.jpeg_marker.specs.Plans.{PlanFields}
-use Rattle.jpeg_marker.specs.AcceptedPlans.{AreKnown}
+use Rattle.jpeg_marker.specs.KnownBefore.{AreKnown}
 use Rattle.jpeg_marker.specs.HeaderPlan.{Begins}
 use Rattle.jpeg_marker.specs.Walks.{Walk, next_walk}
 use Rattle.jpeg_marker.proofs.HeadersTaken.{begun_has_plan, next_known}
@@ -14,9 +14,8 @@ use Rattle.scan_spec.specs.FileParts.{is_last}
 use Rattle.handover.specs.Handovers.{HandoverFields, IsHandover}
 use Rattle.handover.specs.HandoverBytes.{is_handover}
 use Rattle.cut_spec.specs.Cuts.{Cut, first_mcu}
-use Rattle.box_format.specs.Parts.{BoxParts, IsBoxIn, bad_start, can_start, cut_in}
+use Rattle.box_format.specs.Parts.{BoxParts, IsBoxIn, bad_start, can_start, cut_in, BoxSeen}
 use Rattle.box_format.specs.Raws.{Raw, parts_of}
-use Rattle.box_format.specs.Seen.{BoxSeen}
 use Rattle.box_format.specs.Versions.{most_segments}
 use Rattle.box_format.specs.BoxChecks.{where_failed, are_wrong, is_bad_pad}
 use Rattle.box_format.specs.declared.version.Version.TheVariants.{Second}

@@ -4,8 +4,8 @@ use Rattle.std.specs.Prelude.{get_or}
 use Rattle.std.specs.List.{AllByRecursion}
 use Rattle.std.proofs.lemmas.List.{length-map}
 use Rattle.byteorder.specs.Endian.{big_bytes}
-use Rattle.box_format.specs.Parts.{BoxParts, magic}
-use Rattle.box_format.specs.Seen.{BoxSeen, parts_given}
+use Rattle.box_format.specs.Parts.{BoxParts, magic, BoxSeen}
+use Rattle.box_format.specs.Seen.{parts_given}
 use Rattle.box_format.specs.Versions.{most_segments}
 use Rattle.box_format.specs.declared.parts.Parts.{Parts}
 use Rattle.box_format.proofs.Lists.{sum_first}

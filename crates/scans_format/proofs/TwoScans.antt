@@ -11,7 +11,7 @@ use Rattle.jpeg_marker.specs.Walks.{next_walk}
 use Rattle.jpeg_marker.specs.FirstWalks.{opening_walk}
 use Rattle.jpeg_marker.specs.declared.refusal.HeaderRefusal.TheVariants.{MultiScan}
 use Rattle.box_format.specs.declared.refusal.BoxRefusal.TheVariants.{BoxHeader, HeaderLong}
-use Rattle.box_format.specs.Seen.{BoxSeen}
+use Rattle.box_format.specs.Parts.{BoxSeen}
 use Rattle.scans_format.specs.Scans.{IsScansOf}
 use Rattle.scans_format.specs.ScansRaw.{scan_raw, raws_of}
 use Rattle.scans_format.specs.ScansChecks.{HeadersPass, PassesScans, IsRefusedScans, early_fault, late_fault, boxes_of}

@@ -1,7 +1,6 @@
 -- Statement: a container of one scan or of several, and why bytes are none (docs/FORMAT.md, The container).
 use Rattle.std.specs.Prelude.{ℕ, ◌≡◌, ◌⊎◌, ◌==◌, Bool, true, false, List, [], ◌∷◌, slice_index}
-use Rattle.box_format.specs.Parts.{IsBoxOf}
-use Rattle.box_format.specs.Seen.{BoxSeen}
+use Rattle.box_format.specs.Parts.{IsBoxOf, BoxSeen}
 use Rattle.box_format.specs.BoxChecks.{IsRefusedBox}
 use Rattle.box_format.specs.declared.refusal.BoxRefusal.{BoxRefusal}
 use Rattle.scans_format.specs.Scans.{IsScansOf, several_byte}

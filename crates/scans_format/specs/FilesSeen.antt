@@ -2,7 +2,7 @@
 use Rattle.std.specs.Prelude.{ℕ, ◌≡◌, ◌⊎◌, ◌≤◌, true, false, if◌then◌else◌, List, [], ◌∷◌, length, take}
 use Rattle.jpeg_marker.specs.Plans.{PlanFields}
 use Rattle.box_format.specs.Raws.{Raw, raw_of}
-use Rattle.box_format.specs.Seen.{BoxSeen}
+use Rattle.box_format.specs.Parts.{BoxSeen}
 use Rattle.box_format.specs.Versions.{decoded}
 use Rattle.box_format.specs.BoxChecks.{PassesChecks}
 use Rattle.scans_format.specs.Containers.{IsContainer, names_several}

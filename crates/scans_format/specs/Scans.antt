@@ -2,11 +2,11 @@
 use Rattle.std.specs.Prelude.{ℕ, ◌≡◌, ◌≤◌, true, false, List, [], ◌∷◌, ◌++◌, length, map, flat_map, sum}
 use Rattle.std.specs.List.{AllByRecursion}
 use Rattle.byteorder.specs.Endian.{big_bytes}
+use Rattle.jpeg_marker.specs.Plans.{PlanFields}
 use Rattle.jpeg_marker.specs.Walks.{Walk, next_walk}
 use Rattle.jpeg_marker.specs.FirstWalks.{opening_walk}
 use Rattle.scan_spec.specs.FileParts.{is_last}
-use Rattle.box_format.specs.Parts.{BoxParts, IsBoxIn, magic, pad_byte, list_bytes, records}
-use Rattle.box_format.specs.Seen.{BoxSeen}
+use Rattle.box_format.specs.Parts.{BoxParts, IsBoxIn, magic, pad_byte, list_bytes, records, BoxSeen}
 use Rattle.box_format.specs.Versions.{most_segments}
 use Rattle.box_format.specs.declared.version.Version.TheVariants.{Second}
 
@@ -55,6 +55,10 @@ AreBoxes w (s ∷ t ∷ scans) =
 -- the parts of each scan
 abbrev pub all_parts : List BoxSeen → List BoxParts
 all_parts scans = map (λ (s : BoxSeen). s.parts) scans
+
+-- the plan of each scan's header
+abbrev pub all_plans : List BoxSeen → List PlanFields
+all_plans scans = map (λ (s : BoxSeen). s.plan) scans
 
 -- how many segments they have in all
 abbrev pub segment_count : List BoxSeen → ℕ

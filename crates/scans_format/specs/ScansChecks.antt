@@ -7,9 +7,8 @@ use Rattle.jpeg_marker.specs.HeaderPlan.{Begins, BeginsNot}
 use Rattle.jpeg_marker.specs.declared.refusal.HeaderRefusal.{HeaderRefusal}
 use Rattle.scan_spec.specs.FileParts.{is_last}
 use Rattle.scan_spec.specs.Slots.{shape_of}
-use Rattle.box_format.specs.Parts.{magic, bad_start, cut_in}
+use Rattle.box_format.specs.Parts.{magic, bad_start, cut_in, BoxSeen}
 use Rattle.box_format.specs.Raws.{Raw, parts_of}
-use Rattle.box_format.specs.Seen.{BoxSeen}
 use Rattle.box_format.specs.Versions.{most_segments}
 use Rattle.box_format.specs.BoxChecks.{or_else, where_failed, are_wrong, is_bad_pad}
 use Rattle.box_format.specs.declared.refusal.BoxRefusal.{BoxRefusal}
@@ -57,7 +56,7 @@ are_complete [] = false
 are_complete (plan ∷ []) = is_last plan
 are_complete (plan ∷ next ∷ plans) = not (is_last plan) && are_complete (next ∷ plans)
 
--- whether a scan can't have so many segments: there is none, or more than rows
+-- whether a scan can't have its number of segments: there is none, or more than rows
 abbrev pub some_are_wrong : List PlanFields → List Raw → Bool
 some_are_wrong [] raws = false
 some_are_wrong (plan ∷ plans) [] = false
@@ -69,7 +68,7 @@ abbrev pub segments_of : List Raw → ℕ
 segments_of raws = sum (map (λ (raw : Raw). length raw.handovers) raws)
 
 -- whether these can't be a container's scans and segments: there are fewer than two scans, or more than four, they
--- don't have all of the frame's components, or there can't be so many segments
+-- don't have all of the frame's components, or one can't have its number of segments, or there are too many in all
 abbrev pub are_wrong_scans : List PlanFields → List Raw → Bool
 are_wrong_scans plans raws =
     nat_lt (length raws) 2 || (nat_lt 4 (length raws) || (not (are_complete plans)

@@ -3,7 +3,7 @@ use Rattle.std.specs.Prelude.{ℕ, ◌≡◌, List, map}
 use Rattle.std.specs.List.{AllByRecursion}
 use Rattle.bit_list.specs.Bits.{IsByte}
 use Rattle.jpeg_marker.specs.Plans.{PlanFields}
-use Rattle.box_format.specs.Seen.{BoxSeen}
+use Rattle.box_format.specs.Parts.{BoxSeen}
 use Rattle.box_format.specs.declared.refusal.BoxRefusal.{BoxRefusal}
 use Rattle.scans_format.specs.Scans.{IsScans, IsScansOf, all_parts, scans_bytes}
 use Rattle.scans_format.specs.ScansRaw.{raws_of}
@@ -29,7 +29,7 @@ OneListOfScans =
     (scans others : List BoxSeen) (bytes : List ℕ) → IsScansOf scans bytes → IsScansOf others bytes
     → scans ≡ others
 
--- other bytes have one refusal
+-- bytes have at most one refusal
 abbrev pub OneScansRefusal : Type 0
 OneScansRefusal =
     (bytes : List ℕ) (refusal other : BoxRefusal)

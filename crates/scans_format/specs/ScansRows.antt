@@ -8,9 +8,8 @@ use Rattle.scan_spec.specs.BlockRows.{level_table}
 use Rattle.scan_spec.specs.FileParts.{is_last}
 use Rattle.scan_spec.specs.Pads.{Same}
 use Rattle.handover.specs.Handovers.{start}
-use Rattle.box_format.specs.Parts.{BoxParts}
+use Rattle.box_format.specs.Parts.{BoxParts, BoxSeen}
 use Rattle.box_format.specs.Raws.{numbers}
-use Rattle.box_format.specs.Seen.{BoxSeen}
 use Rattle.box_format.specs.declared.version.Version.TheVariants.{Second}
 use Rattle.box_format.specs.declared.refusal.BoxRefusal.TheVariants.{BoxMagic, BoxVersion, BoxCut, BoxHeader, HeaderLong, BoxSegments, BoxPad, HandoverBad, BoxLong}
 use Rattle.scans_format.specs.Scans.{IsScansOf, all_parts, scans_bytes}
@@ -34,9 +33,9 @@ header_two = 0xff ∷ 0xda ∷ 0x00 ∷ 0x08 ∷ 0x01 ∷ 0x02 ∷ 0x00 ∷ 0x00
 abbrev pub part : ℕ → FrameComponent
 part id = record { id = id; h = 1; v = 1 }
 
--- the plan of the scan of a component, after which so many blocks were coded, of these components
-abbrev pub plan_at : ℕ → ℕ → ℕ → List Bool → PlanFields
-plan_at index header_length blocks coded = record {
+-- the plan of the scan of a component, after which this number of blocks was coded, of these components
+abbrev pub plan_of : ℕ → ℕ → ℕ → List Bool → PlanFields
+plan_of index header_length blocks coded = record {
   components = record {
     index = index;
     id = index + 1;
@@ -61,17 +60,17 @@ plan_at index header_length blocks coded = record {
 
 -- those of both headers
 abbrev pub plan_one : PlanFields
-plan_one = plan_at 0 72 1 (true ∷ replicate 3 false)
+plan_one = plan_of 0 72 1 (true ∷ replicate 3 false)
 
 abbrev pub plan_two : PlanFields
-plan_two = plan_at 1 10 2 (true ∷ true ∷ replicate 2 false)
+plan_two = plan_of 1 10 2 (true ∷ true ∷ replicate 2 false)
 
 abbrev pub plans : List PlanFields
 plans = plan_one ∷ plan_two ∷ []
 
 -- a scan of one segment, whose stream is that of a block of zeros
-abbrev pub scan_parts : List ℕ → List ℕ → BoxParts
-scan_parts header trailer = record {
+abbrev pub plain_parts : List ℕ → List ℕ → BoxParts
+plain_parts header trailer = record {
   version = Second;
   chunk = None;
   places = None;
@@ -85,8 +84,8 @@ scan_parts header trailer = record {
 -- the scans of a file of 86 bytes
 abbrev pub two : List BoxSeen
 two =
-    record { plan = plan_one; parts = scan_parts header_one [] }
-    ∷ record { plan = plan_two; parts = scan_parts header_two (0xff ∷ 0xd9 ∷ []) } ∷ []
+    record { plan = plan_one; parts = plain_parts header_one [] }
+    ∷ record { plan = plan_two; parts = plain_parts header_two (0xff ∷ 0xd9 ∷ []) } ∷ []
 
 -- their container, byte for byte
 abbrev pub two_box : List ℕ

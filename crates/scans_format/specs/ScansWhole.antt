@@ -1,6 +1,6 @@
 -- Steps: the parts of bytes that have every part that their fields name, and headers read one by one (own).
 use Rattle.std.specs.Prelude.{ℕ, ◌+◌, ◌*◌, ◌-◌, ◌≤◌, ◌≡◌, ◌⊎◌, ◌||◌, Bool, true, not, nat_lt, List, [], ◌++◌, length, take, drop, map}
-use Rattle.jpeg_marker.specs.AcceptedPlans.{AreKnown}
+use Rattle.jpeg_marker.specs.KnownBefore.{AreKnown}
 use Rattle.jpeg_marker.specs.Plans.{PlanFields}
 use Rattle.jpeg_marker.specs.Walks.{Walk}
 use Rattle.jpeg_marker.specs.FirstWalks.{opening_walk}
@@ -41,15 +41,15 @@ streams_at bytes j = drop (streams_place bytes j) bytes
 abbrev pub raws_from : List ℕ → ℕ → List Raw
 raws_from bytes j = map (scan_raw bytes) (numbers j (scans_in bytes - j))
 
--- a header is one that a walk passes, ends where its bytes end, and has this plan
-pub record HasPlan (w : Walk) (header : List ℕ) (plan : PlanFields) : Type 0 where
+-- a header is read by a walk, ends where its bytes end, and has this plan
+pub record IsWholeHeader (w : Walk) (header : List ℕ) (plan : PlanFields) : Type 0 where
   pub begins : Begins w header plan
   pub whole : plan.header_length ≡ length header
   pub known : AreKnown plan.known
 
 -- it is none, or ends before its bytes end
-abbrev pub HasNoPlan : Walk → List ℕ → BoxRefusal → Type 0
-HasNoPlan w header refusal =
+abbrev pub IsNoHeader : Walk → List ℕ → BoxRefusal → Type 0
+IsNoHeader w header refusal =
     ((inner : HeaderRefusal) × BeginsNot w header inner × (refusal ≡ BoxHeader inner))
     ⊎ ((plan : PlanFields) × Begins w header plan
     × (nat_lt plan.header_length (length header) ≡ true)
@@ -61,7 +61,7 @@ pub record HavePlans (bytes : List ℕ) (plans : List PlanFields) : Type 0 where
   pub none : scans_in bytes ≤ 4 → more ≡ []
   pub pass : HeadersPass opening_walk (raws_of bytes) (take (scans_in bytes) plans ++ more)
 
--- whether scans of this number aren't those of a file, or can't have so many segments
+-- whether scans of this number aren't those of a file, or can't have their numbers of segments
 abbrev pub are_not_all : List PlanFields → List Raw → Bool
 are_not_all plans raws =
     not (are_complete plans)

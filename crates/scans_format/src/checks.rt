@@ -78,7 +78,7 @@ fn scans_or_end_fault(bytes: &[u8], plans: &[Plan]) -> Option<BoxRefusal>
     }
 }
 
-// Whether these aren't all scans of a file, or can't have so many segments.
+// Whether these aren't all scans of a file, or can't have their numbers of segments.
 fn are_wrong_scans(bytes: &[u8], plans: &[Plan]) -> bool
     requires { length plans.now ≡ scans_in bytes.now }
     ensures { result ≡ are_not_all plans.now (raws_of bytes.now) }
@@ -103,7 +103,7 @@ fn is_any_last(plans: &[Plan]) -> bool
     plans.iter().any(|plan| plan.is_last())
 }
 
-// Whether one of the scans can't have so many segments.
+// Whether one of the scans can't have its number of segments.
 fn some_are_wrong(bytes: &[u8], plans: &[Plan]) -> bool
     requires { length plans.now ≡ scans_in bytes.now }
     ensures { result ≡ some_are_wrong plans.now (raws_of bytes.now) }
@@ -116,7 +116,7 @@ fn some_are_wrong(bytes: &[u8], plans: &[Plan]) -> bool
     false
 }
 
-// Whether this scan can't have so many segments.
+// Whether this scan can't have its number of segments.
 fn is_wrong(bytes: &[u8], plan: &Plan, scan: u8) -> bool
     ensures { result ≡ are_wrong most_segments
         (cut_in plan.now (length (scan_raw bytes.now scan).handovers)) }

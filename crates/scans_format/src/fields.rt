@@ -7,8 +7,8 @@ ghost use Rattle.scans_format.specs.ScansRaw.{scans_in, trailer_length, segments
 use box_format::{byte_in, stream_length_at};
 use byteorder::{BigEndian, ByteOrder};
 
-// The byte of the version.
-const SEVERAL: u8 = 4;
+/// The byte that says the version of several scans.
+pub(crate) const SEVERAL: u8 = 4;
 
 // The bytes of the fields before those of the first scan.
 const FRONT: usize = 10;

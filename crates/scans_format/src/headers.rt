@@ -1,11 +1,11 @@
 // The headers of a container's scans, one after another.
 ghost use Rattle.std.specs.Prelude.{◌≡◌, ◌≤◌, nat_lt, if◌then◌else◌, slice_set, IfOk, IfErr};
-ghost use Rattle.jpeg_marker.specs.AcceptedPlans.{AreKnown};
+ghost use Rattle.jpeg_marker.specs.KnownBefore.{AreKnown};
 ghost use Rattle.jpeg_marker.specs.FirstWalks.{opening_walk};
 ghost use Rattle.jpeg_marker.specs.Walks.{next_walk};
 ghost use Rattle.scans_format.specs.ScansRaw.{scans_in, raws_of};
 ghost use Rattle.scans_format.specs.ScansChecks.{HeadersFail};
-ghost use Rattle.scans_format.specs.ScansWhole.{IsWhole, HasPlan, HasNoPlan, HavePlans};
+ghost use Rattle.scans_format.specs.ScansWhole.{IsWhole, IsWholeHeader, IsNoHeader, HavePlans};
 
 use crate::fields::scans_in;
 use crate::slices::header_at;
@@ -38,8 +38,8 @@ pub(crate) fn read_plans(bytes: &[u8]) -> Result<[Plan; 4], BoxRefusal>
 
 // The plan of the first header, whose bytes these are.
 fn first_plan(header: &[u8]) -> Result<Plan, BoxRefusal>
-    ensures passed { IfOk result (λ plan. HasPlan opening_walk header.now plan) }
-    ensures failed { IfErr result (λ refusal. HasNoPlan opening_walk header.now refusal) }
+    ensures passed { IfOk result (λ plan. IsWholeHeader opening_walk header.now plan) }
+    ensures failed { IfErr result (λ refusal. IsNoHeader opening_walk header.now refusal) }
 {
     let plan = match read_first(header) {
         Ok(plan) => plan,
@@ -55,9 +55,9 @@ fn first_plan(header: &[u8]) -> Result<Plan, BoxRefusal>
 // The plan of a further header, after the scan of `before`.
 fn next_plan(before: &Plan, header: &[u8]) -> Result<Plan, BoxRefusal>
     requires { AreKnown before.now.known }
-    ensures passed { IfOk result (λ plan. HasPlan (next_walk before.now.known 0) header.now plan) }
+    ensures passed { IfOk result (λ plan. IsWholeHeader (next_walk before.now.known 0) header.now plan) }
     ensures failed { IfErr result
-        (λ refusal. HasNoPlan (next_walk before.now.known 0) header.now refusal) }
+        (λ refusal. IsNoHeader (next_walk before.now.known 0) header.now refusal) }
 {
     let plan = match read_next(before, header, 0) {
         Ok(plan) => plan,

@@ -17,6 +17,6 @@ mod view;
 mod writing;
 
 pub use laws::{rows_of_scans_containers, scans_have_one_spelling};
-pub use reading::read_container;
+pub use reading::{read_container, read_container_of};
 pub use view::FileView;
 pub use writing::write_scans;

@@ -1,10 +1,10 @@
 // A container that was read.
-ghost use Rattle.std.specs.Prelude.{◌≡◌, ◌≤◌, ◌<◌, [], ◌∷◌, true, false, Some, length, map, take, slice_get};
+ghost use Rattle.std.specs.Prelude.{ℕ, ◌≡◌, ◌≤◌, ◌<◌, ◌^◌, List, [], ◌∷◌, true, false, Some, length, take, slice_get};
 ghost use Rattle.box_format.specs.BoxChecks.{PassesChecks};
 ghost use Rattle.box_format.specs.Raws.{parts_of, raw_of};
 ghost use Rattle.box_format.specs.Versions.{decoded, most_segments};
-ghost use Rattle.scans_format.specs.Containers.{names_several};
-ghost use Rattle.scans_format.specs.Scans.{segment_count};
+ghost use Rattle.scans_format.specs.Containers.{IsContainer, names_several};
+ghost use Rattle.scans_format.specs.Scans.{all_parts, all_plans, segment_count, trailer_of};
 ghost use Rattle.scans_format.specs.ScansRaw.{scans_in, raws_of};
 ghost use Rattle.scans_format.specs.ScansChecks.{PassesScans, boxes_of};
 
@@ -25,7 +25,7 @@ pub struct FileView<'a> {
 
 impl<'a> Model for FileView<'a> {
     ghost use Rattle.std.specs.Prelude.{List};
-    ghost use Rattle.box_format.specs.Seen.{BoxSeen};
+    ghost use Rattle.box_format.specs.Parts.{BoxSeen};
     ghost use Rattle.scans_format.specs.FilesSeen.{scans_seen, IsFileView};
 
     ghost Value = { List BoxSeen };
@@ -68,13 +68,14 @@ impl<'a> FileView<'a> {
         ensures count { result ≡ length self.now }
         ensures some { 1 ≤ result }
         ensures few { result ≤ 4 }
+        ensures sound { (bytes : List ℕ) × IsContainer self.now bytes }
     {
         self.count
     }
 
-    // The plans of the scans.
-    fn plans(&self) -> &[Plan]
-        ensures { result.now ≡ map (λ seen. seen.plan) self.now }
+    /// The plan of each scan's header.
+    pub fn plans(&self) -> &[Plan]
+        ensures { result.now ≡ all_plans self.now }
     {
         &self.plans[..usize::from(self.count)]
     }
@@ -90,6 +91,15 @@ impl<'a> FileView<'a> {
         } else {
             BoxView::of_bytes(self.bytes, plan)
         }
+    }
+
+    /// What follows the last scan, up to the end of the file, or the chunk's part of it.
+    pub fn trailer(&self) -> &'a [u8]
+        ensures bytes { result.now ≡ trailer_of (all_parts self.now) }
+        ensures fits { length result.now < 2 ^ 32 }
+    {
+        let last = self.scan(self.count - 1);
+        last.trailer()
     }
 
     /// How many segments all scans have.

@@ -2,18 +2,16 @@
 ghost use Rattle.std.specs.Prelude.{◌≡◌, ◌-◌, ◌^◌, ◌<◌, min, ◌∷◌, [], ◌++◌, List, length, map, flat_map, IfOk, OnOk};
 ghost use Rattle.std.specs.List.{AllByRecursion};
 ghost use Rattle.byteorder.specs.Endian.{big_bytes};
-ghost use Rattle.box_format.specs.Parts.{magic};
-ghost use Rattle.box_format.specs.Seen.{BoxSeen, parts_given};
+ghost use Rattle.box_format.specs.Parts.{magic, BoxSeen};
+ghost use Rattle.box_format.specs.Seen.{parts_given};
 ghost use Rattle.box_format.specs.declared.parts.Parts.{Parts as PartsSeen};
 ghost use Rattle.scans_format.specs.Scans.{IsScans, all_parts, scan_fields, scan_header, scan_streams, scans_bytes, several_byte, trailer_of};
 ghost use Rattle.scans_format.specs.ScansGiven.{CanGive, all_given, scan_room, scans_room};
 
+use crate::fields::SEVERAL;
 use box_format::{MAGIC, Parts, list_of, pad_byte, put_records, put_streams};
 use growth::{NoMemory, extend_from_slice, push, with_capacity};
 use std::alloc::Global;
-
-// The byte that says the version of several scans.
-const SEVERAL: u8 = 4;
 
 /// Writes the container of several scans, each with the parts of a container of version 2, and the last one with the
 /// trailer. They must be those of a container: their checks pass. The one error is out of memory.
@@ -32,7 +30,7 @@ pub fn write_scans(alloc: Global, scans: &[Parts]) -> Result<Vec<u8>, NoMemory>
     Ok(bytes)
 }
 
-// How many bytes the container has, or as many as can be counted.
+// How many bytes the container has, or the most that is counted.
 fn room(scans: &[Parts]) -> usize
     ensures { result ≡ min (2 ^ 64 - 1) (scans_room (all_given scans.now)) }
 {
@@ -43,7 +41,7 @@ fn room(scans: &[Parts]) -> usize
     room
 }
 
-// How many bytes of it are a scan's, or as many as can be counted.
+// How many bytes of it are a scan's, or the most that is counted.
 fn scan_room(scan: &Parts) -> usize
     ensures { result ≡ min (2 ^ 64 - 1) (scan_room (parts_given scan.now)) }
 {

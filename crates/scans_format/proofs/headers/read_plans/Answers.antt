@@ -5,7 +5,7 @@ use Rattle.jpeg_marker.specs.Walks.{next_walk}
 use Rattle.box_format.specs.Raws.{Raw}
 use Rattle.scans_format.specs.ScansRaw.{scans_in}
 use Rattle.scans_format.specs.ScansChecks.{HeadersFail}
-use Rattle.scans_format.specs.ScansWhole.{HasPlan, HasNoPlan}
+use Rattle.scans_format.specs.ScansWhole.{IsWholeHeader, IsNoHeader}
 use Rattle.scans_format.proofs.HeadersRead.{HaveRead, raws_all, fails_at, one_read, more_read, all_read}
 use Rattle.scans_format.proofs.headers.read_plans.Goals as goal
 
@@ -14,13 +14,13 @@ returns-in-Err-clause-failed c =
     let bytes = c.args.bytes.now in
     subst (λ (raws : List Raw). HeadersFail opening_walk raws c.in-Err.refusal)
     (sym (raws_all bytes)) (fails_at opening_walk bytes 0 c.in-Err.refusal c.requires.some
-    (subst (λ (header : List ℕ). HasNoPlan opening_walk header c.in-Err.refusal)
+    (subst (λ (header : List ℕ). IsNoHeader opening_walk header c.in-Err.refusal)
     c.header_at.ensures c.in-Err.ensures.failed))
 
 pub loop-scan-init : goal.loop-scan-init
 loop-scan-init c =
     one_read c.args.bytes.now c.in-Ok.plan c.requires.some
-    (subst (λ (header : List ℕ). HasPlan opening_walk header c.in-Ok.plan) c.header_at.ensures
+    (subst (λ (header : List ℕ). IsWholeHeader opening_walk header c.in-Ok.plan) c.header_at.ensures
     c.in-Ok.ensures.passed)
 
 pub returns-in-Err-next_plan-clause-failed : goal.returns-in-Err-next_plan-clause-failed
@@ -32,7 +32,7 @@ returns-in-Err-next_plan-clause-failed c =
     let below : i.scan < scans_in bytes = omega (arith, count) in
     let refusal = c.in-Err-next_plan.refusal in
     i.invariant.fail refusal (fails_at w bytes i.scan refusal below
-    (subst (λ (header : List ℕ). HasNoPlan w header refusal)
+    (subst (λ (header : List ℕ). IsNoHeader w header refusal)
     c.header_at-in-loop-scan.ensures c.in-Err-next_plan.ensures.failed))
 
 pub loop-scan-preserved : goal.loop-scan-preserved
@@ -44,7 +44,7 @@ loop-scan-preserved c =
     let next = c.in-Ok-next_plan.plan in
     subst (λ (plans : List PlanFields). HaveRead bytes (i.scan + 1) next plans)
     (sym c.with_plan-plans.ensures) (more_read bytes i.scan i.plan i.plans next below i.invariant
-    (subst (λ (header : List ℕ). HasPlan (next_walk i.plan.known 0) header next)
+    (subst (λ (header : List ℕ). IsWholeHeader (next_walk i.plan.known 0) header next)
     c.header_at-in-loop-scan.ensures c.in-Ok-next_plan.ensures.passed))
 
 pub returns-clause-passed : goal.returns-clause-passed

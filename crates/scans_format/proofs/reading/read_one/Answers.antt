@@ -2,7 +2,7 @@ use Rattle.std.proofs.Common.{rules, List, sym, subst}
 use Rattle.handover.proofs.FieldBytes.{all_of}
 use Rattle.jpeg_marker.specs.Plans.{PlanFields}
 use Rattle.box_format.specs.BoxChecks.{PassesChecks}
-use Rattle.box_format.specs.Seen.{BoxSeen}
+use Rattle.box_format.specs.Parts.{BoxSeen}
 use Rattle.box_format.specs.Versions.{decoded}
 use Rattle.scans_format.specs.Containers.{IsContainer}
 use Rattle.scans_format.proofs.FilesRead.{box_passed, one_taken}

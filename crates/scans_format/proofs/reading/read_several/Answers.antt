@@ -1,6 +1,6 @@
 use Rattle.std.proofs.Common.{rules, ◌∙◌, List, take, sym, subst, inr}
 use Rattle.handover.proofs.FieldBytes.{all_of}
-use Rattle.box_format.specs.Seen.{BoxSeen}
+use Rattle.box_format.specs.Parts.{BoxSeen}
 use Rattle.scans_format.specs.Containers.{IsContainer}
 use Rattle.scans_format.specs.ScansRaw.{scans_in}
 use Rattle.scans_format.proofs.FilesRead.{late_refused, none_refused, scans_passed, several_taken, whole_of}

@@ -1,7 +1,6 @@
 use Rattle.std.proofs.Common.{ap, ◌∙◌, sym, subst}
 use Rattle.std.specs.Prelude.{slice_index}
-use Rattle.box_format.specs.Parts.{BoxParts, IsScanBox}
-use Rattle.box_format.specs.Seen.{BoxSeen}
+use Rattle.box_format.specs.Parts.{BoxParts, IsScanBox, BoxSeen}
 use Rattle.scans_format.specs.ScansRaw.{segments_at}
 use Rattle.scans_format.proofs.ScansSliced.{scan_sliced, has_scan}
 use Rattle.scans_format.proofs.slices.scan_view.Goals as goal

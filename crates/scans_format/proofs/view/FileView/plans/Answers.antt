@@ -1,5 +1,5 @@
 use Rattle.std.proofs.Common.{ℕ, List, map, take, sym, ap, ◌∙◌}
-use Rattle.box_format.specs.Seen.{BoxSeen}
+use Rattle.box_format.specs.Parts.{BoxSeen}
 use Rattle.scans_format.proofs.FilesViewed.{plans_back}
 use Rattle.scans_format.proofs.view.FileView.plans.Goals as goal
 

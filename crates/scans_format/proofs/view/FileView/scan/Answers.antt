@@ -1,6 +1,6 @@
 use Rattle.std.proofs.Common.{List, take, sym, ap, ◌∙◌}
 use Rattle.std.specs.Prelude.{Some, slice_get}
-use Rattle.box_format.specs.Seen.{BoxSeen}
+use Rattle.box_format.specs.Parts.{BoxSeen}
 use Rattle.scans_format.proofs.FilesViewed.{one_at, plan_got, scan_at}
 use Rattle.scans_format.proofs.view.FileView.scan.Goals as goal
 
