@@ -1,7 +1,7 @@
 -- Bytes have one list of scans or one refusal, and stand for one thing, since those of several scans do.
 use Rattle.std.proofs.Common.{◌≡◌, ℕ, true, false, inl, inr, List, [], ◌∷◌, refl, sym, ap, ◌∙◌}
 use Rattle.std.proofs.lemmas.Bool.{false≢true}
-use Rattle.box_format.specs.Seen.{BoxSeen}
+use Rattle.box_format.specs.Parts.{BoxSeen}
 use Rattle.box_format.specs.Versions.{decoded}
 use Rattle.box_format.specs.declared.refusal.BoxRefusal.{BoxRefusal}
 use Rattle.box_format.proofs.BoxLawsProved.{all_read, one_box, one_box_refusal, never_both}
@@ -11,7 +11,7 @@ use Rattle.scans_spec.specs.ScansMeaningLaws.{OneListOfBoxes, RefusedIsNone, Sta
 use Rattle.scans_format.specs.Containers.{IsRefusedContainer, names_several}
 use Rattle.scans_spec.specs.ScansMeanings.{scans_meaning}
 
-not_both : (bytes : List ℕ) → names_several bytes ≡ false → names_several bytes ≡ true → ⊥
+pub not_both : (bytes : List ℕ) → names_several bytes ≡ false → names_several bytes ≡ true → ⊥
 not_both bytes one several = false≢true (sym one ∙ several)
 
 seen_is : (s u : BoxSeen) → s.plan ≡ u.plan → s.parts ≡ u.parts → s ≡ u

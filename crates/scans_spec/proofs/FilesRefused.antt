@@ -1,16 +1,17 @@
 -- A file of scans isn't refused, and one that is refused is so for one cause.
-use Rattle.std.proofs.Common.{◌≡◌, ℕ, ◌+◌, ◌≤◌, Bool, true, false, List, [], ◌∷◌, ◌++◌, length, drop, refl, sym, ap, ◌∙◌, subst, length-append, length-drop, drop-drop, arith}
+use Rattle.std.proofs.Common.{◌≡◌, ℕ, ◌+◌, ◌≤◌, Bool, true, false, List, [], ◌∷◌, ◌++◌, length, drop, refl, sym, ap, ◌∙◌, subst, length-append, length-drop, drop-drop, arith, zero-add}
 use Rattle.std.specs.List.{AllByRecursion}
 use Rattle.std.proofs.lemmas.Bool.{false≢true}
 use Rattle.std.proofs.lemmas.List.{take-append-drop, drop_at}
 use Rattle.bit_list.specs.Bits.{IsByte}
-use Rattle.jpeg_marker.specs.AcceptedPlans.{AreKnown}
+use Rattle.jpeg_marker.specs.KnownBefore.{AreKnown}
 use Rattle.jpeg_marker.specs.FirstWalks.{opening_walk}
-use Rattle.jpeg_marker.specs.HeaderPlan.{Begins}
+use Rattle.jpeg_marker.specs.HeaderPlan.{Accepts, Begins}
 use Rattle.jpeg_marker.specs.Plans.{PlanFields}
 use Rattle.jpeg_marker.specs.Walks.{Walk, walk_from, next_walk}
 use Rattle.jpeg_marker.proofs.HeaderLaws.{one_begins, one_begins_not, begins_apart}
 use Rattle.jpeg_marker.proofs.HeadersTaken.{begun_has_plan, bytes_from, none_known}
+use Rattle.jpeg_marker.proofs.OneScans.{one_is_several}
 use Rattle.scan_spec.specs.FileParts.{FileScan, IsScanOf, AreScans, is_last}
 use Rattle.scan_spec.specs.Items.{Refuses as ItemsRefuse}
 use Rattle.scan_spec.specs.Scans.{Mcu}
@@ -22,7 +23,7 @@ use Rattle.scan_spec.proofs.ItemsOnce.{one_outcome}
 use Rattle.scan_spec.proofs.ItemsRead.{ends_so}
 use Rattle.scan_spec.proofs.PlanShapes.{begun_is_shape}
 use Rattle.scan_spec.proofs.ScanTaken.{read_again}
-use Rattle.scans_spec.specs.ScansFiles.{FileRefusal, Header, Scan, StopsAt, StopsAfter}
+use Rattle.scans_spec.specs.ScansFiles.{FileIsRefused, FileRefusal, Header, Scan, StopsAt, StopsAfter}
 use Rattle.scans_spec.specs.ScansMeaningLaws.{OneFileRefusal}
 
 -- ---- a scan after a header at a place of a file
@@ -222,3 +223,17 @@ not_refused w file trailer place (s ∷ t ∷ scans) (u ∷ before) refusal all 
     (subst (λ (l : List ℕ). AreScans (next_walk s.plan.known 0) l (t ∷ scans) trailer) rest are.3)
     (subst (λ (p : PlanFields). StopsAfter (next_walk p.known next) file before refusal)
     (sym one.0) stops.3)
+
+-- ---- a file of one scan is refused for its scan
+pub scan_alone : (file : List ℕ) (plan : PlanFields) (refusal : ScanRefusal) → Accepts file plan
+    → ItemsRefuse (shape_of plan) file plan.header_length refusal
+    → FileIsRefused file (Scan refusal)
+scan_alone file plan refusal accepted refuses = record {
+  before = [];
+  stops = (
+    plan,
+    one_is_several file plan accepted,
+    subst (λ n. ItemsRefuse (shape_of plan) file n refusal) (sym (zero-add plan.header_length))
+        refuses,
+  );
+}

@@ -14,7 +14,8 @@ use Rattle.container_spec.specs.Meanings.{Joined, joined, joined_with}
 use Rattle.container_spec.proofs.Numbered.{mapped_same}
 use Rattle.container_spec.proofs.PutParts.{sums_more}
 use Rattle.scans_spec.specs.ScansMeanings.{fault_after, outcome_after, lead_of}
-use Rattle.scans_spec.specs.ScansJoined.{ScanSums, no_sums, sums_of, sums_with, sum_in, Scanned, ScansJoined, scanned_with, scans_joined}
+use Rattle.scans_spec.specs.ScansJoined.{no_sums, sums_of, sums_with, sum_in, Scanned, ScansJoined, scanned_with, scans_joined}
+use Rattle.scans_spec.specs.declared.scan_pads.ScanPads.{ScanPads}
 
 -- ---- numbers
 
@@ -53,14 +54,14 @@ mapped_in_two f g h k n here more =
 -- ---- sums by scan
 
 -- intervals of one of four scans, by which of the first three it is
-abbrev put : Bool → Bool → Bool → PadSum → ScanSums
+abbrev put : Bool → Bool → Bool → PadSum → ScanPads
 put x y z p =
     if x then record no_sums { first = p }
     else if y then record no_sums { second = p }
     else if z then record no_sums { third = p }
     else record no_sums { fourth = p }
 
-abbrev got : Bool → Bool → Bool → ScanSums → PadSum
+abbrev got : Bool → Bool → Bool → ScanPads → PadSum
 got x y z sums =
     if x then sums.first else if y then sums.second else if z then sums.third else sums.fourth
 
@@ -83,7 +84,7 @@ got_put false true z p = refl
 got_put false false true p = refl
 got_put false false false p = refl
 
-got_with : (x y z : Bool) (a b : ScanSums)
+got_with : (x y z : Bool) (a b : ScanPads)
     → got x y z (sums_with a b) ≡ pads_with (got x y z a) (got x y z b)
 got_with true y z a b = refl
 got_with false true z a b = refl
@@ -110,7 +111,7 @@ in_none scan = got_none (scan == 0) (scan == 1) (scan == 2)
 pub in_own : (scan : ℕ) (p : PadSum) → sum_in (sums_of scan p) scan ≡ p
 in_own scan p = got_put (scan == 0) (scan == 1) (scan == 2) p
 
-pub in_with : (scan : ℕ) (a b : ScanSums)
+pub in_with : (scan : ℕ) (a b : ScanPads)
     → sum_in (sums_with a b) scan ≡ pads_with (sum_in a scan) (sum_in b scan)
 in_with scan a b = got_with (scan == 0) (scan == 1) (scan == 2) a b
 
@@ -133,12 +134,12 @@ in_earlier (suc (suc (suc zero))) (suc zero) p less few = refl
 in_earlier (suc (suc (suc zero))) (suc (suc zero)) p less few = refl
 in_earlier m n p less few = absurd (omega arith)
 
-same_sums : (a b c d e f g h : PadSum) → a ≡ e → b ≡ f → c ≡ g → d ≡ h
-    → (let s : ScanSums = record { first = a; second = b; third = c; fourth = d } in s)
+pub same_sums : (a b c d e f g h : PadSum) → a ≡ e → b ≡ f → c ≡ g → d ≡ h
+    → (let s : ScanPads = record { first = a; second = b; third = c; fourth = d } in s)
     ≡ (record { first = e; second = f; third = g; fourth = h })
 same_sums a b c d e f g h p q r s = rw (p, q, r, s) refl
 
-sums_of_more : (a b c : ScanSums)
+pub sums_of_more : (a b c : ScanPads)
     → sums_with a (sums_with b c) ≡ sums_with (sums_with a b) c
 sums_of_more a b c =
     same_sums _ _ _ _ _ _ _ _ (sym (sums_more a.first b.first c.first))
@@ -147,7 +148,7 @@ sums_of_more a b c =
 
 -- ---- segments of several scans, one after another
 
-abbrev result : List ℕ → Option StreamFault → ScanSums → ScansJoined
+abbrev result : List ℕ → Option StreamFault → ScanPads → ScansJoined
 result bytes fault padded = record { bytes = bytes; fault = fault; padded = padded }
 
 -- joined segments before others, by their first fault, if there is one
@@ -165,7 +166,7 @@ good_followed : (scan : ℕ) (bytes : List ℕ) (p : PadSum) (a : ScansJoined)
     ≡ followed (scanned_with scan bytes (Good p) a) fault b
 good_followed scan bytes p a (Some fault) b = refl
 good_followed scan bytes p a None b =
-    ap₂ (λ (l : List ℕ) (s : ScanSums). result l b.fault s)
+    ap₂ (λ (l : List ℕ) (s : ScanPads). result l b.fault s)
     (sym (append_assoc bytes a.bytes b.bytes))
     (sums_of_more (sums_of scan p) a.padded b.padded)
 
@@ -197,10 +198,10 @@ one_more : (first scan : ℕ) (lead bytes : List ℕ) (outcome : Outcome) (j : J
     → scanned_with scan (lead ++ bytes) (outcome_after first outcome) (of_scan first scan [] j)
     ≡ of_scan first scan lead (joined_with bytes outcome j)
 one_more first scan lead bytes (Good p) j =
-    ap₂ (λ (l : List ℕ) (s : ScanSums). result l (option_map (fault_after first) j.fault) s)
+    ap₂ (λ (l : List ℕ) (s : ScanPads). result l (option_map (fault_after first) j.fault) s)
     (append_assoc lead bytes j.bytes) (of_with scan p j.padded)
 one_more first scan lead bytes (Bad fault) j =
-    ap (λ (s : ScanSums). result (lead ++ bytes) (Some (fault_after first fault)) s)
+    ap (λ (s : ScanPads). result (lead ++ bytes) (Some (fault_after first fault)) s)
     (sym (of_none scan))
 
 -- a segment's output after other bytes
@@ -208,10 +209,10 @@ abbrev pub led : ℕ → ℕ → List ℕ → Output → Scanned
 led first scan lead output =
     (scan, with_prefix lead (output.0, outcome_after first output.1))
 
-others : (first scan : ℕ) (f : ℕ → Output) (ns : List ℕ)
+pub others : (first scan : ℕ) (f : ℕ → Output) (ns : List ℕ)
     → scans_joined (map (λ i. led first scan [] (f i)) ns)
     ≡ of_scan first scan [] (joined (map f ns))
-others first scan f [] = ap (λ (s : ScanSums). result [] None s) (sym (of_none scan))
+others first scan f [] = ap (λ (s : ScanPads). result [] None s) (sym (of_none scan))
 others first scan f (n ∷ ns) =
     ap (scanned_with scan (f n).0 (outcome_after first (f n).1)) (others first scan f ns)
     ∙ one_more first scan [] (f n).0 (f n).1 (joined (map f ns))

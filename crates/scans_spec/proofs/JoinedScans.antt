@@ -7,9 +7,8 @@ use Rattle.scan_spec.specs.Pads.{PadBits, is_spelled}
 use Rattle.handover.specs.PadSums.{no_pads, pads_with}
 use Rattle.handover.specs.declared.pads.PadSum.{PadSum}
 use Rattle.handover.specs.declared.outcome.StreamFault.{StreamFault}
-use Rattle.box_format.specs.Parts.{BoxParts}
+use Rattle.box_format.specs.Parts.{BoxParts, BoxSeen}
 use Rattle.box_format.specs.Raws.{numbers}
-use Rattle.box_format.specs.Seen.{BoxSeen}
 use Rattle.box_format.specs.declared.chunk.Chunk.{Chunk}
 use Rattle.box_format.proofs.Lists.{sum_first}
 use Rattle.container_spec.specs.Segments.{Output, segment_output}
@@ -17,7 +16,8 @@ use Rattle.container_spec.specs.Meanings.{Joined, Meaning, Verdict, Restored, Pa
 use Rattle.container_spec.proofs.PutParts.{sums_none}
 use Rattle.scans_format.specs.Scans.{all_parts, segment_count, trailer_of}
 use Rattle.scans_spec.specs.ScansMeanings.{fault_after, verdict_after, meaning_after, followed_by, meaning_from, scans_meaning, lead_of, led_output, output_from, scan_of}
-use Rattle.scans_spec.specs.ScansJoined.{ScanSums, sums_of, sums_with, sum_in, Scanned, ScansJoined, scans_joined, all_spelled, first_header, scans_end, all_joined}
+use Rattle.scans_spec.specs.ScansJoined.{sums_of, sums_with, sum_in, Scanned, ScansJoined, scans_joined, all_spelled, first_header, scans_end, all_joined}
+use Rattle.scans_spec.specs.declared.scan_pads.ScanPads.{ScanPads}
 use Rattle.scans_spec.specs.ScansMeaningLaws.{HaveLastTrailer, MeaningIsJoined}
 use Rattle.scans_spec.proofs.JoinedLists.{mapped_in_two, in_none, in_own, in_with, in_later, in_earlier, followed, joined_on, of_scan, led, one_scan}
 
@@ -120,13 +120,13 @@ meaning_next first s (t ∷ scans) = refl
 
 -- ---- pad bits of other scans
 
-without : (k scan : ℕ) (p : PadSum) (sums : ScanSums) → scan < k → k ≤ 3
+without : (k scan : ℕ) (p : PadSum) (sums : ScanPads) → scan < k → k ≤ 3
     → sum_in (sums_with (sums_of scan p) sums) k ≡ sum_in sums k
 without k scan p sums less few =
     in_with k (sums_of scan p) sums
     ∙ ap (λ (q : PadSum). pads_with q (sum_in sums k)) (in_later scan k p less few)
 
-spelled_without : (k scan : ℕ) (p : PadSum) (sums : ScanSums) (scans : List BoxSeen) → scan < k
+spelled_without : (k scan : ℕ) (p : PadSum) (sums : ScanPads) (scans : List BoxSeen) → scan < k
     → k + length scans ≤ 4
     → all_spelled k scans (sums_with (sums_of scan p) sums) ≡ all_spelled k scans sums
 spelled_without k scan p sums [] less few = refl
@@ -139,7 +139,7 @@ spelled_without k scan p sums (s ∷ scans) less few =
 pads_none : (p q : PadSum) → q ≡ no_pads → pads_with p q ≡ p
 pads_none p q e = ap (pads_with p) e ∙ sums_none p
 
-spelled_next : (scan : ℕ) (p : PadSum) (sums : ScanSums) (s : BoxSeen) (scans : List BoxSeen)
+spelled_next : (scan : ℕ) (p : PadSum) (sums : ScanPads) (s : BoxSeen) (scans : List BoxSeen)
     → scan + length (s ∷ scans) ≤ 4 → sum_in sums scan ≡ no_pads
     → all_spelled scan (s ∷ scans) (sums_with (sums_of scan p) sums)
     ≡ is_spelled s.parts.pads p && all_spelled (scan + 1) scans sums
@@ -198,7 +198,7 @@ text_good header trailer prefix lead bytes more end same moves =
 
 -- a scan by its joined segments, and the scans after it
 step : (prefix lead : List ℕ) (first scan : ℕ) (s : BoxSeen) (scans : List BoxSeen)
-    (bytes more : List ℕ) (f g : Option StreamFault) (p : PadSum) (sums : ScanSums)
+    (bytes more : List ℕ) (f g : Option StreamFault) (p : PadSum) (sums : ScanPads)
     → prefix ++ (lead ++ bytes) ≡ s.parts.header ++ bytes → Moves s.parts.trailer more g
     → all_spelled scan (s ∷ scans) (sums_with (sums_of scan p) sums)
     ≡ is_spelled s.parts.pads p && all_spelled (scan + 1) scans sums

@@ -7,3 +7,5 @@ pub mod BoxesOnce
 pub mod ScansSizes
 pub mod JoinedLists
 pub mod JoinedScans
+pub mod OneScans
+pub mod SeveralScans

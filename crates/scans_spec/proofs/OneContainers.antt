@@ -4,7 +4,7 @@ use Rattle.std.specs.List.{AllByRecursion}
 use Rattle.std.proofs.lemmas.Bool.{false≢true}
 use Rattle.std.proofs.lemmas.List.{length-replicate}
 use Rattle.bit_list.specs.Bits.{IsByte}
-use Rattle.jpeg_marker.specs.AcceptedPlans.{AreKnown}
+use Rattle.jpeg_marker.specs.KnownBefore.{AreKnown}
 use Rattle.jpeg_marker.specs.FirstWalks.{opening_walk}
 use Rattle.jpeg_marker.specs.Plans.{PlanFields}
 use Rattle.jpeg_marker.specs.Walks.{Walk, next_walk}
@@ -12,14 +12,13 @@ use Rattle.jpeg_marker.proofs.HeadersTaken.{none_known}
 use Rattle.scan_spec.specs.FileParts.{FileScan, IsScanOf, AreScans, is_last}
 use Rattle.scan_spec.specs.Scans.{Mcu}
 use Rattle.scan_spec.proofs.FilesOnce.{one_scan_of, known_on, one_file, one_is_all}
-use Rattle.box_format.specs.Parts.{BoxParts}
-use Rattle.box_format.specs.Seen.{BoxSeen}
+use Rattle.box_format.specs.Parts.{BoxParts, BoxSeen}
 use Rattle.box_format.specs.declared.version.Version.TheVariants.{Second}
 use Rattle.container_spec.specs.Files.{IsContainerOf, parts_of_file}
 use Rattle.container_spec.proofs.OneMeanings.{one_container}
 use Rattle.scans_format.specs.Scans.{all_parts, scans_bytes}
-use Rattle.scans_spec.specs.ScansFiles.{IsScanIn, AreScansIn, IsContainerOfScans, share_of}
-use Rattle.scans_spec.specs.ScansMeaningLaws.{OneContainerOfFile, ContainedIsNotRefused}
+use Rattle.scans_spec.specs.ScansFiles.{IsScanIn, AreScansIn, HasSeveralScans, IsContainerOfScans, share_of}
+use Rattle.scans_spec.specs.ScansMeaningLaws.{OneContainerOfFile, ContainedIsNotRefused, AcceptedIsNotRefused, SeveralIsNotOne}
 use Rattle.scans_spec.proofs.FilesRefused.{not_refused}
 use Rattle.scans_spec.proofs.ScanParts.{rest_bytes}
 
@@ -58,6 +57,14 @@ as_file w (most ∷ mosts) bytes trailer (s ∷ t ∷ scans) are =
       are = before_others w bytes are.0 trailer first more.scans are.1.is are.2 more.are;
       counted = omega (arith, counted);
     }
+
+pub scans_are_several : (mosts : List ℕ) (made file : List ℕ) → IsContainerOfScans mosts made file
+    → HasSeveralScans file
+scans_are_several mosts made file is =
+    let all = as_file opening_walk mosts file is.trailer is.scans is.are in
+    let two = is.several in
+    let counted = all.counted in
+    (all.scans, is.trailer, all.are, omega (arith, two, counted))
 
 -- a list of one scan
 abbrev only : PlanFields → List Mcu → List Bool → List FileScan
@@ -174,3 +181,15 @@ contained_is_not_refused most made file refusal (inr (n, two, x)) refused =
     let a = as_file opening_walk (replicate n (share_of most n)) file x.trailer x.scans x.are in
     not_refused opening_walk file x.trailer 0 a.scans refused.before refusal x.bytes none_known
     (omega arith) a.are refused.stops
+
+pub accepted_is_not_refused : AcceptedIsNotRefused
+accepted_is_not_refused file trailer scans refusal all is refused =
+    not_refused opening_walk file trailer 0 scans refused.before refusal all none_known
+    (omega arith) is refused.stops
+
+pub several_is_not_one : SeveralIsNotOne
+several_is_not_one file trailer plan mcus pads all several is =
+    let one = one_is_all file trailer plan mcus pads all is in
+    let same = one_file file several.1 trailer several.0 (only plan mcus pads) all several.2 one in
+    let two = several.3 in
+    omega (arith, ap length same.0, two)

@@ -12,8 +12,7 @@ use Rattle.jpeg_marker.specs.Walks.{Walk, next_walk}
 use Rattle.jpeg_marker.proofs.HeadersTaken.{begun_has_plan}
 use Rattle.scan_spec.specs.FileParts.{IsScanOf}
 use Rattle.scan_spec.specs.Scans.{Mcu}
-use Rattle.box_format.specs.Parts.{BoxParts, IsBoxIn}
-use Rattle.box_format.specs.Seen.{BoxSeen}
+use Rattle.box_format.specs.Parts.{BoxParts, IsBoxIn, BoxSeen}
 use Rattle.box_format.specs.Versions.{layout_of}
 use Rattle.box_format.specs.declared.chunk.Chunk.{Chunk}
 use Rattle.box_format.specs.declared.version.Version.{Version}
@@ -31,7 +30,7 @@ use Rattle.scans_spec.proofs.ScansRestored.{restored}
 
 -- ---- a scan whose parts stand for bytes
 
-none_of : (o : Option Chunk) → is_some o ≡ false → o ≡ None
+pub none_of : (o : Option Chunk) → is_some o ≡ false → o ≡ None
 none_of None e = refl
 none_of (Some c) e = cc
 

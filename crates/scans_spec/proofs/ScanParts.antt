@@ -5,15 +5,15 @@ use Rattle.std.specs.List.{AllByRecursion}
 use Rattle.std.proofs.lemmas.List.{take-append-drop, length-take-le, take_at, drop_at}
 use Rattle.huff_table.proofs.Pairs.{all-append}
 use Rattle.bit_list.specs.Bits.{IsByte}
-use Rattle.jpeg_marker.specs.AcceptedPlans.{AreKnown, HasBegun}
+use Rattle.jpeg_marker.specs.AcceptedPlans.{HasBegun}
+use Rattle.jpeg_marker.specs.KnownBefore.{AreKnown}
 use Rattle.jpeg_marker.specs.Plans.{PlanFields}
 use Rattle.jpeg_marker.specs.Walks.{Walk}
 use Rattle.jpeg_marker.proofs.HeadersTaken.{begun_has_plan}
 use Rattle.scan_spec.specs.FileParts.{IsScanOf}
 use Rattle.scan_spec.specs.Scans.{Mcu}
 use Rattle.handover.specs.Handovers.{HandoverFields}
-use Rattle.box_format.specs.Parts.{BoxParts, IsBoxIn, box_bytes}
-use Rattle.box_format.specs.Seen.{BoxSeen}
+use Rattle.box_format.specs.Parts.{BoxParts, IsBoxIn, box_bytes, BoxSeen}
 use Rattle.box_format.specs.Versions.{most_segments}
 use Rattle.box_format.specs.declared.version.Version.TheVariants.{Second}
 use Rattle.container_spec.specs.Files.{IsContainerIn, parts_of_file, segment_start}

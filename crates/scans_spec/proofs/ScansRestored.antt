@@ -1,28 +1,27 @@
 -- The container of a file of several scans stands for the file.
-use Rattle.std.proofs.Common.{◌≡◌, ℕ, zero, suc, ◌+◌, ◌*◌, ◌^◌, ◌<◌, ◌≤◌, true, false, ◌==◌, List, [], ◌∷◌, ◌++◌, length, map, replicate, inl, inr, refl, sym, ap, ap₂, ◌∙◌, arith, append_assoc, append-nil}
+use Rattle.std.proofs.Common.{◌≡◌, ℕ, zero, suc, ◌+◌, ◌*◌, ◌^◌, ◌<◌, ◌≤◌, true, List, [], ◌∷◌, ◌++◌, length, map, replicate, inl, inr, refl, sym, ap, ap₂, ◌∙◌, arith, append_assoc, append-nil}
 use Rattle.std.specs.Prelude.{sum}
 use Rattle.std.specs.List.{AllByRecursion}
 use Rattle.std.proofs.lemmas.List.{length-replicate}
 use Rattle.std.proofs.lemmas.List.Folds.{sum_by-replicate}
 use Rattle.bit_list.specs.Bits.{IsByte}
-use Rattle.jpeg_marker.specs.AcceptedPlans.{AreKnown}
+use Rattle.jpeg_marker.specs.KnownBefore.{AreKnown}
 use Rattle.jpeg_marker.specs.FirstWalks.{opening_walk}
 use Rattle.jpeg_marker.specs.Walks.{Walk, next_walk}
 use Rattle.jpeg_marker.proofs.CodedComponents.{HaveCoded, none_coded, more_coded, few_coded}
 use Rattle.jpeg_marker.proofs.HeadersTaken.{none_known}
 use Rattle.scan_spec.proofs.FilesOnce.{known_on}
-use Rattle.box_format.specs.Parts.{BoxParts, box_bytes}
-use Rattle.box_format.specs.Seen.{BoxSeen}
-use Rattle.box_format.specs.Versions.{version_byte, most_segments}
-use Rattle.box_format.specs.declared.version.Version.{Version}
-use Rattle.box_format.specs.declared.version.Version.TheVariants.{First, Second, Third, Fifth}
+use Rattle.box_format.specs.Parts.{BoxParts, BoxSeen}
+use Rattle.box_format.specs.Versions.{most_segments}
+use Rattle.box_format.specs.declared.version.Version.TheVariants.{Second}
 use Rattle.box_format.proofs.Lists.{sum_first}
 use Rattle.container_spec.specs.Meanings.{Meaning, Restored, IsMeaning, meaning_of}
 use Rattle.container_spec.proofs.RestoredFiles.{container_is_restored}
-use Rattle.scans_format.specs.Scans.{AreBoxes, IsScans, all_parts, scans_bytes, segment_count, several_byte}
+use Rattle.scans_format.specs.Scans.{AreBoxes, IsScans, all_parts, scans_bytes, segment_count}
 use Rattle.scans_spec.specs.ScansFiles.{AreScansIn, IsContainerOfScans, share_of}
 use Rattle.scans_spec.specs.ScansMeaningLaws.{ScansAreRestored, FileIsRestored}
 use Rattle.scans_format.specs.Containers.{names_several}
+use Rattle.scans_format.proofs.FilesViewed.{named_one}
 use Rattle.scans_spec.specs.ScansMeanings.{StandsFor, verdict_after, meaning_after, followed_by, meaning_from, scans_meaning}
 use Rattle.scans_spec.proofs.ScanParts.{has, header, scan, bytes_are, rest_bytes, own, is_second, trailer_is, segments_are, is_box, means}
 
@@ -171,16 +170,6 @@ scans_are_restored mosts made file some few is =
 
 -- ---- a file of one scan
 
-version_not : (v : Version) → version_byte v == several_byte ≡ false
-version_not First = refl
-version_not Second = refl
-version_not Third = refl
-version_not Fifth = refl
-
-pub one_named : (b : BoxParts) → names_several (box_bytes b) ≡ false
-unfolding box_bytes
-one_named b = version_not b.version
-
 one_stands : (made file : List ℕ) → IsMeaning made (restored file) → StandsFor made (restored file)
 one_stands made file (inl refused) =
     absurd (let f = ap (λ (m : Meaning). m.verdict) refused.2 in cc)
@@ -188,7 +177,7 @@ one_stands made file (inr (plan, b, of, e)) =
     let s : BoxSeen = record { plan = plan; parts = b } in
     inr (
       s ∷ [],
-      inl (ap names_several of.text ∙ one_named b, s, refl, of),
+      inl (ap names_several of.text ∙ named_one b, s, refl, of),
       sym (meaning_is (s ∷ []) ∙ numbered_is 0 s file (sym e)),
     )
 

@@ -3,17 +3,18 @@ use Rattle.std.proofs.Common.{◌≡◌, ℕ, ◌+◌, ◌*◌, ◌^◌, ◌<◌
 use Rattle.std.specs.Prelude.{min, flat_map, sum}
 use Rattle.std.specs.List.{AllByRecursion}
 use Rattle.bit_list.specs.Bits.{IsByte}
-use Rattle.jpeg_marker.specs.AcceptedPlans.{AreKnown, HasBegun}
+use Rattle.jpeg_marker.specs.AcceptedPlans.{HasBegun}
+use Rattle.jpeg_marker.specs.KnownBefore.{AreKnown}
 use Rattle.jpeg_marker.specs.FirstWalks.{opening_walk}
 use Rattle.jpeg_marker.specs.Plans.{most_blocks}
 use Rattle.jpeg_marker.specs.Walks.{Walk, next_walk}
+use Rattle.jpeg_marker.proofs.CodedComponents.{none_coded}
 use Rattle.jpeg_marker.proofs.HeadersTaken.{none_known}
 use Rattle.scan_spec.specs.Slots.{shape_of}
 use Rattle.scan_spec.proofs.FilesOnce.{known_on}
 use Rattle.scan_spec.proofs.PlanShapes.{slots_count}
 use Rattle.handover.specs.Handovers.{IsHandover}
-use Rattle.box_format.specs.Parts.{BoxParts, box_bytes, list_bytes}
-use Rattle.box_format.specs.Seen.{BoxSeen}
+use Rattle.box_format.specs.Parts.{BoxParts, box_bytes, list_bytes, BoxSeen}
 use Rattle.box_format.specs.Versions.{most_segments}
 use Rattle.box_format.specs.declared.version.Version.TheVariants.{Second}
 use Rattle.box_format.proofs.Lists.{sum_first}
@@ -24,9 +25,9 @@ use Rattle.container_spec.proofs.FileParts.{cut, cuts, stream_long, list_long, m
 use Rattle.container_spec.proofs.StreamSizes.{streams_short}
 use Rattle.scans_format.specs.Scans.{all_parts, scan_fields, scan_header, scan_streams, trailer_of, scans_bytes}
 use Rattle.scans_spec.specs.ScansFiles.{IsScanIn, AreScansIn, share_of}
-use Rattle.scans_spec.specs.ScansMeaningLaws.{ContainerOfFileIsShort}
+use Rattle.scans_spec.specs.ScansMeaningLaws.{ContainerOfFileIsShort, ContainerOfScansIsShort}
 use Rattle.scans_spec.proofs.ScanParts.{has, header, bytes_are, rest_bytes, own, contained, trailer_is, segments_are, is_box}
-use Rattle.scans_spec.proofs.ScansRestored.{shares_are}
+use Rattle.scans_spec.proofs.ScansRestored.{scans_few, shares_are}
 
 -- ---- one scan
 
@@ -194,17 +195,22 @@ scans_long : (scans : List BoxParts)
 unfolding scans_bytes
 scans_long scans = simp length-append (omega arith)
 
+pub container_of_scans_is_short : ContainerOfScansIsShort
+container_of_scans_is_short mosts made file some few is short =
+    let all = are_short opening_walk mosts file is.trailer is.scans none_known is.bytes
+    is.trailer_fits some few is.are in
+    let text = ap length is.spelled in
+    let long = scans_long (all_parts is.scans) in
+    let count = scans_few opening_walk 0 mosts file is.trailer is.scans none_known none_coded is.bytes
+    is.trailer_fits is.are in
+    let fields = all.fields in
+    let headers = all.headers in
+    let streams = all.streams in
+    omega (arith, text, long, count, fields, headers, streams, short)
+
 pub container_of_file_is_short : ContainerOfFileIsShort
 container_of_file_is_short most made file some few (inl is) short =
     container_is_short Second most made file some few is short
 container_of_file_is_short most made file some few (inr (n, two, is)) short =
     let shares = shares_are most n made file few is in
-    let all = are_short opening_walk (replicate n (share_of most n)) file is.trailer is.scans
-    none_known is.bytes is.trailer_fits shares.some shares.few is.are in
-    let text = ap length is.spelled in
-    let long = scans_long (all_parts is.scans) in
-    let count = shares.count in
-    let fields = all.fields in
-    let headers = all.headers in
-    let streams = all.streams in
-    omega (arith, text, long, count, fields, headers, streams, short)
+    container_of_scans_is_short (replicate n (share_of most n)) made file shares.some shares.few is short

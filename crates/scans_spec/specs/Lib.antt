@@ -2,3 +2,4 @@ pub mod ScansMeanings
 pub mod ScansJoined
 pub mod ScansFiles
 pub mod ScansMeaningLaws
+pub mod ScansMeaningRows

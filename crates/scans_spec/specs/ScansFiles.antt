@@ -1,4 +1,5 @@
--- Statement: the container of a file of one scan or of several, and files that have none (docs/FORMAT.md, docs/JPEG.md).
+-- Statement: the container of a file of one scan or of several, and files that have none (docs/FORMAT.md,
+-- docs/JPEG.md).
 use Rattle.std.specs.Prelude.{ℕ, ◌≡◌, ◌⊎◌, ◌+◌, ◌<◌, ◌≤◌, ◌^◌, ◌/◌, max, Bool, true, false, List, [], ◌∷◌, length, take, drop, replicate}
 use Rattle.std.specs.List.{AllByRecursion}
 use Rattle.bit_list.specs.Bits.{IsByte}
@@ -7,12 +8,12 @@ use Rattle.jpeg_marker.specs.Plans.{PlanFields}
 use Rattle.jpeg_marker.specs.Walks.{Walk, next_walk}
 use Rattle.jpeg_marker.specs.FirstWalks.{opening_walk}
 use Rattle.jpeg_marker.specs.declared.refusal.HeaderRefusal.{HeaderRefusal}
-use Rattle.scan_spec.specs.FileParts.{FileScan, IsScanOf, is_last}
+use Rattle.scan_spec.specs.FileParts.{FileScan, IsFile, IsScanOf, is_last}
 use Rattle.scan_spec.specs.Items.{Refuses as ItemsRefuse}
 use Rattle.scan_spec.specs.Scans.{Mcu}
 use Rattle.scan_spec.specs.Slots.{shape_of}
 use Rattle.scan_spec.specs.declared.refusal.ScanRefusal.{ScanRefusal}
-use Rattle.box_format.specs.Seen.{BoxSeen}
+use Rattle.box_format.specs.Parts.{BoxSeen}
 use Rattle.box_format.specs.declared.version.Version.TheVariants.{Second}
 use Rattle.container_spec.specs.Files.{IsContainerOf, parts_of_file}
 use Rattle.scans_format.specs.Scans.{all_parts, scans_bytes}
@@ -32,7 +33,8 @@ pub record IsScanIn (w : Walk) (most : ℕ) (bytes rest trailer : List ℕ)
   pub parts : s.parts
       ≡ parts_of_file Second s.plan mcus pads (take s.plan.header_length bytes) trailer most
 
--- the scans of a file, each with at most so many segments, through the last one, which has the trailer
+-- the scans of a file, each with at most as many segments as the numbers say, through the last one, which has the
+-- trailer
 abbrev pub AreScansIn : Walk → List ℕ → List ℕ → List ℕ → List BoxSeen → Type 0
 AreScansIn w mosts bytes trailer [] = ⊥
 AreScansIn w [] bytes trailer (s ∷ scans) = ⊥
@@ -42,8 +44,8 @@ AreScansIn w (most ∷ mosts) bytes trailer (s ∷ t ∷ scans) =
     (rest : List ℕ) × IsScanIn w most bytes rest [] s × (is_last s.plan ≡ false)
     × AreScansIn (next_walk s.plan.known 0) mosts rest trailer (t ∷ scans)
 
--- `made` is the container of a file of several scans, each with at most so many segments: `mosts` has one number for
--- each
+-- `made` is the container of a file of several scans, each with at most as many segments as its number of `mosts`
+-- says
 pub record IsContainerOfScans (mosts : List ℕ) (made file : List ℕ) : Type 0 where
   pub bytes : AllByRecursion IsByte file
   pub scans : List BoxSeen
@@ -54,12 +56,17 @@ pub record IsContainerOfScans (mosts : List ℕ) (made file : List ℕ) : Type 0
   pub trailer_fits : length trailer < 2 ^ 32
   pub spelled : made ≡ scans_bytes (all_parts scans)
 
--- the container of a file with at most `most` segments: version 2 if it has one scan, else that of several scans, which
--- share them
+-- the container of a file with at most `most` segments, but at least one a scan: version 2 if it has one scan, else
+-- that of several scans, which share them
 abbrev pub IsContainerOfFile : ℕ → List ℕ → List ℕ → Type 0
 IsContainerOfFile most made file =
     IsContainerOf Second most made file
     ⊎ ((n : ℕ) × (2 ≤ n) × IsContainerOfScans (replicate n (share_of most n)) made file)
+
+-- a file that has several scans, all of them accepted
+abbrev pub HasSeveralScans : List ℕ → Type 0
+HasSeveralScans file =
+    (scans : List FileScan) × (trailer : List ℕ) × IsFile file scans trailer × (2 ≤ length scans)
 
 -- why a file is refused: a header, or the scan after one
 pub data FileRefusal : Type 0 where

@@ -8,25 +8,19 @@ use Rattle.handover.specs.declared.outcome.StreamFault.{StreamFault}
 use Rattle.handover.specs.declared.outcome.Outcome.{Outcome}
 use Rattle.handover.specs.declared.outcome.Outcome.TheVariants.{Good, Bad}
 use Rattle.box_format.specs.Raws.{numbers}
-use Rattle.box_format.specs.Seen.{BoxSeen}
+use Rattle.box_format.specs.Parts.{BoxSeen}
 use Rattle.scans_format.specs.Scans.{all_parts, segment_count, trailer_of}
 use Rattle.container_spec.specs.Segments.{Output}
-use Rattle.container_spec.specs.Meanings.{Meaning, Restored, PadSpelled, Faulty}
+use Rattle.container_spec.specs.Meanings.{Joined, Meaning, Restored, PadSpelled, Faulty}
 use Rattle.scans_spec.specs.ScansMeanings.{output_at, scan_of}
+use Rattle.scans_spec.specs.declared.scan_pads.ScanPads.{ScanPads}
 
--- what the intervals of each of four scans were padded with
-pub record ScanSums : Type 0 where
-  pub first : PadSum
-  pub second : PadSum
-  pub third : PadSum
-  pub fourth : PadSum
-
--- no interval
-abbrev pub no_sums : ScanSums
+-- no interval of any of four scans
+abbrev pub no_sums : ScanPads
 no_sums = record { first = no_pads; second = no_pads; third = no_pads; fourth = no_pads }
 
 -- these intervals of one scan
-abbrev pub sums_of : ℕ → PadSum → ScanSums
+abbrev pub sums_of : ℕ → PadSum → ScanPads
 sums_of scan padded =
     if scan == 0 then record no_sums { first = padded }
     else if scan == 1 then record no_sums { second = padded }
@@ -34,7 +28,7 @@ sums_of scan padded =
     else record no_sums { fourth = padded }
 
 -- some intervals and others, scan by scan
-abbrev pub sums_with : ScanSums → ScanSums → ScanSums
+abbrev pub sums_with : ScanPads → ScanPads → ScanPads
 sums_with a b = record {
   first = pads_with a.first b.first;
   second = pads_with a.second b.second;
@@ -43,7 +37,7 @@ sums_with a b = record {
 }
 
 -- those of one scan
-abbrev pub sum_in : ScanSums → ℕ → PadSum
+abbrev pub sum_in : ScanPads → ℕ → PadSum
 sum_in sums scan =
     if scan == 0 then sums.first
     else if scan == 1 then sums.second
@@ -63,7 +57,7 @@ scanned_from scans first count =
 pub record ScansJoined : Type 0 where
   pub bytes : List ℕ
   pub fault : Option StreamFault
-  pub padded : ScanSums
+  pub padded : ScanPads
 
 -- a segment before others
 abbrev pub scanned_with : ℕ → List ℕ → Outcome → ScansJoined → ScansJoined
@@ -80,12 +74,17 @@ abbrev pub scans_joined : List Scanned → ScansJoined
 scans_joined [] = record { bytes = []; fault = None; padded = no_sums }
 scans_joined (s ∷ segments) = scanned_with s.0 s.1.0 s.1.1 (scans_joined segments)
 
+-- segments of a container's one scan, joined
+abbrev pub joined_alone : Joined → ScansJoined
+joined_alone j =
+    record { bytes = j.bytes; fault = j.fault; padded = sums_of 0 j.padded }
+
 -- all segments of a container
 abbrev pub all_joined : List BoxSeen → ScansJoined
 all_joined scans = scans_joined (scanned_from scans 0 (segment_count scans))
 
 -- whether the pad bits of each scan are spelled as `encode` spells them, the first one here having a number
-abbrev pub all_spelled : ℕ → List BoxSeen → ScanSums → Bool
+abbrev pub all_spelled : ℕ → List BoxSeen → ScanPads → Bool
 all_spelled scan [] sums = true
 all_spelled scan (s ∷ scans) sums =
     is_spelled s.parts.pads (sum_in sums scan) && all_spelled (scan + 1) scans sums

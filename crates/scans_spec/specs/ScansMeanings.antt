@@ -5,7 +5,7 @@ use Rattle.handover.specs.PadSums.{no_pads}
 use Rattle.handover.specs.declared.outcome.StreamFault.{StreamFault}
 use Rattle.handover.specs.declared.outcome.Outcome.{Outcome}
 use Rattle.handover.specs.declared.outcome.Outcome.TheVariants.{Good, Bad}
-use Rattle.box_format.specs.Seen.{BoxSeen}
+use Rattle.box_format.specs.Parts.{BoxSeen}
 use Rattle.box_format.specs.declared.refusal.BoxRefusal.{BoxRefusal}
 use Rattle.scans_format.specs.Containers.{IsContainer, IsRefusedContainer}
 use Rattle.container_spec.specs.Segments.{Output, segment_output, with_prefix}
@@ -13,7 +13,7 @@ use Rattle.container_spec.specs.Meanings.{Meaning, Verdict, Restored, PadSpelled
 
 -- Segments are numbered on through the scans.
 
--- a fault of a scan's segment, so many segments being before the scan
+-- a fault of a scan's segment, after `first` segments of the scans before
 abbrev pub fault_after : ℕ → StreamFault → StreamFault
 fault_after first fault = record { segment = first + fault.segment; cause = fault.cause }
 
@@ -28,7 +28,7 @@ verdict_after first ChunkShort = ChunkShort
 verdict_after first (Faulty fault) = Faulty (fault_after first fault)
 verdict_after first (NoBox refusal) = NoBox refusal
 
--- what a scan stands for, so many segments being before it
+-- what a scan stands for, after `first` segments of the scans before
 abbrev pub meaning_after : ℕ → BoxSeen → Meaning
 meaning_after first s =
     let m = meaning_of s.plan s.parts in
@@ -76,7 +76,7 @@ StandsFor bytes meaning =
 abbrev pub lead_of : Bool → List ℕ → ℕ → List ℕ
 lead_of later header i = if later && i == 0 then header else []
 
--- those of segment i of a scan, so many segments being before the scan
+-- those of segment i of a scan, after `first` segments of the scans before
 abbrev pub led_output : Bool → ℕ → BoxSeen → ℕ → Output
 led_output later first s i =
     let output = segment_output (segment_in s.plan s.parts i) in
@@ -93,6 +93,17 @@ output_from later first (s ∷ scans) i =
 -- and of all scans of a container
 abbrev pub output_at : List BoxSeen → ℕ → Output
 output_at scans i = output_from false 0 scans i
+
+-- what comes before the bytes of segment i of scans
+abbrev pub lead_from : Bool → List BoxSeen → ℕ → List ℕ
+lead_from later [] i = []
+lead_from later (s ∷ scans) i =
+    let count = length s.parts.handovers in
+    if nat_lt i count then lead_of later s.parts.header i else lead_from true scans (i - count)
+
+-- and of all scans of a container
+abbrev pub lead_at : List BoxSeen → ℕ → List ℕ
+lead_at scans i = lead_from false scans i
 
 -- the number of the scan that has segment i
 abbrev pub scan_of : ℕ → List BoxSeen → ℕ → ℕ

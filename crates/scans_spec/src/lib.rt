@@ -3,5 +3,10 @@
 #![tactic(auto)]
 
 mod laws;
+mod scan_pads;
 
-pub use laws::{containers_of_scans_stand_for_files, files_have_one_container, scans_are_joined};
+pub use laws::{
+    containers_of_scans_stand_for_files, files_have_one_container, one_scan_is_as_before,
+    rows_of_scans, scans_are_joined,
+};
+pub use scan_pads::ScanPads;

@@ -1,6 +1,6 @@
 use Rattle.scans_spec.proofs.FilesRefused.{one_file_refusal}
-use Rattle.scans_spec.proofs.OneContainers.{one_container_of_file, contained_is_not_refused}
-use Rattle.scans_spec.proofs.ScansSizes.{container_of_file_is_short}
+use Rattle.scans_spec.proofs.OneContainers.{one_container_of_file, contained_is_not_refused, accepted_is_not_refused, several_is_not_one}
+use Rattle.scans_spec.proofs.ScansSizes.{container_of_file_is_short, container_of_scans_is_short}
 use Rattle.scans_spec.proofs.laws.files_have_one_container.Goals as goal
 
 pub returns-clause-one : goal.returns-clause-one
@@ -14,3 +14,12 @@ returns-clause-refusal c = one_file_refusal
 
 pub returns-clause-short : goal.returns-clause-short
 returns-clause-short c = container_of_file_is_short
+
+pub returns-clause-scans_short : goal.returns-clause-scans_short
+returns-clause-scans_short c = container_of_scans_is_short
+
+pub returns-clause-accepted : goal.returns-clause-accepted
+returns-clause-accepted c = accepted_is_not_refused
+
+pub returns-clause-several : goal.returns-clause-several
+returns-clause-several c = several_is_not_one

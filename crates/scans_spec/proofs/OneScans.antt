@@ -1,0 +1,76 @@
+-- A container of one scan stands for what it does without the others.
+use Rattle.std.proofs.Common.{◌≡◌, ℕ, ◌+◌, ◌<◌, Bool, if◌then◌else◌, inl, inr, [], ◌∷◌, length, map, Option, Some, None, refl, sym, ap, ◌∙◌, arith}
+use Rattle.std.specs.Prelude.{option_map}
+use Rattle.std.proofs.lemmas.Bool.{lt-ltb}
+use Rattle.handover.specs.declared.outcome.StreamFault.{StreamFault}
+use Rattle.box_format.specs.Raws.{numbers}
+use Rattle.box_format.specs.Parts.{BoxSeen}
+use Rattle.container_spec.specs.Segments.{Output, segment_output}
+use Rattle.container_spec.specs.Meanings.{Verdict, Restored, PadSpelled, ChunkShort, Faulty, NoBox, joined, meaning_of, segment_in}
+use Rattle.scans_spec.specs.ScansMeanings.{fault_after, output_at, scan_of, scans_meaning, verdict_after}
+use Rattle.scans_spec.specs.ScansJoined.{Scanned, joined_alone, scans_joined}
+use Rattle.scans_spec.specs.ScansMeaningLaws.{OneStandsForItself, OneIsMeaning, MeaningIsOne, OneIsJoined}
+use Rattle.scans_spec.proofs.BoxesOnce.{not_both}
+use Rattle.container_spec.proofs.Numbered.{mapped_same}
+use Rattle.scans_spec.proofs.JoinedLists.{led, others}
+
+same_fault : (fault : StreamFault) → fault_after 0 fault ≡ fault
+same_fault fault =
+    let z : 0 + fault.segment ≡ fault.segment = omega arith in
+    ap (λ (n : ℕ). record { segment = n; cause = fault.cause }) z
+
+verdict_same : (v : Verdict) → verdict_after 0 v ≡ v
+verdict_same Restored = refl
+verdict_same PadSpelled = refl
+verdict_same ChunkShort = refl
+verdict_same (Faulty fault) = ap (λ (f : StreamFault). Faulty f) (same_fault fault)
+verdict_same (NoBox refusal) = refl
+
+pub one_stands_for_itself : OneStandsForItself
+unfolding scans_meaning
+one_stands_for_itself s =
+    let m = meaning_of s.plan s.parts in
+    ap (λ (v : Verdict). record { bytes = m.bytes; verdict = v }) (verdict_same m.verdict)
+
+pub one_is_meaning : OneIsMeaning
+one_is_meaning bytes meaning one (inl (refusal, inl is, e)) = inl (refusal, is.1, e)
+one_is_meaning bytes meaning one (inl (refusal, inr is, e)) = absurd (not_both bytes one is.0)
+one_is_meaning bytes meaning one (inr (scans, inl is, e)) =
+    inr (
+      is.1.plan,
+      is.1.parts,
+      is.3,
+      e ∙ ap scans_meaning is.2 ∙ one_stands_for_itself is.1,
+    )
+one_is_meaning bytes meaning one (inr (scans, inr is, e)) = absurd (not_both bytes one is.0)
+
+pub meaning_is_one : MeaningIsOne
+meaning_is_one bytes meaning one (inl (refusal, is, e)) = inl (refusal, inl (one, is), e)
+meaning_is_one bytes meaning one (inr (plan, b, is, e)) =
+    let s : BoxSeen = record { plan = plan; parts = b } in
+    inr (s ∷ [], inl (one, s, refl, is), e ∙ sym (one_stands_for_itself s))
+
+-- its segments have number 0 for their scan
+here : (s : BoxSeen) (i : ℕ) → i < length s.parts.handovers
+    → (let segment : Scanned = (scan_of 0 (s ∷ []) i, output_at (s ∷ []) i) in segment)
+    ≡ led 0 0 [] (segment_output (segment_in s.plan s.parts i))
+here s i below =
+    let f : Output = segment_output (segment_in s.plan s.parts i) in
+    let by : Bool → Scanned =
+    λ t. (if t then 0 else 1, if t then (led 0 0 [] f).1 else output_at [] i) in
+    ap by (lt-ltb i (length s.parts.handovers) below)
+
+fault_same : (fault : Option StreamFault) → option_map (fault_after 0) fault ≡ fault
+fault_same None = refl
+fault_same (Some fault) = ap (λ (f : StreamFault). Some f) (same_fault fault)
+
+pub one_is_joined : OneIsJoined
+one_is_joined s first count within =
+    let f : ℕ → Output = λ i. segment_output (segment_in s.plan s.parts i) in
+    let j = joined (map f (numbers first count)) in
+    ap scans_joined (mapped_same (λ i. (scan_of 0 (s ∷ []) i, output_at (s ∷ []) i))
+    (λ i. led 0 0 [] (f i)) first count
+    (λ i low below. here s i (omega (arith, below, within))))
+    ∙ others 0 0 f (numbers first count)
+    ∙ ap (λ (o : Option StreamFault). joined_alone (record j { fault = o }))
+    (fault_same j.fault)
