@@ -24,3 +24,4 @@ mod StepsTaken
 mod FaultNumbers
 mod FileSteps
 mod ScanDecoders
+mod ScansOfSegments

@@ -8,7 +8,7 @@ use Rattle.segment_code.specs.declared.step.Step.{Step}
 use Rattle.segment_code.specs.declared.step.Step.TheVariants.{More, Done, Fault}
 
 -- a decoder of several scans: their plans, how many segments it began, whether one is under way; of that the number of
--- its scan, its own number in the file, and what is left of the header before its bytes; and a decoder for each scan
+-- its scan, its own number in the container, and what is left of the header before its bytes; and a decoder for each scan
 pub record FileDecoderSeen : Type 0 where
   pub plans : List PlanFields
   pub begun : ℕ
@@ -67,7 +67,7 @@ pub record ScanOwes (decoders : List DecoderSeen) (scan : ℕ) (bytes : List ℕ
   pub owes : Owes decoder bytes outcome
 
 -- it still owes these bytes and this outcome, in some steps: what is left of the header, and what the scan's decoder
--- owes, with the segment's number in the file
+-- owes, with the segment's number in the container
 pub record FileOwes (d : FileDecoderSeen) (bytes : List ℕ) (outcome : Outcome) : Type 0 where
   pub rest : List ℕ
   pub ending : Outcome

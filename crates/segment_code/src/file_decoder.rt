@@ -1,9 +1,12 @@
 // Segments of a file's scans decoded one after another, each in steps.
 ghost use Rattle.std.specs.Prelude.{◌≡◌, ◌+◌, ◌-◌, ◌<◌, ◌≤◌, ◌^◌, ℕ, List, [], ◌++◌, length, map, take, drop, nat_lt, slice_get, Some, true, false, All, IfOk};
 ghost use Rattle.handover.specs.declared.outcome.Outcome.{Outcome};
+ghost use Rattle.box_format.specs.Parts.{BoxSeen};
 ghost use Rattle.container_spec.specs.Meanings.{segment_in};
 ghost use Rattle.container_spec.specs.Segments.{segment_output};
-ghost use Rattle.scans_spec.specs.ScansMeanings.{lead_of, led_output};
+ghost use Rattle.scans_format.specs.Scans.{all_plans, segment_count};
+ghost use Rattle.scans_spec.specs.ScansMeanings.{lead_at, lead_of, led_output, output_at, scan_of};
+ghost use Rattle.segment_code.specs.declared.step.Step.TheVariants.{More};
 ghost use Rattle.segment_code.specs.FileDecoding.{FileOwes, FilePays, ScanOwes, ScanPays, is_running, mcus_left, plans_of, step_numbered, steps_left};
 
 use crate::bytes_put::{ROOM_FOR_BYTES, put_bytes};
@@ -14,6 +17,7 @@ use box_format::BoxView;
 use growth::{NoMemory, push, with_capacity};
 use handover::StreamFault;
 use jpeg_marker::Plan;
+use scans_format::FileView;
 use std::alloc::Global;
 use std::marker::Model;
 
@@ -27,7 +31,7 @@ pub struct FileDecoder<'a> {
     decoders: Vec<SegmentDecoder<'a>>,
     begun: u32,
     scan: u8,
-    // The segment's number in the file.
+    // The segment's number in the container.
     number: u8,
     // What is left of the header before the segment's bytes.
     lead: &'a [u8],
@@ -67,17 +71,36 @@ impl<'a> FileDecoder<'a> {
         self.begun
     }
 
-    /// Begins a segment of a scan, whatever became of the one before. `scan` is the scan's number, the scans before it
-    /// have `before` segments, and its own first segment has number 0. It takes no memory.
+    /// Begins a segment of a container, whatever became of the one before; the container's first segment has number 0.
+    /// It takes no memory.
     ///
     /// A later scan's header comes before the bytes of its first segment.
-    pub fn begin(&mut self, view: &BoxView<'a>, scan: u8, before: u8, segment: u8)
+    pub fn begin(&mut self, view: &FileView<'a>, segment: u8)
+        requires plans { self.old.plans ≡ all_plans view.now }
+        requires segment { segment < segment_count view.now }
+        requires count { self.old.begun < 2 ^ 32 - 1 }
+        ensures owes { let output = output_at view.now segment in
+            FileOwes self.new output.0 output.1 }
+        ensures lead { self.new.lead ≡ lead_at view.now segment }
+        ensures running { self.new.running ≡ true }
+        ensures few { steps_left self.new < 2 ^ 33 }
+        ensures begun { self.new.begun ≡ self.old.begun + 1 }
+        ensures plans { self.new.plans ≡ self.old.plans }
+    {
+        let (scan, before) = segment_at(view, segment);
+        self.begin_scan(&view.scan(scan), scan, before, segment - before);
+    }
+
+    // Begins a segment of a scan. `scan` is the scan's number, the scans before it have `before` segments, and its own
+    // first segment has number 0.
+    fn begin_scan(&mut self, view: &BoxView<'a>, scan: u8, before: u8, segment: u8)
         requires plan { slice_get self.old.plans scan ≡ Some view.now.plan }
         requires segment { segment < length view.now.parts.handovers }
         requires number { before + segment < 256 }
         requires count { self.old.begun < 2 ^ 32 - 1 }
         ensures owes { let output = led_output (nat_lt 0 scan) before view.now segment in
             FileOwes self.new output.0 output.1 }
+        ensures lead { self.new.lead ≡ lead_of (nat_lt 0 scan) view.now.parts.header segment }
         ensures running { self.new.running ≡ true }
         ensures few { steps_left self.new < 2 ^ 33 }
         ensures begun { self.new.begun ≡ self.old.begun + 1 }
@@ -90,13 +113,17 @@ impl<'a> FileDecoder<'a> {
         self.lead = lead_before(view, scan, segment);
     }
 
-    /// Replaces `out` by the segment's next bytes: first those of the header that comes before it, as many as have room,
-    /// and then whole MCUs, as `SegmentDecoder::step` gives them. After `Done` and after `Fault` the segment is over; a
-    /// fault comes after the bytes of the MCUs before it, and has the segment's number in the file.
+    /// Replaces `out` by the segment's next bytes: first those of the header that comes before it, as many as have
+    /// room, and then whole MCUs, as `SegmentDecoder::step` gives them. After `Done` and after `Fault` the segment is
+    /// over; a fault comes after the bytes of the MCUs before it, and has the segment's number in the container.
     pub fn step(&mut self, out: &mut Piece) -> Step
         requires running { self.old.running ≡ true }
         ensures pays { (bytes : List ℕ) (outcome : Outcome) → FileOwes self.old bytes outcome
             → FilePays result bytes outcome out.new self.old self.new }
+        // If some of the header is left, the step gives of it, and does nothing else.
+        ensures lead { 0 < length self.old.lead → (result ≡ More) × (0 < length out.new)
+            × (out.new ++ self.new.lead ≡ self.old.lead)
+            × (self.new ≡ record self.old { lead = self.new.lead }) }
         ensures begun { self.new.begun ≡ self.old.begun }
         ensures plans { self.new.plans ≡ self.old.plans }
     {
@@ -134,6 +161,30 @@ impl<'a> FileDecoder<'a> {
         let step = step_in(&mut self.decoders, self.scan, out);
         with_number(step, self.number)
     }
+}
+
+/// The scan that has a segment of a container, the first scan having number 0, and how many segments are before the
+/// scan.
+pub fn segment_at(view: &FileView, segment: u8) -> (u8, u8)
+    requires { segment < segment_count view.now }
+    ensures scan { result.0 ≡ scan_of 0 view.now segment }
+    ensures within { result.1 ≤ segment }
+    ensures segment { (s : BoxSeen) × (slice_get view.now result.0 ≡ Some s)
+        × (segment - result.1 < length s.parts.handovers)
+        × (output_at view.now segment
+        ≡ led_output (nat_lt 0 result.0) result.1 s (segment - result.1))
+        × (lead_at view.now segment
+        ≡ lead_of (nat_lt 0 result.0) s.parts.header (segment - result.1)) }
+{
+    let mut before = 0;
+    for scan in 0..view.scans() {
+        let count = view.scan(scan).segments();
+        if segment - before < count {
+            return (scan, before);
+        }
+        before += count;
+    }
+    unreachable!()
 }
 
 // A decoder for each of these plans.

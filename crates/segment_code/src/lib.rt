@@ -7,7 +7,7 @@
 //! or only reads it, and gives a `SegmentPart` that is coded beside the pass. `find_starts` is a pass that codes
 //! nothing, and `find_rows` one that finds where each row starts. By these starts `encode_segment` codes one segment
 //! of a file, or of a chunk's rows of it. `SegmentDecoder` decodes the segments of a scan, each in steps of a piece of
-//! bytes; `FileDecoder` those of several scans, with the header that comes before a scan.
+//! bytes; `FileDecoder` those of a container of one scan or of several, with the header that comes before a later scan.
 //!
 //! Two MCU rows of blocks are kept, as neighbours. What a block's events are is `block_spec`'s, what a scan's bytes
 //! are is `scan_spec`'s, and what a segment's stream stands for is `container_spec`'s.
@@ -32,7 +32,7 @@ mod step;
 pub use cuts::row_of;
 pub use decoder::SegmentDecoder;
 pub use error::ScanError;
-pub use file_decoder::FileDecoder;
+pub use file_decoder::{FileDecoder, segment_at};
 pub use find::{find_rows, find_starts};
 pub use laws::{rows_of_pieces, segments_come_in_pieces};
 pub use part::SegmentPart;
