@@ -1,8 +1,8 @@
 // Stretches of a container's segments, each written by a crew of its own (docs/FORMAT.md).
 
-use box_format::{BoxView, read_box};
 use byte_window::Window;
 use outside_core::{MemSink, OpenGate};
+use scans_format::{FileView, read_container};
 use segment_crew::Crew;
 use std::alloc::{AllocError, Global};
 use std::process::Abort;
@@ -39,7 +39,7 @@ const STRETCHES: &[(u8, u8, u64, &[u8])] = &[
 fn is_written<R: Threads + Wait + Abort + Sync>(
     rt: &R,
     alloc: Global,
-    view: &BoxView,
+    view: &FileView,
     stretch: (u8, u8),
     skip: u64,
     workers: u8,
@@ -63,7 +63,7 @@ fn is_written<R: Threads + Wait + Abort + Sync>(
 #[test]
 fn stretches_are_written(rt: HostRuntime) -> Result<(), Fail> {
     let alloc = rt.alloc();
-    match read_box(THREE) {
+    match read_container(THREE) {
         Ok(view) => {
             for (first, count, skip, wanted) in STRETCHES {
                 for workers in 0..3 {

@@ -3,6 +3,7 @@ use Rattle.std.proofs.Common.{◌≡◌, ℕ, zero, suc, ◌+◌, ◌≤◌, tru
 use Rattle.std.proofs.lemmas.List.Elements.{All-map, All-push, All-weaker}
 use Rattle.std.specs.Prelude.{All}
 use Rattle.atomic_table.specs.Seated.{TableId}
+use Rattle.scans_format.specs.Scans.{all_plans, segment_count}
 use Rattle.output_board.specs.declared.view.EmitterView.{EmitterView}
 use Rattle.output_board.specs.declared.view.WorkerView.{WorkerView}
 use Rattle.output_board.specs.SeatRule.{new_worker}
@@ -15,12 +16,12 @@ use Rattle.segment_crew.specs.declared.team.Worker.{Worker}
 
 -- the emitter's is new
 pub new_lead : (table : TableId) (v : Stretch) (workers ring : ℕ) (emitter : Emitter)
-    → v.first + v.count ≤ length v.container.parts.handovers
-    → emitter.seat ≡ new_emitter_seat table v workers ring → emitter.decoder.plan ≡ v.container.plan
+    → v.first + v.count ≤ segment_count v.container
+    → emitter.seat ≡ new_emitter_seat table v workers ring → emitter.decoder.plans ≡ all_plans v.container
     → emitter.decoder.begun ≡ 0 → IsNewLead table emitter.seat.content emitter
-new_lead table v workers ring emitter within e plan begun =
+new_lead table v workers ring emitter within e plans begun =
     let content = ap (λ (s : SeatValue Stretch EmitterView). s.content) (sym e) in record {
-      within = subst (λ (s : Stretch). s.first + s.count ≤ length s.container.parts.handovers) content within;
+      within = subst (λ (s : Stretch). s.first + s.count ≤ segment_count s.container) content within;
       new = record {
         own = ap (λ (s : SeatValue Stretch EmitterView). s.table) e;
         content = refl;
@@ -29,7 +30,7 @@ new_lead table v workers ring emitter within e plan begun =
         free = ap (λ (s : SeatValue Stretch EmitterView). s.view.owns) e;
         going = ap (λ (s : SeatValue Stretch EmitterView). s.view.stopped) e;
         claims = ap (λ (s : SeatValue Stretch EmitterView). s.claims) e;
-        plan = plan ∙ ap (λ (s : Stretch). s.container.plan) content;
+        plans = plans ∙ ap (λ (s : Stretch). all_plans s.container) content;
         begun = begun;
       };
     }

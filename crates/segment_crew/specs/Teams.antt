@@ -3,6 +3,7 @@ use Rattle.std.specs.Prelude.{All, ℕ, ◌≡◌, ◌+◌, ◌*◌, ◌≤◌, 
 use Rattle.byte_window.specs.declared.window.Window.{Window}
 use Rattle.atomic_table.specs.Seated.{TableId}
 use Rattle.box_format.specs.Versions.{most_segments}
+use Rattle.scans_format.specs.Scans.{segment_count}
 use Rattle.output_board.specs.declared.view.EmitterView.{EmitterView}
 use Rattle.output_board.specs.declared.view.WorkerView.{WorkerView}
 use Rattle.output_board.specs.Seats.{SeatValue}
@@ -37,7 +38,7 @@ members_of team = map worker_member team
 
 -- a worker between two segments of the board of a stretch, all of whose segments the container has
 pub record IsIdleWorker (table : TableId) (v : Stretch) (worker : Worker) : Type 0 where
-  pub within : v.first + v.count ≤ length v.container.parts.handovers
+  pub within : v.first + v.count ≤ segment_count v.container
   pub idle : IsIdle table v worker.seat worker.decoder
 
 -- a worker that left
@@ -46,7 +47,7 @@ IsLeftWorker table v worker = HasLeft table v worker.seat worker.decoder
 
 -- the emitter before its first call, on the board of a stretch, all of whose segments the container has
 pub record IsNewLead (table : TableId) (v : Stretch) (emitter : Emitter) : Type 0 where
-  pub within : v.first + v.count ≤ length v.container.parts.handovers
+  pub within : v.first + v.count ≤ segment_count v.container
   pub new : IsNewEmitter table v emitter.seat emitter.decoder
 
 -- the emitter after its last call, with this window on the segments

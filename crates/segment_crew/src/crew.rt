@@ -2,6 +2,7 @@
 ghost use Rattle.std.specs.Prelude.{◌≡◌, ◌+◌, ◌*◌, ◌≤◌, All, IfOk, OnErr, OnOk, false, length, min, true};
 ghost use Rattle.outside_core.specs.Takes.{TakesNext};
 ghost use Rattle.box_format.specs.Versions.{most_segments};
+ghost use Rattle.scans_format.specs.Scans.{segment_count};
 ghost use Rattle.segment_worker.specs.Contents.{segment_room, stretch};
 ghost use Rattle.segment_worker.specs.Emitting.{Emits, IsThrough, joined_in, seen_through};
 ghost use Rattle.segment_crew.specs.Crews.{HasBegunItsClaims};
@@ -10,12 +11,12 @@ ghost use Rattle.segment_crew.specs.Teams.{IsIdleWorker, IsNewLead, emitter_memb
 use crate::team::{Emitter, Shared, Worker, team_of};
 use crate::threads::lead_beside;
 use bit_list::Piece;
-use box_format::BoxView;
 use byte_window::Window;
 use growth::NoMemory;
 use output_board::Board;
 use outside_core::{Gate, Sink};
-use segment_code::SegmentDecoder;
+use scans_format::FileView;
+use segment_code::FileDecoder;
 use segment_worker::{EmitStop, Emitted, Told, prepare_board};
 use std::alloc::Global;
 use std::marker::Model;
@@ -54,21 +55,21 @@ impl<'a> Crew<'a> {
     /// one error is out of memory.
     pub fn prepare(
         alloc: Global,
-        view: &BoxView<'a>,
+        view: &FileView<'a>,
         first: u8,
         count: u8,
         workers: u8,
         ring: usize,
     ) -> Result<Crew<'a>, NoMemory>
         requires ring { 1 ≤ ring }
-        requires within { first + count ≤ length view.now.parts.handovers }
+        requires within { first + count ≤ segment_count view.now }
         ensures segments { IfOk result (λ crew. crew.segments ≡ stretch view.now first count) }
         ensures team { IfOk result (λ crew. length crew.team ≡ min workers count) }
         ensures rings { IfOk result (λ crew. crew.emitter.view.capacity ≡ ring) }
         ensures fresh { IfOk result (λ crew. crew.used ≡ false) }
     {
         let workers = workers.min(count);
-        let decoder = SegmentDecoder::prepare(alloc, view.plan())?;
+        let decoder = FileDecoder::prepare(alloc, view.plans())?;
         let piece = Piece::new(alloc)?;
         let (board, seat, seats) = prepare_board(alloc, view, ring, workers, first, count)?;
         let team = team_of(alloc, view, &board, seats, first, count)?;
@@ -108,7 +109,7 @@ impl<'a> Crew<'a> {
     pub fn emit<R: Threads + Wait + Sync, K: Sink + Send, G: Gate + Sync>(
         &mut self,
         rt: &R,
-        view: &BoxView<'a>,
+        view: &FileView<'a>,
         window: Window,
         sink: &mut K,
         gate: &G,
@@ -151,7 +152,7 @@ impl<'a> Crew<'a> {
 // The same, for the parts of a crew.
 fn emit_beside<'a, R: Threads + Wait + Sync, K: Sink + Send, G: Gate + Sync>(
     rt: &R,
-    view: &BoxView<'a>,
+    view: &FileView<'a>,
     first: u8,
     count: u8,
     board: &Board<Told<'a>>,

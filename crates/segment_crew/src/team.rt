@@ -1,16 +1,17 @@
 // The emitter and the workers of a crew, each with what it needs.
 ghost use Rattle.std.specs.Prelude.{◌≡◌, ◌+◌, ◌≤◌, All, IfOk, length};
+ghost use Rattle.scans_format.specs.Scans.{segment_count};
 ghost use Rattle.segment_worker.specs.Contents.{stretch};
 ghost use Rattle.segment_crew.specs.Teams.{IsIdleWorker, IsNewSeat, AreNewSeats};
 
 use crate::threads::{Lead, Task};
 use bit_list::Piece;
-use box_format::BoxView;
 use byte_window::Window;
 use growth::{NoMemory, push, with_capacity};
 use output_board::{Board, EmitterSeat, WorkerSeat};
 use outside_core::{Gate, Sink};
-use segment_code::SegmentDecoder;
+use scans_format::FileView;
+use segment_code::FileDecoder;
 use segment_worker::{EmitStop, Emitted, Told, emit, work};
 use std::alloc::Global;
 use std::sync::Wait;
@@ -19,7 +20,7 @@ use std::sync::Wait;
 #[derive(Drop)]
 pub(crate) struct Worker<'a> {
     pub(crate) seat: WorkerSeat<Told<'a>>,
-    pub(crate) decoder: SegmentDecoder<'a>,
+    pub(crate) decoder: FileDecoder<'a>,
     pub(crate) piece: Piece,
 }
 
@@ -27,7 +28,7 @@ pub(crate) struct Worker<'a> {
 #[derive(Drop)]
 pub(crate) struct Emitter<'a> {
     pub(crate) seat: EmitterSeat<Told<'a>>,
-    pub(crate) decoder: SegmentDecoder<'a>,
+    pub(crate) decoder: FileDecoder<'a>,
     pub(crate) piece: Piece,
 }
 
@@ -35,7 +36,7 @@ pub(crate) struct Emitter<'a> {
 #[derive(Drop)]
 pub(crate) struct Shared<'s, 'a, G> {
     pub(crate) board: &'s Board<Told<'a>>,
-    pub(crate) view: &'s BoxView<'a>,
+    pub(crate) view: &'s FileView<'a>,
     pub(crate) first: u8,
     pub(crate) count: u8,
     pub(crate) window: Window,
@@ -111,13 +112,13 @@ impl<'s, 'a, G: Gate, K: Sink> Lead<Shared<'s, 'a, G>, K> for Emitter<'a> {
 // A worker for each seat, with all the memory that it needs.
 pub(crate) fn team_of<'a>(
     alloc: Global,
-    view: &BoxView<'a>,
+    view: &FileView<'a>,
     board: &Board<Told<'a>>,
     seats: Vec<WorkerSeat<Told<'a>>>,
     first: u8,
     count: u8,
 ) -> Result<Vec<Worker<'a>>, NoMemory>
-    requires within { first + count ≤ length view.now.parts.handovers }
+    requires within { first + count ≤ segment_count view.now }
     requires new { AreNewSeats board.now (stretch view.now first count) seats.items }
     ensures idle { IfOk result (λ team.
         All (IsIdleWorker board.now (stretch view.now first count)) team.items) }
@@ -134,18 +135,18 @@ pub(crate) fn team_of<'a>(
 // A worker for a seat.
 fn worker_of<'a>(
     alloc: Global,
-    view: &BoxView<'a>,
+    view: &FileView<'a>,
     _board: &Board<Told<'a>>,
     seat: WorkerSeat<Told<'a>>,
     _first: u8,
     _count: u8,
 ) -> Result<Worker<'a>, NoMemory>
-    requires within { _first + _count ≤ length view.now.parts.handovers }
+    requires within { _first + _count ≤ segment_count view.now }
     requires new { IsNewSeat _board.now (stretch view.now _first _count) seat }
     ensures { IfOk result (λ worker.
         IsIdleWorker _board.now (stretch view.now _first _count) worker) }
 {
-    let decoder = SegmentDecoder::prepare(alloc, view.plan())?;
+    let decoder = FileDecoder::prepare(alloc, view.plans())?;
     let piece = Piece::new(alloc)?;
     Ok(Worker {
         seat,

@@ -1,12 +1,17 @@
 -- The bytes and the outcomes that the board of a stretch is for.
-use Rattle.std.proofs.Common.{◌≡◌, ℕ, ◌+◌, ◌<◌, ◌≤◌, List, [], length, get_or, sym, ap, subst, ◌∙◌, arith, Some, None, ⊎_elim}
-use Rattle.std.specs.Prelude.{slice_get}
-use Rattle.std.proofs.lemmas.Bool.{cases_lt}
+use Rattle.std.proofs.Common.{◌≡◌, ℕ, ◌+◌, ◌-◌, ◌^◌, ◌<◌, ◌≤◌, Bool, true, false, if◌then◌else◌, List, [], ◌∷◌, length, get_or, sym, ap, subst, ◌∙◌, arith, length-append, Some, None, ⊎_elim, inl, inr}
+use Rattle.std.specs.Prelude.{◌==◌, ◌&&◌, slice_get}
+use Rattle.std.proofs.lemmas.Bool.{cases_lt, lt-ltb, le-ltb}
+use Rattle.jpeg_marker.specs.Walks.{Walk, next_walk}
+use Rattle.jpeg_marker.specs.FirstWalks.{only_walk, opening_walk}
 use Rattle.handover.specs.PadSums.{no_pads}
 use Rattle.handover.specs.declared.outcome.Outcome.{Outcome}
 use Rattle.handover.specs.declared.outcome.Outcome.TheVariants.{Good}
 use Rattle.board_core.specs.BoardInvariants.{bytes_at}
-use Rattle.box_format.specs.Parts.{IsScanBox}
+use Rattle.box_format.specs.Parts.{IsScanBox, BoxSeen}
+use Rattle.scans_format.specs.Scans.{AreBoxes}
+use Rattle.scans_format.specs.Containers.{IsContainer}
+use Rattle.scans_spec.specs.ScansMeanings.{lead_of, led_output, output_from, output_at}
 use Rattle.container_spec.specs.Segments.{Output, segment_output}
 use Rattle.container_spec.specs.Meanings.{segment_in}
 use Rattle.container_spec.proofs.Numbered.{mapped_long, mapped_at, got_at, got_none}
@@ -16,7 +21,7 @@ use Rattle.segment_worker.proofs.Tails.{mapped_twice, past_end}
 
 -- the bytes and the outcome of the container's segment with a number
 abbrev pub output_in : Stretch → ℕ → Output
-output_in v n = segment_output (segment_in v.container.plan v.container.parts n)
+output_in v n = output_at v.container n
 
 -- of the stretch's segment with an index
 abbrev pub output_of : Stretch → ℕ → Output
@@ -62,13 +67,61 @@ outcome_within v i o is =
     absurd (let e : None ≡ Some o = sym none ∙ is in cc))
     (cases_lt i v.count)
 
+-- ---- how long they are
+
+-- each of these has the parts of a scan
+abbrev pub AreScans : List BoxSeen → Type 0
+AreScans [] = Unit {0}
+AreScans (s ∷ scans) = IsScanBox s.plan s.parts × AreScans scans
+
+boxes_are : (w : Walk) (scans : List BoxSeen) → AreBoxes w scans → AreScans scans
+boxes_are w [] are = absurd are
+boxes_are w (s ∷ []) are = ((w, are.0), tt)
+boxes_are w (s ∷ t ∷ scans) are =
+    ((w, are.0), boxes_are (next_walk s.plan.known 0) (t ∷ scans) are.3)
+
+-- those of a container have
+pub scans_are : (scans : List BoxSeen) (bytes : List ℕ) → IsContainer scans bytes → AreScans scans
+scans_are scans bytes (inl is) = subst AreScans (sym is.2) ((only_walk, is.3.box), tt)
+scans_are scans bytes (inr is) = boxes_are opening_walk scans is.1.are.each
+
+few_if : (test : Bool) (header : List ℕ) → length header < 2 ^ 32
+    → length (if test then header else []) ≤ 2 ^ 32
+few_if true header few = omega (arith, few)
+few_if false header few = omega arith
+
+-- a scan's segment is short, with the header that may come before it
+led_short : (later : Bool) (first : ℕ) (s : BoxSeen) (i : ℕ) → IsScanBox s.plan s.parts
+    → i < length s.parts.handovers → length (led_output later first s i).0 ≤ segment_room
+led_short later first s i is within =
+    let own : List ℕ = (segment_output (segment_in s.plan s.parts i)).0 in
+    let short = segment_is_short is.0 s.plan s.parts i is.1 within in
+    let few = few_if (later && i == 0) s.parts.header is.1.header_fits in
+    let long = length-append (lead_of later s.parts.header i) own in
+    omega (arith, short, few, long)
+
+-- so is each segment of several scans; past the last one there is no byte
+output_short : (later : Bool) (first : ℕ) (scans : List BoxSeen) (i : ℕ) → AreScans scans
+    → length (output_from later first scans i).0 ≤ segment_room
+output_short later first [] i are = omega arith
+output_short later first (s ∷ scans) i are =
+    let count : ℕ = length s.parts.handovers in
+    let by : Bool → Output =
+    λ t. if t then led_output later first s i else output_from true (first + count) scans (i - count) in
+    ⊎_elim (λ (within : i < count).
+    subst (λ (t : Bool). length (by t).0 ≤ segment_room) (sym (lt-ltb i count within))
+    (led_short later first s i are.0 within))
+    (λ (past : count ≤ i).
+    subst (λ (t : Bool). length (by t).0 ≤ segment_room) (sym (le-ltb i count past))
+    (output_short true (first + count) scans (i - count) are.1))
+    (cases_lt i count)
+
 -- none is long
-pub are_short : (v : Stretch) → IsScanBox v.container.plan v.container.parts
-    → v.first + v.count ≤ length v.container.parts.handovers → AreShort v
-are_short v is fits i =
+pub are_short : (v : Stretch) → AreScans v.container → AreShort v
+are_short v are i =
     ⊎_elim (λ (within : i < v.count).
     subst (λ (xs : List ℕ). length xs ≤ segment_room) (sym (bytes_of v i within))
-    (segment_is_short is.0 v.container.plan v.container.parts (v.first + i) is.1 (omega (arith, within, fits))))
+    (output_short false 0 v.container (v.first + i) are))
     (λ (past : v.count ≤ i).
     let long = bytes_long v in
     let none = ap length (past_end (segments_bytes v) i (omega (arith, long, past))) in

@@ -1,5 +1,5 @@
 -- What an emitter has written, call by call.
-use Rattle.std.proofs.Common.{◌≡◌, ℕ, zero, suc, ◌+◌, ◌-◌, ◌*◌, ◌<◌, ◌≤◌, List, [], ◌++◌, length, map, take, drop, refl, sym, ap, ap₂, subst, ◌∙◌, arith, append_assoc, append-nil, length-append, Option, Some, Ok, Err, ⊎_elim}
+use Rattle.std.proofs.Common.{◌≡◌, ℕ, zero, suc, ◌+◌, ◌-◌, ◌*◌, ◌<◌, ◌≤◌, List, [], ◌++◌, length, take, drop, refl, sym, ap, ap₂, subst, ◌∙◌, arith, append_assoc, append-nil, length-append, Option, Some, Ok, Err, ⊎_elim}
 use Rattle.std.specs.Prelude.{slice_get}
 use Rattle.std.proofs.lemmas.Bool.{cases_lt}
 use lib.Seq.{length-take-le, take_all, take-add}
@@ -9,17 +9,16 @@ use Rattle.byte_window.specs.declared.window.Window.{Window}
 use Rattle.byte_window.specs.Windows.{window, after, through}
 use Rattle.byte_window.proofs.WindowParts.{is_counted}
 use Rattle.atomic_table.specs.Seated.{TableId}
-use Rattle.handover.specs.PadSums.{no_pads, pads_with}
 use Rattle.handover.specs.declared.pads.PadSum.{PadSum}
 use Rattle.handover.specs.declared.outcome.Outcome.{Outcome}
 use Rattle.handover.specs.declared.outcome.Outcome.TheVariants.{Good, Bad}
 use Rattle.handover.specs.declared.outcome.StreamFault.{StreamFault}
 use Rattle.board_core.specs.BoardInvariants.{bytes_at}
-use Rattle.box_format.specs.Raws.{numbers}
-use Rattle.container_spec.specs.Segments.{Output}
-use Rattle.container_spec.specs.Meanings.{Joined, joined, joined_with}
-use Rattle.container_spec.proofs.PutParts.{sums_none}
-use Rattle.segment_code.specs.Decoding.{DecoderSeen}
+use Rattle.box_format.specs.Parts.{BoxSeen}
+use Rattle.scans_spec.specs.ScansMeanings.{output_at, scan_of}
+use Rattle.scans_spec.specs.ScansJoined.{ScansJoined, no_sums, scanned_from, scanned_with, scans_joined, sums_of, sums_with}
+use Rattle.scans_spec.specs.declared.scan_pads.ScanPads.{ScanPads}
+use Rattle.segment_code.specs.FileDecoding.{FileDecoderSeen}
 use Rattle.output_board.specs.declared.view.EmitterView.{EmitterView}
 use Rattle.output_board.specs.declared.answers.Take.{Take}
 use Rattle.output_board.specs.declared.answers.Take.TheVariants.{Bytes, Ended}
@@ -33,21 +32,21 @@ use Rattle.segment_worker.specs.Emitting.{joined_in, seen_through, IsNewEmitter,
 use Rattle.segment_worker.specs.OwnSegments.{own_rest, OwnEnds}
 use Rattle.segment_worker.proofs.Tails.{past_end, front}
 use Rattle.segment_worker.proofs.ContentsTold.{output_in, output_of, bytes_of, bytes_long, outcome_of, outcome_within}
-use Rattle.segment_worker.proofs.SegmentsJoined.{good_next, bad_next, bytes_next}
+use Rattle.segment_worker.proofs.SegmentsJoined.{scan_at, sums_with_none, good_next, bad_next, bytes_next}
 use Rattle.segment_worker.proofs.Writing.{written_nothing, written_on, failed_in, failed_on, next_on, next_in}
 
 some_same : {A : Type 0} (a b : A) → ◌≡◌ {A = Option A} (Some a) (Some b) → a ≡ b
 some_same a b e = cc
 
 -- after good segments the next one's bytes follow, if there is one
-segment_behind : (v : Stretch) (cur : ℕ) (bytes : List ℕ) (padded : PadSum) → cur < v.count
+segment_behind : (v : Stretch) (cur : ℕ) (bytes : List ℕ) (padded : ScanPads) → cur < v.count
     → joined_in v ≡ joined_onto bytes padded (joined_from v cur)
     → (more : List ℕ) × ((joined_in v).bytes ≡ bytes ++ (bytes_at (segments_bytes v) cur ++ more))
 segment_behind v cur bytes padded under all =
     let next = bytes_next v cur bytes padded under all in
     (next.0, next.1 ∙ ap (λ (l : List ℕ). bytes ++ (l ++ next.0)) (sym (bytes_of v cur under)))
 
-none_behind : (v : Stretch) (cur : ℕ) (bytes : List ℕ) (padded : PadSum) → v.count ≤ cur
+none_behind : (v : Stretch) (cur : ℕ) (bytes : List ℕ) (padded : ScanPads) → v.count ≤ cur
     → joined_in v ≡ joined_onto bytes padded (joined_from v cur)
     → (more : List ℕ) × ((joined_in v).bytes ≡ bytes ++ (bytes_at (segments_bytes v) cur ++ more))
 none_behind v cur bytes padded past all =
@@ -55,12 +54,12 @@ none_behind v cur bytes padded past all =
     let long = bytes_long v in
     let none : bytes_at (segments_bytes v) cur ≡ [] =
     past_end (segments_bytes v) cur (omega (arith, long, past)) in
-    (more, ap (λ (j : Joined). j.bytes) all ∙ ap (λ (l : List ℕ). bytes ++ (l ++ more)) (sym none))
+    (more, ap (λ (j : ScansJoined). j.bytes) all ∙ ap (λ (l : List ℕ). bytes ++ (l ++ more)) (sym none))
 
 module _ {Sink : Type 0} (held : Sink → Option (List ℕ))
     (takes : Sink → List ℕ → Type 0) (faults : Sink → ℕ) (full : Sink → Type 0) (v : Stretch) (w : Window) where
   -- by equal counts
-  pub moved : (cur now taken more : ℕ) (old new : Sink) (came : ℕ) (padded : PadSum)
+  pub moved : (cur now taken more : ℕ) (old new : Sink) (came : ℕ) (padded : ScanPads)
       → now ≡ cur → more ≡ taken → IsWrittenTo held takes faults v w cur taken old new came padded
       → IsWrittenTo held takes faults v w now more old new came padded
   moved cur now taken more old new came padded e f is =
@@ -68,7 +67,7 @@ module _ {Sink : Type 0} (held : Sink → Option (List ℕ))
       (λ i. (sym e i, sym f i)) is
 
   -- the rest of the segment follows what came
-  rest_behind : (cur taken : ℕ) (old new : Sink) (came : ℕ) (padded : PadSum)
+  rest_behind : (cur taken : ℕ) (old new : Sink) (came : ℕ) (padded : ScanPads)
       (is : IsWrittenTo held takes faults v w cur taken old new came padded)
       → (more : List ℕ) × ((joined_in v).bytes ≡ (is.bytes ++ take taken (bytes_at (segments_bytes v) cur))
       ++ (drop taken (bytes_at (segments_bytes v) cur) ++ more))
@@ -85,7 +84,7 @@ module _ {Sink : Type 0} (held : Sink → Option (List ℕ))
       )
 
   -- the bytes that came, and how many
-  came_long : (cur taken : ℕ) (old new : Sink) (came : ℕ) (padded : PadSum)
+  came_long : (cur taken : ℕ) (old new : Sink) (came : ℕ) (padded : ScanPads)
       → (is : IsWrittenTo held takes faults v w cur taken old new came padded)
       → came ≡ length (is.bytes ++ take taken (bytes_at (segments_bytes v) cur))
   came_long cur taken old new came padded is =
@@ -96,7 +95,7 @@ module _ {Sink : Type 0} (held : Sink → Option (List ℕ))
       omega (arith, count, long, first)
 
   -- the sink takes what goes through of it
-  pub rest_taken : (cur taken : ℕ) (old new : Sink) (came : ℕ) (padded : PadSum)
+  pub rest_taken : (cur taken : ℕ) (old new : Sink) (came : ℕ) (padded : ScanPads)
       → TakesNext takes old (window w (joined_in v).bytes)
       → IsWrittenTo held takes faults v w cur taken old new came padded
       → TakesNext takes new (window (after w came) (drop taken (bytes_at (segments_bytes v) cur)))
@@ -107,13 +106,13 @@ module _ {Sink : Type 0} (held : Sink → Option (List ℕ))
       (came_long cur taken old new came padded is) next is.has.onward b.1
 
   -- nothing yet
-  pub none_emitted : (sink : Sink) → IsWrittenTo held takes faults v w 0 0 sink sink 0 no_pads
+  pub none_emitted : (sink : Sink) → IsWrittenTo held takes faults v w 0 0 sink sink 0 no_sums
   none_emitted sink = record {
     bytes = [];
     all =
         let e : v.count ≡ v.count - 0 = omega arith in
         let f : v.first ≡ v.first + 0 = omega arith in
-        ap₂ (λ (m n : ℕ). joined (map (output_in v) (numbers m n))) f e;
+        ap₂ (λ (m n : ℕ). scans_joined (scanned_from v.container m n)) f e;
     has = written_nothing held takes faults full w sink;
     count = refl;
     within = omega arith;
@@ -122,7 +121,7 @@ module _ {Sink : Type 0} (held : Sink → Option (List ℕ))
   }
 
   -- the next bytes of the segment
-  pub more_emitted : (cur taken n : ℕ) (old mid new : Sink) (came : ℕ) (padded : PadSum)
+  pub more_emitted : (cur taken n : ℕ) (old mid new : Sink) (came : ℕ) (padded : ScanPads)
       → IsWrittenTo held takes faults v w cur taken old mid came padded
       → taken + n ≤ length (bytes_at (segments_bytes v) cur)
       → HasWritten held takes faults mid new
@@ -144,11 +143,12 @@ module _ {Sink : Type 0} (held : Sink → Option (List ℕ))
       }
 
   -- the segment ended well
-  pub good_emitted : AreShort v → (cur taken : ℕ) (old new : Sink) (came : ℕ) (padded more : PadSum)
+  pub good_emitted : AreShort v → (cur taken : ℕ) (old new : Sink) (came : ℕ) (padded : ScanPads) (more : PadSum)
       → IsWrittenTo held takes faults v w cur taken old new came padded
       → taken ≡ length (bytes_at (segments_bytes v) cur)
       → slice_get (segments_outcomes v) cur ≡ Some (Good more)
-      → IsWrittenTo held takes faults v w (cur + 1) 0 old new came (pads_with padded more)
+      → IsWrittenTo held takes faults v w (cur + 1) 0 old new came
+      (sums_with padded (sums_of (scan_at v cur) more))
   good_emitted short cur taken old new came padded more is whole good =
       let s = bytes_at (segments_bytes v) cur in
       let under = outcome_within v cur (Good more) good in
@@ -158,7 +158,7 @@ module _ {Sink : Type 0} (held : Sink → Option (List ℕ))
       let all : take taken s ≡ s = take_all taken s (omega (arith, whole)) in record {
         bytes = is.bytes ++ s;
         all = good_next v cur is.bytes padded more under is.all end
-            ∙ ap (λ (l : List ℕ). joined_onto (is.bytes ++ l) (pads_with padded more)
+            ∙ ap (λ (l : List ℕ). joined_onto (is.bytes ++ l) (sums_with padded (sums_of (scan_at v cur) more))
             (joined_from v (cur + 1))) (sym same);
         has = subst (λ (l : List ℕ). HasWritten held takes faults old new (window w l))
             (ap (λ (l : List ℕ). is.bytes ++ l) all ∙ sym (append-nil (is.bytes ++ s))) is.has;
@@ -172,7 +172,7 @@ module _ {Sink : Type 0} (held : Sink → Option (List ℕ))
       }
 
   -- the segment ended badly
-  pub bad_emitted : (cur taken : ℕ) (old new : Sink) (came : ℕ) (padded : PadSum) (fault : StreamFault)
+  pub bad_emitted : (cur taken : ℕ) (old new : Sink) (came : ℕ) (padded : ScanPads) (fault : StreamFault)
       → IsWrittenTo held takes faults v w cur taken old new came padded
       → taken ≡ length (bytes_at (segments_bytes v) cur)
       → slice_get (segments_outcomes v) cur ≡ Some (Bad fault)
@@ -190,7 +190,7 @@ module _ {Sink : Type 0} (held : Sink → Option (List ℕ))
       )
 
   -- a write failed in what goes through of the segment's next bytes
-  pub cut_short : (cur taken : ℕ) (old mid new : Sink) (came more : ℕ) (padded : PadSum)
+  pub cut_short : (cur taken : ℕ) (old mid new : Sink) (came more : ℕ) (padded : ScanPads)
       → IsWrittenTo held takes faults v w cur taken old mid came padded
       → HasFailed held faults full mid new
       (window (after w came) (drop taken (bytes_at (segments_bytes v) cur))) more
@@ -202,16 +202,16 @@ module _ {Sink : Type 0} (held : Sink → Option (List ℕ))
       (joined_in v).bytes came more (came_long cur taken old mid came padded is) is.has failed next.1
 
   -- nothing follows the last segment
-  last_behind : (cur taken : ℕ) (old new : Sink) (came : ℕ) (padded : PadSum)
+  last_behind : (cur taken : ℕ) (old new : Sink) (came : ℕ) (padded : ScanPads)
       (is : IsWrittenTo held takes faults v w cur taken old new came padded)
-      → cur ≡ v.count → joined_in v ≡ joined_onto is.bytes padded (joined [])
+      → cur ≡ v.count → joined_in v ≡ joined_onto is.bytes padded (scans_joined [])
   last_behind cur taken old new came padded is over =
       let left : v.count - cur ≡ 0 = omega (arith, over) in
       is.all ∙ ap (λ (n : ℕ). joined_onto is.bytes padded
-      (joined (map (output_in v) (numbers (v.first + cur) n)))) left
+      (scans_joined (scanned_from v.container (v.first + cur) n))) left
 
   -- all came
-  pub all_came : (cur taken : ℕ) (old new : Sink) (came : ℕ) (padded : PadSum)
+  pub all_came : (cur taken : ℕ) (old new : Sink) (came : ℕ) (padded : ScanPads)
       → IsWrittenTo held takes faults v w cur taken old new came padded
       → cur ≡ v.count → came ≡ length (joined_in v).bytes
   all_came cur taken old new came padded is over =
@@ -221,11 +221,11 @@ module _ {Sink : Type 0} (held : Sink → Option (List ℕ))
       let within = is.within in
       let count = is.count in
       let empty = ap length none in
-      let whole = ap length (ap (λ (j : Joined). j.bytes) last) ∙ length-append is.bytes [] in
+      let whole = ap length (ap (λ (j : ScansJoined). j.bytes) last) ∙ length-append is.bytes [] in
       omega (arith, count, within, empty, whole)
 
   -- all are emitted
-  pub all_emitted : (cur taken : ℕ) (old new : Sink) (came : ℕ) (padded : PadSum)
+  pub all_emitted : (cur taken : ℕ) (old new : Sink) (came : ℕ) (padded : ScanPads)
       → IsWrittenTo held takes faults v w cur taken old new came padded
       → cur ≡ v.count
       → Emits held takes faults full old new (seen_through w (joined_in v))
@@ -237,41 +237,41 @@ module _ {Sink : Type 0} (held : Sink → Option (List ℕ))
       let last = last_behind cur taken old new came padded is over in
       let within = is.within in
       let empty = ap length none in (
-        ap (λ (j : Joined). j.fault) last,
+        ap (λ (j : ScansJoined). j.fault) last,
         ap (through w) (all_came cur taken old new came padded is over) ∙ sym (is_counted w (joined_in v).bytes).0,
-        sym (ap (λ (j : Joined). j.padded) last ∙ sums_none padded),
+        sym (ap (λ (j : ScansJoined). j.padded) last ∙ sums_with_none padded),
         subst (λ (l : List ℕ). HasWritten held takes faults old new (window w l))
             (ap (λ (l : List ℕ). is.bytes ++ l)
             (ap (take taken) none ∙ take_all taken [] (omega (arith, within, empty)))
-            ∙ sym (ap (λ (j : Joined). j.bytes) last)) is.has,
+            ∙ sym (ap (λ (j : ScansJoined). j.bytes) last)) is.has,
       )
 
 module _ {Sink : Type 0} (held : Sink → Option (List ℕ))
     (takes : Sink → List ℕ → Type 0) (faults : Sink → ℕ) (full : Sink → Type 0)
     (table : TableId) (v : Stretch) (w : Window) where
   -- before the first call
-  pub starts_emitting : (s : SeatValue Stretch EmitterView) (d : DecoderSeen) (sink : Sink)
-      → IsNewEmitter table v s d → IsEmitting held takes faults table v w s d sink sink 0 no_pads
+  pub starts_emitting : (s : SeatValue Stretch EmitterView) (d : FileDecoderSeen) (sink : Sink)
+      → IsNewEmitter table v s d → IsEmitting held takes faults table v w s d sink sink 0 no_sums
   starts_emitting s d sink n = record {
     used = record {
       own = n.own;
       content = n.content;
-      plan = n.plan;
+      plans = n.plans;
       begun = n.begun ∙ sym n.claims;
     };
     free = n.free;
     going = n.going;
-    so_far = moved held takes faults full v w 0 s.view.cur 0 s.view.taken sink sink 0 no_pads n.cur n.taken
+    so_far = moved held takes faults full v w 0 s.view.cur 0 s.view.taken sink sink 0 no_sums n.cur n.taken
         (none_emitted held takes faults full v w sink);
   }
 
   -- the seat after one hold that claims nothing
-  pub used_after : (s t : SeatValue Stretch EmitterView) (d : DecoderSeen) → IsUsedEmitter table v s d
+  pub used_after : (s t : SeatValue Stretch EmitterView) (d : FileDecoderSeen) → IsUsedEmitter table v s d
       → HasHeldOnce s t → t.claims ≡ s.claims → IsUsedEmitter table v t d
   used_after s t d u h claims = record {
     own = h.table ∙ u.own;
     content = h.content ∙ u.content;
-    plan = u.plan;
+    plans = u.plans;
     begun = u.begun ∙ sym claims;
   }
 
@@ -285,8 +285,8 @@ module _ {Sink : Type 0} (held : Sink → Option (List ℕ))
       is give
 
   -- the sink takes bytes that were taken
-  pub taken_next : (s t : SeatValue Stretch EmitterView) (d : DecoderSeen) (old mid : Sink)
-      (came n : ℕ) (padded : PadSum) (before now : List ℕ) → TakesNext takes old (window w (joined_in v).bytes)
+  pub taken_next : (s t : SeatValue Stretch EmitterView) (d : FileDecoderSeen) (old mid : Sink)
+      (came n : ℕ) (padded : ScanPads) (before now : List ℕ) → TakesNext takes old (window w (joined_in v).bytes)
       → IsEmitting held takes faults table v w s d old mid came padded
       → TakeGives (segments_bytes s.content) (segments_outcomes s.content) s t before now (Bytes n)
       → length now ≡ length before → TakesNext takes mid (window (after w came) (take n now))
@@ -301,8 +301,8 @@ module _ {Sink : Type 0} (held : Sink → Option (List ℕ))
       (sym (take-append-drop n xs)))
 
   -- and a segment of the emitter's own
-  pub own_next : (s : SeatValue Stretch EmitterView) (d : DecoderSeen) (old mid : Sink) (came : ℕ)
-      (padded : PadSum) → TakesNext takes old (window w (joined_in v).bytes)
+  pub own_next : (s : SeatValue Stretch EmitterView) (d : FileDecoderSeen) (old mid : Sink) (came : ℕ)
+      (padded : ScanPads) → TakesNext takes old (window w (joined_in v).bytes)
       → IsEmitting held takes faults table v w s d old mid came padded
       → TakesNext takes mid (window (after w came) (own_rest s))
   own_next s d old mid came padded next e =
@@ -312,8 +312,8 @@ module _ {Sink : Type 0} (held : Sink → Option (List ℕ))
       (rest_taken held takes faults full v w s.view.cur s.view.taken old mid came padded next e.so_far)
 
   -- bytes were taken and written
-  pub bytes_taken : (s t : SeatValue Stretch EmitterView) (d : DecoderSeen) (old mid new : Sink)
-      (came n : ℕ) (padded : PadSum) (before now : List ℕ)
+  pub bytes_taken : (s t : SeatValue Stretch EmitterView) (d : FileDecoderSeen) (old mid new : Sink)
+      (came n : ℕ) (padded : ScanPads) (before now : List ℕ)
       → IsEmitting held takes faults table v w s d old mid came padded → HasHeldOnce s t
       → TakeGives (segments_bytes s.content) (segments_outcomes s.content) s t before now (Bytes n)
       → length now ≡ length before → HasWritten held takes faults mid new (window (after w came) (take n now))
@@ -340,8 +340,8 @@ module _ {Sink : Type 0} (held : Sink → Option (List ℕ))
       }
 
   -- a write of bytes that were taken failed
-  pub taken_failed : (s t : SeatValue Stretch EmitterView) (d : DecoderSeen) (old mid new : Sink)
-      (came n more : ℕ) (padded : PadSum) (before now : List ℕ)
+  pub taken_failed : (s t : SeatValue Stretch EmitterView) (d : FileDecoderSeen) (old mid new : Sink)
+      (came n more : ℕ) (padded : ScanPads) (before now : List ℕ)
       → IsEmitting held takes faults table v w s d old mid came padded
       → TakeGives (segments_bytes s.content) (segments_outcomes s.content) s t before now (Bytes n)
       → length now ≡ length before → HasFailed held faults full mid new (window (after w came) (take n now)) more
@@ -357,10 +357,11 @@ module _ {Sink : Type 0} (held : Sink → Option (List ℕ))
       (sym (take-append-drop n xs)))
 
   -- the segment that is emitted ended well
-  pub good_taken : AreShort v → (s t : SeatValue Stretch EmitterView) (d : DecoderSeen)
-      (old new : Sink) (came : ℕ) (padded more both : PadSum) (outcome : Outcome)
+  pub good_taken : AreShort v → (s t : SeatValue Stretch EmitterView) (d : FileDecoderSeen)
+      (old new : Sink) (came : ℕ) (padded : ScanPads) (more : PadSum) (both : ScanPads) (outcome : Outcome)
       (before now : List ℕ) → IsEmitting held takes faults table v w s d old new came padded
-      → HasHeldOnce s t → outcome ≡ Good more → both ≡ pads_with padded more
+      → HasHeldOnce s t → outcome ≡ Good more
+      → both ≡ sums_with padded (sums_of (scan_at v s.view.cur) more)
       → TakeGives (segments_bytes s.content) (segments_outcomes s.content) s t before now (Ended outcome)
       → IsEmitting held takes faults table v w t d old new came both
   good_taken short s t d old new came padded more both outcome before now e h is sum give =
@@ -380,8 +381,8 @@ module _ {Sink : Type 0} (held : Sink → Option (List ℕ))
       }
 
   -- and badly
-  pub bad_taken : (s t : SeatValue Stretch EmitterView) (d : DecoderSeen) (old new : Sink)
-      (came : ℕ) (padded : PadSum) (fault : StreamFault) (outcome : Outcome)
+  pub bad_taken : (s t : SeatValue Stretch EmitterView) (d : FileDecoderSeen) (old new : Sink)
+      (came : ℕ) (padded : ScanPads) (fault : StreamFault) (outcome : Outcome)
       (before now : List ℕ) → IsEmitting held takes faults table v w s d old new came padded
       → outcome ≡ Bad fault
       → TakeGives (segments_bytes s.content) (segments_outcomes s.content) s t before now (Ended outcome)
@@ -392,8 +393,8 @@ module _ {Sink : Type 0} (held : Sink → Option (List ℕ))
       bad_emitted held takes faults full v w s.view.cur s.view.taken old new came padded fault e.so_far g.3 g.2
 
   -- a take that gave nothing
-  pub same_emitted : (s t : SeatValue Stretch EmitterView) (d : DecoderSeen) (old new : Sink)
-      (came : ℕ) (padded : PadSum) → IsEmitting held takes faults table v w s d old new came padded
+  pub same_emitted : (s t : SeatValue Stretch EmitterView) (d : FileDecoderSeen) (old new : Sink)
+      (came : ℕ) (padded : ScanPads) → IsEmitting held takes faults table v w s d old new came padded
       → HasHeldOnce s t → t.claims ≡ s.claims → t.view ≡ s.view
       → IsEmitting held takes faults table v w t d old new came padded
   same_emitted s t d old new came padded e h claims view = record {
@@ -405,13 +406,13 @@ module _ {Sink : Type 0} (held : Sink → Option (List ℕ))
   }
 
   -- a segment of the emitter's own
-  pub own_emitted : (s t : SeatValue Stretch EmitterView) (d later : DecoderSeen) (old mid new : Sink)
-      (came count : ℕ) (padded : PadSum)
+  pub own_emitted : (s t : SeatValue Stretch EmitterView) (d later : FileDecoderSeen) (old mid new : Sink)
+      (came count : ℕ) (padded : ScanPads)
       → IsEmitting held takes faults table v w s d old mid came padded
       → OwnEnds held takes faults full (after w came) s t mid new (Ok count)
-      → t.table ≡ s.table → t.content ≡ s.content → later.begun ≡ t.claims → later.plan ≡ d.plan
+      → t.table ≡ s.table → t.content ≡ s.content → later.begun ≡ t.claims → later.plans ≡ d.plans
       → IsEmitting held takes faults table v w t later old new (came + count) padded
-  own_emitted s t d later old mid new came count padded e own same content begun plan =
+  own_emitted s t d later old mid new came count padded e own same content begun plans =
       let view = own.2 in
       let is : own_rest s ≡ drop s.view.taken (bytes_at (segments_bytes v) s.view.cur) =
       ap (λ (c : Stretch). drop s.view.taken (bytes_at (segments_bytes c) s.view.cur)) e.used.content in
@@ -419,7 +420,7 @@ module _ {Sink : Type 0} (held : Sink → Option (List ℕ))
         used = record {
           own = same ∙ e.used.own;
           content = content ∙ e.used.content;
-          plan = plan ∙ e.used.plan;
+          plans = plans ∙ e.used.plans;
           begun = begun;
         };
         free = ap (λ (x : EmitterView). x.owns) view;
@@ -435,8 +436,8 @@ module _ {Sink : Type 0} (held : Sink → Option (List ℕ))
       }
 
   -- in which a write failed
-  pub own_failed : (s t : SeatValue Stretch EmitterView) (d : DecoderSeen) (old mid new : Sink)
-      (came more : ℕ) (padded : PadSum)
+  pub own_failed : (s t : SeatValue Stretch EmitterView) (d : FileDecoderSeen) (old mid new : Sink)
+      (came more : ℕ) (padded : ScanPads)
       → IsEmitting held takes faults table v w s d old mid came padded
       → OwnEnds held takes faults full (after w came) s t mid new (Err more)
       → HasFailed held faults full old new (window w (joined_in v).bytes) (through w came + more)
@@ -465,28 +466,29 @@ module _ {Sink : Type 0} (held : Sink → Option (List ℕ))
       is (gives_in s t before now (Ended outcome) content give) in
       outcome_within v s.view.cur (Good more) g.2
 
-joined_after : (bytes : List ℕ) (outcome : Outcome) (more : Joined)
-    → length (joined_with bytes outcome more).bytes ≤ length bytes + length more.bytes
-joined_after bytes (Good pads) more =
+joined_after : (scan : ℕ) (bytes : List ℕ) (outcome : Outcome) (more : ScansJoined)
+    → length (scanned_with scan bytes outcome more).bytes ≤ length bytes + length more.bytes
+joined_after scan bytes (Good pads) more =
     let long = length-append bytes more.bytes in omega (arith, long)
-joined_after bytes (Bad fault) more = omega arith
+joined_after scan bytes (Bad fault) more = omega arith
 
-joined_few : (f : ℕ → Output) (room from count : ℕ)
-    → ((i : ℕ) → from ≤ i → i < from + count → length (f i).0 ≤ room)
-    → length (joined (map f (numbers from count))).bytes ≤ room * count
-joined_few f room from zero each = omega arith
-joined_few f room from (suc count) each =
-    let more = joined_few f room (from + 1) count
+joined_few : (scans : List BoxSeen) (room from count : ℕ)
+    → ((i : ℕ) → from ≤ i → i < from + count → length (output_at scans i).0 ≤ room)
+    → length (scans_joined (scanned_from scans from count)).bytes ≤ room * count
+joined_few scans room from zero each = omega arith
+joined_few scans room from (suc count) each =
+    let more = joined_few scans room (from + 1) count
     (λ i low high. each i (omega (arith, low)) (omega (arith, high))) in
     let first = each from (omega arith) (omega arith) in
-    let all = joined_after (f from).0 (f from).1 (joined (map f (numbers (from + 1) count))) in
+    let all = joined_after (scan_of 0 scans from) (output_at scans from).0 (output_at scans from).1
+    (scans_joined (scanned_from scans (from + 1) count)) in
     omega (arith, more, first, all)
 
 -- all segments have few bytes
 pub few_joined : (v : Stretch) (count : ℕ) → AreShort v → v.count ≤ count
     → length (joined_in v).bytes ≤ segment_room * count
 few_joined v count short few =
-    let all = joined_few (output_in v) segment_room v.first v.count
+    let all = joined_few v.container segment_room v.first v.count
     (λ i low high.
     let n : v.first + (i - v.first) ≡ i = omega (arith, low) in
     let under : i - v.first < v.count = omega (arith, low, high) in

@@ -8,7 +8,7 @@ use Rattle.handover.specs.declared.pads.PadSum.{PadSum}
 use Rattle.handover.specs.declared.outcome.Outcome.{Outcome}
 use Rattle.handover.specs.declared.outcome.Outcome.TheVariants.{Good, Bad}
 use Rattle.handover.specs.declared.outcome.StreamFault.{StreamFault}
-use Rattle.segment_code.specs.Decoding.{DecoderSeen, Owes, Pays}
+use Rattle.segment_code.specs.FileDecoding.{FileDecoderSeen, FileOwes, FilePays, steps_left}
 use Rattle.segment_code.specs.declared.step.Step.{Step}
 use Rattle.segment_code.specs.declared.step.Step.TheVariants.{More, Done, Fault}
 use Rattle.segment_worker.specs.Written.{HasWritten, HasFailed}
@@ -16,22 +16,22 @@ use Rattle.segment_worker.specs.LoneSegments.{OwesSome, UnderWay}
 use Rattle.segment_worker.proofs.Writing.{written_nothing, written_on, failed_on, next_on}
 
 -- a step gives the first of the bytes that were owed
-paid_first : (step : Step) (bytes out : List ℕ) (outcome : Outcome) (old new : DecoderSeen)
-    → Pays step bytes outcome out old new → (more : List ℕ) × (bytes ≡ out ++ more)
+paid_first : (step : Step) (bytes out : List ℕ) (outcome : Outcome) (old new : FileDecoderSeen)
+    → FilePays step bytes outcome out old new → (more : List ℕ) × (bytes ≡ out ++ more)
 paid_first More bytes out outcome old new p = (p.0, p.1)
 paid_first (Done pads) bytes out outcome old new p = ([], p.0 ∙ sym (append-nil out))
 paid_first (Fault fault) bytes out outcome old new p = ([], p.0 ∙ sym (append-nil out))
 
 -- whoever owes pays
-abbrev PaysAll : Step → List ℕ → DecoderSeen → DecoderSeen → Type 0
+abbrev PaysAll : Step → List ℕ → FileDecoderSeen → FileDecoderSeen → Type 0
 PaysAll step out old new =
-    (bytes : List ℕ) (outcome : Outcome) → Owes old bytes outcome
-    → Pays step bytes outcome out old new
+    (bytes : List ℕ) (outcome : Outcome) → FileOwes old bytes outcome
+    → FilePays step bytes outcome out old new
 
 module _ {Sink : Type 0} (held : Sink → Option (List ℕ))
     (takes : Sink → List ℕ → Type 0) (faults : Sink → ℕ) (full : Sink → Type 0) (w : Window) where
   -- before the first piece
-  pub none_written : (d : DecoderSeen) (sink : Sink) → d.running ≡ true → OwesSome d
+  pub none_written : (d : FileDecoderSeen) (sink : Sink) → d.running ≡ true → OwesSome d
       → UnderWay held takes faults w d d sink sink 0
   none_written d sink running some = record {
     running = running;
@@ -48,11 +48,11 @@ module _ {Sink : Type 0} (held : Sink → Option (List ℕ))
     unfailed = refl;
     few = omega arith;
     begun = refl;
-    plan = refl;
+    plans = refl;
   }
 
   -- the sink takes the next piece
-  pub piece_taken : (step : Step) (from now new : DecoderSeen) (old mid : Sink) (came : ℕ) (out : List ℕ)
+  pub piece_taken : (step : Step) (from now new : FileDecoderSeen) (old mid : Sink) (came : ℕ) (out : List ℕ)
       (owed : OwesSome from) → TakesNext takes old (window w owed.bytes)
       → UnderWay held takes faults w from now old mid came → PaysAll step out now new
       → TakesNext takes mid (window (after w came) out)
@@ -63,12 +63,12 @@ module _ {Sink : Type 0} (held : Sink → Option (List ℕ))
       (f.parts ∙ ap (λ (m : List ℕ). f.first ++ m) p.1)
 
   -- a piece more
-  pub more_written : (from now new : DecoderSeen) (old mid sink : Sink) (came : ℕ) (out : List ℕ)
+  pub more_written : (from now new : FileDecoderSeen) (old mid sink : Sink) (came : ℕ) (out : List ℕ)
       (count : ℕ) → UnderWay held takes faults w from now old mid came → PaysAll More out now new
       → HasWritten held takes faults mid sink (window (after w came) out) → count ≡ length out
-      → length out ≤ piece_room → new.begun ≡ now.begun → new.plan ≡ now.plan
-      → (new.left < now.left) × UnderWay held takes faults w from new old sink (came + count)
-  more_written from now new old mid sink came out count u pays has e room begun plan =
+      → length out ≤ piece_room → new.begun ≡ now.begun → new.plans ≡ now.plans
+      → (steps_left new < steps_left now) × UnderWay held takes faults w from new old sink (came + count)
+  more_written from now new old mid sink came out count u pays has e room begun plans =
       let paid = pays u.some.bytes u.some.outcome u.some.owes in (
         paid.2,
         record {
@@ -92,18 +92,18 @@ module _ {Sink : Type 0} (held : Sink → Option (List ℕ))
           unfailed = has.unfailed ∙ u.unfailed;
           few = omega (arith, u.few, paid.2, e, room);
           begun = begun ∙ u.begun;
-          plan = plan ∙ u.plan;
+          plans = plans ∙ u.plans;
         },
       )
 
   -- the last piece
-  pub all_written : (step : Step) (from now new : DecoderSeen) (old mid sink : Sink) (came : ℕ)
+  pub all_written : (step : Step) (from now new : FileDecoderSeen) (old mid sink : Sink) (came : ℕ)
       (out : List ℕ) (count : ℕ) (end : Outcome) → UnderWay held takes faults w from now old mid came
       → PaysAll step out now new
-      → ((bytes : List ℕ) (outcome : Outcome) → Pays step bytes outcome out now new
+      → ((bytes : List ℕ) (outcome : Outcome) → FilePays step bytes outcome out now new
       → (bytes ≡ out) × (outcome ≡ end))
       → HasWritten held takes faults mid sink (window (after w came) out) → count ≡ length out
-      → (bytes : List ℕ) (outcome : Outcome) → Owes from bytes outcome
+      → (bytes : List ℕ) (outcome : Outcome) → FileOwes from bytes outcome
       → (came + count ≡ length bytes) × (end ≡ outcome) × HasWritten held takes faults old sink (window w bytes)
   all_written step from now new old mid sink came out count end u pays last has e bytes outcome owes =
       let f = u.each bytes outcome owes in
@@ -116,21 +116,21 @@ module _ {Sink : Type 0} (held : Sink → Option (List ℕ))
             (record { appended = f.appended; unfailed = u.unfailed; onward = f.onward }) has),
       )
 
-  pub done_last : (pads : PadSum) (out : List ℕ) (now new : DecoderSeen) (bytes : List ℕ)
-      (outcome : Outcome) → Pays (Done pads) bytes outcome out now new
+  pub done_last : (pads : PadSum) (out : List ℕ) (now new : FileDecoderSeen) (bytes : List ℕ)
+      (outcome : Outcome) → FilePays (Done pads) bytes outcome out now new
       → (bytes ≡ out) × (outcome ≡ Good pads)
   done_last pads out now new bytes outcome p = (p.0, p.1)
 
-  pub fault_last : (fault : StreamFault) (out : List ℕ) (now new : DecoderSeen) (bytes : List ℕ)
-      (outcome : Outcome) → Pays (Fault fault) bytes outcome out now new
+  pub fault_last : (fault : StreamFault) (out : List ℕ) (now new : FileDecoderSeen) (bytes : List ℕ)
+      (outcome : Outcome) → FilePays (Fault fault) bytes outcome out now new
       → (bytes ≡ out) × (outcome ≡ Bad fault)
   fault_last fault out now new bytes outcome p = (p.0, p.1)
 
   -- a write of a piece that failed
-  pub write_failed : (step : Step) (from now new : DecoderSeen) (old mid sink : Sink) (came more : ℕ)
+  pub write_failed : (step : Step) (from now new : FileDecoderSeen) (old mid sink : Sink) (came more : ℕ)
       (out : List ℕ) → UnderWay held takes faults w from now old mid came → PaysAll step out now new
       → HasFailed held faults full mid sink (window (after w came) out) more
-      → (bytes : List ℕ) (outcome : Outcome) → Owes from bytes outcome
+      → (bytes : List ℕ) (outcome : Outcome) → FileOwes from bytes outcome
       → HasFailed held faults full old sink (window w bytes) (through w came + more)
   write_failed step from now new old mid sink came more out u pays failed bytes outcome owes =
       let f = u.each bytes outcome owes in
@@ -140,10 +140,9 @@ module _ {Sink : Type 0} (held : Sink → Option (List ℕ))
       (f.parts ∙ ap (λ (m : List ℕ). f.first ++ m) p.1)
 
   -- a piece is no more than what was left room for
-  pub piece_fits : (from now : DecoderSeen) (old mid : Sink) (came count : ℕ)
+  pub piece_fits : (from now : FileDecoderSeen) (old mid : Sink) (came count : ℕ)
       → UnderWay held takes faults w from now old mid came → count ≤ piece_room
-      → from.left < 2 ^ 32 → came + count ≤ piece_room * 2 ^ 32
+      → steps_left from < 2 ^ 33 → came + count ≤ piece_room * 2 ^ 33
   piece_fits from now old mid came count u room few =
-      let stands = u.some.owes.stands in
-      let some : 0 < now.left = subst (λ (n : ℕ). 0 < n) (sym stands.holds.still) stands.some in
+      let some = u.some.owes.some in
       omega (arith, u.few, some, room, few)

@@ -11,7 +11,7 @@ use Rattle.handover.specs.declared.outcome.Outcome.{Outcome}
 use Rattle.handover.specs.declared.outcome.Outcome.TheVariants.{Good, Bad}
 use Rattle.handover.specs.declared.outcome.StreamFault.{StreamFault}
 use Rattle.board_core.specs.BoardInvariants.{bytes_at}
-use Rattle.segment_code.specs.Decoding.{DecoderSeen, Owes, Pays}
+use Rattle.segment_code.specs.FileDecoding.{FileDecoderSeen, FileOwes, FilePays, steps_left}
 use Rattle.segment_code.specs.declared.step.Step.{Step}
 use Rattle.segment_code.specs.declared.step.Step.TheVariants.{More, Done, Fault}
 use Rattle.output_board.specs.declared.view.EmitterView.{EmitterView}
@@ -24,14 +24,14 @@ use Rattle.segment_worker.proofs.ContentsTold.{output_of, bytes_of, outcome_of}
 use Rattle.segment_worker.proofs.Writing.{written_nothing, written_on, failed_on, next_on}
 
 -- whoever owes pays
-abbrev pub PaysAll : Step → List ℕ → DecoderSeen → DecoderSeen → Type 0
+abbrev pub PaysAll : Step → List ℕ → FileDecoderSeen → FileDecoderSeen → Type 0
 PaysAll step out old new =
-    (bytes : List ℕ) (outcome : Outcome) → Owes old bytes outcome
-    → Pays step bytes outcome out old new
+    (bytes : List ℕ) (outcome : Outcome) → FileOwes old bytes outcome
+    → FilePays step bytes outcome out old new
 
 -- a segment that was begun is owed whole
-pub owes_all : (v : Stretch) (i from : ℕ) (d : DecoderSeen) → i < v.count → from ≡ 0
-    → Owes d (output_of v i).0 (output_of v i).1
+pub owes_all : (v : Stretch) (i from : ℕ) (d : FileDecoderSeen) → i < v.count → from ≡ 0
+    → FileOwes d (output_of v i).0 (output_of v i).1
     → OwesRest v i from d
 owes_all v i from d within zero_is owes =
     subst (λ (n : ℕ). OwesRest v i n d) (sym zero_is) (record {
@@ -44,14 +44,14 @@ owes_all v i from d within zero_is owes =
     })
 
 -- a step gives the first of the bytes that were owed
-pub paid_first : (step : Step) (bytes out : List ℕ) (outcome : Outcome) (old new : DecoderSeen)
-    → Pays step bytes outcome out old new → (more : List ℕ) × (bytes ≡ out ++ more)
+pub paid_first : (step : Step) (bytes out : List ℕ) (outcome : Outcome) (old new : FileDecoderSeen)
+    → FilePays step bytes outcome out old new → (more : List ℕ) × (bytes ≡ out ++ more)
 paid_first More bytes out outcome old new p = (p.0, p.1)
 paid_first (Done pads) bytes out outcome old new p = ([], p.0 ∙ sym (append-nil out))
 paid_first (Fault fault) bytes out outcome old new p = ([], p.0 ∙ sym (append-nil out))
 
 -- the next bytes of a segment that is owed, and what follows them
-pub owed_next : (v : Stretch) (i from : ℕ) (step : Step) (out : List ℕ) (old new : DecoderSeen)
+pub owed_next : (v : Stretch) (i from : ℕ) (step : Step) (out : List ℕ) (old new : FileDecoderSeen)
     → OwesRest v i from old → PaysAll step out old new
     → (more : List ℕ) × (drop from (bytes_at (segments_bytes v) i) ≡ out ++ more)
 owed_next v i from step out old new owes pays =
@@ -59,9 +59,9 @@ owed_next v i from step out old new owes pays =
     (pays owes.bytes owes.outcome owes.owes) in (p.0, owes.rest ∙ p.1)
 
 -- after a piece that isn't the last
-pub owed_later : (v : Stretch) (i from : ℕ) (out : List ℕ) (old new : DecoderSeen)
+pub owed_later : (v : Stretch) (i from : ℕ) (out : List ℕ) (old new : FileDecoderSeen)
     → OwesRest v i from old → PaysAll More out old new
-    → (new.left < old.left) × (new.running ≡ true) × OwesRest v i (from + length out) new
+    → (steps_left new < steps_left old) × (new.running ≡ true) × OwesRest v i (from + length out) new
 owed_later v i from out old new owes pays =
     let s = bytes_at (segments_bytes v) i in
     let p = pays owes.bytes owes.outcome owes.owes in
@@ -79,7 +79,7 @@ owed_later v i from out old new owes pays =
     )
 
 -- at the last piece: all is given, and this is the outcome
-pub owed_done : (v : Stretch) (i from : ℕ) (pads : PadSum) (out : List ℕ) (old new : DecoderSeen)
+pub owed_done : (v : Stretch) (i from : ℕ) (pads : PadSum) (out : List ℕ) (old new : FileDecoderSeen)
     → OwesRest v i from old → PaysAll (Done pads) out old new
     → (from + length out ≡ length (bytes_at (segments_bytes v) i))
     × (slice_get (segments_outcomes v) i ≡ Some (Good pads))
@@ -90,7 +90,7 @@ owed_done v i from pads out old new owes pays =
     )
 
 pub owed_fault : (v : Stretch) (i from : ℕ) (fault : StreamFault) (out : List ℕ)
-    (old new : DecoderSeen) → OwesRest v i from old → PaysAll (Fault fault) out old new
+    (old new : FileDecoderSeen) → OwesRest v i from old → PaysAll (Fault fault) out old new
     → (from + length out ≡ length (bytes_at (segments_bytes v) i))
     × (slice_get (segments_outcomes v) i ≡ Some (Bad fault))
 owed_fault v i from fault out old new owes pays =
@@ -125,7 +125,7 @@ claimed_rest from mid content view =
 module _ {Sink : Type 0} (held : Sink → Option (List ℕ))
     (takes : Sink → List ℕ → Type 0) (faults : Sink → ℕ) (full : Sink → Type 0) (w : Window) where
   -- before the first piece
-  pub starts_passing : (s : SeatValue Stretch EmitterView) (d : DecoderSeen) (sink : Sink)
+  pub starts_passing : (s : SeatValue Stretch EmitterView) (d : FileDecoderSeen) (sink : Sink)
       → d.running ≡ true → OwesRest s.content s.view.cur s.view.taken d
       → IsPassing held takes faults w s s d d sink sink 0
   starts_passing s d sink running owes =
@@ -136,11 +136,11 @@ module _ {Sink : Type 0} (held : Sink → Option (List ℕ))
         owes = subst (λ (n : ℕ). OwesRest s.content s.view.cur n d) e owes;
         has = written_nothing held takes faults full w sink;
         begun_is = refl;
-        plan = refl;
+        plans = refl;
       }
 
   -- what follows the bytes that were written begins with the next piece
-  piece_behind : (from now : SeatValue Stretch EmitterView) (begun d new : DecoderSeen)
+  piece_behind : (from now : SeatValue Stretch EmitterView) (begun d new : FileDecoderSeen)
       (old mid : Sink) (written : ℕ) (step : Step) (out : List ℕ)
       → IsPassing held takes faults w from now begun d old mid written → PaysAll step out d new
       → (more : List ℕ) × (own_rest from ≡ take written (own_rest from) ++ (out ++ more))
@@ -154,7 +154,7 @@ module _ {Sink : Type 0} (held : Sink → Option (List ℕ))
       )
 
   -- the segment's bytes so far, and how many
-  came_long : (from now : SeatValue Stretch EmitterView) (begun d : DecoderSeen) (old mid : Sink)
+  came_long : (from now : SeatValue Stretch EmitterView) (begun d : FileDecoderSeen) (old mid : Sink)
       (written : ℕ) → IsPassing held takes faults w from now begun d old mid written
       → written ≡ length (take written (own_rest from))
   came_long from now begun d old mid written p =
@@ -163,7 +163,7 @@ module _ {Sink : Type 0} (held : Sink → Option (List ℕ))
       sym (length-take-le written (own_rest from) (omega (arith, long, within)))
 
   -- the sink takes what goes through of the next piece
-  pub piece_taken : (from now : SeatValue Stretch EmitterView) (begun d new : DecoderSeen)
+  pub piece_taken : (from now : SeatValue Stretch EmitterView) (begun d new : FileDecoderSeen)
       (old mid : Sink) (written : ℕ) (step : Step) (out : List ℕ) → TakesNext takes old (window w (own_rest from))
       → IsPassing held takes faults w from now begun d old mid written → PaysAll step out d new
       → TakesNext takes mid (window (after w written) out)
@@ -173,7 +173,7 @@ module _ {Sink : Type 0} (held : Sink → Option (List ℕ))
       (came_long from now begun d old mid written p) next p.has.onward b.1
 
   -- what goes through of a piece was written
-  piece_written : (from now : SeatValue Stretch EmitterView) (begun d new : DecoderSeen)
+  piece_written : (from now : SeatValue Stretch EmitterView) (begun d new : FileDecoderSeen)
       (old mid sink : Sink) (written : ℕ) (step : Step) (out : List ℕ)
       → IsPassing held takes faults w from now begun d old mid written → PaysAll step out d new
       → HasWritten held takes faults mid sink (window (after w written) out)
@@ -191,14 +191,14 @@ module _ {Sink : Type 0} (held : Sink → Option (List ℕ))
       p.has has)
 
   -- a piece was written, and isn't the last
-  pub piece_passed : (from now later : SeatValue Stretch EmitterView) (begun d new : DecoderSeen)
+  pub piece_passed : (from now later : SeatValue Stretch EmitterView) (begun d new : FileDecoderSeen)
       (old mid sink : Sink) (written : ℕ) (out : List ℕ)
       → IsPassing held takes faults w from now begun d old mid written → PaysAll More out d new
       → HasWritten held takes faults mid sink (window (after w written) out) → IsSameSeat now later
       → later.view ≡ record now.view { taken = now.view.taken + length out }
-      → new.begun ≡ d.begun → new.plan ≡ d.plan
-      → (new.left < d.left) × IsPassing held takes faults w from later begun new old sink (written + length out)
-  piece_passed from now later begun d new old mid sink written out p pays has same view count plan =
+      → new.begun ≡ d.begun → new.plans ≡ d.plans
+      → (steps_left new < steps_left d) × IsPassing held takes faults w from later begun new old sink (written + length out)
+  piece_passed from now later begun d new old mid sink written out p pays has same view count plans =
       let next = owed_later from.content from.view.cur (from.view.taken + written) out d new p.owes pays in
       let sum : (from.view.taken + written) + length out ≡ from.view.taken + (written + length out) =
       omega arith in (
@@ -216,12 +216,12 @@ module _ {Sink : Type 0} (held : Sink → Option (List ℕ))
           owes = subst (λ (n : ℕ). OwesRest from.content from.view.cur n new) sum next.2;
           has = piece_written from now begun d new old mid sink written More out p pays has;
           begun_is = count ∙ p.begun_is;
-          plan = plan ∙ p.plan;
+          plans = plans ∙ p.plans;
         },
       )
 
   -- a piece doesn't pass the segment's end
-  pub piece_within : (from now : SeatValue Stretch EmitterView) (begun d new : DecoderSeen)
+  pub piece_within : (from now : SeatValue Stretch EmitterView) (begun d new : FileDecoderSeen)
       (old mid : Sink) (written : ℕ) (step : Step) (out : List ℕ)
       → IsPassing held takes faults w from now begun d old mid written → PaysAll step out d new
       → now.view.taken + length out ≤ length (bytes_at (segments_bytes now.content) now.view.cur)
@@ -233,7 +233,7 @@ module _ {Sink : Type 0} (held : Sink → Option (List ℕ))
       (λ i. (sym p.same.content i, sym p.view i)) within
 
   -- the last piece was written
-  pub all_passed : (from now later last : SeatValue Stretch EmitterView) (begun d new : DecoderSeen)
+  pub all_passed : (from now later last : SeatValue Stretch EmitterView) (begun d new : FileDecoderSeen)
       (old mid sink : Sink) (written : ℕ) (step : Step) (out : List ℕ)
       → IsPassing held takes faults w from now begun d old mid written → PaysAll step out d new
       → HasWritten held takes faults mid sink (window (after w written) out)
@@ -254,7 +254,7 @@ module _ {Sink : Type 0} (held : Sink → Option (List ℕ))
       )
 
   -- a write of a piece failed
-  pub piece_failed : (from now : SeatValue Stretch EmitterView) (begun d new : DecoderSeen)
+  pub piece_failed : (from now : SeatValue Stretch EmitterView) (begun d new : FileDecoderSeen)
       (old mid sink : Sink) (written more : ℕ) (step : Step) (out : List ℕ)
       → IsPassing held takes faults w from now begun d old mid written → PaysAll step out d new
       → HasFailed held faults full mid sink (window (after w written) out) more

@@ -7,7 +7,7 @@ use Rattle.output_board.specs.declared.view.WorkerView.{WorkerView}
 use Rattle.output_board.specs.Answers.{HasNext, IsAtEnd}
 use Rattle.std.specs.Prelude.{slice_get}
 use Rattle.handover.specs.declared.outcome.Outcome.{Outcome}
-use Rattle.segment_code.specs.Decoding.{DecoderSeen}
+use Rattle.segment_code.specs.FileDecoding.{FileDecoderSeen}
 use Rattle.segment_code.specs.declared.step.Step.{Step}
 use Rattle.segment_worker.specs.Contents.{Stretch, segments_bytes, segments_outcomes}
 use Rattle.segment_worker.specs.OwnSegments.{OwesRest}
@@ -37,7 +37,7 @@ next_after ss w bytes put now within n view =
 
 -- a piece of a segment that is owed comes next
 pub piece_next : (v : Stretch) (i : ℕ) (w : WorkerView) (step : Step) (out : List ℕ)
-    (old new : DecoderSeen) (seat : Stretch) → w.segment ≡ Some i → seat ≡ v
+    (old new : FileDecoderSeen) (seat : Stretch) → w.segment ≡ Some i → seat ≡ v
     → OwesRest v i w.put old → PaysAll step out old new → HasNext (segments_bytes seat) w out
 piece_next v i w step out old new seat segment content owes pays =
     let next = owed_next v i w.put step out old new owes pays in

@@ -4,29 +4,30 @@ use Rattle.byte_window.specs.declared.window.Window.{Window}
 use Rattle.byte_window.specs.Windows.{window}
 use Rattle.atomic_table.specs.Seated.{TableId}
 use Rattle.board_core.specs.BoardInvariants.{bytes_at}
-use Rattle.handover.specs.declared.pads.PadSum.{PadSum}
-use Rattle.container_spec.specs.Meanings.{Joined, joined}
-use Rattle.segment_code.specs.Decoding.{DecoderSeen}
+use Rattle.scans_format.specs.Scans.{all_plans}
+use Rattle.scans_spec.specs.ScansJoined.{ScansJoined, scanned_from, scans_joined}
+use Rattle.scans_spec.specs.declared.scan_pads.ScanPads.{ScanPads}
+use Rattle.segment_code.specs.FileDecoding.{FileDecoderSeen}
 use Rattle.output_board.specs.declared.view.EmitterView.{EmitterView}
 use Rattle.output_board.specs.Seats.{SeatValue}
 use Rattle.segment_worker.specs.declared.emitted.Emitted.{Emitted}
 use Rattle.segment_worker.specs.declared.emitted.EmitStop.{EmitStop}
 use Rattle.segment_worker.specs.declared.emitted.EmitStop.TheVariants.{WriteFault, Fault}
-use Rattle.segment_worker.specs.Contents.{Stretch, outputs_in, segments_bytes, segment_room}
+use Rattle.segment_worker.specs.Contents.{Stretch, segments_bytes, segment_room}
 use Rattle.segment_worker.specs.Joining.{joined_from, joined_onto}
 use Rattle.segment_worker.specs.Written.{HasWritten, HasFailed}
 
 -- the segments of a stretch, joined
-abbrev pub joined_in : Stretch → Joined
-joined_in v = joined (outputs_in v)
+abbrev pub joined_in : Stretch → ScansJoined
+joined_in v = scans_joined (scanned_from v.container v.first v.count)
 
 -- what a window lets through of segments
-abbrev pub seen_through : Window → Joined → Joined
+abbrev pub seen_through : Window → ScansJoined → ScansJoined
 seen_through w all = record all { bytes = window w all.bytes }
 
 -- the emitter's seat on the board of a stretch, and its decoder, before the first call
 pub record IsNewEmitter (table : TableId) (v : Stretch) (seat : SeatValue Stretch EmitterView)
-    (decoder : DecoderSeen) : Type 0 where
+    (decoder : FileDecoderSeen) : Type 0 where
   pub own : seat.table ≡ table
   pub content : seat.content ≡ v
   pub cur : seat.view.cur ≡ 0
@@ -34,15 +35,15 @@ pub record IsNewEmitter (table : TableId) (v : Stretch) (seat : SeatValue Stretc
   pub free : seat.view.owns ≡ false
   pub going : seat.view.stopped ≡ false
   pub claims : seat.claims ≡ 0
-  pub plan : decoder.plan ≡ v.container.plan
+  pub plans : decoder.plans ≡ all_plans v.container
   pub begun : decoder.begun ≡ 0
 
 -- and after the last one: it is still the same board's, and the decoder began as many segments as the seat claimed
 pub record IsUsedEmitter (table : TableId) (v : Stretch) (seat : SeatValue Stretch EmitterView)
-    (decoder : DecoderSeen) : Type 0 where
+    (decoder : FileDecoderSeen) : Type 0 where
   pub own : seat.table ≡ table
   pub content : seat.content ≡ v
-  pub plan : decoder.plan ≡ v.container.plan
+  pub plans : decoder.plans ≡ all_plans v.container
   pub begun : decoder.begun ≡ seat.claims
 
 -- its view says that all N segments are emitted, and the board isn't stopped
@@ -51,7 +52,7 @@ pub record IsThrough (count : ℕ) (e : EmitterView) : Type 0 where
   pub going : e.stopped ≡ false
 
 -- how many bytes of joined segments were written, by how an emitter ends
-abbrev pub Counts : Joined → Result Emitted EmitStop → Type 0
+abbrev pub Counts : ScansJoined → Result Emitted EmitStop → Type 0
 Counts all (Ok emitted) = emitted.bytes ≡ length all.bytes
 Counts all (Err (Fault fault)) = Unit {0}
 Counts all (Err (WriteFault written)) = written < length all.bytes
@@ -59,7 +60,7 @@ Counts all (Err (WriteFault written)) = written < length all.bytes
 module _ {Sink : Type 0} (held : Sink → Option (List ℕ))
     (takes : Sink → List ℕ → Type 0) (faults : Sink → ℕ) (full : Sink → Type 0) where
   -- how it ends: all segments, or all through the first bad one, or their first bytes
-  abbrev pub Emits : Sink → Sink → Joined → Result Emitted EmitStop → Type 0
+  abbrev pub Emits : Sink → Sink → ScansJoined → Result Emitted EmitStop → Type 0
   Emits old new all (Ok emitted) =
       (all.fault ≡ None) × (emitted.bytes ≡ length all.bytes) × (emitted.pads ≡ all.padded)
       × HasWritten held takes faults old new all.bytes
@@ -71,7 +72,7 @@ module _ {Sink : Type 0} (held : Sink → Option (List ℕ))
 -- is written
 pub record IsWrittenTo {Sink : Type 0} (held : Sink → Option (List ℕ))
     (takes : Sink → List ℕ → Type 0) (faults : Sink → ℕ) (v : Stretch) (w : Window)
-    (cur taken : ℕ) (old new : Sink) (came : ℕ) (padded : PadSum) : Type 0 where
+    (cur taken : ℕ) (old new : Sink) (came : ℕ) (padded : ScanPads) : Type 0 where
   pub bytes : List ℕ
   pub all : joined_in v ≡ joined_onto bytes padded (joined_from v cur)
   pub has : HasWritten held takes faults old new
@@ -85,7 +86,7 @@ pub record IsWrittenTo {Sink : Type 0} (held : Sink → Option (List ℕ))
 pub record IsEmitting {Sink : Type 0} (held : Sink → Option (List ℕ))
     (takes : Sink → List ℕ → Type 0) (faults : Sink → ℕ)
     (table : TableId) (v : Stretch) (w : Window) (seat : SeatValue Stretch EmitterView)
-    (decoder : DecoderSeen) (old new : Sink) (came : ℕ) (padded : PadSum) : Type 0 where
+    (decoder : FileDecoderSeen) (old new : Sink) (came : ℕ) (padded : ScanPads) : Type 0 where
   pub used : IsUsedEmitter table v seat decoder
   pub free : seat.view.owns ≡ false
   pub going : seat.view.stopped ≡ false

@@ -4,17 +4,17 @@ use Rattle.byte_window.specs.declared.window.Window.{Window}
 use Rattle.byte_window.specs.Windows.{window}
 use Rattle.handover.specs.declared.outcome.Outcome.{Outcome}
 use Rattle.board_core.specs.BoardInvariants.{bytes_at}
-use Rattle.segment_code.specs.Decoding.{DecoderSeen, Owes}
+use Rattle.segment_code.specs.FileDecoding.{FileDecoderSeen, FileOwes}
 use Rattle.output_board.specs.declared.view.EmitterView.{EmitterView}
 use Rattle.output_board.specs.Seats.{SeatValue}
 use Rattle.segment_worker.specs.Contents.{Stretch, segments_bytes, segments_outcomes}
 use Rattle.segment_worker.specs.Written.{HasWritten, HasFailed}
 
 -- a decoder owes the bytes of segment i of a stretch from one on, and its outcome
-pub record OwesRest (v : Stretch) (i from : ℕ) (d : DecoderSeen) : Type 0 where
+pub record OwesRest (v : Stretch) (i from : ℕ) (d : FileDecoderSeen) : Type 0 where
   pub bytes : List ℕ
   pub outcome : Outcome
-  pub owes : Owes d bytes outcome
+  pub owes : FileOwes d bytes outcome
   pub rest : drop from (bytes_at (segments_bytes v) i) ≡ bytes
   pub within : from ≤ length (bytes_at (segments_bytes v) i)
   pub end : slice_get (segments_outcomes v) i ≡ Some outcome
@@ -32,7 +32,7 @@ own_rest seat = drop seat.view.taken (bytes_at (segments_bytes seat.content) sea
 -- between two pieces of the emitter's own segment
 pub record IsPassing {Sink : Type 0} (held : Sink → Option (List ℕ))
     (takes : Sink → List ℕ → Type 0) (faults : Sink → ℕ)
-    (w : Window) (from now : SeatValue Stretch EmitterView) (begun d : DecoderSeen)
+    (w : Window) (from now : SeatValue Stretch EmitterView) (begun d : FileDecoderSeen)
     (old new : Sink) (came : ℕ) : Type 0 where
   pub same : IsSameSeat from now
   pub view : now.view ≡ record from.view { taken = from.view.taken + came }
@@ -40,7 +40,7 @@ pub record IsPassing {Sink : Type 0} (held : Sink → Option (List ℕ))
   pub owes : OwesRest from.content from.view.cur (from.view.taken + came) d
   pub has : HasWritten held takes faults old new (window w (take came (own_rest from)))
   pub begun_is : d.begun ≡ begun.begun
-  pub plan : d.plan ≡ begun.plan
+  pub plans : d.plans ≡ begun.plans
 
 -- what a window lets through of bytes of the segment that is emitted was written, and the emitter owns none; or a write
 -- failed in it, after this number of bytes

@@ -4,7 +4,8 @@ ghost use Rattle.outside_core.specs.Takes.{TakesNext};
 ghost use Rattle.byte_window.specs.Windows.{window as passed};
 ghost use Rattle.handover.specs.declared.outcome.Outcome.{Outcome};
 ghost use Rattle.box_format.specs.Versions.{most_segments};
-ghost use Rattle.segment_code.specs.Decoding.{Owes};
+ghost use Rattle.scans_format.specs.Scans.{all_plans, segment_count};
+ghost use Rattle.segment_code.specs.FileDecoding.{FileOwes, steps_left};
 ghost use Rattle.segment_worker.specs.Contents.{segment_room, stretch};
 ghost use Rattle.segment_worker.specs.Emitting.{Emits, joined_in, seen_through};
 ghost use Rattle.segment_worker.specs.LoneSegments.{OwesSome, SegmentEnds, pieces_room};
@@ -13,11 +14,12 @@ use crate::emitted::{EmitStop, Emitted};
 use crate::emitter_part::write_part;
 use crate::lengths::segments_are_short;
 use bit_list::Piece;
-use box_format::BoxView;
 use byte_window::Window;
-use handover::{Outcome, PadSum};
+use handover::Outcome;
 use outside_core::{Gate, Sink};
-use segment_code::{SegmentDecoder, Step};
+use scans_format::FileView;
+use scans_spec::ScanPads;
+use segment_code::{FileDecoder, Step, segment_at};
 
 /// Writes what the window lets through of `count` segments in order, from the container's number `first` on, each
 /// decoded on the calling thread when its turn comes: what `emit` writes, with no other thread to wait for. It returns
@@ -28,17 +30,17 @@ use segment_code::{SegmentDecoder, Step};
 ///
 /// The gate is called before each segment.
 pub fn emit_alone<'a, K: Sink, G: Gate>(
-    decoder: &mut SegmentDecoder<'a>,
+    decoder: &mut FileDecoder<'a>,
     piece: &mut Piece,
-    view: &BoxView<'a>,
+    view: &FileView<'a>,
     window: Window,
     sink: &mut K,
     gate: &G,
     first: u8,
     count: u8,
 ) -> Result<Emitted, EmitStop>
-    requires within { first + count ≤ length view.now.parts.handovers }
-    requires plan { decoder.old.plan ≡ view.now.plan }
+    requires within { first + count ≤ segment_count view.now }
+    requires plans { decoder.old.plans ≡ all_plans view.now }
     requires fresh { decoder.old.begun ≡ 0 }
     requires takes { TakesNext K.takes sink.old
         (seen_through window (joined_in (stretch view.now first count))).bytes }
@@ -49,7 +51,7 @@ pub fn emit_alone<'a, K: Sink, G: Gate>(
     ensures few { length (joined_in (stretch view.now first count)).bytes
         ≤ segment_room * most_segments }
     ensures begun { OnOk result (decoder.new.begun ≡ decoder.old.begun + count) }
-    ensures plan { decoder.new.plan ≡ decoder.old.plan }
+    ensures plans { decoder.new.plans ≡ decoder.old.plans }
     ensures lasting { K.faults sink.old ≤ K.faults sink.new }
 {
     segments_are_short(view);
@@ -58,18 +60,18 @@ pub fn emit_alone<'a, K: Sink, G: Gate>(
 
 // The same.
 fn emit_segments<'a, K: Sink, G: Gate>(
-    decoder: &mut SegmentDecoder<'a>,
+    decoder: &mut FileDecoder<'a>,
     piece: &mut Piece,
-    view: &BoxView<'a>,
+    view: &FileView<'a>,
     window: Window,
     sink: &mut K,
     gate: &G,
     first: u8,
     count: u8,
 ) -> Result<Emitted, EmitStop>
-    requires within { first + count ≤ length view.now.parts.handovers }
-    requires few { length view.now.parts.handovers ≤ most_segments }
-    requires plan { decoder.old.plan ≡ view.now.plan }
+    requires within { first + count ≤ segment_count view.now }
+    requires few { segment_count view.now ≤ most_segments }
+    requires plans { decoder.old.plans ≡ all_plans view.now }
     requires fresh { decoder.old.begun ≡ 0 }
     requires takes { TakesNext K.takes sink.old
         (seen_through window (joined_in (stretch view.now first count))).bytes }
@@ -78,11 +80,11 @@ fn emit_segments<'a, K: Sink, G: Gate>(
     ensures came { IfOk result (λ emitted.
         emitted.came ≡ length (joined_in (stretch view.now first count)).bytes) }
     ensures begun { OnOk result (decoder.new.begun ≡ count) }
-    ensures plan { decoder.new.plan ≡ decoder.old.plan }
+    ensures plans { decoder.new.plans ≡ decoder.old.plans }
     ensures lasting { K.faults sink.old ≤ K.faults sink.new }
 {
     let mut came = 0;
-    let mut pads = PadSum::none();
+    let mut pads = ScanPads::none();
     for segment in 0..count {
         let number = first + segment;
         gate.before_own(number);
@@ -91,7 +93,8 @@ fn emit_segments<'a, K: Sink, G: Gate>(
         match emit_segment(decoder, piece, rest, sink) {
             Ok((passed, Outcome::Good { pads: more })) => {
                 came += passed;
-                pads = pads.with(&more);
+                let (scan, _) = segment_at(view, number);
+                pads = pads.with(scan, &more);
             }
             Ok((_, Outcome::Bad(fault))) => return Err(EmitStop::Fault(fault)),
             Err(more) => {
@@ -111,7 +114,7 @@ fn emit_segments<'a, K: Sink, G: Gate>(
 // Writes what the window lets through of what the decoder owes of a segment, piece by piece. Returns how many bytes the
 // segment has and how it ends, or how many were written before the sink failed.
 fn emit_segment<K: Sink>(
-    decoder: &mut SegmentDecoder,
+    decoder: &mut FileDecoder,
     piece: &mut Piece,
     window: Window,
     sink: &mut K,
@@ -119,13 +122,13 @@ fn emit_segment<K: Sink>(
     requires running { decoder.old.running ≡ true }
     requires owes { (owed : OwesSome decoder.old)
         × TakesNext K.takes sink.old (passed window owed.bytes) }
-    requires few { decoder.old.left < 2 ^ 32 }
-    ensures ends { (bytes : List ℕ) (outcome : Outcome) → Owes decoder.old bytes outcome
+    requires few { steps_left decoder.old < 2 ^ 33 }
+    ensures ends { (bytes : List ℕ) (outcome : Outcome) → FileOwes decoder.old bytes outcome
         → SegmentEnds K.held K.takes K.faults K.full window sink.old sink.new bytes outcome result }
     ensures few { IfOk result (λ ended. ended.0 ≤ pieces_room) }
     ensures short { IfErr result (λ written. written ≤ pieces_room) }
     ensures begun { decoder.new.begun ≡ decoder.old.begun }
-    ensures plan { decoder.new.plan ≡ decoder.old.plan }
+    ensures plans { decoder.new.plans ≡ decoder.old.plans }
     ensures lasting { K.faults sink.old ≤ K.faults sink.new }
 {
     let mut came = 0;

@@ -1,20 +1,21 @@
 // The board of a stretch.
-ghost use Rattle.std.specs.Prelude.{◌≡◌, ◌+◌, ◌≤◌, IfOk, length};
+ghost use Rattle.std.specs.Prelude.{◌≡◌, ◌+◌, ◌≤◌, IfOk};
 ghost use Rattle.output_board.specs.Seats.{new_emitter_seat, new_worker_seats};
+ghost use Rattle.scans_format.specs.Scans.{segment_count};
 ghost use Rattle.segment_worker.specs.Contents.{stretch};
 
 use crate::content::Told;
 use crate::lengths::segments_are_short;
-use box_format::BoxView;
 use growth::NoMemory;
 use output_board::{Board, EmitterSeat, WorkerSeat};
+use scans_format::FileView;
 use std::alloc::Global;
 
 /// The board of `count` of a container's segments, from number `first` on, before the first call, the emitter's seat,
 /// and the seats of `workers` workers. Each segment's ring holds at most `ring` bytes. The one error is out of memory.
 pub fn prepare_board<'a>(
     alloc: Global,
-    view: &BoxView<'a>,
+    view: &FileView<'a>,
     ring: usize,
     workers: u8,
     first: u8,
@@ -28,7 +29,7 @@ pub fn prepare_board<'a>(
     NoMemory,
 >
     requires ring { 1 ≤ ring }
-    requires within { first + count ≤ length view.now.parts.handovers }
+    requires within { first + count ≤ segment_count view.now }
     ensures emitter { IfOk result (λ made.
         made.1 ≡ new_emitter_seat made.0 (stretch view.now first count) workers ring) }
     ensures workers { IfOk result (λ made.

@@ -2,8 +2,8 @@
 ghost use Rattle.std.specs.Prelude.{◌≡◌};
 ghost use Rattle.segment_worker.specs.Contents.{stretch};
 
-use box_format::BoxView;
 use output_board::Content;
+use scans_format::FileView;
 use std::marker::Model;
 use std::snapshot::Snapshot;
 
@@ -13,7 +13,7 @@ use std::snapshot::Snapshot;
 /// Clauses see the stretch.
 #[derive(Drop)]
 pub struct Told<'a> {
-    container: Snapshot<BoxView<'a>>,
+    container: Snapshot<FileView<'a>>,
     first: u8,
     count: u8,
 }
@@ -29,7 +29,7 @@ impl<'a> Model for Told<'a> {
 }
 
 impl<'a> Told<'a> {
-    pub fn new(view: &BoxView<'a>, first: u8, count: u8) -> Told<'a>
+    pub fn new(view: &FileView<'a>, first: u8, count: u8) -> Told<'a>
         ensures { result ≡ stretch view.now first count }
     {
         Told {

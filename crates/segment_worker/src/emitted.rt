@@ -1,5 +1,6 @@
 // What an emitter returns.
-use handover::{PadSum, StreamFault};
+use handover::StreamFault;
+use scans_spec::ScanPads;
 
 /// All segments were written, as far as they go through the window, none with a fault.
 #[derive(Clone, Copy, Debug, PartialEq, Eq)]
@@ -8,8 +9,8 @@ pub struct Emitted {
     pub bytes: u64,
     /// How many bytes they have, whatever goes through.
     pub came: u64,
-    /// What their intervals were padded with.
-    pub pads: PadSum,
+    /// What their intervals were padded with, scan by scan.
+    pub pads: ScanPads,
 }
 
 /// Why not all segments were written. The board is stopped then.

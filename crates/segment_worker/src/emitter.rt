@@ -2,6 +2,7 @@
 ghost use Rattle.std.specs.Prelude.{◌≡◌, ◌+◌, ◌*◌, ◌≤◌, length, IfOk, OnOk, OnErr, true};
 ghost use Rattle.outside_core.specs.Takes.{TakesNext};
 ghost use Rattle.box_format.specs.Versions.{most_segments};
+ghost use Rattle.scans_format.specs.Scans.{segment_count};
 ghost use Rattle.segment_worker.specs.Contents.{AreShort, segment_room, stretch};
 ghost use Rattle.segment_worker.specs.Emitting.{Emits, IsNewEmitter, IsThrough, IsUsedEmitter, joined_in, seen_through};
 
@@ -11,12 +12,13 @@ use crate::emitter_own::emit_unclaimed;
 use crate::emitter_part::write_part;
 use crate::lengths::segments_are_short;
 use bit_list::Piece;
-use box_format::BoxView;
 use byte_window::Window;
-use handover::{Outcome, PadSum};
+use handover::Outcome;
 use output_board::{Board, EmitterSeat, Take};
 use outside_core::{Gate, Sink};
-use segment_code::SegmentDecoder;
+use scans_format::FileView;
+use scans_spec::ScanPads;
+use segment_code::{FileDecoder, segment_at};
 use std::sync::Wait;
 
 /// The most bytes of one take from a ring.
@@ -32,18 +34,18 @@ const MOST_TAKEN: usize = 4_096;
 /// The gate is called before each segment that the emitter asks for.
 pub fn emit<'a, R: Wait, K: Sink, G: Gate>(
     rt: &R,
-    decoder: &mut SegmentDecoder<'a>,
+    decoder: &mut FileDecoder<'a>,
     piece: &mut Piece,
     seat: &mut EmitterSeat<Told<'a>>,
     board: &Board<Told<'a>>,
-    view: &BoxView<'a>,
+    view: &FileView<'a>,
     window: Window,
     sink: &mut K,
     gate: &G,
     first: u8,
     count: u8,
 ) -> Result<Emitted, EmitStop>
-    requires within { first + count ≤ length view.now.parts.handovers }
+    requires within { first + count ≤ segment_count view.now }
     requires new { IsNewEmitter board.now (stretch view.now first count) seat.old decoder.old }
     requires takes { TakesNext K.takes sink.old
         (seen_through window (joined_in (stretch view.now first count))).bytes }
@@ -79,11 +81,11 @@ pub fn emit<'a, R: Wait, K: Sink, G: Gate>(
 // The same, with a buffer for the bytes of a take.
 fn emit_through<'a, R: Wait, K: Sink, G: Gate>(
     rt: &R,
-    decoder: &mut SegmentDecoder<'a>,
+    decoder: &mut FileDecoder<'a>,
     piece: &mut Piece,
     seat: &mut EmitterSeat<Told<'a>>,
     board: &Board<Told<'a>>,
-    view: &BoxView<'a>,
+    view: &FileView<'a>,
     window: Window,
     sink: &mut K,
     gate: &G,
@@ -91,10 +93,10 @@ fn emit_through<'a, R: Wait, K: Sink, G: Gate>(
     _count: u8,
     buffer: &mut [u8],
 ) -> Result<Emitted, EmitStop>
-    requires within { first + _count ≤ length view.now.parts.handovers }
+    requires within { first + _count ≤ segment_count view.now }
     requires new { IsNewEmitter board.now (stretch view.now first _count) seat.old decoder.old }
     requires short { AreShort (stretch view.now first _count) }
-    requires few { length view.now.parts.handovers ≤ most_segments }
+    requires few { segment_count view.now ≤ most_segments }
     requires some { 1 ≤ length buffer.old }
     requires takes { TakesNext K.takes sink.old
         (seen_through window (joined_in (stretch view.now first _count))).bytes }
@@ -108,7 +110,7 @@ fn emit_through<'a, R: Wait, K: Sink, G: Gate>(
     ensures lasting { K.faults sink.old ≤ K.faults sink.new }
 {
     let mut came = 0;
-    let mut pads = PadSum::none();
+    let mut pads = ScanPads::none();
     let mut current = 0;
     for _ in rt.forever() {
         match board.take(rt, seat, buffer) {
@@ -122,7 +124,8 @@ fn emit_through<'a, R: Wait, K: Sink, G: Gate>(
                 came += taken as u64;
             }
             Take::Ended(Outcome::Good { pads: more }) => {
-                pads = pads.with(&more);
+                let (scan, _) = segment_at(view, first + current);
+                pads = pads.with(scan, &more);
                 current += 1;
             }
             Take::Ended(Outcome::Bad(fault)) => {

@@ -4,18 +4,19 @@ ghost use Rattle.outside_core.specs.Takes.{TakesNext};
 ghost use Rattle.byte_window.specs.Windows.{window as passed};
 ghost use Rattle.board_core.specs.BoardInvariants.{bytes_at};
 ghost use Rattle.box_format.specs.Versions.{most_segments};
+ghost use Rattle.scans_format.specs.Scans.{all_plans, segment_count};
 ghost use Rattle.segment_worker.specs.Contents.{AreShort, segments_bytes, stretch};
 ghost use Rattle.segment_worker.specs.OwnSegments.{IsSameSeat, OwesRest, OwnEnds, own_rest};
 
 use crate::content::Told;
 use crate::emitter_part::write_part;
 use bit_list::Piece;
-use box_format::BoxView;
 use byte_window::Window;
 use handover::Outcome;
 use output_board::{Board, EmitterSeat, Own};
 use outside_core::{Gate, Sink};
-use segment_code::{SegmentDecoder, Step};
+use scans_format::FileView;
+use segment_code::{FileDecoder, Step};
 use std::sync::Wait;
 
 // Claims the segment that is emitted, if nobody has, and writes what the window lets through of it, whatever its
@@ -23,11 +24,11 @@ use std::sync::Wait;
 // with index `current`, and the board's first one is the container's with number `first`.
 pub(crate) fn emit_unclaimed<'a, R: Wait, K: Sink, G: Gate>(
     rt: &R,
-    decoder: &mut SegmentDecoder<'a>,
+    decoder: &mut FileDecoder<'a>,
     piece: &mut Piece,
     seat: &mut EmitterSeat<Told<'a>>,
     board: &Board<Told<'a>>,
-    view: &BoxView<'a>,
+    view: &FileView<'a>,
     window: Window,
     sink: &mut K,
     gate: &G,
@@ -36,14 +37,14 @@ pub(crate) fn emit_unclaimed<'a, R: Wait, K: Sink, G: Gate>(
 ) -> Result<u64, u64>
     requires own { seat.old.table ≡ board.now }
     requires content { seat.old.content ≡ stretch view.now first seat.old.content.count }
-    requires fits { first + seat.old.content.count ≤ length view.now.parts.handovers }
-    requires few { length view.now.parts.handovers ≤ most_segments }
+    requires fits { first + seat.old.content.count ≤ segment_count view.now }
+    requires few { segment_count view.now ≤ most_segments }
     requires number { first + current < 256 }
     requires free { seat.old.view.owns ≡ false }
     requires going { seat.old.view.stopped ≡ false }
     requires within { seat.old.view.taken
         ≤ length (bytes_at (segments_bytes seat.old.content) seat.old.view.cur) }
-    requires plan { decoder.old.plan ≡ view.now.plan }
+    requires plans { decoder.old.plans ≡ all_plans view.now }
     requires begun { decoder.old.begun ≡ seat.old.claims }
     requires short { AreShort seat.old.content }
     requires takes { TakesNext K.takes sink.old (passed window (own_rest seat.old)) }
@@ -52,7 +53,7 @@ pub(crate) fn emit_unclaimed<'a, R: Wait, K: Sink, G: Gate>(
     ensures own { seat.new.table ≡ seat.old.table }
     ensures content { seat.new.content ≡ seat.old.content }
     ensures begun { decoder.new.begun ≡ seat.new.claims }
-    ensures plan { decoder.new.plan ≡ decoder.old.plan }
+    ensures plans { decoder.new.plans ≡ decoder.old.plans }
     ensures lasting { K.faults sink.old ≤ K.faults sink.new }
 {
     gate.before_own(first + current);
@@ -68,7 +69,7 @@ pub(crate) fn emit_unclaimed<'a, R: Wait, K: Sink, G: Gate>(
 // Writes what the window lets through of the rest of the emitter's own segment, piece by piece, and ends it.
 fn emit_own<'a, R: Wait, K: Sink>(
     rt: &R,
-    decoder: &mut SegmentDecoder<'a>,
+    decoder: &mut FileDecoder<'a>,
     piece: &mut Piece,
     seat: &mut EmitterSeat<Told<'a>>,
     board: &Board<Told<'a>>,
@@ -86,7 +87,7 @@ fn emit_own<'a, R: Wait, K: Sink>(
         result }
     ensures same { IsSameSeat seat.old seat.new }
     ensures begun { decoder.new.begun ≡ decoder.old.begun }
-    ensures plan { decoder.new.plan ≡ decoder.old.plan }
+    ensures plans { decoder.new.plans ≡ decoder.old.plans }
     ensures lasting { K.faults sink.old ≤ K.faults sink.new }
 {
     let mut came = 0;

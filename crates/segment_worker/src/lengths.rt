@@ -1,17 +1,18 @@
 // How many segments a container has, and how long they are.
-ghost use Rattle.std.specs.Prelude.{◌+◌, ◌≤◌, ℕ, length};
+ghost use Rattle.std.specs.Prelude.{◌+◌, ◌≤◌, ℕ};
 ghost use Rattle.box_format.specs.Versions.{most_segments};
+ghost use Rattle.scans_format.specs.Scans.{segment_count};
 ghost use Rattle.segment_worker.specs.Contents.{AreShort, stretch};
 
-use box_format::BoxView;
+use scans_format::FileView;
 
 // Whatever its streams, a container has few segments, and none has more bytes than 64 bits count. This is called for
-// its clauses and does no work.
-pub(crate) fn segments_are_short(view: &BoxView)
-    ensures short { (first count : ℕ) → first + count ≤ length view.now.parts.handovers
+// its clauses and does no work but count.
+pub(crate) fn segments_are_short(view: &FileView)
+    ensures short { (first count : ℕ) → first + count ≤ segment_count view.now
         → AreShort (stretch view.now first count) }
-    ensures few { length view.now.parts.handovers ≤ most_segments }
+    ensures few { segment_count view.now ≤ most_segments }
 {
-    let _plan = view.plan();
+    let _scans = view.scans();
     let _segments = view.segments();
 }

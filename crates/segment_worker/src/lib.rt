@@ -1,7 +1,7 @@
 //! Segments of a container decoded by workers and an emitter that share a board, and the segments of a file coded side
 //! by side (this project's own).
 //!
-//!     worker   claim --> SegmentDecoder::begin, step --> piece --put--> ring of the segment
+//!     worker   claim --> FileDecoder::begin, step --> piece --put--> ring of the segment
 //!     emitter  take  <-- ring of the segment that is emitted                 --write_all--> sink
 //!              claim_own, where nobody has claimed it --> begin, step --> piece --write_all--> sink
 //!     alone    for each segment in order:                 begin, step --> piece --write_all--> sink

@@ -24,8 +24,9 @@ use std::alloc::Global;
 use std::thread::Threads;
 
 /// Where the segments of the scan of a plan start, which follows the bytes that the plan has as its header, and the
-/// stream of each, in order: at most `segments`, and at most as many as rows of MCUs. One pass over the scan finds the starts. Each segment but the
-/// last is coded in a thread of its own, if one can be had, once the pass is there; the pass codes the last one.
+/// stream of each, in order: at most `segments`, and at most as many as rows of MCUs. One pass over the scan finds the
+/// starts. Each segment but the last is coded in a thread of its own, if one can be had, once the pass is there; the
+/// pass codes the last one.
 pub fn encode_scan<R: Threads + Sync>(
     rt: &R,
     alloc: Global,

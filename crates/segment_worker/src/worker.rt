@@ -1,5 +1,6 @@
 // A worker.
-ghost use Rattle.std.specs.Prelude.{◌+◌, ◌≤◌, length};
+ghost use Rattle.std.specs.Prelude.{◌+◌, ◌≤◌};
+ghost use Rattle.scans_format.specs.Scans.{segment_count};
 ghost use Rattle.segment_worker.specs.Contents.{stretch};
 ghost use Rattle.segment_worker.specs.Working.{HasLeft, IsIdle, IsOver};
 
@@ -7,10 +8,10 @@ use crate::content::Told;
 use crate::lengths::segments_are_short;
 use crate::worker_segment::put_segment;
 use bit_list::Piece;
-use box_format::BoxView;
 use output_board::{Board, Claim, WorkerSeat};
 use outside_core::Gate;
-use segment_code::SegmentDecoder;
+use scans_format::FileView;
+use segment_code::FileDecoder;
 use std::sync::Wait;
 
 /// Claims segments of the board of `count` segments, from the container's number `first` on, and decodes them into
@@ -19,16 +20,16 @@ use std::sync::Wait;
 /// The gate is called before and after each put.
 pub fn work<'a, R: Wait, G: Gate>(
     rt: &R,
-    decoder: &mut SegmentDecoder<'a>,
+    decoder: &mut FileDecoder<'a>,
     piece: &mut Piece,
     seat: &mut WorkerSeat<Told<'a>>,
     board: &Board<Told<'a>>,
-    view: &BoxView<'a>,
+    view: &FileView<'a>,
     gate: &G,
     first: u8,
     count: u8,
 )
-    requires within { first + count ≤ length view.now.parts.handovers }
+    requires within { first + count ≤ segment_count view.now }
     requires idle { IsIdle board.now (stretch view.now first count) seat.old decoder.old }
     ensures { HasLeft board.now (stretch view.now first count) seat.new decoder.new }
 {
@@ -39,16 +40,16 @@ pub fn work<'a, R: Wait, G: Gate>(
 // The same, but for leaving.
 fn put_segments<'a, R: Wait, G: Gate>(
     rt: &R,
-    decoder: &mut SegmentDecoder<'a>,
+    decoder: &mut FileDecoder<'a>,
     piece: &mut Piece,
     seat: &mut WorkerSeat<Told<'a>>,
     board: &Board<Told<'a>>,
-    view: &BoxView<'a>,
+    view: &FileView<'a>,
     gate: &G,
     first: u8,
     _count: u8,
 )
-    requires within { first + _count ≤ length view.now.parts.handovers }
+    requires within { first + _count ≤ segment_count view.now }
     requires idle { IsIdle board.now (stretch view.now first _count) seat.old decoder.old }
     ensures { IsOver board.now (stretch view.now first _count) seat.new decoder.new }
 {

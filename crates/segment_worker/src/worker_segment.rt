@@ -8,7 +8,7 @@ use bit_list::Piece;
 use handover::Outcome;
 use output_board::{Board, WorkerSeat};
 use outside_core::Gate;
-use segment_code::{SegmentDecoder, Step};
+use segment_code::{FileDecoder, Step};
 use std::sync::Wait;
 
 // Decodes the rest of the worker's segment into its ring, piece by piece, and ends it. Returns whether the board wasn't
@@ -16,7 +16,7 @@ use std::sync::Wait;
 // first segment.
 pub(crate) fn put_segment<'a, R: Wait, G: Gate>(
     rt: &R,
-    decoder: &mut SegmentDecoder<'a>,
+    decoder: &mut FileDecoder<'a>,
     piece: &mut Piece,
     seat: &mut WorkerSeat<Told<'a>>,
     board: &Board<Told<'a>>,
@@ -36,7 +36,7 @@ pub(crate) fn put_segment<'a, R: Wait, G: Gate>(
     ensures going { result ≡ true → seat.new.view.over ≡ false }
     ensures here { seat.new.view.left ≡ seat.old.view.left }
     ensures begun { decoder.new.begun ≡ decoder.old.begun }
-    ensures plan { decoder.new.plan ≡ decoder.old.plan }
+    ensures plans { decoder.new.plans ≡ decoder.old.plans }
 {
     let number = first + segment;
     loop {

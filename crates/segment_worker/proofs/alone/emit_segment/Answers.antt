@@ -29,7 +29,7 @@ loop-more-preserved g c =
     c.step-step.new.self c.args.sink.now c.loop-more.sink c.write_part.new.sink c.loop-more.came
     c.step-step.new.out c.len.result c.loop-more.invariant c.in-More.ensures.pays has
     c.len.ensures.count c.len.ensures.within
-    c.in-More.ensures.begun c.in-More.ensures.plan).1
+    c.in-More.ensures.begun c.in-More.ensures.plans).1
 
 pub loop-more-smaller : goal.loop-more-smaller
 loop-more-smaller g c =

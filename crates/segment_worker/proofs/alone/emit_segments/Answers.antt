@@ -1,12 +1,8 @@
-use Rattle.std.proofs.Common.{◌≡◌, ◌+◌, ◌∙◌, sym, subst, arith, ℕ, Ok}
+use Rattle.std.proofs.Common.{◌≡◌, ◌+◌, ◌∙◌, sym, ap, subst, arith, ℕ, Ok}
 use Rattle.outside_core.specs.Takes.{TakesNext}
 use Rattle.byte_window.specs.declared.window.Window.{Window}
 use Rattle.byte_window.specs.Windows.{window}
-use Rattle.container_spec.specs.Segments.{segment_output}
-use Rattle.container_spec.specs.Meanings.{segment_in}
-use Rattle.segment_code.specs.Decoding.{DecoderSeen, Owes}
-use Rattle.box_format.specs.Parts.{BoxParts}
-use Rattle.jpeg_marker.specs.Plans.{PlanFields}
+use Rattle.scans_spec.specs.ScansJoined.{sums_of, sums_with}
 use Rattle.segment_worker.specs.Contents.{stretch}
 use Rattle.segment_worker.specs.Written.{HasWritten, HasFailed}
 use Rattle.segment_worker.specs.Emitting.{Emits, joined_in, seen_through}
@@ -15,18 +11,11 @@ use Rattle.segment_worker.proofs.ContentsTold.{output_of}
 use Rattle.segment_worker.proofs.LoneWritten.{no_segments, segment_taken, segment_written, segment_bad, segment_failed, all_segments}
 use Rattle.segment_worker.proofs.alone.emit_segments.Goals as goal
 
--- what is owed, by the plan of the view
-owed : (d : DecoderSeen) (made plan : PlanFields) (b : BoxParts) (i : ℕ) → made ≡ plan
-    → Owes d (segment_output (segment_in made b i)).0 (segment_output (segment_in made b i)).1
-    → Owes d (segment_output (segment_in plan b i)).0 (segment_output (segment_in plan b i)).1
-owed d made plan b i e owes =
-    subst (λ (p : PlanFields). Owes d (segment_output (segment_in p b i)).0 (segment_output (segment_in p b i)).1) e owes
-
 pub loop-segment-init : goal.loop-segment-init
 loop-segment-init g c =
     rw (c.none-pads.ensures)
     (no_segments g.K.Sink.held g.K.Sink.takes g.K.Sink.faults g.K.Sink.full c.args.window (stretch c.args.view.now c.args.first c.args.count) c.args.decoder.now
-    c.args.sink.now c.requires.plan c.requires.fresh)
+    c.args.sink.now c.requires.plans c.requires.fresh)
 
 pub emit_segment-requires-clause-owes : goal.emit_segment-requires-clause-owes
 emit_segment-requires-clause-owes g c =
@@ -36,8 +25,7 @@ emit_segment-requires-clause-owes g c =
     let owed : OwesSome c.begin.new.self = record {
       bytes = (output_of v i).0;
       outcome = (output_of v i).1;
-      owes = owed c.begin.new.self c.loop-segment.decoder.plan c.args.view.now.plan c.args.view.now.parts
-          (c.args.first + i) loop.plan_is c.begin.ensures.owes;
+      owes = c.begin.ensures.owes;
     } in (
       owed,
       subst (λ (w : Window). TakesNext g.K.Sink.takes c.loop-segment.sink (window w (output_of (stretch c.args.view.now c.args.first c.args.count) c.loop-segment.segment).0))
@@ -50,9 +38,7 @@ emit_segment-requires-clause-owes g c =
 pub returns-in-Ok-default-Bad-clause-ends : goal.returns-in-Ok-default-Bad-clause-ends
 returns-in-Ok-default-Bad-clause-ends g c =
     let loop = c.loop-segment.invariant in
-    let owes = owed c.begin.new.self c.loop-segment.decoder.plan c.args.view.now.plan c.args.view.now.parts
-    (c.args.first + c.loop-segment.segment) loop.plan_is c.begin.ensures.owes in
-    let ended = c.in-Ok-default-Bad.ensures.ends _ _ owes in
+    let ended = c.in-Ok-default-Bad.ensures.ends _ _ c.begin.ensures.owes in
     let has = subst (λ (w : Window). HasWritten g.K.Sink.held g.K.Sink.takes g.K.Sink.faults c.loop-segment.sink c.emit_segment.new.sink
     (window w (output_of (stretch c.args.view.now c.args.first c.args.count) c.loop-segment.segment).0)) c.after-rest.ensures ended.2 in
     segment_bad g.K.Sink.held g.K.Sink.takes g.K.Sink.faults g.K.Sink.full c.args.window (stretch c.args.view.now c.args.first c.args.count)
@@ -64,9 +50,7 @@ returns-in-Ok-default-Bad-clause-ends g c =
 pub loop-segment-preserved : goal.loop-segment-preserved
 loop-segment-preserved g c =
     let loop = c.loop-segment.invariant in
-    let owes = owed c.begin.new.self c.loop-segment.decoder.plan c.args.view.now.plan c.args.view.now.parts
-    (c.args.first + c.loop-segment.segment) loop.plan_is c.begin.ensures.owes in
-    let ended = c.in-Ok-default-Good.ensures.ends _ _ owes in
+    let ended = c.in-Ok-default-Good.ensures.ends _ _ c.begin.ensures.owes in
     let has = subst (λ (w : Window). HasWritten g.K.Sink.held g.K.Sink.takes g.K.Sink.faults c.loop-segment.sink c.emit_segment.new.sink
     (window w (output_of (stretch c.args.view.now c.args.first c.args.count) c.loop-segment.segment).0)) c.after-rest.ensures ended.2 in
     segment_written g.K.Sink.held g.K.Sink.takes g.K.Sink.faults g.K.Sink.full c.args.window (stretch c.args.view.now c.args.first c.args.count)
@@ -74,14 +58,14 @@ loop-segment-preserved g c =
     c.loop-segment.came c.in-Ok-default-Good.passed c.loop-segment.pads c.in-Ok-default-Good.more _ loop
     c.loop-segment-test.true
     ended.0 (sym c.in-Ok-default-Good.field-0-1-is ∙ ended.1) has c.in-Ok-default-Good.ensures.few
-    (c.in-Ok-default-Good.ensures.plan ∙ c.begin.ensures.plan)
-    (c.in-Ok-default-Good.ensures.begun ∙ c.begin.ensures.begun) c.with-pads.ensures
+    (c.in-Ok-default-Good.ensures.plans ∙ c.begin.ensures.plans)
+    (c.in-Ok-default-Good.ensures.begun ∙ c.begin.ensures.begun)
+    (c.with-pads.ensures
+    ∙ ap (λ (k : ℕ). sums_with c.loop-segment.pads (sums_of k c.in-Ok-default-Good.more)) c.segment_at-scan.ensures.scan)
 
 pub returns-in-Err-clause-ends : goal.returns-in-Err-clause-ends
 returns-in-Err-clause-ends g c =
     let loop = c.loop-segment.invariant in
-    let owes = owed c.begin.new.self c.loop-segment.decoder.plan c.args.view.now.plan c.args.view.now.parts
-    (c.args.first + c.loop-segment.segment) loop.plan_is c.begin.ensures.owes in
     subst (λ (n : ℕ). HasFailed g.K.Sink.held g.K.Sink.faults g.K.Sink.full c.args.sink.now c.emit_segment.new.sink
     (window c.args.window (joined_in (stretch c.args.view.now c.args.first c.args.count)).bytes) (n + c.in-Err.more)) (sym c.through.ensures.value)
     (segment_failed g.K.Sink.held g.K.Sink.takes g.K.Sink.faults g.K.Sink.full c.args.window (stretch c.args.view.now c.args.first c.args.count)
@@ -90,7 +74,7 @@ returns-in-Err-clause-ends g c =
     c.loop-segment-test.true
     (subst (λ (w : Window). HasFailed g.K.Sink.held g.K.Sink.faults g.K.Sink.full c.loop-segment.sink c.emit_segment.new.sink
     (window w (output_of (stretch c.args.view.now c.args.first c.args.count) c.loop-segment.segment).0) c.in-Err.more)
-    c.after-rest.ensures (c.in-Err.ensures.ends _ _ owes)))
+    c.after-rest.ensures (c.in-Err.ensures.ends _ _ c.begin.ensures.owes)))
 
 pub returns-clause-ends : goal.returns-clause-ends
 returns-clause-ends g c =

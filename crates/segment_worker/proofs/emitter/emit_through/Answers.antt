@@ -3,7 +3,9 @@ use Rattle.outside_core.specs.Takes.{TakesNext}
 use Rattle.byte_window.specs.declared.window.Window.{Window}
 use Rattle.byte_window.specs.Windows.{window}
 use Rattle.output_board.specs.declared.view.EmitterView.{EmitterView}
-use Rattle.segment_worker.proofs.Emissions.{starts_emitting, taken_next, own_next, bytes_taken, taken_failed, good_taken, good_cur, bad_taken, same_emitted, own_emitted, own_failed, all_came, all_emitted}
+use Rattle.scans_spec.specs.ScansMeanings.{scan_of}
+use Rattle.scans_spec.specs.ScansJoined.{sums_of, sums_with}
+use Rattle.segment_worker.proofs.Emissions.{starts_emitting, taken_next, own_next, bytes_taken, taken_failed, good_taken, good_cur, good_within, bad_taken, same_emitted, own_emitted, own_failed, all_came, all_emitted}
 use Rattle.segment_worker.proofs.ContentsTold.{bytes_long}
 use Rattle.segment_worker.specs.Contents.{Stretch, stretch}
 use Rattle.segment_worker.specs.Written.{HasFailed}
@@ -51,6 +53,15 @@ loop-preserved-in-Bytes g c =
       some = let some = c.loop.invariant.some in omega (arith, some, same);
     }
 
+pub segment_at-scan-requires : goal.segment_at-scan-requires
+segment_at-scan-requires g c =
+    let under = good_within g.K.Sink.held g.K.Sink.takes g.K.Sink.faults g.K.Sink.full c.args.board.now (stretch c.args.view.now c.args.first c.args._count) c.args.window c.loop.seat
+    c.take.new.seat c.in-Ended-Good.more _ c.loop.buffer c.take.new.buf c.loop.invariant.emitting.used.content
+    c.in-Ended-Good.field-0-is c.in-Ended-Good.ensures.answer in
+    let current = c.loop.invariant.current in
+    let within = c.requires.within in
+    omega (arith, under, current, within)
+
 pub loop-preserved-in-Ended-Good : goal.loop-preserved-in-Ended-Good
 loop-preserved-in-Ended-Good g c =
     let same : length c.take.new.buf ≡ length c.loop.buffer = search rules in
@@ -58,7 +69,12 @@ loop-preserved-in-Ended-Good g c =
       emitting = good_taken g.K.Sink.held g.K.Sink.takes g.K.Sink.faults g.K.Sink.full c.args.board.now (stretch c.args.view.now c.args.first c.args._count) c.args.window c.requires.short
           c.loop.seat c.take.new.seat c.loop.decoder c.args.sink.now c.loop.sink c.loop.came c.loop.pads
           c.in-Ended-Good.more _ _ c.loop.buffer c.take.new.buf c.loop.invariant.emitting c.take.ensures.hold
-          c.in-Ended-Good.field-0-is c.with-pads.ensures c.in-Ended-Good.ensures.answer;
+          c.in-Ended-Good.field-0-is
+          (c.with-pads.ensures
+          ∙ ap (λ (k : ℕ). sums_with c.loop.pads (sums_of k c.in-Ended-Good.more))
+          (c.segment_at-scan.ensures.scan
+          ∙ ap (λ (n : ℕ). scan_of 0 c.args.view.now (c.args.first + n)) c.loop.invariant.current))
+          c.in-Ended-Good.ensures.answer;
       current = ap (λ (n : ℕ). n + 1) c.loop.invariant.current
           ∙ sym (good_cur g.K.Sink.held g.K.Sink.takes g.K.Sink.faults g.K.Sink.full c.args.board.now (stretch c.args.view.now c.args.first c.args._count) c.args.window c.loop.seat
           c.take.new.seat c.in-Ended-Good.more _ c.loop.buffer c.take.new.buf c.in-Ended-Good.field-0-is
@@ -95,7 +111,7 @@ loop-preserved-in-Ok g c =
           c.emit_unclaimed.new.sink c.loop.came c.in-Ok.passed c.loop.pads took
           (subst (λ (w : Window). OwnEnds g.K.Sink.held g.K.Sink.takes g.K.Sink.faults g.K.Sink.full w c.take.new.seat c.emit_unclaimed.new.seat c.loop.sink c.emit_unclaimed.new.sink (Ok c.in-Ok.passed))
           c.after-rest.ensures c.in-Ok.ensures.ends)
-          c.in-Ok.ensures.own c.in-Ok.ensures.content c.in-Ok.ensures.begun c.in-Ok.ensures.plan;
+          c.in-Ok.ensures.own c.in-Ok.ensures.content c.in-Ok.ensures.begun c.in-Ok.ensures.plans;
       current = c.loop.invariant.current ∙ sym (ap (λ (x : EmitterView). x.cur) a.0)
           ∙ sym (ap (λ (x : EmitterView). x.cur) c.in-Ok.ensures.ends.2);
       some = let some = c.loop.invariant.some in omega (arith, some, same);

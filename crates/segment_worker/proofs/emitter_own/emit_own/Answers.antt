@@ -70,7 +70,7 @@ loop-more-preserved g c =
     (piece_passed g.K.Sink.held g.K.Sink.takes g.K.Sink.faults g.K.Sink.full c.args.window c.args.seat.now c.loop-more.seat c.pass.new.seat c.args.decoder.now
     c.loop-more.decoder c.step-step.new.self c.args.sink.now c.loop-more.sink c.write_part.new.sink c.loop-more.came
     c.step-step.new.out c.loop-more.invariant c.in-More.ensures.pays has c.pass.ensures.same c.pass.ensures.view
-    c.in-More.ensures.begun c.in-More.ensures.plan).1
+    c.in-More.ensures.begun c.in-More.ensures.plans).1
 
 pub finish_own-requires-clause-all : goal.finish_own-requires-clause-all
 finish_own-requires-clause-all g c =

@@ -1,3 +1,4 @@
+use Rattle.segment_code.specs.FileDecoding.{steps_left}
 use Rattle.segment_worker.specs.OwnSegments.{IsPassing}
 use Rattle.segment_worker.proofs.emitter_own.emit_own.Given as goal
 
@@ -7,4 +8,4 @@ invariant-loop-more g l =
     l.initial.sink l.sink l.came
 
 abbrev pub decreases-loop-more : goal.decreases-loop-more
-decreases-loop-more g l = l.decoder.left
+decreases-loop-more g l = steps_left l.decoder

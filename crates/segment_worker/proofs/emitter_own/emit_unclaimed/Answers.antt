@@ -1,10 +1,6 @@
-use Rattle.std.proofs.Common.{◌≡◌, ◌+◌, ◌<◌, ◌∙◌, sym, ap, subst, arith, List, ℕ}
+use Rattle.std.proofs.Common.{◌≡◌, ◌<◌, ◌∙◌, sym, ap, subst, arith, List, ℕ}
 use Rattle.outside_core.specs.Takes.{TakesNext}
 use Rattle.byte_window.specs.Windows.{window}
-use Rattle.jpeg_marker.specs.Plans.{PlanFields}
-use Rattle.container_spec.specs.Segments.{segment_output}
-use Rattle.container_spec.specs.Meanings.{segment_in}
-use Rattle.segment_code.specs.Decoding.{Owes}
 use Rattle.output_board.specs.declared.view.EmitterView.{EmitterView}
 use Rattle.segment_worker.specs.Contents.{Stretch, stretch}
 use Rattle.segment_worker.specs.OwnSegments.{OwesRest}
@@ -44,12 +40,9 @@ emit_own-requires-clause-owes g c =
     let cur : c.claim_own.new.seat.view.cur ≡ c.in-Mine.segment =
     ap (λ (w : EmitterView). w.cur) view ∙ sym (is ∙ a.4.1) in
     let none : c.claim_own.new.seat.view.taken ≡ 0 = ap (λ (w : EmitterView). w.taken) view ∙ a.1 in
-    let number = c.args.first + c.in-Mine.segment in
-    let owes = subst (λ (p : PlanFields). Owes c.begin.new.self (segment_output (segment_in p c.args.view.now.parts number)).0 (segment_output (segment_in p c.args.view.now.parts number)).1)
-    c.requires.plan c.begin.ensures.owes in
     subst (λ (z : Stretch × ℕ). OwesRest z.0 z.1 c.claim_own.new.seat.view.taken c.begin.new.self)
     (λ i. (sym content i, sym cur i))
-    (owes_all v c.in-Mine.segment c.claim_own.new.seat.view.taken c.begin.new.self within none owes)
+    (owes_all v c.in-Mine.segment c.claim_own.new.seat.view.taken c.begin.new.self within none c.begin.ensures.owes)
 
 pub emit_own-requires-clause-takes : goal.emit_own-requires-clause-takes
 emit_own-requires-clause-takes g c =

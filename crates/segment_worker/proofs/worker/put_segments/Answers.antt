@@ -1,8 +1,4 @@
-use Rattle.std.proofs.Common.{◌<◌, ◌+◌, ◌∙◌, sym, ap, subst, arith}
-use Rattle.jpeg_marker.specs.Plans.{PlanFields}
-use Rattle.container_spec.specs.Segments.{segment_output}
-use Rattle.container_spec.specs.Meanings.{segment_in}
-use Rattle.segment_code.specs.Decoding.{Owes}
+use Rattle.std.proofs.Common.{◌<◌, ◌∙◌, sym, ap, subst, arith}
 use Rattle.output_board.specs.declared.view.WorkerView.{WorkerView}
 use Rattle.segment_worker.specs.Contents.{Stretch, stretch}
 use Rattle.segment_worker.specs.OwnSegments.{OwesRest}
@@ -54,11 +50,8 @@ put_segment-requires-clause-owes g c =
     let within : c.in-Segment.segment < c.args._count = omega (arith, long, same, under, is) in
     let content = c.claim.ensures.hold.content ∙ i.content in
     let none = ap (λ (w : WorkerView). w.put) a.0 in
-    let number = c.args.first + c.in-Segment.segment in
-    let owes = subst (λ (p : PlanFields). Owes c.begin.new.self (segment_output (segment_in p c.args.view.now.parts number)).0 (segment_output (segment_in p c.args.view.now.parts number)).1)
-    i.plan c.begin.ensures.owes in
     subst (λ (z : Stretch). OwesRest z c.in-Segment.segment c.claim.new.seat.view.put c.begin.new.self) (sym content)
-    (owes_all v c.in-Segment.segment c.claim.new.seat.view.put c.begin.new.self within none owes)
+    (owes_all v c.in-Segment.segment c.claim.new.seat.view.put c.begin.new.self within none c.begin.ensures.owes)
 
 pub put_segment-requires-clause-going : goal.put_segment-requires-clause-going
 put_segment-requires-clause-going g c =

@@ -41,7 +41,7 @@ loop-step-preserved g c =
       running = later.1;
       owes = subst (λ (n : ℕ). OwesRest c.args.seat.now.content c.args.segment n c.step-step.new.self) (sym count) later.2;
       begun = c.in-More.ensures.begun ∙ i.begun;
-      plan = c.in-More.ensures.plan ∙ i.plan;
+      plans = c.in-More.ensures.plans ∙ i.plans;
     }
 
 pub end-requires-clause-end : goal.end-requires-clause-end

@@ -1,4 +1,5 @@
 use Rattle.std.proofs.Common.{◌≡◌, Some, false, true}
+use Rattle.segment_code.specs.FileDecoding.{steps_left}
 use Rattle.segment_worker.specs.OwnSegments.{IsSameSeat, OwesRest}
 use Rattle.segment_worker.proofs.worker_segment.put_segment.Given as goal
 
@@ -11,8 +12,8 @@ invariant-loop-step g l = record {
   running : l.decoder.running ≡ true;
   owes : OwesRest l.initial.seat.content l.segment l.seat.view.put l.decoder;
   begun : l.decoder.begun ≡ l.initial.decoder.begun;
-  plan : l.decoder.plan ≡ l.initial.decoder.plan;
+  plans : l.decoder.plans ≡ l.initial.decoder.plans;
 }
 
 abbrev pub decreases-loop-step : goal.decreases-loop-step
-decreases-loop-step g l = l.decoder.left
+decreases-loop-step g l = steps_left l.decoder

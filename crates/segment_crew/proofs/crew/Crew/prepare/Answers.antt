@@ -28,7 +28,7 @@ invariant_of-result c =
       emitter = c.in_ok-decoder.ensures.begun ∙ ap (λ (s : SeatValue Stretch EmitterView). s.claims) (sym e);
       team = idle_members board v team idle;
       new = λ unused. new_lead board v c.min-workers.result c.args.ring _ c.requires.within e
-          (c.in_ok-decoder.ensures.plan ∙ c.plan.ensures.value) c.in_ok-decoder.ensures.begun;
+          (c.in_ok-decoder.ensures.plans ∙ c.plans.ensures) c.in_ok-decoder.ensures.begun;
       idle = λ unused. subst (λ (s : Stretch). All (IsIdleWorker board s) team) (sym content) idle;
     }
 
