@@ -1,7 +1,7 @@
 -- How a decode ends by how its emitter did.
 use Rattle.std.proofs.Common.{◌≡◌, ℕ, true, List, Option, Result, Ok, Err}
 use Rattle.std.specs.Prelude.{All, OnOk, OnErr}
-use Rattle.container_spec.specs.Meanings.{Joined}
+use Rattle.scans_spec.specs.ScansJoined.{ScansJoined}
 use Rattle.output_board.specs.declared.view.EmitterView.{EmitterView}
 use Rattle.output_board.specs.declared.view.WorkerView.{WorkerView}
 use Rattle.segment_crew.specs.Crews.{Member}
@@ -15,7 +15,7 @@ use Rattle.lepton_decode.specs.Ends.{Follows, HasEmitted, HaveLeft}
 
 -- it counted what it wrote
 pub counted : {Sink : Type 0} (held : Sink → Option (List ℕ)) (takes : Sink → List ℕ → Type 0) (faults : Sink → ℕ)
-    (full : Sink → Type 0) (old new : Sink) (all : Joined) (emitted : Result Emitted EmitStop)
+    (full : Sink → Type 0) (old new : Sink) (all : ScansJoined) (emitted : Result Emitted EmitStop)
     → Emits held takes faults full old new all emitted → Counts all emitted
 counted held takes faults full old new all (Ok emitted) e = e.1
 counted held takes faults full old new all (Err (Stops.Fault fault)) e = tt

@@ -1,4 +1,6 @@
+mod ScansEnd
 mod FilesWritten
 mod NoSegments
 mod EndsMet
 mod RingSizes
+mod PadsLooked

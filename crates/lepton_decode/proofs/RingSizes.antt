@@ -1,10 +1,7 @@
 -- How long the rings of a container's segments are, one for each.
-use Rattle.std.proofs.Common.{◌≡◌, ℕ, zero, suc, ◌+◌, ◌*◌, ◌/◌, ◌^◌, ◌≤◌, max, inl, inr, refl, subst, arith}
+use Rattle.std.proofs.Common.{◌≡◌, ℕ, zero, suc, ◌+◌, ◌*◌, ◌/◌, ◌^◌, ◌≤◌, max, inl, inr, subst, arith}
 use Rattle.std.proofs.lemmas.Bool.{cases_lt}
 use Rattle.std.proofs.Math.Nat.{div-mul-le_self, mul-le-mul_right}
-use Rattle.box_format.specs.Versions.{decoded, IsRead}
-use Rattle.box_format.specs.declared.version.Version.{Version}
-use Rattle.box_format.specs.declared.version.Version.TheVariants.{First, Second, Third, Fifth}
 
 -- a ring of at most twice a segment's share, or of 64 KiB
 pub all_rings : (ring length segments : ℕ) → ring ≤ max (2 ^ 16) (length / segments * 2)
@@ -29,10 +26,3 @@ rings_of ring length zero segments is all = omega arith
 rings_of ring length (suc count) segments is all =
     let same : segments ≡ suc count = omega (arith, is) in
     subst (λ (n : ℕ). ring * n ≤ 2 * length + 2 ^ 16 * n) same all
-
--- each version is read
-pub read_any : (version : Version) → IsRead decoded version
-read_any First = refl
-read_any Second = refl
-read_any Third = refl
-read_any Fifth = refl

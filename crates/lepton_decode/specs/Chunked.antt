@@ -1,26 +1,32 @@
 -- Steps: what a container begins with, what goes through of its segments, and what is asked of them, by its chunk if it
 -- has one (own).
-use Rattle.std.specs.Prelude.{ℕ, ◌+◌, nat_lt, Bool, true, false, List, length, Option, Some, None}
+use Rattle.std.specs.Prelude.{ℕ, ◌+◌, nat_lt, Bool, true, false, List, [], ◌∷◌, Option, Some, None}
 use Rattle.byte_window.specs.declared.window.Window.{Window}
-use Rattle.scan_spec.specs.Pads.{PadBits, is_spelled}
-use Rattle.handover.specs.declared.pads.PadSum.{PadSum}
-use Rattle.box_format.specs.Parts.{BoxParts}
-use Rattle.box_format.specs.Seen.{BoxSeen}
+use Rattle.box_format.specs.Parts.{BoxSeen}
 use Rattle.box_format.specs.declared.chunk.Chunk.{Chunk}
 use Rattle.container_spec.specs.Meanings.{before_rows, rows_window}
+use Rattle.scans_format.specs.Scans.{all_parts, segment_count, trailer_of}
+use Rattle.scans_spec.specs.ScansJoined.{all_spelled, first_header}
+use Rattle.scans_spec.specs.declared.scan_pads.ScanPads.{ScanPads}
 use Rattle.segment_worker.specs.Contents.{Stretch, stretch}
 
 -- all of its segments
-abbrev pub whole : BoxSeen → Stretch
-whole v = stretch v 0 (length v.parts.handovers)
+abbrev pub whole : List BoxSeen → Stretch
+whole scans = stretch scans 0 (segment_count scans)
+
+-- the chunk that its one scan has, if it has a chunk
+abbrev pub chunk_in : List BoxSeen → Option Chunk
+chunk_in [] = None
+chunk_in (s ∷ scans) = s.parts.chunk
 
 -- what comes before its segments
-abbrev pub before_in : BoxParts → List ℕ
-before_in b = before_rows b.chunk b.header
+abbrev pub before_in : List BoxSeen → List ℕ
+before_in scans = before_rows (chunk_in scans) (first_header scans)
 
 -- which of its segments' bytes it has
-abbrev pub window_in : BoxParts → Window
-window_in b = rows_window b.chunk b.header b.trailer
+abbrev pub window_in : List BoxSeen → Window
+window_in scans =
+    rows_window (chunk_in scans) (first_header scans) (trailer_of (all_parts scans))
 
 -- whether bytes end before a bound that comes after the first `skip` of them; never if there is none
 abbrev pub ends_before : Option ℕ → ℕ → ℕ → Bool
@@ -31,7 +37,7 @@ ends_before (Some most) skip came = nat_lt came (skip + most)
 abbrev pub falls_short : Window → ℕ → Bool
 falls_short w came = ends_before w.most w.skip came
 
--- whether the pad bits are spelled as a file's; a chunk's are, whatever its intervals are padded with
-abbrev pub are_spelled : Option Chunk → PadBits → PadSum → Bool
-are_spelled None pads sum = is_spelled pads sum
-are_spelled (Some c) pads sum = true
+-- whether the pad bits of each scan are spelled as a file's; a chunk's are, whatever its intervals are padded with
+abbrev pub are_spelled : Option Chunk → List BoxSeen → ScanPads → Bool
+are_spelled None scans sums = all_spelled 0 scans sums
+are_spelled (Some c) scans sums = true

@@ -1,8 +1,8 @@
 -- Steps: what a decode returns, and what it leaves in a sink (own).
 use Rattle.std.specs.Prelude.{All, ℕ, ◌≡◌, Bool, true, List, [], length, Option, Some, None, Result, Ok, Err}
-use Rattle.jpeg_marker.specs.Plans.{PlanFields}
-use Rattle.box_format.specs.Parts.{BoxParts}
-use Rattle.container_spec.specs.Meanings.{Meaning, Restored, PadSpelled, ChunkShort as ShortChunk, Faulty, meaning_of}
+use Rattle.box_format.specs.Parts.{BoxSeen}
+use Rattle.container_spec.specs.Meanings.{Meaning, Restored, PadSpelled, ChunkShort as ShortChunk, Faulty}
+use Rattle.scans_spec.specs.ScansMeanings.{scans_meaning}
 use Rattle.output_board.specs.declared.view.EmitterView.{EmitterView}
 use Rattle.output_board.specs.declared.view.WorkerView.{WorkerView}
 use Rattle.segment_worker.specs.Written.{HasWritten, HasFailed}
@@ -18,27 +18,24 @@ abbrev pub team_in : Option CrewSeen → List (Member WorkerView)
 team_in None = []
 team_in (Some crew) = crew.team
 
--- a container that is ready: its header's plan, its parts, what is seen of its crew if it has one, and whether it was
--- decoded
+-- a container that is ready: its scans, what is seen of its crew if it has one, and whether it was decoded
 pub record ReadySeen : Type 0 where
-  pub plan : PlanFields
-  pub parts : BoxParts
+  pub scans : List BoxSeen
   pub crew : Option CrewSeen
   pub used : Bool
 
 -- what it stands for
 abbrev pub meaning_in : ReadySeen → Meaning
-meaning_in ready = meaning_of ready.plan ready.parts
+meaning_in ready = scans_meaning ready.scans
 
--- a container that is ready for one thread: its header's plan, its parts, and whether it was decoded
+-- a container that is ready for one thread: its scans, and whether it was decoded
 pub record AloneSeen : Type 0 where
-  pub plan : PlanFields
-  pub parts : BoxParts
+  pub scans : List BoxSeen
   pub used : Bool
 
 -- what it stands for
 abbrev pub lone_meaning_in : AloneSeen → Meaning
-lone_meaning_in ready = meaning_of ready.plan ready.parts
+lone_meaning_in ready = scans_meaning ready.scans
 
 module _ {Sink : Type 0} (held : Sink → Option (List ℕ))
     (takes : Sink → List ℕ → Type 0) (faults : Sink → ℕ) (full : Sink → Type 0) where

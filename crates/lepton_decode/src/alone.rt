@@ -1,30 +1,31 @@
 // A container decoded on one thread.
 ghost use Rattle.std.specs.Prelude.{◌≡◌, ◌≤◌, IfOk, IsErrOf, false, true};
-ghost use Rattle.box_format.specs.Parts.{IsBoxOf};
-ghost use Rattle.box_format.specs.BoxChecks.{IsRefusedBox};
 ghost use Rattle.box_format.specs.declared.refusal.BoxRefusal.{BoxRefusal};
-ghost use Rattle.container_spec.specs.Meanings.{meaning_of};
 ghost use Rattle.outside_core.specs.Takes.{TakesNext};
+ghost use Rattle.scans_format.specs.Containers.{IsContainer, IsRefusedContainer};
+ghost use Rattle.scans_format.specs.Scans.{all_plans};
+ghost use Rattle.scans_spec.specs.ScansMeanings.{scans_meaning};
 ghost use Rattle.lepton_decode.specs.Ends.{Ends, lone_meaning_in};
 
 use crate::error::DecodeError;
 use crate::file_parts::{put_before, put_rest, rows_window};
 use crate::ready::PrepareError;
 use bit_list::Piece;
-use box_format::{BoxRefusal, BoxView, read_box};
+use box_format::BoxRefusal;
 use outside_core::{Gate, Sink};
-use segment_code::SegmentDecoder;
+use scans_format::{FileView, read_container};
+use segment_code::FileDecoder;
 use segment_worker::emit_alone;
 use std::alloc::Global;
 use std::marker::Model;
 
-/// A container that is ready to be decoded on one thread, once: its parts, and all the memory that decoding needs.
+/// A container that is ready to be decoded on one thread, once: its scans, and all the memory that decoding needs.
 ///
-/// Clauses see its header's plan, its parts, and whether it was decoded.
+/// Clauses see its scans, and whether it was decoded.
 #[derive(Drop)]
 pub struct ReadyAlone<'a> {
-    pub(crate) view: BoxView<'a>,
-    pub(crate) decoder: SegmentDecoder<'a>,
+    pub(crate) view: FileView<'a>,
+    pub(crate) decoder: FileDecoder<'a>,
     pub(crate) piece: Piece,
     pub(crate) used: bool,
 }
@@ -49,19 +50,19 @@ impl<'a> ReadyAlone<'a> {
     }
 }
 
-/// Reads a container's parts, and allocates all the memory that its decoding on one thread needs: the bins, two MCU
-/// rows of blocks and a piece of bytes.
+/// Reads a container's scans, and allocates all the memory that its decoding on one thread needs: for each scan the
+/// bins and two MCU rows of blocks, and a piece of bytes.
 pub fn prepare_alone(alloc: Global, bytes: &[u8]) -> Result<ReadyAlone<'_>, PrepareError>
-    ensures ready { IfOk result (λ ready. IsBoxOf ready.plan ready.parts bytes.now) }
+    ensures ready { IfOk result (λ ready. IsContainer ready.scans bytes.now) }
     ensures fresh { IfOk result (λ ready. ready.used ≡ false) }
     ensures refused { (refusal : BoxRefusal) → IsErrOf result (PrepareError.Box refusal)
-        → IsRefusedBox bytes.now refusal }
+        → IsRefusedContainer bytes.now refusal }
 {
-    let view = match read_box(bytes) {
+    let view = match read_container(bytes) {
         Ok(view) => view,
         Err(refusal) => return Err(PrepareError::Box(refusal)),
     };
-    let decoder = SegmentDecoder::prepare(alloc, view.plan())?;
+    let decoder = FileDecoder::prepare(alloc, view.plans())?;
     let piece = Piece::new(alloc)?;
     Ok(ReadyAlone {
         view,
@@ -101,19 +102,19 @@ pub fn run_alone<K: Sink, G: Gate>(
 
 // What comes before the segments, what the container has of them, and the trailer.
 fn restore_alone<'a, K: Sink, G: Gate>(
-    view: &BoxView<'a>,
-    decoder: &mut SegmentDecoder<'a>,
+    view: &FileView<'a>,
+    decoder: &mut FileDecoder<'a>,
     piece: &mut Piece,
     sink: &mut K,
     gate: &G,
 ) -> Result<u64, DecodeError>
-    requires plan { decoder.old.plan ≡ view.now.plan }
+    requires plans { decoder.old.plans ≡ all_plans view.now }
     requires fresh { decoder.old.begun ≡ 0 }
     requires takes { TakesNext K.takes sink.old
-        (meaning_of view.now.plan view.now.parts).bytes }
+        (scans_meaning view.now).bytes }
     ensures ends { Ends K.held K.takes K.faults K.full sink.old sink.new
-        (meaning_of view.now.plan view.now.parts) result }
-    ensures plan { decoder.new.plan ≡ decoder.old.plan }
+        (scans_meaning view.now) result }
+    ensures plans { decoder.new.plans ≡ decoder.old.plans }
     ensures lasting { K.faults sink.old ≤ K.faults sink.new }
 {
     let before = match put_before(view, sink) {

@@ -1,7 +1,8 @@
 // A container decoded into a sink.
 ghost use Rattle.std.specs.Prelude.{◌≡◌, ◌≤◌, All, IfSome, false, is_some, length, true};
-ghost use Rattle.container_spec.specs.Meanings.{meaning_of};
 ghost use Rattle.outside_core.specs.Takes.{TakesNext};
+ghost use Rattle.scans_format.specs.Scans.{segment_count};
+ghost use Rattle.scans_spec.specs.ScansMeanings.{scans_meaning};
 ghost use Rattle.segment_crew.specs.Crews.{HasBegunItsClaims};
 ghost use Rattle.lepton_decode.specs.Chunked.{whole};
 ghost use Rattle.lepton_decode.specs.Ends.{Ends, HasEmitted, HaveLeft, meaning_in, team_in};
@@ -9,9 +10,9 @@ ghost use Rattle.lepton_decode.specs.Ends.{Ends, HasEmitted, HaveLeft, meaning_i
 use crate::error::DecodeError;
 use crate::file_parts::{put_before, put_rest, rows_window};
 use crate::ready::Ready;
-use box_format::BoxView;
-use handover::PadSum;
 use outside_core::{Gate, Sink};
+use scans_format::FileView;
+use scans_spec::ScanPads;
 use segment_crew::Crew;
 use segment_worker::Emitted;
 use std::sync::Wait;
@@ -37,7 +38,7 @@ pub fn run<R: Threads + Wait + Sync, K: Sink + Send, G: Gate + Sync>(
     ensures ends { Ends K.held K.takes K.faults K.full sink.old sink.new (meaning_in ready.old) result }
     // If there is a board, what the emitter's seat knows then of it, and that each worker has left it.
     ensures emitted { IfSome ready.new.crew (λ crew.
-        HasEmitted (length ready.old.parts.handovers) crew.emitter.view result) }
+        HasEmitted (segment_count ready.old.scans) crew.emitter.view result) }
     ensures left { IfSome ready.new.crew (λ crew. HaveLeft crew.team result) }
     // And that the emitter and each worker began as many segments as it claimed.
     ensures begun { IfSome ready.new.crew (λ crew.
@@ -57,7 +58,7 @@ pub fn run<R: Threads + Wait + Sync, K: Sink + Send, G: Gate + Sync>(
 // What comes before the segments, what the container has of them, and the trailer.
 fn restore<'a, R: Threads + Wait + Sync, K: Sink + Send, G: Gate + Sync>(
     rt: &R,
-    view: &BoxView<'a>,
+    view: &FileView<'a>,
     crew: &mut Crew<'a>,
     sink: &mut K,
     gate: &G,
@@ -65,10 +66,10 @@ fn restore<'a, R: Threads + Wait + Sync, K: Sink + Send, G: Gate + Sync>(
     requires fresh { crew.old.used ≡ false }
     requires whole { crew.old.segments ≡ whole view.now }
     requires takes { TakesNext K.takes sink.old
-        (meaning_of view.now.plan view.now.parts).bytes }
+        (scans_meaning view.now).bytes }
     ensures ends { Ends K.held K.takes K.faults K.full sink.old sink.new
-        (meaning_of view.now.plan view.now.parts) result }
-    ensures emitted { HasEmitted (length view.now.parts.handovers) crew.new.emitter.view result }
+        (scans_meaning view.now) result }
+    ensures emitted { HasEmitted (segment_count view.now) crew.new.emitter.view result }
     ensures left { HaveLeft crew.new.team result }
     ensures emitter { HasBegunItsClaims crew.new.emitter }
     ensures team { All HasBegunItsClaims crew.new.team }
@@ -88,12 +89,12 @@ fn restore<'a, R: Threads + Wait + Sync, K: Sink + Send, G: Gate + Sync>(
 }
 
 // The same of a container without a segment.
-fn restore_bare<K: Sink>(view: &BoxView, sink: &mut K) -> Result<u64, DecodeError>
-    requires none { length view.now.parts.handovers ≡ 0 }
+fn restore_bare<K: Sink>(view: &FileView, sink: &mut K) -> Result<u64, DecodeError>
+    requires none { segment_count view.now ≡ 0 }
     requires takes { TakesNext K.takes sink.old
-        (meaning_of view.now.plan view.now.parts).bytes }
+        (scans_meaning view.now).bytes }
     ensures ends { Ends K.held K.takes K.faults K.full sink.old sink.new
-        (meaning_of view.now.plan view.now.parts) result }
+        (scans_meaning view.now) result }
     ensures lasting { K.faults sink.old ≤ K.faults sink.new }
 {
     let before = match put_before(view, sink) {
@@ -104,7 +105,7 @@ fn restore_bare<K: Sink>(view: &BoxView, sink: &mut K) -> Result<u64, DecodeErro
     let emitted = Emitted {
         bytes: 0,
         came: 0,
-        pads: PadSum::none(),
+        pads: ScanPads::none(),
     };
     put_rest(view, before, window, Ok(emitted), sink)
 }

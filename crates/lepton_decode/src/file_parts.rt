@@ -1,28 +1,45 @@
 // What a decode writes before its segments and after them, and what it writes of them.
-ghost use Rattle.std.specs.Prelude.{◌≡◌, ◌*◌, ◌^◌, ◌<◌, ◌≤◌, length, false, IfOk, IfErr};
+ghost use Rattle.std.specs.Prelude.{List, ℕ, ◌≡◌, ◌*◌, ◌^◌, ◌<◌, ◌≤◌, length, false, IfOk, IfErr};
 ghost use Rattle.outside_core.specs.Takes.{TakesNext};
 ghost use Rattle.box_format.specs.Versions.{most_segments};
-ghost use Rattle.container_spec.specs.Meanings.{meaning_of};
+ghost use Rattle.scans_format.specs.Containers.{IsContainer};
+ghost use Rattle.scans_format.specs.Scans.{all_parts, trailer_of};
+ghost use Rattle.scans_spec.specs.ScansJoined.{all_spelled, first_header};
+ghost use Rattle.scans_spec.specs.ScansMeanings.{scans_meaning};
 ghost use Rattle.segment_worker.specs.Contents.{segment_room};
 ghost use Rattle.segment_worker.specs.Emitting.{Counts, Emits, joined_in, seen_through};
 ghost use Rattle.segment_worker.specs.Written.{HasWritten, HasFailed};
-ghost use Rattle.lepton_decode.specs.Chunked.{are_spelled, before_in, falls_short, whole, window_in};
+ghost use Rattle.lepton_decode.specs.Chunked.{are_spelled, before_in, chunk_in, falls_short, whole, window_in};
 ghost use Rattle.lepton_decode.specs.Ends.{Ends, Follows};
 
 use crate::error::DecodeError;
 use box_format::BoxView;
 use byte_window::Window;
-use handover::PadSum;
 use outside_core::{Sink, WriteFault, write_all};
+use scans_format::FileView;
+use scans_spec::ScanPads;
 use segment_worker::{EmitStop, Emitted};
 
-// The header's bytes that the container has: all, or those that lie in its chunk.
-fn before_rows<'a>(view: &BoxView<'a>) -> &'a [u8]
-    ensures bytes { result.now ≡ before_in view.now.parts }
-    ensures fits { length result.now < 2 ^ 32 }
+// The first scan's part of the container.
+fn first_scan<'a>(view: &FileView<'a>) -> BoxView<'a>
+    ensures chunk { chunk_in view.now ≡ result.parts.chunk }
+    ensures header { first_header view.now ≡ result.parts.header }
+    ensures sound { (bytes : List ℕ) × IsContainer view.now bytes }
 {
-    let header = view.header();
-    match view.chunk() {
+    // Called for its clauses: there is a scan.
+    let _scans = view.scans();
+    view.scan(0)
+}
+
+// The header's bytes that the container has: all, or those that lie in its chunk.
+fn before_rows<'a>(view: &FileView<'a>) -> &'a [u8]
+    ensures bytes { result.now ≡ before_in view.now }
+    ensures fits { length result.now < 2 ^ 32 }
+    ensures sound { (bytes : List ℕ) × IsContainer view.now bytes }
+{
+    let first = first_scan(view);
+    let header = first.header();
+    match first.chunk() {
         None => header,
         Some(chunk) => {
             let part = Window {
@@ -35,10 +52,12 @@ fn before_rows<'a>(view: &BoxView<'a>) -> &'a [u8]
 }
 
 // Which of its segments' bytes the container has.
-pub(crate) fn rows_window(view: &BoxView) -> Window
-    ensures { result ≡ window_in view.now.parts }
+pub(crate) fn rows_window(view: &FileView) -> Window
+    ensures window { result ≡ window_in view.now }
+    ensures sound { (bytes : List ℕ) × IsContainer view.now bytes }
 {
-    match view.chunk() {
+    let first = first_scan(view);
+    match first.chunk() {
         None => Window::everything(),
         Some(chunk) => {
             let others = before_rows(view).len() as u64 + view.trailer().len() as u64;
@@ -52,15 +71,15 @@ pub(crate) fn rows_window(view: &BoxView) -> Window
 
 // Writes what comes before the segments. Answers how many bytes that is, or how many of them were written before the
 // sink failed.
-pub(crate) fn put_before<K: Sink>(view: &BoxView, sink: &mut K) -> Result<u64, u64>
+pub(crate) fn put_before<K: Sink>(view: &FileView, sink: &mut K) -> Result<u64, u64>
     requires takes { TakesNext K.takes sink.old
-        (meaning_of view.now.plan view.now.parts).bytes }
-    ensures count { IfOk result (λ before. before ≡ length (before_in view.now.parts)) }
+        (scans_meaning view.now).bytes }
+    ensures count { IfOk result (λ before. before ≡ length (before_in view.now)) }
     ensures fits { IfOk result (λ before. before < 2 ^ 32) }
     ensures whole { IfOk result (λ _.
-        HasWritten K.held K.takes K.faults sink.old sink.new (before_in view.now.parts)) }
+        HasWritten K.held K.takes K.faults sink.old sink.new (before_in view.now)) }
     ensures failed { IfErr result (λ written. HasFailed K.held K.faults K.full sink.old sink.new
-        (meaning_of view.now.plan view.now.parts).bytes written) }
+        (scans_meaning view.now).bytes written) }
     ensures lasting { K.faults sink.old ≤ K.faults sink.new }
 {
     let before = before_rows(view);
@@ -80,43 +99,59 @@ fn is_short(window: Window, came: u64) -> bool
     }
 }
 
-// Whether the pad bits are spelled as a file's, if the container has a file.
-fn are_pads_spelled(view: &BoxView, pads: &PadSum) -> bool
-    ensures { result ≡ are_spelled view.now.parts.chunk view.now.parts.pads pads.now }
+// Whether the pad bits of each scan are spelled as a file's, if the container has a file.
+fn are_pads_spelled(view: &FileView, pads: &ScanPads) -> bool
+    ensures { result ≡ are_spelled (chunk_in view.now) view.now pads.now }
 {
-    match view.chunk() {
-        None => view.pad().is_spelled(pads),
-        Some(_) => true,
+    if first_scan(view).chunk().is_some() {
+        return true;
     }
+    are_all_spelled(view, pads)
+}
+
+// Whether those of each scan are.
+fn are_all_spelled(view: &FileView, pads: &ScanPads) -> bool
+    ensures { result ≡ all_spelled 0 view.now pads.now }
+{
+    let scans = view.scans();
+    for scan in 0..scans {
+        let part = view.scan(scan);
+        if !part.pad().is_spelled(&pads.scan(scan)) {
+            return false;
+        }
+    }
+    true
 }
 
 // After the first `before` bytes and the segments, which ended like this: writes the trailer if all ended well and no
 // byte of a chunk is missing, and then looks whether a file's pad bits are spelled as a file's.
 pub(crate) fn put_rest<K: Sink>(
-    view: &BoxView,
+    view: &FileView,
     before: u64,
     window: Window,
     emitted: Result<Emitted, EmitStop>,
     sink: &mut K,
 ) -> Result<u64, DecodeError>
-    requires before { before ≡ length (before_in view.now.parts) }
+    requires before { before ≡ length (before_in view.now) }
     requires fits { before < 2 ^ 32 }
-    requires window { window ≡ window_in view.now.parts }
+    requires window { window ≡ window_in view.now }
     requires counts { Counts (seen_through window (joined_in (whole view.now))) emitted }
     requires came { IfOk emitted (λ emitted.
         emitted.came ≡ length (joined_in (whole view.now)).bytes) }
     requires few { length (joined_in (whole view.now)).bytes ≤ segment_room * most_segments }
     requires takes { IfOk emitted (λ emitted. falls_short window emitted.came ≡ false
-        → TakesNext K.takes sink.old view.now.parts.trailer) }
+        → TakesNext K.takes sink.old (trailer_of (all_parts view.now))) }
     ensures ends { (first mid : K)
-        → HasWritten K.held K.takes K.faults first mid (before_in view.now.parts)
+        → HasWritten K.held K.takes K.faults first mid (before_in view.now)
         → Emits K.held K.takes K.faults K.full mid sink.old
         (seen_through window (joined_in (whole view.now))) emitted
-        → Ends K.held K.takes K.faults K.full first sink.new (meaning_of view.now.plan view.now.parts)
+        → Ends K.held K.takes K.faults K.full first sink.new (scans_meaning view.now)
         result }
     ensures follows { Follows emitted result }
     ensures lasting { K.faults sink.old ≤ K.faults sink.new }
 {
+    // Called for its clauses: the scans are those of a container.
+    let _scans = view.scans();
     let emitted = match emitted {
         Ok(emitted) => emitted,
         Err(EmitStop::WriteFault { written }) => {

@@ -1,26 +1,27 @@
 // A container that is ready to be decoded.
-ghost use Rattle.std.specs.Prelude.{◌≡◌, ◌+◌, ◌*◌, ◌/◌, ◌^◌, ◌<◌, ◌≤◌, IfOk, IfSome, IsErrOf, false, is_some, length, max, min, nat_lt};
-ghost use Rattle.box_format.specs.Parts.{BoxParts, IsBoxOf};
-ghost use Rattle.jpeg_marker.specs.Plans.{PlanFields};
-ghost use Rattle.box_format.specs.BoxChecks.{IsRefusedBox};
+ghost use Rattle.std.specs.Prelude.{List, ◌≡◌, ◌+◌, ◌*◌, ◌/◌, ◌^◌, ◌<◌, ◌≤◌, IfOk, IfSome, IsErrOf, false, is_some, length, max, min, nat_lt};
+ghost use Rattle.box_format.specs.Parts.{BoxSeen};
 ghost use Rattle.box_format.specs.declared.refusal.BoxRefusal.{BoxRefusal};
+ghost use Rattle.scans_format.specs.Containers.{IsContainer, IsRefusedContainer};
+ghost use Rattle.scans_format.specs.Scans.{segment_count};
 ghost use Rattle.lepton_decode.specs.Chunked.{whole};
 ghost use Rattle.lepton_decode.specs.Ends.{team_in};
 
-use box_format::{BoxRefusal, BoxView, read_box};
+use box_format::BoxRefusal;
 use growth::NoMemory;
+use scans_format::{FileView, read_container};
 use segment_crew::Crew;
 use std::alloc::Global;
 use std::marker::Model;
 use thiserror::Error;
 
-/// A container that is ready to be decoded, once: its parts, and if it has a segment, its board with the seats, and all
+/// A container that is ready to be decoded, once: its scans, and if it has a segment, its board with the seats, and all
 /// the memory that decoding needs.
 ///
-/// Clauses see its header's plan, its parts, what is seen of its crew, if it has one, and whether it was decoded.
+/// Clauses see its scans, what is seen of its crew, if it has one, and whether it was decoded.
 #[derive(Drop)]
 pub struct Ready<'a> {
-    pub(crate) view: BoxView<'a>,
+    pub(crate) view: FileView<'a>,
     pub(crate) crew: Option<Crew<'a>>,
     pub(crate) used: bool,
 }
@@ -66,10 +67,10 @@ impl From<NoMemory> for PrepareError {
     }
 }
 
-/// Reads a container's parts, and allocates all the memory that its decoding by `workers` workers needs: for the
-/// emitter and each worker the bins, two MCU rows of blocks and a piece of bytes, and for each segment a ring of `ring`
-/// bytes. No more workers are made than the container has segments. With 0 workers the emitter decodes all. If the
-/// container has no segment, there is no board.
+/// Reads a container's scans, and allocates all the memory that its decoding by `workers` workers needs: for the
+/// emitter and each worker a piece of bytes, and for each scan the bins and two MCU rows of blocks; and for each
+/// segment a ring of `ring` bytes. No more workers are made than the container has segments. With 0 workers the emitter
+/// decodes all. If the container has no segment, there is no board.
 pub fn prepare(
     alloc: Global,
     bytes: &[u8],
@@ -77,18 +78,18 @@ pub fn prepare(
     ring: usize,
 ) -> Result<Ready<'_>, PrepareError>
     requires { 1 ≤ ring }
-    ensures ready { IfOk result (λ ready. IsBoxOf ready.plan ready.parts bytes.now) }
+    ensures ready { IfOk result (λ ready. IsContainer ready.scans bytes.now) }
     ensures fresh { IfOk result (λ ready. ready.used ≡ false) }
     ensures crew { IfOk result (λ ready.
-        is_some ready.crew ≡ nat_lt 0 (length ready.parts.handovers)) }
+        is_some ready.crew ≡ nat_lt 0 (segment_count ready.scans)) }
     ensures team { IfOk result (λ ready.
-        length (team_in ready.crew) ≡ min workers (length ready.parts.handovers)) }
+        length (team_in ready.crew) ≡ min workers (segment_count ready.scans)) }
     ensures rings { IfOk result (λ ready.
         IfSome ready.crew (λ crew. crew.emitter.view.capacity ≡ ring)) }
     ensures refused { (refusal : BoxRefusal) → IsErrOf result (PrepareError.Box refusal)
-        → IsRefusedBox bytes.now refusal }
+        → IsRefusedContainer bytes.now refusal }
 {
-    let view = match read_box(bytes) {
+    let view = match read_container(bytes) {
         Ok(view) => view,
         Err(refusal) => return Err(PrepareError::Box(refusal)),
     };
@@ -103,17 +104,17 @@ pub fn prepare(
 // The crew of all of a container's segments, if it has one: no more workers than segments.
 fn crew_for<'a>(
     alloc: Global,
-    view: &BoxView<'a>,
+    view: &FileView<'a>,
     workers: u8,
     ring: usize,
 ) -> Result<Option<Crew<'a>>, NoMemory>
     requires { 1 ≤ ring }
     ensures some { IfOk result (λ crew.
-        is_some crew ≡ nat_lt 0 (length view.now.parts.handovers)) }
+        is_some crew ≡ nat_lt 0 (segment_count view.now)) }
     ensures whole { IfOk result (λ crew. IfSome crew (λ made. made.segments ≡ whole view.now)) }
     ensures fresh { IfOk result (λ crew. IfSome crew (λ made. made.used ≡ false)) }
     ensures team { IfOk result (λ crew.
-        length (team_in crew) ≡ min workers (length view.now.parts.handovers)) }
+        length (team_in crew) ≡ min workers (segment_count view.now)) }
     ensures rings { IfOk result (λ crew.
         IfSome crew (λ made. made.emitter.view.capacity ≡ ring)) }
 {
@@ -138,12 +139,12 @@ pub fn ample_ring(bytes: &[u8]) -> usize
     ensures some { 1 ≤ result }
     ensures least { 2 ^ 16 ≤ result }
     ensures most { result ≤ 2 ^ 26 }
-    ensures all { (plan : PlanFields) (b : BoxParts) → IsBoxOf plan b bytes.now
-        → result * length b.handovers ≤ 2 * length bytes.now + 2 ^ 16 * length b.handovers }
-    ensures share { (plan : PlanFields) (b : BoxParts) → IsBoxOf plan b bytes.now
-        → min (length bytes.now / max (length b.handovers) 1 * 2) (2 ^ 26) ≤ result }
+    ensures all { (scans : List BoxSeen) → IsContainer scans bytes.now
+        → result * segment_count scans ≤ 2 * length bytes.now + 2 ^ 16 * segment_count scans }
+    ensures share { (scans : List BoxSeen) → IsContainer scans bytes.now
+        → min (length bytes.now / max (segment_count scans) 1 * 2) (2 ^ 26) ≤ result }
 {
-    match read_box(bytes) {
+    match read_container(bytes) {
         Ok(view) => ring_for(bytes.len(), usize::from(view.segments()).max(1)),
         Err(_) => ring_for(bytes.len(), 1),
     }

@@ -15,8 +15,8 @@ emit_alone-emitted-requires-clause-takes g c =
     let all = ap (stretch view 0) c.segments-segments.ensures.count in
     subst (λ (s : Stretch). TakesNext g.K.Sink.takes c.put_before.new.sink (seen_through c.rows_window-window.result (joined_in s)).bytes)
     (sym all)
-    (segments_taken g.K.Sink.held g.K.Sink.takes g.K.Sink.faults g.K.Sink.full view.plan view.parts
-    c.rows_window-window.result c.rows_window-window.ensures c.args.sink.now c.put_before.new.sink c.requires.takes
+    (segments_taken view c.rows_window-window.result c.rows_window-window.ensures.sound c.rows_window-window.ensures.window
+    g.K.Sink.held g.K.Sink.takes g.K.Sink.faults g.K.Sink.full c.args.sink.now c.put_before.new.sink c.requires.takes
     c.in-Ok.ensures.whole)
 
 pub put_rest-requires-clause-counts : goal.put_rest-requires-clause-counts
@@ -47,8 +47,8 @@ put_rest-requires-clause-takes g c =
     all c.emit_alone-emitted.ensures.ends in
     let came = subst (λ (s : Stretch). IfOk c.emit_alone-emitted.result (λ (e : Emitted). e.came ≡ length (joined_in s).bytes))
     all c.emit_alone-emitted.ensures.came in
-    trailer_taken g.K.Sink.held g.K.Sink.takes g.K.Sink.faults g.K.Sink.full view.plan view.parts
-    c.rows_window-window.result c.rows_window-window.ensures c.args.sink.now c.put_before.new.sink
+    trailer_taken view c.rows_window-window.result c.rows_window-window.ensures.sound c.rows_window-window.ensures.window
+    g.K.Sink.held g.K.Sink.takes g.K.Sink.faults g.K.Sink.full c.args.sink.now c.put_before.new.sink
     c.emit_alone-emitted.new.sink c.emit_alone-emitted.result c.requires.takes c.in-Ok.ensures.whole ends came
 
 pub returns-clause-ends : goal.returns-clause-ends

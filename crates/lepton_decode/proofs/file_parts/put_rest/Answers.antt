@@ -3,7 +3,7 @@ use Rattle.std.specs.Prelude.{IfOk}
 use Rattle.outside_core.specs.Takes.{TakesNext}
 use Rattle.byte_window.proofs.WindowParts.{is_counted}
 use Rattle.handover.specs.declared.outcome.StreamFault.{StreamFault}
-use Rattle.container_spec.specs.Meanings.{meaning_of}
+use Rattle.scans_spec.specs.ScansMeanings.{scans_meaning}
 use Rattle.segment_worker.specs.Emitting.{Counts, Emits, joined_in, seen_through}
 use Rattle.segment_worker.specs.Written.{HasWritten, HasFailed}
 use Rattle.segment_worker.specs.declared.emitted.Emitted.{Emitted}
@@ -12,6 +12,7 @@ use Rattle.lepton_decode.specs.Chunked.{falls_short, whole}
 use Rattle.lepton_decode.specs.Ends.{Ends}
 use Rattle.lepton_decode.specs.declared.error.DecodeError.TheVariants as DecodeError
 use Rattle.lepton_decode.proofs.FilesWritten.{pads_decide, short_of, whole_length, ends_at_fault, ends_short, all_bytes, failed_in_segments, failed_in_trailer}
+use Rattle.lepton_decode.proofs.ScansEnd.{trailer_in}
 use Rattle.lepton_decode.proofs.file_parts.put_rest.Goals as goal
 
 pub overflow_add-result : goal.overflow_add-result
@@ -29,9 +30,9 @@ pub returns-in-Err-WriteFault-clause-ends : goal.returns-in-Err-WriteFault-claus
 returns-in-Err-WriteFault-clause-ends g c = λ first mid has emits.
     let view = c.args.view.now in
     let e = c.in-Err-WriteFault.is ∙ ap (λ (stop : EmitStop). Err stop) c.in-Err-WriteFault.field-0-is in
-    subst (λ (n : ℕ). HasFailed g.K.Sink.held g.K.Sink.faults g.K.Sink.full first c.args.sink.now (meaning_of view.plan view.parts).bytes (c.args.before + n))
+    subst (λ (n : ℕ). HasFailed g.K.Sink.held g.K.Sink.faults g.K.Sink.full first c.args.sink.now (scans_meaning view).bytes (c.args.before + n))
     (sym c.in-Err-WriteFault.written-is)
-    (failed_in_segments g.K.Sink.held g.K.Sink.takes g.K.Sink.faults g.K.Sink.full view.plan view.parts c.args.window c.requires.window first mid c.args.sink.now
+    (failed_in_segments view c.args.window c.scans-scans.ensures.sound c.requires.window g.K.Sink.held g.K.Sink.takes g.K.Sink.faults g.K.Sink.full first mid c.args.sink.now
     c.args.before c.in-Err-WriteFault.written c.requires.before has
     (subst (Emits g.K.Sink.held g.K.Sink.takes g.K.Sink.faults g.K.Sink.full mid c.args.sink.now (seen_through c.args.window (joined_in (whole view)))) e emits))
 
@@ -39,9 +40,9 @@ pub returns-in-Err-Fault-clause-ends : goal.returns-in-Err-Fault-clause-ends
 returns-in-Err-Fault-clause-ends g c = λ first mid has emits.
     let view = c.args.view.now in
     let e = c.in-Err-Fault.is ∙ ap (λ (stop : EmitStop). Err stop) c.in-Err-Fault.field-0-is in
-    subst (λ (f : StreamFault). Ends g.K.Sink.held g.K.Sink.takes g.K.Sink.faults g.K.Sink.full first c.args.sink.now (meaning_of view.plan view.parts) (Err (DecodeError.Fault f)))
+    subst (λ (f : StreamFault). Ends g.K.Sink.held g.K.Sink.takes g.K.Sink.faults g.K.Sink.full first c.args.sink.now (scans_meaning view) (Err (DecodeError.Fault f)))
     (sym c.in-Err-Fault.fault-is)
-    (ends_at_fault g.K.Sink.held g.K.Sink.takes g.K.Sink.faults g.K.Sink.full view.plan view.parts c.args.window c.requires.window first mid c.args.sink.now
+    (ends_at_fault view c.args.window c.scans-scans.ensures.sound c.requires.window g.K.Sink.held g.K.Sink.takes g.K.Sink.faults g.K.Sink.full first mid c.args.sink.now
     c.in-Err-Fault.fault has
     (subst (Emits g.K.Sink.held g.K.Sink.takes g.K.Sink.faults g.K.Sink.full mid c.args.sink.now (seen_through c.args.window (joined_in (whole view)))) e emits))
 
@@ -69,7 +70,7 @@ overflow_add-result-in-Err-2 g c =
 
 pub write_all-requires : goal.write_all-requires
 write_all-requires g c =
-    let trailer = c.args.view.now.parts.trailer in
+    let trailer = trailer_in c.args.view.now in
     record {
       next = subst (TakesNext g.K.Sink.takes c.args.sink.now) (sym c.trailer-trailer.ensures.bytes)
           (subst (λ (emitted : Result Emitted EmitStop). IfOk emitted (λ (e : Emitted). falls_short c.args.window e.came ≡ false → TakesNext g.K.Sink.takes c.args.sink.now trailer))
@@ -85,10 +86,10 @@ returns-in-Err-clause-ends g c = λ first mid has emits.
     c.in-Ok.is c.requires.came in
     let enough = short_of c.args.window c.in-Ok.emitted.came (length (joined_in (whole view)).bytes) false came
     (sym c.is_short.ensures ∙ c.if-is_short.false) in
-    let failed : HasFailed g.K.Sink.held g.K.Sink.faults g.K.Sink.full c.args.sink.now c.write_all.new.sink view.parts.trailer c.in-Err.field-0.written =
+    let failed : HasFailed g.K.Sink.held g.K.Sink.faults g.K.Sink.full c.args.sink.now c.write_all.new.sink (trailer_in view) c.in-Err.field-0.written =
     subst (λ (l : List ℕ). HasFailed g.K.Sink.held g.K.Sink.faults g.K.Sink.full c.args.sink.now c.write_all.new.sink l c.in-Err.field-0.written) c.trailer-trailer.ensures.bytes
     (record { rose = c.in-Err.ensures.failed; short = c.in-Err.ensures.short; appended = c.in-Err.ensures.part }) in
-    failed_in_trailer g.K.Sink.held g.K.Sink.takes g.K.Sink.faults g.K.Sink.full view.plan view.parts c.args.window c.requires.window first mid c.args.sink.now c.write_all.new.sink
+    failed_in_trailer view c.args.window c.scans-scans.ensures.sound c.requires.window g.K.Sink.held g.K.Sink.takes g.K.Sink.faults g.K.Sink.full first mid c.args.sink.now c.write_all.new.sink
     c.args.before c.in-Ok.emitted.bytes c.in-Err.field-0.written all.0 enough has all.3 failed c.requires.before all.1
 
 pub returns-then-not-are_pads_spelled-clause-ends : goal.returns-then-not-are_pads_spelled-clause-ends
@@ -100,12 +101,12 @@ returns-then-not-are_pads_spelled-clause-ends g c = λ first mid has emits.
     c.in-Ok.is c.requires.came in
     let enough = short_of c.args.window c.in-Ok.emitted.came (length (joined_in (whole view)).bytes) false came
     (sym c.is_short.ensures ∙ c.if-is_short.false) in
-    let last : HasWritten g.K.Sink.held g.K.Sink.takes g.K.Sink.faults c.args.sink.now c.write_all.new.sink view.parts.trailer =
+    let last : HasWritten g.K.Sink.held g.K.Sink.takes g.K.Sink.faults c.args.sink.now c.write_all.new.sink (trailer_in view) =
     subst (HasWritten g.K.Sink.held g.K.Sink.takes g.K.Sink.faults c.args.sink.now c.write_all.new.sink) c.trailer-trailer.ensures.bytes
     (record { appended = c.in_default.ensures.whole; unfailed = c.in_default.ensures.unfailed; onward = c.in_default.ensures.onward }) in
     let told = sym c.are_pads_spelled.ensures in (
-      pads_decide view.plan view.parts c.args.window c.in-Ok.emitted.pads false c.requires.window all.0 enough all.2 (told ∙ c.if-not-are_pads_spelled.true),
-      all_bytes g.K.Sink.held g.K.Sink.takes g.K.Sink.faults g.K.Sink.full view.plan view.parts c.args.window c.requires.window first mid c.args.sink.now c.write_all.new.sink all.0 enough has all.3 last,
+      pads_decide view c.args.window c.scans-scans.ensures.sound c.requires.window c.in-Ok.emitted.pads false all.0 enough all.2 (told ∙ c.if-not-are_pads_spelled.true),
+      all_bytes view c.args.window c.scans-scans.ensures.sound c.requires.window g.K.Sink.held g.K.Sink.takes g.K.Sink.faults g.K.Sink.full first mid c.args.sink.now c.write_all.new.sink all.0 enough has all.3 last,
     )
 
 pub overflow_add-result-2 : goal.overflow_add-result-2
@@ -138,14 +139,14 @@ returns-clause-ends g c = λ first mid has emits.
     c.in-Ok.is c.requires.came in
     let enough = short_of c.args.window c.in-Ok.emitted.came (length (joined_in (whole view)).bytes) false came
     (sym c.is_short.ensures ∙ c.if-is_short.false) in
-    let last : HasWritten g.K.Sink.held g.K.Sink.takes g.K.Sink.faults c.args.sink.now c.write_all.new.sink view.parts.trailer =
+    let last : HasWritten g.K.Sink.held g.K.Sink.takes g.K.Sink.faults c.args.sink.now c.write_all.new.sink (trailer_in view) =
     subst (HasWritten g.K.Sink.held g.K.Sink.takes g.K.Sink.faults c.args.sink.now c.write_all.new.sink) c.trailer-trailer.ensures.bytes
     (record { appended = c.in_default.ensures.whole; unfailed = c.in_default.ensures.unfailed; onward = c.in_default.ensures.onward }) in
     let told = sym c.are_pads_spelled.ensures in (
-      pads_decide view.plan view.parts c.args.window c.in-Ok.emitted.pads true c.requires.window all.0 enough all.2 (told ∙ c.if-not-are_pads_spelled.false),
+      pads_decide view c.args.window c.scans-scans.ensures.sound c.requires.window c.in-Ok.emitted.pads true all.0 enough all.2 (told ∙ c.if-not-are_pads_spelled.false),
       ap (λ (k : ℕ). c.args.before + c.in-Ok.emitted.bytes + k) (ap length c.trailer-trailer.ensures.bytes)
-          ∙ whole_length view.plan view.parts c.args.window c.args.before c.in-Ok.emitted.bytes c.requires.window all.0 enough c.requires.before all.1,
-      all_bytes g.K.Sink.held g.K.Sink.takes g.K.Sink.faults g.K.Sink.full view.plan view.parts c.args.window c.requires.window first mid c.args.sink.now c.write_all.new.sink all.0 enough has all.3 last,
+          ∙ whole_length view c.args.window c.scans-scans.ensures.sound c.requires.window c.args.before c.in-Ok.emitted.bytes all.0 enough c.requires.before all.1,
+      all_bytes view c.args.window c.scans-scans.ensures.sound c.requires.window g.K.Sink.held g.K.Sink.takes g.K.Sink.faults g.K.Sink.full first mid c.args.sink.now c.write_all.new.sink all.0 enough has all.3 last,
     )
 
 pub returns-then-is_short-clause-ends : goal.returns-then-is_short-clause-ends
@@ -155,5 +156,5 @@ returns-then-is_short-clause-ends g c = λ first mid has emits.
     let came : c.in-Ok.emitted.came ≡ length (joined_in (whole view)).bytes =
     subst (λ (emitted : Result Emitted EmitStop). IfOk emitted (λ (e : Emitted). e.came ≡ length (joined_in (whole view)).bytes))
     c.in-Ok.is c.requires.came in
-    ends_short g.K.Sink.held g.K.Sink.takes g.K.Sink.faults g.K.Sink.full view.plan view.parts c.args.window c.requires.window first mid c.args.sink.now
+    ends_short view c.args.window c.scans-scans.ensures.sound c.requires.window g.K.Sink.held g.K.Sink.takes g.K.Sink.faults g.K.Sink.full first mid c.args.sink.now
     all.0 (short_of c.args.window c.in-Ok.emitted.came (length (joined_in (whole view)).bytes) true came (sym c.is_short.ensures ∙ c.if-is_short.true)) has all.3
