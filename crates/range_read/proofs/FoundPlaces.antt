@@ -17,7 +17,6 @@ use Rattle.container_spec.proofs.Numbered.{mapped_long}
 use Rattle.container_spec.proofs.PlacesFound.{found_long}
 use Rattle.container_spec.proofs.PutParts.{sums_more, sums_none}
 use Rattle.segment_worker.specs.Contents.{segment_room}
-use Rattle.segment_worker.specs.Joining.{joined_onto}
 use Rattle.range_read.specs.Measures.{AreMeasures, IsCounted}
 use Rattle.range_read.specs.declared.measure.Measure.{Measure}
 
@@ -52,6 +51,14 @@ found_count plan b =
     omega (arith, long, many)
 
 -- ---- measures, one after another
+
+-- good segments with these bytes before others, and what they padded
+abbrev pub joined_onto : List ℕ → PadSum → Joined → Joined
+joined_onto bytes padded more = record {
+  bytes = bytes ++ more.bytes;
+  fault = more.fault;
+  padded = pads_with padded more.padded;
+}
 
 -- no segment has more bytes
 abbrev pub room : ℕ

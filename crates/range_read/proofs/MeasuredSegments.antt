@@ -1,5 +1,5 @@
 -- The measures of segments by what an emitter returns of each alone.
-use Rattle.std.proofs.Common.{◌≡◌, ℕ, zero, suc, ◌+◌, ◌*◌, ◌≤◌, [], ◌∷◌, ◌++◌, List, length, map, Some, None, Result, Ok, Err, IfOk, refl, sym, ap, subst, ◌∙◌, arith, append-nil}
+use Rattle.std.proofs.Common.{◌≡◌, ℕ, zero, suc, ◌+◌, ◌*◌, ◌<◌, ◌≤◌, [], ◌∷◌, ◌++◌, List, length, map, Some, None, Result, Ok, Err, IfOk, refl, sym, ap, subst, ◌∙◌, arith, append-nil}
 use Rattle.std.specs.Prelude.{slice_get}
 use Rattle.std.proofs.lemmas.List.{length-map}
 use Rattle.handover.specs.declared.outcome.Outcome.{Outcome}
@@ -7,33 +7,64 @@ use Rattle.handover.specs.declared.outcome.Outcome.TheVariants.{Good, Bad}
 use Rattle.handover.specs.declared.outcome.StreamFault.{StreamFault}
 use Rattle.handover.specs.declared.pads.PadSum.{PadSum}
 use Rattle.box_format.specs.Raws.{numbers}
+use Rattle.box_format.specs.Parts.{BoxSeen}
 use Rattle.box_format.specs.Versions.{most_segments}
-use Rattle.container_spec.specs.Segments.{Output}
-use Rattle.container_spec.specs.Meanings.{joined}
+use Rattle.container_spec.specs.Segments.{Output, segment_output}
+use Rattle.container_spec.specs.Meanings.{joined, segment_in}
 use Rattle.container_spec.proofs.PutParts.{sums_none}
-use Rattle.segment_worker.specs.Contents.{segment_room}
+use Rattle.scans_spec.specs.ScansJoined.{ScansJoined, joined_alone, sum_in}
+use Rattle.scans_spec.specs.declared.scan_pads.ScanPads.{ScanPads}
+use Rattle.scans_spec.proofs.OneScans.{one_is_joined}
+use Rattle.segment_worker.specs.Contents.{segment_room, stretch}
+use Rattle.segment_worker.specs.Emitting.{joined_in}
 use Rattle.range_read.specs.Measures.{AreMeasures, IsMeasure}
 use Rattle.range_read.specs.declared.measure.Measure.{Measure}
 
--- of one that ends well
-pub good_alone : (output : Output) (came : ℕ) (pads : PadSum)
-    → (joined (output ∷ [])).fault ≡ None → pads ≡ (joined (output ∷ [])).padded
+-- one segment of a container of one scan, joined
+pub one_alone : (v : BoxSeen) (file : List BoxSeen) (segment : ℕ) → file ≡ v ∷ []
+    → segment < length v.parts.handovers
+    → joined_in (stretch file segment 1)
+    ≡ joined_alone (joined (segment_output (segment_in v.plan v.parts segment) ∷ []))
+one_alone v file segment alone below =
+    ap (λ (scans : List BoxSeen). joined_in (stretch scans segment 1)) alone
+    ∙ one_is_joined v segment 1 (omega (arith, below))
+
+good_measure : (output : Output) (came : ℕ) (padded : PadSum)
+    → (joined (output ∷ [])).fault ≡ None → padded ≡ (joined (output ∷ [])).padded
     → came ≡ length (joined (output ∷ [])).bytes
     → length (joined (output ∷ [])).bytes ≤ segment_room * most_segments
-    → IsMeasure output (record { length = came; outcome = Good pads })
-good_alone (bytes, Good padded) came pads none same count few =
+    → IsMeasure output (record { length = came; outcome = Good padded })
+good_measure (bytes, Good pads) came padded none same count few =
     let all : bytes ++ [] ≡ bytes = append-nil bytes in record {
-      outcome = ap (λ (p : PadSum). let o : Outcome = Good p in o) (same ∙ sums_none padded);
+      outcome = ap (λ (p : PadSum). let o : Outcome = Good p in o) (same ∙ sums_none pads);
       count = (count ∙ ap length all, rw count few);
     }
-good_alone (bytes, Bad fault) came pads none same count few = absurd cc
+good_measure (bytes, Bad fault) came padded none same count few = absurd cc
 
--- of one that ends with a fault
-pub bad_alone : (output : Output) (fault : StreamFault)
+bad_measure : (output : Output) (fault : StreamFault)
     → (joined (output ∷ [])).fault ≡ Some fault
     → IsMeasure output (record { length = 0; outcome = Bad fault })
-bad_alone (bytes, Good padded) fault some = absurd cc
-bad_alone (bytes, Bad other) fault some = record { outcome = cc; count = tt }
+bad_measure (bytes, Good padded) fault some = absurd cc
+bad_measure (bytes, Bad other) fault some = record { outcome = cc; count = tt }
+
+module _ (output : Output) (all : ScansJoined) (is : all ≡ joined_alone (joined (output ∷ []))) where
+  -- of one that ends well
+  pub good_alone : (came : ℕ) (pads : ScanPads) (padded : PadSum) → all.fault ≡ None
+      → pads ≡ all.padded → padded ≡ sum_in pads 0 → came ≡ length all.bytes
+      → length all.bytes ≤ segment_room * most_segments
+      → IsMeasure output (record { length = came; outcome = Good padded })
+  good_alone came pads padded none same first count few =
+      let long = ap (λ (j : ScansJoined). length j.bytes) is in
+      good_measure output came padded (sym (ap (λ (j : ScansJoined). j.fault) is) ∙ none)
+      (first ∙ ap (λ (p : ScanPads). sum_in p 0) same
+      ∙ ap (λ (j : ScansJoined). sum_in j.padded 0) is)
+      (count ∙ long) (rw long at few)
+
+  -- of one that ends with a fault
+  pub bad_alone : (fault : StreamFault) → all.fault ≡ Some fault
+      → IsMeasure output (record { length = 0; outcome = Bad fault })
+  bad_alone fault some =
+      bad_measure output fault (sym (ap (λ (j : ScansJoined). j.fault) is) ∙ some)
 
 each_measured : {E : Type 0} (output : ℕ → Output) (from count : ℕ) (measures : List Measure)
     → length measures ≡ count

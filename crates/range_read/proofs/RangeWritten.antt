@@ -6,6 +6,7 @@ use Rattle.jpeg_marker.specs.Plans.{PlanFields}
 use Rattle.handover.specs.declared.outcome.StreamFault.{StreamFault}
 use Rattle.box_format.specs.Parts.{BoxParts}
 use Rattle.container_spec.specs.Meanings.{Joined}
+use Rattle.scans_spec.specs.ScansJoined.{joined_alone}
 use Rattle.segment_worker.specs.declared.emitted.Emitted.{Emitted}
 use Rattle.segment_worker.specs.declared.emitted.EmitStop.{EmitStop}
 use Rattle.segment_worker.specs.declared.emitted.EmitStop.TheVariants.{Fault}
@@ -97,7 +98,7 @@ module _ (plan : PlanFields) (b : BoxParts) (from to : ℕ) where
     pub trailer_taken : (old mid sink : Sink) (emitted : Result Emitted EmitStop)
         → TakesNext takes old (range_meaning plan b from to).bytes
         → HasWritten held takes faults old mid head
-        → Emits held takes faults full mid sink read emitted
+        → Emits held takes faults full mid sink (joined_alone read) emitted
         → IfOk emitted (λ (e : Emitted). TakesNext takes sink tail)
     trailer_taken old mid sink (Ok emitted) next has emits =
         let written = written_later held takes faults full old mid sink head read.bytes has emits.3 in
@@ -143,7 +144,7 @@ module _ (plan : PlanFields) (b : BoxParts) (from to : ℕ) where
     -- the first fault
     pub ends_at_fault : (old mid sink : Sink) (fault : StreamFault)
         → HasWritten held takes faults old mid head
-        → Emits held takes faults full mid sink read (Err (Fault fault))
+        → Emits held takes faults full mid sink (joined_alone read) (Err (Fault fault))
         → RangeEnds held takes faults full old sink (range_meaning plan b from to)
         (Err (Fault fault))
     ends_at_fault old mid sink fault first end =
@@ -157,7 +158,7 @@ module _ (plan : PlanFields) (b : BoxParts) (from to : ℕ) where
     pub ends_whole : (old mid later sink : Sink) (emitted : Emitted) (before begun last : ℕ)
         → before ≡ length head → begun ≡ begun_within (placed_file plan b) from to → last ≡ length tail
         → HasWritten held takes faults old mid head
-        → Emits held takes faults full mid later read (Ok emitted)
+        → Emits held takes faults full mid later (joined_alone read) (Ok emitted)
         → HasWritten held takes faults later sink tail
         → RangeEnds held takes faults full old sink (range_meaning plan b from to)
         (Ok (record { written = before + emitted.bytes + last; begun = begun }))

@@ -1,8 +1,7 @@
 -- Statement: a range that is read, and what it leaves in a sink (own).
-use Rattle.std.specs.Prelude.{ℕ, ◌≡◌, Bool, List, [], length, Option, Some, None, Result, Ok, Err}
+use Rattle.std.specs.Prelude.{ℕ, ◌≡◌, Bool, List, [], ◌∷◌, length, Option, Some, None, Result, Ok, Err}
 use Rattle.jpeg_marker.specs.Plans.{PlanFields}
-use Rattle.box_format.specs.Parts.{BoxParts}
-use Rattle.box_format.specs.Seen.{BoxSeen}
+use Rattle.box_format.specs.Parts.{BoxParts, BoxSeen}
 use Rattle.output_board.specs.declared.view.WorkerView.{WorkerView}
 use Rattle.range_spec.specs.Ranges.{begun_within, segments_within}
 use Rattle.segment_crew.specs.Crews.{CrewSeen, Member}
@@ -45,7 +44,7 @@ lone_range_in ready = range_meaning ready.plan ready.parts ready.from ready.to
 abbrev pub stretch_between : BoxSeen → ℕ → ℕ → Stretch
 stretch_between v from to =
     let f = placed_file v.plan v.parts in
-    stretch v (segments_within f from to).from (begun_within f from to)
+    stretch (v ∷ []) (segments_within f from to).from (begun_within f from to)
 
 -- and in this one
 abbrev pub stretch_in : RangeSeen → Stretch

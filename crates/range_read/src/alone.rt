@@ -1,5 +1,5 @@
 // A range of a container's file, read on one thread.
-ghost use Rattle.std.specs.Prelude.{◌≡◌, ◌≤◌, IfOk, IfSome, IsErrOf, false, is_some, nat_lt, true};
+ghost use Rattle.std.specs.Prelude.{[], ◌∷◌, ◌≡◌, ◌≤◌, IfOk, IfSome, IsErrOf, false, is_some, nat_lt, true};
 ghost use Rattle.jpeg_marker.specs.Plans.{PlanFields};
 ghost use Rattle.box_format.specs.BoxChecks.{IsRefusedBy};
 ghost use Rattle.box_format.specs.Parts.{BoxParts, IsBoxOf};
@@ -11,14 +11,14 @@ ghost use Rattle.range_read.specs.RangeMeanings.{is_bad_range, range_meaning};
 
 use crate::bounds::{segments_within, window_within};
 use crate::error::RangeError;
+use crate::one_scan::OneScan;
 use crate::parts::{put_header, put_trailer};
 use crate::reading::{Ranged, read_bare};
 use crate::ready::read_ranged;
 use bit_list::Piece;
-use box_format::BoxView;
 use growth::NoMemory;
 use outside_core::{Gate, Sink};
-use segment_code::SegmentDecoder;
+use segment_code::FileDecoder;
 use segment_worker::{EmitStop, emit_alone};
 use std::alloc::Global;
 use std::marker::Model;
@@ -26,7 +26,7 @@ use std::marker::Model;
 // What decodes segments on one thread: a decoder, and a piece of bytes that it fills.
 #[derive(Drop)]
 pub(crate) struct Lone<'a> {
-    pub(crate) decoder: SegmentDecoder<'a>,
+    pub(crate) decoder: FileDecoder<'a>,
     pub(crate) piece: Piece,
 }
 
@@ -37,7 +37,7 @@ pub(crate) struct Lone<'a> {
 /// began, if it has one, and whether it was read.
 #[derive(Drop)]
 pub struct ReadyRangeAlone<'a> {
-    pub(crate) view: BoxView<'a>,
+    pub(crate) scan: OneScan<'a>,
     pub(crate) from: u64,
     pub(crate) to: u64,
     pub(crate) lone: Option<Lone<'a>>,
@@ -87,11 +87,11 @@ pub fn prepare_range_alone(
     ensures bad { IsErrOf result RangeError.RangeBad → (plan : PlanFields) × (b : BoxParts)
         × IsBoxOf plan b bytes.now × IsRead ranged b.version × (is_bad_range b from to ≡ true) }
 {
-    let view = read_ranged(bytes, from, to)?;
-    let (first, past) = segments_within(&view, from, to);
-    let lone = lone_for(alloc, &view, past - first)?;
+    let scan = read_ranged(bytes, from, to)?;
+    let (first, past) = segments_within(scan.view(), from, to);
+    let lone = lone_for(alloc, &scan, past - first)?;
     Ok(ReadyRangeAlone {
-        view,
+        scan,
         from,
         to,
         lone,
@@ -100,15 +100,16 @@ pub fn prepare_range_alone(
 }
 
 // What decodes `count` of a container's segments, if there is one.
-fn lone_for<'a>(alloc: Global, view: &BoxView<'a>, count: u8) -> Result<Option<Lone<'a>>, NoMemory>
+fn lone_for<'a>(alloc: Global, scan: &OneScan<'a>, count: u8) -> Result<Option<Lone<'a>>, NoMemory>
     ensures some { IfOk result (λ lone. is_some lone ≡ nat_lt 0 count) }
-    ensures plan { IfOk result (λ lone. IfSome lone (λ made. made.decoder.plan ≡ view.now.plan)) }
+    ensures plans { IfOk result (λ lone.
+        IfSome lone (λ made. made.decoder.plans ≡ scan.now.plan ∷ [])) }
     ensures fresh { IfOk result (λ lone. IfSome lone (λ made. made.decoder.begun ≡ 0)) }
 {
     if count == 0 {
         return Ok(None);
     }
-    let decoder = SegmentDecoder::prepare(alloc, view.plan())?;
+    let decoder = FileDecoder::prepare(alloc, scan.file().plans())?;
     let piece = Piece::new(alloc)?;
     Ok(Some(Lone { decoder, piece }))
 }
@@ -138,7 +139,7 @@ pub fn run_range_alone<K: Sink, G: Gate>(
     ready.used = true;
     match &mut ready.lone {
         Some(lone) => read_alone(
-            &ready.view,
+            &ready.scan,
             ready.from,
             ready.to,
             &mut lone.decoder,
@@ -146,31 +147,32 @@ pub fn run_range_alone<K: Sink, G: Gate>(
             sink,
             gate,
         ),
-        None => read_bare(&ready.view, ready.from, ready.to, sink),
+        None => read_bare(ready.scan.view(), ready.from, ready.to, sink),
     }
 }
 
 // What the range has of the header, of the segments and of the trailer.
 fn read_alone<'a, K: Sink, G: Gate>(
-    view: &BoxView<'a>,
+    scan: &OneScan<'a>,
     from: u64,
     to: u64,
-    decoder: &mut SegmentDecoder<'a>,
+    decoder: &mut FileDecoder<'a>,
     piece: &mut Piece,
     sink: &mut K,
     gate: &G,
 ) -> Result<Ranged, EmitStop>
-    requires good { is_bad_range view.now.parts from to ≡ false }
-    requires plan { decoder.old.plan ≡ view.now.plan }
+    requires good { is_bad_range scan.now.parts from to ≡ false }
+    requires plans { decoder.old.plans ≡ scan.now.plan ∷ [] }
     requires fresh { decoder.old.begun ≡ 0 }
     requires takes { TakesNext K.takes sink.old
-        (range_meaning view.now.plan view.now.parts from to).bytes }
+        (range_meaning scan.now.plan scan.now.parts from to).bytes }
     ensures ends { RangeEnds K.held K.takes K.faults K.full sink.old sink.new
-        (range_meaning view.now.plan view.now.parts from to) result }
+        (range_meaning scan.now.plan scan.now.parts from to) result }
     ensures begun { IfOk result (λ ranged. decoder.new.begun ≡ ranged.begun) }
-    ensures plan { decoder.new.plan ≡ decoder.old.plan }
+    ensures plans { decoder.new.plans ≡ decoder.old.plans }
     ensures lasting { K.faults sink.old ≤ K.faults sink.new }
 {
+    let view = scan.view();
     let before = match put_header(view, from, to, sink) {
         Ok(before) => before,
         Err(written) => return Err(EmitStop::WriteFault { written }),
@@ -179,6 +181,15 @@ fn read_alone<'a, K: Sink, G: Gate>(
     let window = window_within(view, segments, from, to);
     let first = segments.0;
     let count = segments.1 - first;
-    let emitted = emit_alone(decoder, piece, view, window, sink, gate, first, count);
+    let emitted = emit_alone(
+        decoder,
+        piece,
+        scan.file(),
+        window,
+        sink,
+        gate,
+        first,
+        count,
+    );
     put_trailer(view, from, to, before, count, emitted, sink)
 }

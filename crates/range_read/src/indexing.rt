@@ -11,7 +11,8 @@ ghost use Rattle.range_read.specs.Measures.{AreMeasures};
 
 use crate::error::IndexError;
 use crate::measure::{Measure, measure_all};
-use box_format::{BoxView, Version, read_box_of, write_placed};
+use crate::one_scan::OneScan;
+use box_format::{BoxView, Version, write_placed};
 use growth::{push, with_capacity};
 use handover::{Outcome, PadSum};
 use std::alloc::Global;
@@ -32,10 +33,10 @@ pub fn index<R: Threads + Sync>(rt: &R, alloc: Global, bytes: &[u8]) -> Result<V
         → Ends bytes.now (Faulty fault) }
     ensures spelling { IsErrOf result IndexError.PadSpelling → Ends bytes.now PadSpelled }
 {
-    let view = read_box_of(bytes, &INDEXABLE)?;
-    let measures = measure_all(rt, alloc, &view)?;
-    let places = places_by(alloc, &view, measures)?;
-    let made = write_placed(alloc, &view, places.as_slice())?;
+    let scan = OneScan::read(bytes, &INDEXABLE)?;
+    let measures = measure_all(rt, alloc, &scan)?;
+    let places = places_by(alloc, scan.view(), measures)?;
+    let made = write_placed(alloc, scan.view(), places.as_slice())?;
     Ok(made)
 }
 

@@ -18,6 +18,7 @@ mod error;
 mod indexing;
 mod laws;
 mod measure;
+mod one_scan;
 mod parts;
 mod reading;
 mod ready;

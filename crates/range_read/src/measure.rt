@@ -5,13 +5,13 @@ ghost use Rattle.container_spec.specs.Meanings.{outputs_of, segment_in};
 ghost use Rattle.container_spec.specs.Segments.{segment_output};
 ghost use Rattle.range_read.specs.Measures.{AreMeasures, IsMeasure};
 
+use crate::one_scan::OneScan;
 use bit_list::Piece;
-use box_format::BoxView;
 use byte_window::Window;
 use growth::{NoMemory, map_indices, push, with_capacity};
 use handover::Outcome;
 use outside_core::{Compare, OpenGate};
-use segment_code::SegmentDecoder;
+use segment_code::FileDecoder;
 use segment_worker::{EmitStop, emit_alone};
 use std::alloc::Global;
 use std::thread::Threads;
@@ -38,37 +38,38 @@ pub(crate) trait Segments {
         ensures { IfOk result (measured self.now segment) };
 }
 
-impl<'a> Segments for BoxView<'a> {
+impl<'a> Segments for OneScan<'a> {
     ghost use Rattle.std.specs.Prelude.{length};
     ghost use Rattle.container_spec.specs.Meanings.{segment_in};
     ghost use Rattle.container_spec.specs.Segments.{segment_output};
     ghost use Rattle.range_read.specs.Measures.{IsMeasure};
 
-    ghost count = { λ view. length view.parts.handovers };
+    ghost count = { λ scan. length scan.parts.handovers };
 
-    ghost measured = { λ view i measure.
-        IsMeasure (segment_output (segment_in view.plan view.parts i)) measure };
+    ghost measured = { λ scan i measure.
+        IsMeasure (segment_output (segment_in scan.plan scan.parts i)) measure };
 
     fn measure(&self, alloc: Global, segment: usize) -> Result<Measure, NoMemory> {
         // Called for its clauses: the number of a segment fits in a byte.
-        let _segments = self.segments();
+        let _segments = self.view().segments();
         measure_segment(alloc, self, segment as u8)
     }
 }
 
 // The measure of one segment: it is decoded, and nothing of it goes through the window.
-fn measure_segment(alloc: Global, view: &BoxView, segment: u8) -> Result<Measure, NoMemory>
-    requires { segment < length view.now.parts.handovers }
+fn measure_segment(alloc: Global, scan: &OneScan, segment: u8) -> Result<Measure, NoMemory>
+    requires { segment < length scan.now.parts.handovers }
     ensures { IfOk result
-        (IsMeasure (segment_output (segment_in view.now.plan view.now.parts segment))) }
+        (IsMeasure (segment_output (segment_in scan.now.plan scan.now.parts segment))) }
 {
-    let mut decoder = SegmentDecoder::prepare(alloc, view.plan())?;
+    let file = scan.file();
+    let mut decoder = FileDecoder::prepare(alloc, file.plans())?;
     let mut piece = Piece::new(alloc)?;
     let mut nothing = Compare::new(&[]);
     let emitted = emit_alone(
         &mut decoder,
         &mut piece,
-        view,
+        file,
         Window {
             skip: 0,
             most: Some(0),
@@ -81,7 +82,9 @@ fn measure_segment(alloc: Global, view: &BoxView, segment: u8) -> Result<Measure
     match emitted {
         Ok(emitted) => Ok(Measure {
             length: emitted.came,
-            outcome: Outcome::Good { pads: emitted.pads },
+            outcome: Outcome::Good {
+                pads: emitted.pads.scan(0),
+            },
         }),
         Err(EmitStop::Fault(fault)) => Ok(Measure {
             length: 0,
@@ -97,12 +100,12 @@ fn measure_segment(alloc: Global, view: &BoxView, segment: u8) -> Result<Measure
 pub(crate) fn measure_all<R: Threads + Sync>(
     rt: &R,
     alloc: Global,
-    view: &BoxView,
+    scan: &OneScan,
 ) -> Result<Vec<Measure>, NoMemory>
     ensures { IfOk result (λ measures.
-        AreMeasures (outputs_of view.now.plan view.now.parts) measures.items) }
+        AreMeasures (outputs_of scan.now.plan scan.now.parts) measures.items) }
 {
-    let made = measure_each(rt, alloc, usize::from(view.segments()), view)?;
+    let made = measure_each(rt, alloc, usize::from(scan.view().segments()), scan)?;
     all_made(alloc, made)
 }
 

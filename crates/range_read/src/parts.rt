@@ -4,6 +4,7 @@ ghost use Rattle.byte_window.specs.Slices.{slice};
 ghost use Rattle.outside_core.specs.Takes.{TakesNext};
 ghost use Rattle.box_format.specs.Versions.{most_segments};
 ghost use Rattle.range_spec.specs.Ranges.{begun_within, header_within, trailer_within};
+ghost use Rattle.scans_spec.specs.ScansJoined.{joined_alone};
 ghost use Rattle.segment_worker.specs.Contents.{segment_room};
 ghost use Rattle.segment_worker.specs.Emitting.{Counts, Emits};
 ghost use Rattle.segment_worker.specs.Written.{HasFailed, HasWritten};
@@ -97,7 +98,8 @@ pub(crate) fn put_trailer<K: Sink>(
         ≡ length (header_within (placed_file view.now.plan view.now.parts) from to) }
     requires fits { before < 2 ^ 32 }
     requires begun { begun ≡ begun_within (placed_file view.now.plan view.now.parts) from to }
-    requires counts { Counts (segments_read view.now.plan view.now.parts from to) emitted }
+    requires counts { Counts (joined_alone (segments_read view.now.plan view.now.parts from to))
+        emitted }
     requires few { length (segments_read view.now.plan view.now.parts from to).bytes
         ≤ segment_room * most_segments }
     requires takes { IfOk emitted (λ _. TakesNext K.takes sink.old
@@ -106,7 +108,7 @@ pub(crate) fn put_trailer<K: Sink>(
         → HasWritten K.held K.takes K.faults first mid
         (header_within (placed_file view.now.plan view.now.parts) from to)
         → Emits K.held K.takes K.faults K.full mid sink.old
-        (segments_read view.now.plan view.now.parts from to) emitted
+        (joined_alone (segments_read view.now.plan view.now.parts from to)) emitted
         → RangeEnds K.held K.takes K.faults K.full first sink.new
         (range_meaning view.now.plan view.now.parts from to) result }
     ensures emitted { OnOk result (IsOk emitted) }

@@ -6,11 +6,12 @@ ghost use Rattle.range_read.specs.RangeEnds.{RangeEnds, range_in, stretch_betwee
 ghost use Rattle.range_read.specs.RangeMeanings.{is_bad_range, range_meaning};
 
 use crate::bounds::{segments_within, window_within};
+use crate::one_scan::OneScan;
 use crate::parts::{put_header, put_trailer};
 use crate::ready::ReadyRange;
 use box_format::BoxView;
-use handover::PadSum;
 use outside_core::{Gate, Sink};
+use scans_spec::ScanPads;
 use segment_crew::Crew;
 use segment_worker::{EmitStop, Emitted};
 use std::sync::Wait;
@@ -56,28 +57,28 @@ pub fn run_range<R: Threads + Wait + Sync, K: Sink + Send, G: Gate + Sync>(
 {
     ready.used = true;
     match &mut ready.crew {
-        Some(crew) => read(rt, &ready.view, ready.from, ready.to, crew, sink, gate),
-        None => read_bare(&ready.view, ready.from, ready.to, sink),
+        Some(crew) => read(rt, &ready.scan, ready.from, ready.to, crew, sink, gate),
+        None => read_bare(ready.scan.view(), ready.from, ready.to, sink),
     }
 }
 
 // What the range has of the header, of the segments and of the trailer.
 fn read<'a, R: Threads + Wait + Sync, K: Sink + Send, G: Gate + Sync>(
     rt: &R,
-    view: &BoxView<'a>,
+    scan: &OneScan<'a>,
     from: u64,
     to: u64,
     crew: &mut Crew<'a>,
     sink: &mut K,
     gate: &G,
 ) -> Result<Ranged, EmitStop>
-    requires good { is_bad_range view.now.parts from to ≡ false }
+    requires good { is_bad_range scan.now.parts from to ≡ false }
     requires fresh { crew.old.used ≡ false }
-    requires segments { crew.old.segments ≡ stretch_between view.now from to }
+    requires segments { crew.old.segments ≡ stretch_between scan.now from to }
     requires takes { TakesNext K.takes sink.old
-        (range_meaning view.now.plan view.now.parts from to).bytes }
+        (range_meaning scan.now.plan scan.now.parts from to).bytes }
     ensures ends { RangeEnds K.held K.takes K.faults K.full sink.old sink.new
-        (range_meaning view.now.plan view.now.parts from to) result }
+        (range_meaning scan.now.plan scan.now.parts from to) result }
     ensures emitter { HasBegunItsClaims crew.new.emitter }
     ensures team { All HasBegunItsClaims crew.new.team }
     ensures count { length crew.new.team ≡ length crew.old.team }
@@ -86,13 +87,14 @@ fn read<'a, R: Threads + Wait + Sync, K: Sink + Send, G: Gate + Sync>(
 {
     // Called for its clauses: before the crew is used, too, each began as many segments as it claimed.
     let _used = crew.used();
+    let view = scan.view();
     let before = match put_header(view, from, to, sink) {
         Ok(before) => before,
         Err(written) => return Err(EmitStop::WriteFault { written }),
     };
     let segments = segments_within(view, from, to);
     let window = window_within(view, segments, from, to);
-    let emitted = crew.emit(rt, view, window, sink, gate);
+    let emitted = crew.emit(rt, scan.file(), window, sink, gate);
     put_trailer(
         view,
         from,
@@ -126,7 +128,7 @@ pub(crate) fn read_bare<K: Sink>(
     let emitted = Emitted {
         bytes: 0,
         came: 0,
-        pads: PadSum::none(),
+        pads: ScanPads::none(),
     };
     put_trailer(view, from, to, before, 0, Ok(emitted), sink)
 }

@@ -1,5 +1,5 @@
 // A range of a container's file that is ready to be read.
-ghost use Rattle.std.specs.Prelude.{◌≡◌, ◌+◌, ◌≤◌, IfOk, IfSome, IsErrOf, false, is_some, length, min, nat_lt, true};
+ghost use Rattle.std.specs.Prelude.{[], ◌∷◌, ◌≡◌, ◌+◌, ◌≤◌, IfOk, IfSome, IsErrOf, false, is_some, length, min, nat_lt, true};
 ghost use Rattle.jpeg_marker.specs.Plans.{PlanFields};
 ghost use Rattle.box_format.specs.BoxChecks.{IsRefusedBy};
 ghost use Rattle.box_format.specs.Parts.{BoxParts, IsBoxOf};
@@ -11,7 +11,8 @@ ghost use Rattle.range_read.specs.RangeMeanings.{is_bad_range};
 
 use crate::bounds::{is_bad_range, segments_within};
 use crate::error::RangeError;
-use box_format::{BoxView, Version, read_box_of};
+use crate::one_scan::OneScan;
+use box_format::Version;
 use growth::NoMemory;
 use segment_crew::Crew;
 use std::alloc::Global;
@@ -27,7 +28,7 @@ const RANGED: [Version; 1] = [Version::Fifth];
 /// there is one, and whether the range was read.
 #[derive(Drop)]
 pub struct ReadyRange<'a> {
-    pub(crate) view: BoxView<'a>,
+    pub(crate) scan: OneScan<'a>,
     pub(crate) from: u64,
     pub(crate) to: u64,
     pub(crate) crew: Option<Crew<'a>>,
@@ -85,11 +86,11 @@ pub fn prepare_range(
     ensures bad { IsErrOf result RangeError.RangeBad → (plan : PlanFields) × (b : BoxParts)
         × IsBoxOf plan b bytes.now × IsRead ranged b.version × (is_bad_range b from to ≡ true) }
 {
-    let view = read_ranged(bytes, from, to)?;
-    let (first, past) = segments_within(&view, from, to);
-    let crew = crew_for(alloc, &view, first, past - first, workers, ring)?;
+    let scan = read_ranged(bytes, from, to)?;
+    let (first, past) = segments_within(scan.view(), from, to);
+    let crew = crew_for(alloc, &scan, first, past - first, workers, ring)?;
     Ok(ReadyRange {
-        view,
+        scan,
         from,
         to,
         crew,
@@ -98,36 +99,36 @@ pub fn prepare_range(
 }
 
 /// The parts of a container with ranges, if the range from one place to before another is one of its file.
-pub(crate) fn read_ranged(bytes: &[u8], from: u64, to: u64) -> Result<BoxView<'_>, RangeError>
-    ensures parts { IfOk result (λ view. IsBoxOf view.plan view.parts bytes.now) }
-    ensures version { IfOk result (λ view. IsRead ranged view.parts.version) }
-    ensures good { IfOk result (λ view. is_bad_range view.parts from to ≡ false) }
+pub(crate) fn read_ranged(bytes: &[u8], from: u64, to: u64) -> Result<OneScan<'_>, RangeError>
+    ensures parts { IfOk result (λ scan. IsBoxOf scan.plan scan.parts bytes.now) }
+    ensures version { IfOk result (λ scan. IsRead ranged scan.parts.version) }
+    ensures good { IfOk result (λ scan. is_bad_range scan.parts from to ≡ false) }
     ensures refused { (refusal : BoxRefusal) → IsErrOf result (RangeError.Box refusal)
         → IsRefusedBy ranged bytes.now refusal }
     ensures bad { IsErrOf result RangeError.RangeBad → (plan : PlanFields) × (b : BoxParts)
         × IsBoxOf plan b bytes.now × IsRead ranged b.version × (is_bad_range b from to ≡ true) }
 {
-    let view = read_box_of(bytes, &RANGED)?;
-    if is_bad_range(&view, from, to) {
+    let scan = OneScan::read(bytes, &RANGED)?;
+    if is_bad_range(scan.view(), from, to) {
         return Err(RangeError::RangeBad);
     }
-    Ok(view)
+    Ok(scan)
 }
 
 // The crew of `count` of a container's segments, from number `first` on, if there is one.
 fn crew_for<'a>(
     alloc: Global,
-    view: &BoxView<'a>,
+    scan: &OneScan<'a>,
     first: u8,
     count: u8,
     workers: u8,
     ring: usize,
 ) -> Result<Option<Crew<'a>>, NoMemory>
     requires ring { 1 ≤ ring }
-    requires within { first + count ≤ length view.now.parts.handovers }
+    requires within { first + count ≤ length scan.now.parts.handovers }
     ensures some { IfOk result (λ crew. is_some crew ≡ nat_lt 0 count) }
     ensures segments { IfOk result (λ crew.
-        IfSome crew (λ made. made.segments ≡ stretch view.now first count)) }
+        IfSome crew (λ made. made.segments ≡ stretch (scan.now ∷ []) first count)) }
     ensures fresh { IfOk result (λ crew. IfSome crew (λ made. made.used ≡ false)) }
     ensures team { IfOk result (λ crew. length (team_in crew) ≡ min workers count) }
     ensures rings { IfOk result (λ crew.
@@ -136,6 +137,6 @@ fn crew_for<'a>(
     if count == 0 {
         return Ok(None);
     }
-    let crew = Crew::prepare(alloc, view, first, count, workers, ring)?;
+    let crew = Crew::prepare(alloc, scan.file(), first, count, workers, ring)?;
     Ok(Some(crew))
 }

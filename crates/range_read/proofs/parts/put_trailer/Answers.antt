@@ -2,6 +2,7 @@ use Rattle.std.proofs.Common.{◌+◌, ◌∙◌, sym, ap, subst, List, ℕ, len
 use Rattle.std.specs.Prelude.{IfOk}
 use Rattle.outside_core.specs.Takes.{TakesNext}
 use Rattle.handover.specs.declared.outcome.StreamFault.{StreamFault}
+use Rattle.scans_spec.specs.ScansJoined.{joined_alone}
 use Rattle.segment_worker.specs.Emitting.{Emits}
 use Rattle.segment_worker.specs.Written.{HasFailed, HasWritten}
 use Rattle.segment_worker.specs.declared.emitted.Emitted.{Emitted}
@@ -23,7 +24,7 @@ returns-in-Err-WriteFault-clause-ends g c = λ first mid has emits.
     (failed_in_segments view.plan view.parts c.args.from c.args.to g.K.Sink.held g.K.Sink.takes
     g.K.Sink.faults g.K.Sink.full first mid c.args.sink.now c.args.before c.in-Err-WriteFault.written
     c.requires.before has
-    (subst (Emits g.K.Sink.held g.K.Sink.takes g.K.Sink.faults g.K.Sink.full mid c.args.sink.now read) e emits))
+    (subst (Emits g.K.Sink.held g.K.Sink.takes g.K.Sink.faults g.K.Sink.full mid c.args.sink.now (joined_alone read)) e emits))
 
 pub returns-in-Err-Fault-clause-ends : goal.returns-in-Err-Fault-clause-ends
 returns-in-Err-Fault-clause-ends g c = λ first mid has emits.
@@ -34,7 +35,7 @@ returns-in-Err-Fault-clause-ends g c = λ first mid has emits.
     (sym c.in-Err-Fault.fault-is)
     (ends_at_fault view.plan view.parts c.args.from c.args.to g.K.Sink.held g.K.Sink.takes
     g.K.Sink.faults g.K.Sink.full first mid c.args.sink.now c.in-Err-Fault.fault has
-    (subst (Emits g.K.Sink.held g.K.Sink.takes g.K.Sink.faults g.K.Sink.full mid c.args.sink.now read) e emits))
+    (subst (Emits g.K.Sink.held g.K.Sink.takes g.K.Sink.faults g.K.Sink.full mid c.args.sink.now (joined_alone read)) e emits))
 
 pub write_all-requires : goal.write_all-requires
 write_all-requires g c =
@@ -51,7 +52,7 @@ returns-in-Err-clause-ends g c = λ first mid has emits.
     let view = c.args.view.now in
     let read = segments_read view.plan view.parts c.args.from c.args.to in
     let tail = trailer_within (placed_file view.plan view.parts) c.args.from c.args.to in
-    let all = subst (Emits g.K.Sink.held g.K.Sink.takes g.K.Sink.faults g.K.Sink.full mid c.args.sink.now read) c.in-Ok.is emits in
+    let all = subst (Emits g.K.Sink.held g.K.Sink.takes g.K.Sink.faults g.K.Sink.full mid c.args.sink.now (joined_alone read)) c.in-Ok.is emits in
     let failed : HasFailed g.K.Sink.held g.K.Sink.faults g.K.Sink.full c.args.sink.now c.write_all.new.sink tail c.in-Err.field-0.written =
     subst (λ (l : List ℕ). HasFailed g.K.Sink.held g.K.Sink.faults g.K.Sink.full c.args.sink.now c.write_all.new.sink l c.in-Err.field-0.written)
     c.trailer_part-trailer.ensures.bytes
@@ -65,7 +66,7 @@ returns-clause-ends g c = λ first mid has emits.
     let view = c.args.view.now in
     let read = segments_read view.plan view.parts c.args.from c.args.to in
     let tail = trailer_within (placed_file view.plan view.parts) c.args.from c.args.to in
-    let all = subst (Emits g.K.Sink.held g.K.Sink.takes g.K.Sink.faults g.K.Sink.full mid c.args.sink.now read) c.in-Ok.is emits in
+    let all = subst (Emits g.K.Sink.held g.K.Sink.takes g.K.Sink.faults g.K.Sink.full mid c.args.sink.now (joined_alone read)) c.in-Ok.is emits in
     let last : HasWritten g.K.Sink.held g.K.Sink.takes g.K.Sink.faults c.args.sink.now c.write_all.new.sink tail =
     subst (HasWritten g.K.Sink.held g.K.Sink.takes g.K.Sink.faults c.args.sink.now c.write_all.new.sink)
     c.trailer_part-trailer.ensures.bytes

@@ -1,0 +1,54 @@
+// A container of one scan, which alone is indexed and read by ranges.
+ghost use Rattle.std.specs.Prelude.{◌≡◌, [], ◌∷◌, IfOk, IfErr};
+ghost use Rattle.box_format.specs.BoxChecks.{IsRefusedBy};
+ghost use Rattle.box_format.specs.Parts.{IsBoxOf};
+ghost use Rattle.box_format.specs.Versions.{IsRead};
+
+use box_format::{BoxRefusal, BoxView, Version};
+use scans_format::{FileView, read_container_of};
+use std::marker::Model;
+
+/// A container of one scan that was read. Clauses see the header's plan and the parts.
+#[derive(Drop)]
+pub(crate) struct OneScan<'a> {
+    file: FileView<'a>,
+    view: BoxView<'a>,
+}
+
+impl<'a> Model for OneScan<'a> {
+    ghost use Rattle.std.specs.Prelude.{◌≡◌, [], ◌∷◌};
+    ghost use Rattle.box_format.specs.Parts.{BoxSeen};
+
+    ghost Value = { BoxSeen };
+
+    ghost view = { λ s. s.view };
+
+    ghost invariant = { λ s. s.file ≡ s.view ∷ [] };
+}
+
+impl<'a> OneScan<'a> {
+    /// Reads a container of one of these versions: 31 is the refusal of the others.
+    pub(crate) fn read(bytes: &'a [u8], versions: &[Version]) -> Result<OneScan<'a>, BoxRefusal>
+        ensures taken { IfOk result (λ scan. IsBoxOf scan.plan scan.parts bytes.now) }
+        ensures version { IfOk result (λ scan. IsRead versions.now scan.parts.version) }
+        ensures refused { IfErr result (λ refusal. IsRefusedBy versions.now bytes.now refusal) }
+    {
+        let file = read_container_of(bytes, versions)?;
+        let view = file.scan(0);
+        Ok(OneScan { file, view })
+    }
+
+    /// Its parts.
+    pub(crate) fn view(&self) -> &BoxView<'a>
+        ensures { result.now ≡ self.now }
+    {
+        &self.view
+    }
+
+    /// The container, as one that may have several scans.
+    pub(crate) fn file(&self) -> &FileView<'a>
+        ensures { result.now ≡ self.now ∷ [] }
+    {
+        &self.file
+    }
+}
