@@ -1,11 +1,15 @@
--- A file that has a chunk isn't refused.
-use Rattle.std.proofs.Common.{inl, inr}
-use Rattle.jpeg_marker.proofs.HeaderLaws.{never_both}
-use Rattle.container_spec.proofs.AcceptedFiles.{scan_apart}
-use Rattle.chunk_cut.specs.ChunkLaws.{ChunkedIsNotRefused}
+-- A file that has a chunk isn't refused, and has one scan.
+use Rattle.std.proofs.Common.{[], ◌∷◌}
+use Rattle.scan_spec.proofs.FilesOnce.{one_is_all}
+use Rattle.scans_spec.proofs.OneContainers.{accepted_is_not_refused, several_is_not_one}
+use Rattle.chunk_cut.specs.ChunkLaws.{ChunkedIsNotRefused, ChunkedIsOne}
 
 pub chunked_is_not_refused : ChunkedIsNotRefused
-chunked_is_not_refused most size i made file is (inl why) =
-    never_both file is.plan why.0 is.is.header why.1
-chunked_is_not_refused most size i made file is (inr why) =
-    scan_apart file is.plan is.mcus is.pads is.trailer why.0 is.bytes is.is why.1
+chunked_is_not_refused most size i made file refusal is why =
+    accepted_is_not_refused file is.trailer
+    (record { plan = is.plan; mcus = is.mcus; pads = is.pads } ∷ []) refusal is.bytes
+    (one_is_all file is.trailer is.plan is.mcus is.pads is.bytes is.is) why
+
+pub chunked_is_one : ChunkedIsOne
+chunked_is_one most size i made file is several =
+    several_is_not_one file is.trailer is.plan is.mcus is.pads is.bytes several is.is

@@ -5,7 +5,7 @@ use Rattle.box_format.specs.Versions.{layout_of}
 use Rattle.box_format.specs.declared.version.Version.TheVariants.{Third}
 use Rattle.container_spec.specs.Limits.{most_of_a_container, most_of_a_file}
 use Rattle.container_spec.specs.Meanings.{Restored, IsMeaning}
-use Rattle.container_spec.specs.Refusals.{IsRefusedFile}
+use Rattle.scans_spec.specs.ScansFiles.{FileRefusal, FileIsRefused, HasSeveralScans}
 use Rattle.chunk_cut.specs.ChunksOfFiles.{IsChunkOf, chunk_of}
 
 -- a chunk's container stands for the chunk
@@ -34,8 +34,14 @@ OneChunk =
 -- a file that has a chunk isn't refused
 abbrev pub ChunkedIsNotRefused : Type 0
 ChunkedIsNotRefused =
+    (most size i : ℕ) (made file : List ℕ) (refusal : FileRefusal)
+    → IsChunkOf most size i made file → FileIsRefused file refusal → ⊥
+
+-- and hasn't several scans
+abbrev pub ChunkedIsOne : Type 0
+ChunkedIsOne =
     (most size i : ℕ) (made file : List ℕ)
-    → IsChunkOf most size i made file → IsRefusedFile file → ⊥
+    → IsChunkOf most size i made file → HasSeveralScans file → ⊥
 
 -- the container of a chunk of a file that encode takes is within what decode takes
 abbrev pub ChunkIsShort : Type 0

@@ -18,9 +18,9 @@ use Rattle.box_format.specs.declared.version.Version.TheVariants.{Third}
 use Rattle.container_spec.specs.Files.{told_pads}
 use Rattle.container_spec.specs.ScanStream.{stream_of}
 
--- bytes are a file: a header that is accepted, a scan, and what follows it
-abbrev pub IsFile : List ℕ → Type 0
-IsFile bytes =
+-- bytes are a file of one scan: a header that is accepted, the scan, and what follows it
+abbrev pub IsOneScanFile : List ℕ → Type 0
+IsOneScanFile bytes =
     (plan : PlanFields) × (mcus : List Mcu) × (pads : List Bool) × (trailer : List ℕ)
     × IsFileOf bytes plan mcus pads trailer
 

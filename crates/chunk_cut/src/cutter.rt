@@ -1,22 +1,20 @@
 // A file whose chunks are cut, each into a container of its own.
 ghost use Rattle.std.specs.Prelude.{◌≡◌, ◌-◌, ◌*◌, ◌<◌, ◌≤◌, ◌^◌, drop, length, IfNone, IfOk, IfSome, IsErrOf};
 ghost use Rattle.byte_window.specs.Slices.{slice};
-ghost use Rattle.jpeg_marker.specs.HeaderPlan.{Accepts, Refuses as HeaderRefuses};
-ghost use Rattle.jpeg_marker.specs.Plans.{PlanFields};
 ghost use Rattle.jpeg_marker.specs.declared.refusal.HeaderRefusal.{HeaderRefusal};
-ghost use Rattle.scan_spec.specs.Items.{Refuses as ScanRefuses};
-ghost use Rattle.scan_spec.specs.Slots.{shape_of};
 ghost use Rattle.scan_spec.specs.declared.refusal.ScanRefusal.{ScanRefusal};
 ghost use Rattle.chunk_spec.specs.Chunks.{chunk_from, chunk_to};
 ghost use Rattle.box_format.specs.Versions.{layout_of};
 ghost use Rattle.box_format.specs.declared.version.Version.TheVariants.{Third};
-ghost use Rattle.chunk_cut.specs.ChunksOfFiles.{IsChunkOf, IsFile};
+ghost use Rattle.scans_spec.specs.ScansFiles.{FileIsRefused, HasSeveralScans, Header, Scan};
+ghost use Rattle.chunk_cut.specs.ChunksOfFiles.{IsChunkOf, IsOneScanFile};
 
 use crate::error::CutError;
 use crate::rows::{chunk_between, handovers_of};
 use box_format::{Parts, write_box};
 use growth::NoMemory;
-use jpeg_marker::{Plan, read_header};
+use jpeg_marker::Plan;
+use lepton_encode::read_one_scan;
 use segment_code::{Starts, find_rows};
 use segment_worker::encode_all;
 use std::alloc::Global;
@@ -36,6 +34,7 @@ pub struct ChunkCutter<'a> {
 
 impl<'a> Model for ChunkCutter<'a> {
     ghost use Rattle.std.specs.Prelude.{List, ℕ};
+    ghost use Rattle.scans_spec.specs.ScansFiles.{FileIsRefused, HasSeveralScans, Header, Scan};
     ghost use Rattle.chunk_cut.specs.Found.{IsCutter};
 
     ghost Value = { List ℕ };
@@ -46,19 +45,20 @@ impl<'a> Model for ChunkCutter<'a> {
 }
 
 impl<'a> ChunkCutter<'a> {
-    /// Reads a file's header and its scan. A refusal is the header's, or else the scan's; `NoChunk` isn't among them.
+    /// Reads the header and the scan of a file of one scan. A refusal is the first one from left to right, or else that
+    /// the file has several scans; `NoChunk` isn't among them.
     pub fn prepare(alloc: Global, bytes: &'a [u8]) -> Result<ChunkCutter<'a>, CutError>
         requires length { length bytes.now < 2 ^ 32 }
         ensures bytes { IfOk result (λ cutter. cutter ≡ bytes.entry.now) }
-        ensures file { IfOk result (λ cutter. IsFile bytes.entry.now) }
+        ensures file { IfOk result (λ cutter. IsOneScanFile bytes.entry.now) }
         ensures header { (refusal : HeaderRefusal) → IsErrOf result (CutError.Header refusal)
-            → HeaderRefuses bytes.entry.now refusal }
+            → FileIsRefused bytes.entry.now (Header refusal) }
         ensures scan { (refusal : ScanRefusal) → IsErrOf result (CutError.Scan refusal)
-            → (plan : PlanFields) × Accepts bytes.entry.now plan
-            × ScanRefuses (shape_of plan) bytes.entry.now plan.header_length refusal }
+            → FileIsRefused bytes.entry.now (Scan refusal) }
+        ensures many { IsErrOf result CutError.ManyScans → HasSeveralScans bytes.entry.now }
         ensures chunk { ¬ IsErrOf result CutError.NoChunk }
     {
-        let plan = read_header(bytes)?;
+        let plan = read_one_scan(alloc, bytes)?;
         let starts = find_rows(alloc, &plan, bytes)?;
         Ok(ChunkCutter {
             plan,
@@ -134,7 +134,7 @@ impl<'a> ChunkCutter<'a> {
 }
 
 /// The container, of version 3, of one of a file's chunks of `size` bytes, as `ChunkCutter::cut` gives it. A refusal is
-/// the header's, or else the scan's, or else the file ends before the chunk.
+/// the first one from left to right, or else that the file has several scans, or else that it ends before the chunk.
 pub fn cut_chunk<R: Threads + Sync>(
     rt: &R,
     alloc: Global,
@@ -149,12 +149,12 @@ pub fn cut_chunk<R: Threads + Sync>(
     requires size { 0 < size }
     ensures made { IfOk result (λ made. IsChunkOf segments size index made.items bytes.now) }
     ensures header { (refusal : HeaderRefusal) → IsErrOf result (CutError.Header refusal)
-        → HeaderRefuses bytes.now refusal }
+        → FileIsRefused bytes.now (Header refusal) }
     ensures scan { (refusal : ScanRefusal) → IsErrOf result (CutError.Scan refusal)
-        → (plan : PlanFields) × Accepts bytes.now plan
-        × ScanRefuses (shape_of plan) bytes.now plan.header_length refusal }
+        → FileIsRefused bytes.now (Scan refusal) }
+    ensures many { IsErrOf result CutError.ManyScans → HasSeveralScans bytes.now }
     ensures none { IsErrOf result CutError.NoChunk
-        → IsFile bytes.now × (length bytes.now ≤ index * size) }
+        → IsOneScanFile bytes.now × (length bytes.now ≤ index * size) }
 {
     let cutter = ChunkCutter::prepare(alloc, bytes)?;
     match cutter.cut(rt, alloc, segments, size, index)? {

@@ -1,6 +1,7 @@
 // Why a chunk isn't cut.
 use growth::NoMemory;
 use jpeg_marker::HeaderRefusal;
+use lepton_encode::OneScanError;
 use scan_spec::ScanRefusal;
 use segment_code::ScanError;
 use thiserror::Error;
@@ -8,13 +9,16 @@ use thiserror::Error;
 /// Why a chunk isn't cut.
 #[derive(Clone, Copy, Debug, PartialEq, Eq, Error)]
 pub enum CutError {
-    /// 1 to 15: the bytes begin with no header that is accepted.
+    /// 1 to 15: a header is due that isn't accepted.
     #[error("Header")]
     Header(HeaderRefusal),
-    /// 16 to 24: after the header there is no scan that is accepted.
+    /// 16 to 24: after a header there is no scan that is accepted.
     #[error("Scan")]
     Scan(ScanRefusal),
-    /// 51: the file ends before the chunk.
+    /// 52: the file has several scans, and all are accepted.
+    #[error("ManyScans")]
+    ManyScans,
+    /// 51: the file of one scan ends before the chunk.
     #[error("NoChunk")]
     NoChunk,
     #[error("NoMemory")]
@@ -32,14 +36,19 @@ impl From<NoMemory> for CutError {
     }
 }
 
-impl From<HeaderRefusal> for CutError {
+impl From<OneScanError> for CutError {
+    ghost use Rattle.chunk_cut.specs.Errors.{as_cut_error};
     ghost use Rattle.std.specs.Prelude.{◌≡◌};
-    ghost use Rattle.chunk_cut.specs.declared.error.CutError.TheVariants.{Header};
 
-    ghost from_gives = { λ refusal error. error ≡ Header refusal };
+    ghost from_gives = { λ found error. error ≡ as_cut_error found };
 
-    fn from(refusal: HeaderRefusal) -> Self {
-        CutError::Header(refusal)
+    fn from(found: OneScanError) -> Self {
+        match found {
+            OneScanError::Header(refusal) => CutError::Header(refusal),
+            OneScanError::Scan(refusal) => CutError::Scan(refusal),
+            OneScanError::ManyScans => CutError::ManyScans,
+            OneScanError::NoMemory(short) => CutError::NoMemory(short),
+        }
     }
 }
 

@@ -2,14 +2,17 @@
 use Rattle.std.proofs.Common.{◌≡◌, ℕ, suc, ◌+◌, ◌≤◌, ◌<◌, true, false, List, [], ◌∷◌, ◌++◌, length, drop, inr, refl, sym, ap, ap₂, ◌∙◌, subst, arith, drop-drop, append_assoc, length-append}
 use Rattle.std.specs.List.{AllByRecursion}
 use Rattle.std.proofs.lemmas.Bool.{false≢true}
+use Rattle.std.proofs.lemmas.List.{take-append-drop}
 use Rattle.bit_list.specs.Bits.{IsByte}
-use Rattle.jpeg_marker.specs.AcceptedPlans.{AreKnown, CanScan, HasBegun}
+use Rattle.jpeg_marker.specs.AcceptedPlans.{CanScan, HasBegun}
+use Rattle.jpeg_marker.specs.KnownBefore.{AreKnown}
 use Rattle.jpeg_marker.specs.FirstWalks.{opening_walk}
 use Rattle.jpeg_marker.specs.HeaderPlan.{Begins, AcceptsNext, RefusesNext}
 use Rattle.jpeg_marker.specs.Plans.{PlanFields, plan_at}
 use Rattle.jpeg_marker.specs.Walks.{Walk, next_walk}
 use Rattle.jpeg_marker.specs.declared.refusal.HeaderRefusal.{HeaderRefusal}
 use Rattle.jpeg_marker.proofs.CodedComponents.{HaveCoded, none_coded, more_coded, few_coded}
+use Rattle.jpeg_marker.proofs.MovedHeaders.{at_place}
 use Rattle.jpeg_marker.proofs.HeadersTaken.{begun_has_plan, bytes_from, can_scan_at, next_known, none_known}
 use Rattle.scan_spec.specs.FileParts.{FileScan, IsScanOf, is_last}
 use Rattle.scan_spec.specs.Items.{Refuses as ItemsRefuse}
@@ -52,6 +55,13 @@ module _ (w : Walk) (file : List ℕ) (h : Head) (all : AllByRecursion IsByte fi
 
   pub has : HasBegun w bytes is.plan
   has = begun_has_plan w bytes is.plan (bytes_from w.place file all) is.known is.begins
+
+  -- it is the same header wherever it is
+  pub header_at : Begins (at_place w 0) bytes is.plan
+  header_at =
+      subst (λ (l : List ℕ). Begins (at_place w 0) l is.plan)
+      (take-append-drop is.plan.header_length bytes)
+      (has.alone 0 (drop is.plan.header_length bytes))
 
   pub known_is : h.plan.known ≡ is.plan.known
   known_is = ap (λ (p : PlanFields). p.known) is.moved

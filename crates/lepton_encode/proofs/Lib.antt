@@ -3,3 +3,4 @@ mod FilesAt
 mod PlacesMade
 mod HeadsFound
 mod ScansContained
+mod SeveralRead

@@ -2,9 +2,8 @@
 use Rattle.std.proofs.Common.{◌≡◌, ℕ, zero, suc, ◌+◌, ◌-◌, ◌<◌, ◌≤◌, ◌^◌, false, List, [], ◌∷◌, ◌++◌, length, take, drop, map, replicate, refl, sym, ap, ap₂, ◌∙◌, subst, arith, length-drop, drop-cons, add-one, append_assoc, append-nil, get_or, inr}
 use Rattle.std.specs.Prelude.{None, sum}
 use Rattle.std.specs.List.{AllByRecursion}
-use Rattle.std.proofs.lemmas.List.{take-append-drop, length-replicate}
+use Rattle.std.proofs.lemmas.List.{length-replicate}
 use Rattle.bit_list.specs.Bits.{IsByte}
-use Rattle.jpeg_marker.specs.HeaderPlan.{Begins}
 use Rattle.jpeg_marker.specs.FirstWalks.{opening_walk}
 use Rattle.jpeg_marker.specs.Plans.{PlanFields}
 use Rattle.jpeg_marker.specs.Walks.{Walk, next_walk}
@@ -12,9 +11,8 @@ use Rattle.jpeg_marker.proofs.HeadersTaken.{bytes_from}
 use Rattle.jpeg_marker.proofs.MovedHeaders.{at_place}
 use Rattle.scan_spec.specs.FileParts.{IsScanOf, is_last}
 use Rattle.scan_spec.proofs.FilesOnce.{one_scan_of}
-use Rattle.box_format.specs.Parts.{BoxParts}
+use Rattle.box_format.specs.Parts.{BoxParts, BoxSeen}
 use Rattle.box_format.specs.Raws.{numbers}
-use Rattle.box_format.specs.Seen.{BoxSeen}
 use Rattle.box_format.specs.Versions.{most_segments}
 use Rattle.box_format.specs.declared.version.Version.TheVariants.{Second}
 use Rattle.box_format.proofs.BoxLawsProved.{parts_same}
@@ -28,7 +26,7 @@ use Rattle.lepton_encode.specs.FileHeads.{AreHeads, EndsAt, IsHead, walk_after}
 use Rattle.lepton_encode.specs.ScansMade.{AreCoded, AreWithin, HasParts, IsCoded, scan_made, scans_made}
 use Rattle.lepton_encode.specs.declared.heads.Head.{Head}
 use Rattle.lepton_encode.specs.declared.scans.CodedScan.{CodedScan}
-use Rattle.lepton_encode.proofs.HeadsFound.{can, bytes, has, known_is, long_is, last_is, scan_of}
+use Rattle.lepton_encode.proofs.HeadsFound.{can, bytes, has, header_at, known_is, long_is, last_is, scan_of}
 
 -- ---- a scan
 
@@ -77,13 +75,6 @@ module _ (w : Walk) (most : ℕ) (file trailer : List ℕ) (h : Head) (c : Coded
       (drop c.starts.trailer file)
   own = scan_of w file h all is c.starts.trailer ends
 
-  -- wherever its header is
-  header_at : Begins (at_place w 0) (drop w.place file) is.plan
-  header_at =
-      subst (λ (l : List ℕ). Begins (at_place w 0) l is.plan)
-      (take-append-drop is.plan.header_length (drop w.place file))
-      ((has w file h all is).alone 0 (drop is.plan.header_length (drop w.place file)))
-
   pub scan_in : IsScanIn (at_place w 0) most (drop w.place file) (drop c.starts.trailer file)
       trailer seen
   scan_in =
@@ -91,7 +82,7 @@ module _ (w : Walk) (most : ℕ) (file trailer : List ℕ) (h : Head) (c : Coded
       record {
         mcus = coded.starts.mcus;
         pads = coded.starts.pads;
-        is = record { header = header_at; scan = own.scan; is = own.is; text = own.text };
+        is = record { header = header_at w file h all is; scan = own.scan; is = own.is; text = own.text };
         header_fits = omega (arith, within, short, length-drop w.place file);
         parts = parts_are;
       }

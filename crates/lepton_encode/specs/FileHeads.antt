@@ -1,6 +1,6 @@
 -- Steps: the headers of a file of several scans, by their places (own).
 use Rattle.std.specs.Prelude.{ℕ, ◌≡◌, ◌≤◌, Bool, true, false, List, [], ◌∷◌, length, drop}
-use Rattle.jpeg_marker.specs.AcceptedPlans.{AreKnown}
+use Rattle.jpeg_marker.specs.KnownBefore.{AreKnown}
 use Rattle.jpeg_marker.specs.HeaderPlan.{Begins}
 use Rattle.jpeg_marker.specs.Plans.{PlanFields, plan_at}
 use Rattle.jpeg_marker.specs.Walks.{Walk, next_walk}

@@ -7,7 +7,8 @@ ghost use Rattle.scan_spec.specs.FileParts.{is_last};
 ghost use Rattle.scan_spec.specs.Items.{Refuses as ScanRefuses};
 ghost use Rattle.scan_spec.specs.Slots.{shape_of};
 ghost use Rattle.scan_spec.specs.declared.refusal.ScanRefusal.{ScanRefusal};
-ghost use Rattle.box_format.specs.Seen.{BoxSeen, parts_given};
+ghost use Rattle.box_format.specs.Seen.{parts_given};
+ghost use Rattle.box_format.specs.Parts.{BoxSeen};
 ghost use Rattle.box_format.specs.Versions.{most_segments};
 ghost use Rattle.box_format.specs.declared.version.Version.TheVariants.{Second};
 ghost use Rattle.container_spec.specs.Files.{IsContainerOf};
@@ -39,7 +40,7 @@ pub(crate) struct CodedScan {
 /// scan: of version 2 for one scan, else that of several scans, each with an equal share. A refusal is the first one
 /// from left to right: a header's, or that of the scan after it. Each segment but the last of a scan is coded in a
 /// thread of its own if one can be had.
-pub fn encode_file<R: Threads + Sync>(
+pub fn encode<R: Threads + Sync>(
     rt: &R,
     alloc: Global,
     bytes: &[u8],

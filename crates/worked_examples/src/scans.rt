@@ -3,10 +3,11 @@ ghost use Rattle.std.specs.Prelude.{◌≡◌, ℕ, List, true};
 ghost use Rattle.handover.specs.declared.outcome.Outcome.{Outcome};
 ghost use Rattle.segment_code.specs.FileDecoding.{FileOwes};
 
-use crate::trial::assert_holds;
+use crate::trial::{assert_holds, comes_back};
 use bit_list::Piece;
 use jpeg_marker::HeaderRefusal;
-use lepton_encode::{EncodeError, encode_file};
+use lepton_encode::{EncodeError, encode};
+use outside_core::OpenGate;
 use scan_spec::ScanRefusal;
 use scans_format::read_container;
 use segment_code::{FileDecoder, Step};
@@ -182,7 +183,7 @@ fn is_made<R: Threads + Sync + Abort>(
     let file = joined(alloc, file).expect(rt, "memory");
     assert!(rt; file.len() < 1 << 32);
     assert!(rt; 0 < segments && segments <= 64);
-    match encode_file(rt, alloc, file.as_slice(), segments) {
+    match encode(rt, alloc, file.as_slice(), segments) {
         Ok(made) => made.as_slice() == container,
         Err(_) => false,
     }
@@ -210,7 +211,7 @@ fn containers_of_several_scans_have_their_lengths(rt: HostRuntime) {
 fn length_of<R: Threads + Sync + Abort>(rt: &R, alloc: Global, file: &[&[u8]]) -> usize {
     let file = joined(alloc, file).expect(rt, "memory");
     assert!(rt; file.len() < 1 << 32);
-    match encode_file(rt, alloc, file.as_slice(), 8) {
+    match encode(rt, alloc, file.as_slice(), 8) {
         Ok(made) => made.len(),
         Err(_) => 0,
     }
@@ -225,7 +226,7 @@ fn is_refused<R: Threads + Sync + Abort>(
 ) -> bool {
     let file = joined(alloc, file).expect(rt, "memory");
     assert!(rt; file.len() < 1 << 32);
-    match encode_file(rt, alloc, file.as_slice(), 8) {
+    match encode(rt, alloc, file.as_slice(), 8) {
         Ok(_) => false,
         Err(error) => error == cause,
     }
@@ -239,28 +240,45 @@ fn two_scans_are_decoded(rt: HostRuntime) {
     assert!(rt; found.as_slice() == file.as_slice());
 }
 
-// The file of a container of two scans of a segment each; no bytes of another.
+// The file of a container, segment by segment; no bytes of none.
 fn restored(alloc: Global, bytes: &[u8]) -> Result<Vec<u8>, AllocError> {
     let mut file = Vec::new(alloc);
     let Ok(view) = read_container(bytes) else {
         return Ok(file);
     };
-    if view.scans() != 2 {
-        return Ok(file);
+    let mut decoder = FileDecoder::prepare(alloc, view.plans())?;
+    file.extend_from_slice(view.scan(0).header())?;
+    for segment in 0..view.segments() {
+        decoder.begin(&view, segment);
+        put_segment(alloc, &mut decoder, &mut file)?;
     }
-    let first = view.scan(0);
-    let second = view.scan(1);
-    if first.segments() != 1 || second.segments() != 1 {
-        return Ok(file);
-    }
-    let mut decoder = FileDecoder::prepare(alloc, &[*first.plan(), *second.plan()])?;
-    file.extend_from_slice(first.header())?;
-    decoder.begin(&first, 0, 0, 0);
-    put_segment(alloc, &mut decoder, &mut file)?;
-    decoder.begin(&second, 1, 1, 0);
-    put_segment(alloc, &mut decoder, &mut file)?;
-    file.extend_from_slice(second.trailer())?;
+    file.extend_from_slice(view.trailer())?;
     Ok(file)
+}
+
+#[test]
+fn scans_are_decoded_by_workers(rt: HostRuntime) {
+    for (file, _) in LENGTHS {
+        let file = joined(rt.alloc(), file).expect(&rt, "memory");
+        assert!(&rt; file.len() < 1 << 32);
+        let container = encode(&rt, rt.alloc(), file.as_slice(), 8)
+            .ok()
+            .expect(&rt, "it is encoded");
+        for workers in 0..4 {
+            for ring in [1usize, 2, 70] {
+                let back = comes_back(
+                    &rt,
+                    rt.alloc(),
+                    container.as_slice(),
+                    file.as_slice(),
+                    workers,
+                    ring,
+                    &OpenGate,
+                );
+                assert!(rt; back, "{workers} workers, rings of {ring}");
+            }
+        }
+    }
 }
 
 // Appends what a decoder gives of the segment that it began.

@@ -5,7 +5,7 @@ use Rattle.jpeg_marker.proofs.OneScans.{several_is_one}
 use Rattle.scan_spec.specs.Items.{Refuses}
 use Rattle.scan_spec.specs.Slots.{shape_of}
 use Rattle.lepton_encode.proofs.FilesAt.{are_bytes}
-use Rattle.lepton_encode.proofs.scans.encode_file.Goals as goal
+use Rattle.lepton_encode.proofs.scans.encode.Goals as goal
 
 pub encode_one-requires-clause-accepted : goal.encode_one-requires-clause-accepted
 encode_one-requires-clause-accepted g c κs within =

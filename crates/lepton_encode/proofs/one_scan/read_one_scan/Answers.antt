@@ -1,0 +1,88 @@
+use Rattle.std.proofs.Common.{rules, ◌≡◌, ◌+◌, ◌-◌, ◌∙◌, length, refl, sym, ap, arith}
+use Rattle.std.specs.Prelude.{Err}
+use Rattle.std.specs.List.{AllByRecursion}
+use Rattle.std.proofs.lemmas.Option.{slice_get_read}
+use Rattle.std.proofs.lemmas.Result.{err_from_is_err_and}
+use Rattle.bit_list.specs.Bits.{IsByte}
+use Rattle.jpeg_marker.proofs.OneScans.{several_is_one}
+use Rattle.lepton_encode.specs.declared.error.OneScanError.TheVariants.{Header, Scan}
+use Rattle.lepton_encode.specs.Errors.{as_one_scan_error, one_scan_error_of}
+use Rattle.lepton_encode.proofs.FaultsFound.{header_as, one_scan_found, scan_as}
+use Rattle.lepton_encode.proofs.FilesAt.{are_bytes}
+use Rattle.lepton_encode.proofs.SeveralRead.{last_can, last_refused, several_read}
+use Rattle.lepton_encode.proofs.one_scan.read_one_scan.Goals as goal
+
+pub returns-then-is_last-clause-accepted : goal.returns-then-is_last-clause-accepted
+returns-then-is_last-clause-accepted c =
+    let bytes = c.args.bytes.now in
+    let all : AllByRecursion IsByte bytes =
+    are_bytes bytes (λ i. let h = c.type_inv.bytes i in search rules) in
+    several_is_one bytes c.in_ok-plan.plan all c.in_ok-plan.ensures.accepted
+    (sym c.is_last.ensures ∙ c.if-is_last.true)
+
+pub returns-in_err-heads-clause-header : goal.returns-in_err-heads-clause-header
+returns-in_err-heads-clause-header c =
+    let p = err_from_is_err_and c.from_residual-in_err-heads.result
+    c.from_residual-in_err-heads.ensures.1 in
+    rw (p.1, p.2) (λ refusal is.
+    let header : as_one_scan_error c.in_err-heads.field-0.0 ≡ Header refusal = cc in
+    c.in_err-heads.ensures.header refusal
+    (ap (λ error. Err error) (header_as c.in_err-heads.field-0.0 refusal header)))
+
+pub returns-in_err-heads-clause-scan : goal.returns-in_err-heads-clause-scan
+returns-in_err-heads-clause-scan c =
+    let p = err_from_is_err_and c.from_residual-in_err-heads.result
+    c.from_residual-in_err-heads.ensures.1 in
+    rw (p.1, p.2) (λ refusal is.
+    let scan : as_one_scan_error c.in_err-heads.field-0.0 ≡ Scan refusal = cc in
+    c.in_err-heads.ensures.scan refusal
+    (ap (λ error. Err error) (scan_as c.in_err-heads.field-0.0 refusal scan)))
+
+pub find_starts-requires-clause-plan : goal.find_starts-requires-clause-plan
+find_starts-requires-clause-plan c =
+    let bytes = c.args.bytes.now in
+    let all : AllByRecursion IsByte bytes =
+    are_bytes bytes (λ i. let h = c.type_inv.bytes i in search rules) in
+    let heads = c.in_ok-heads.heads.items in
+    let two = c.in_ok-heads.ensures.several in
+    let len : c.len.result ≡ length heads = search rules in
+    let last : c.len.result - 1 + 1 ≡ length heads = omega (arith, two, len) in
+    let here = slice_get_read heads (length heads) (c.len.result - 1) c.index-last.result.now refl
+    (omega (arith, two, len)) c.index-last.ensures in
+    last_can bytes heads (c.len.result - 1) c.index-last.result.now all c.in_ok-heads.ensures.heads
+    here last
+
+pub returns-in_err-find_starts-clause-scan : goal.returns-in_err-find_starts-clause-scan
+returns-in_err-find_starts-clause-scan c =
+    let bytes = c.args.bytes.now in
+    let all : AllByRecursion IsByte bytes =
+    are_bytes bytes (λ i. let h = c.type_inv.bytes i in search rules) in
+    let heads = c.in_ok-heads.heads.items in
+    let two = c.in_ok-heads.ensures.several in
+    let len : c.len.result ≡ length heads = search rules in
+    let last : c.len.result - 1 + 1 ≡ length heads = omega (arith, two, len) in
+    let here = slice_get_read heads (length heads) (c.len.result - 1) c.index-last.result.now refl
+    (omega (arith, two, len)) c.index-last.ensures in
+    let p = err_from_is_err_and c.from_residual-in_err-find_starts.result
+    c.from_residual-in_err-find_starts.ensures.1 in
+    rw (p.1, p.2) (λ refusal is.
+    let scan : one_scan_error_of c.in_err-find_starts.field-0.0 ≡ Scan refusal = cc in
+    let cause = ap (λ error. Err error)
+    (one_scan_found c.in_err-find_starts.field-0.0 refusal scan) in
+    last_refused bytes heads (c.len.result - 1) c.index-last.result.now all
+    c.in_ok-heads.ensures.heads here last refusal (c.in_err-find_starts.ensures.refused refusal cause))
+
+pub returns-clause-many : goal.returns-clause-many
+returns-clause-many c = λ many.
+    let bytes = c.args.bytes.now in
+    let all : AllByRecursion IsByte bytes =
+    are_bytes bytes (λ i. let h = c.type_inv.bytes i in search rules) in
+    let heads = c.in_ok-heads.heads.items in
+    let two = c.in_ok-heads.ensures.several in
+    let len : c.len.result ≡ length heads = search rules in
+    let last : c.len.result - 1 + 1 ≡ length heads = omega (arith, two, len) in
+    let here = slice_get_read heads (length heads) (c.len.result - 1) c.index-last.result.now refl
+    (omega (arith, two, len)) c.index-last.ensures in
+    several_read bytes heads (c.len.result - 1) c.index-last.result.now all
+    c.in_ok-heads.ensures.heads here last c.in_ok-find_starts.field-0
+    c.in_ok-find_starts.ensures.starts two

@@ -1,0 +1,9 @@
+use Rattle.std.proofs.Common.{◌≡◌}
+use Rattle.scans_format.specs.Scans.{all_plans}
+use Rattle.worked_examples.proofs.scans.restored.Given as goal
+
+abbrev pub invariant-loop-segment : goal.invariant-loop-segment
+invariant-loop-segment l = record {
+  plans : l.decoder.plans ≡ all_plans l.view;
+  begun : l.decoder.begun ≡ l.segment;
+}
