@@ -3,17 +3,17 @@ use Rattle.std.proofs.Common.{◌≡◌, ℕ, List, ◌++◌, sym, ap, ◌∙◌
 use Rattle.handover.specs.declared.outcome.Outcome.{Outcome}
 use Rattle.segment_code.specs.declared.step.Step.{Step}
 use Rattle.segment_code.specs.declared.step.Step.TheVariants.{More, Done, Fault}
-use Rattle.segment_code.specs.Decoding.{DecoderSeen, Pays}
+use Rattle.segment_code.specs.FileDecoding.{FileDecoderSeen, FilePays}
 
 -- a step that answers More pays as More
-pub paid_more : (step : Step) (bytes : List ℕ) (outcome : Outcome) (out : List ℕ) (old new : DecoderSeen)
-    → step ≡ More → Pays step bytes outcome out old new → Pays More bytes outcome out old new
+pub paid_more : (step : Step) (bytes : List ℕ) (outcome : Outcome) (out : List ℕ) (old new : FileDecoderSeen)
+    → step ≡ More → FilePays step bytes outcome out old new → FilePays More bytes outcome out old new
 paid_more step bytes outcome out old new is p =
-    subst (λ (s : Step). Pays s bytes outcome out old new) is p
+    subst (λ (s : Step). FilePays s bytes outcome out old new) is p
 
 -- another pays all that is left
-pub paid_end : (step : Step) (bytes : List ℕ) (outcome : Outcome) (out : List ℕ) (old new : DecoderSeen)
-    → (step ≡ More → ⊥) → Pays step bytes outcome out old new → bytes ≡ out
+pub paid_end : (step : Step) (bytes : List ℕ) (outcome : Outcome) (out : List ℕ) (old new : FileDecoderSeen)
+    → (step ≡ More → ⊥) → FilePays step bytes outcome out old new → bytes ≡ out
 paid_end More bytes outcome out old new not p = absurd (not refl)
 paid_end (Done padded) bytes outcome out old new not p = p.0
 paid_end (Fault fault) bytes outcome out old new not p = p.0

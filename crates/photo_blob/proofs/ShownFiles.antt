@@ -1,108 +1,100 @@
--- A container's file is its header, its segments' bytes and its trailer.
-use Rattle.std.proofs.Common.{◌≡◌, ℕ, zero, suc, ◌+◌, ◌-◌, ◌<◌, ◌≤◌, List, ◌++◌, length, map, Option, Some, None, sym, ap, ap₂, ◌∙◌, refl, append_assoc, append-nil, arith}
-use Rattle.byte_window.specs.Windows.{window}
-use Rattle.jpeg_marker.specs.Plans.{PlanFields}
+-- A container's file is its first header, its segments' bytes and its trailer.
+use Rattle.std.proofs.Common.{◌≡◌, ℕ, zero, suc, ◌+◌, ◌-◌, ◌<◌, ◌≤◌, List, [], ◌∷◌, ◌++◌, Option, Some, None, sym, ap, ◌∙◌, refl, append_assoc, append-nil, arith}
+use Rattle.std.specs.Prelude.{slice_get}
 use Rattle.handover.specs.declared.outcome.Outcome.{Outcome}
 use Rattle.handover.specs.declared.outcome.Outcome.TheVariants.{Good, Bad}
 use Rattle.handover.specs.declared.outcome.StreamFault.{StreamFault}
-use Rattle.box_format.specs.Parts.{BoxParts, IsBoxOf}
-use Rattle.box_format.specs.BoxChecks.{IsRefusedBox}
-use Rattle.box_format.specs.declared.chunk.Chunk.{Chunk}
+use Rattle.box_format.specs.Parts.{BoxSeen}
 use Rattle.box_format.specs.declared.refusal.BoxRefusal.{BoxRefusal}
-use Rattle.box_format.specs.Versions.{decoded}
-use Rattle.box_format.proofs.BoxLawsProved.{all_read, one_box, never_both}
-use Rattle.box_format.specs.Raws.{numbers}
-use Rattle.container_spec.specs.Segments.{segment_output}
-use Rattle.container_spec.specs.Meanings.{Meaning, Verdict, Restored, Faulty, Joined, before_rows, begun_bytes, good_end, joined, joined_with, outputs_of, meaning_by, meaning_of, rows_window, segment_in}
-use Rattle.photo_blob.specs.Showing.{StandsFor, segment_bytes, bytes_from}
+use Rattle.container_spec.specs.Meanings.{Meaning, Verdict, Restored, Faulty}
+use Rattle.scans_format.specs.Containers.{IsContainer, IsRefusedContainer}
+use Rattle.scans_format.specs.Scans.{all_parts, segment_count, trailer_of}
+use Rattle.scans_format.proofs.ScansProved.{never_both_scans, one_list_of_scans}
+use Rattle.scans_spec.specs.ScansJoined.{ScansJoined, all_joined, first_header, scanned_from, scanned_with, scans_end, scans_joined}
+use Rattle.scans_spec.specs.ScansMeanings.{output_at, scan_of, scans_meaning}
+use Rattle.scans_spec.proofs.BoxesOnce.{one_list_of_boxes_from, refused_is_none_from}
+use Rattle.scans_spec.proofs.SeveralScans.{container_is_joined}
+use Rattle.photo_blob.specs.Showing.{StandsForFile, segment_bytes, bytes_from}
 
-one_more : (bytes : List ℕ) (o : Outcome) (rest : Joined) (all : List ℕ)
-    → (joined_with bytes o rest).fault ≡ None → (rest.fault ≡ None → rest.bytes ≡ all)
-    → (joined_with bytes o rest).bytes ≡ bytes ++ all
-one_more bytes (Good padded) rest all none is = ap (λ (l : List ℕ). bytes ++ l) (is none)
-one_more bytes (Bad fault) rest all none is = absurd (cc)
+one_more : (scan : ℕ) (bytes : List ℕ) (o : Outcome) (rest : ScansJoined) (all : List ℕ)
+    → (scanned_with scan bytes o rest).fault ≡ None → (rest.fault ≡ None → rest.bytes ≡ all)
+    → (scanned_with scan bytes o rest).bytes ≡ bytes ++ all
+one_more scan bytes (Good padded) rest all none is = ap (λ (l : List ℕ). bytes ++ l) (is none)
+one_more scan bytes (Bad fault) rest all none is = absurd (cc)
 
 -- where no segment is bad, the bytes are those of all
-all_bytes : (plan : PlanFields) (b : BoxParts) (i count : ℕ)
-    → (joined (map (λ j. segment_output (segment_in plan b j)) (numbers i count))).fault ≡ None
-    → (joined (map (λ j. segment_output (segment_in plan b j)) (numbers i count))).bytes
-    ≡ bytes_from plan b i count
-all_bytes plan b i zero none = refl
-all_bytes plan b i (suc count) none =
-    one_more (segment_output (segment_in plan b i)).0 (segment_output (segment_in plan b i)).1
-    (joined (map (λ j. segment_output (segment_in plan b j)) (numbers (i + 1) count)))
-    (bytes_from plan b (i + 1) count) none (all_bytes plan b (i + 1) count)
+all_bytes : (scans : List BoxSeen) (i count : ℕ)
+    → (scans_joined (scanned_from scans i count)).fault ≡ None
+    → (scans_joined (scanned_from scans i count)).bytes ≡ bytes_from scans i count
+all_bytes scans i zero none = refl
+all_bytes scans i (suc count) none =
+    one_more (scan_of 0 scans i) (output_at scans i).0 (output_at scans i).1
+    (scans_joined (scanned_from scans (i + 1) count)) (bytes_from scans (i + 1) count) none
+    (all_bytes scans (i + 1) count)
 
 same_file : (f : List ℕ) (v : Verdict) (m : Meaning) → m ≡ record { bytes = f; verdict = v }
     → (m.bytes ≡ f) × (m.verdict ≡ v)
 same_file f v m e = (ap (λ (x : Meaning). x.bytes) e, ap (λ (x : Meaning). x.verdict) e)
 
--- with no chunk all of the header and of the segments' bytes is there, and the trailer
-begun_is : (c : Option Chunk) (header trailer bytes : List ℕ) → c ≡ None
-    → before_rows c header ++ window (rows_window c header trailer) bytes ≡ header ++ bytes
-begun_is None header trailer bytes none = refl
-begun_is (Some c) header trailer bytes none = absurd (cc)
+-- joined segments that stand for a file have no fault, and the file is their bytes between first header and trailer
+by_fault : (scans : List BoxSeen) (all : ScansJoined) (fault : Option StreamFault) (file : List ℕ)
+    → scans_end scans all fault ≡ record { bytes = file; verdict = Restored }
+    → (fault ≡ None) × (first_header scans ++ all.bytes ++ trailer_of (all_parts scans) ≡ file)
+by_fault scans all None file e = (refl, (same_file file Restored (scans_end scans all None) e).0)
+by_fault scans all (Some fault) file e =
+    let v : Faulty fault ≡ Restored = (same_file file Restored (scans_end scans all (Some fault)) e).1 in absurd (cc)
 
-end_is : (c : Option Chunk) (b : BoxParts) (all : Joined) → c ≡ None
-    → (good_end c b all).bytes ≡ begun_bytes b all ++ b.trailer
-end_is None b all none = refl
-end_is (Some c) b all none = absurd (cc)
-
-by_fault : (b : BoxParts) (all : Joined) (fault : Option StreamFault) (file : List ℕ)
-    → b.chunk ≡ None → meaning_by b all fault ≡ record { bytes = file; verdict = Restored }
-    → (fault ≡ None) × (b.header ++ all.bytes ++ b.trailer ≡ file)
-by_fault b all None file none e = (
-  refl,
-  sym (end_is b.chunk b all none
-      ∙ ap (λ (l : List ℕ). l ++ b.trailer) (begun_is b.chunk b.header b.trailer all.bytes none))
-      ∙ (same_file file Restored (meaning_by b all None) e).0,
-)
-by_fault b all (Some fault) file none e =
-    let v : Faulty fault ≡ Restored = (same_file file Restored (meaning_by b all (Some fault)) e).1 in absurd (cc)
-
--- what parts stand for a file have its bytes
-restored_bytes : (plan : PlanFields) (b : BoxParts) (file : List ℕ)
-    → b.chunk ≡ None → meaning_of plan b ≡ record { bytes = file; verdict = Restored }
-    → b.header ++ bytes_from plan b 0 (length b.handovers) ++ b.trailer ≡ file
-unfolding meaning_of
-restored_bytes plan b file none e =
-    let all = joined (outputs_of plan b) in
-    let h = by_fault b all all.fault file none e in
-    ap (λ (l : List ℕ). b.header ++ l ++ b.trailer) (sym (all_bytes plan b 0 (length b.handovers) h.0)) ∙ h.1
+-- scans that stand for a file have its bytes
+restored_bytes : (scans : List BoxSeen) (file : List ℕ)
+    → scans_meaning scans ≡ scans_end scans (all_joined scans) (all_joined scans).fault
+    → scans_meaning scans ≡ record { bytes = file; verdict = Restored }
+    → first_header scans ++ bytes_from scans 0 (segment_count scans) ++ trailer_of (all_parts scans) ≡ file
+restored_bytes scans file joined e =
+    let all = all_joined scans in
+    let h = by_fault scans all all.fault file (sym joined ∙ e) in
+    ap (λ (l : List ℕ). first_header scans ++ l ++ trailer_of (all_parts scans))
+    (sym (all_bytes scans 0 (segment_count scans) h.0)) ∙ h.1
 
 -- the bytes from a segment on begin with it
-pub bytes_step : (plan : PlanFields) (b : BoxParts) (i n : ℕ) → i < n
-    → bytes_from plan b i (n - i) ≡ segment_bytes plan b i ++ bytes_from plan b (i + 1) (n - (i + 1))
-bytes_step plan b i n less =
+pub bytes_step : (scans : List BoxSeen) (i n : ℕ) → i < n
+    → bytes_from scans i (n - i) ≡ segment_bytes scans i ++ bytes_from scans (i + 1) (n - (i + 1))
+bytes_step scans i n less =
     let e : n - i ≡ suc (n - (i + 1)) = omega arith in
-    ap (λ (k : ℕ). bytes_from plan b i k) e
+    ap (λ (k : ℕ). bytes_from scans i k) e
 
 -- the bytes so far and those that are left, after one segment more
-pub segment_more : (plan : PlanFields) (b : BoxParts) (i n : ℕ) (first file : List ℕ) → i < n
-    → file ++ bytes_from plan b i (n - i) ≡ first
-    → (file ++ segment_bytes plan b i) ++ bytes_from plan b (i + 1) (n - (i + 1)) ≡ first
-segment_more plan b i n first file less is =
-    append_assoc file (segment_bytes plan b i) (bytes_from plan b (i + 1) (n - (i + 1)))
-    ∙ (ap (λ (l : List ℕ). file ++ l) (sym (bytes_step plan b i n less)) ∙ is)
+pub segment_more : (scans : List BoxSeen) (i n : ℕ) (first file : List ℕ) → i < n
+    → file ++ bytes_from scans i (n - i) ≡ first
+    → (file ++ segment_bytes scans i) ++ bytes_from scans (i + 1) (n - (i + 1)) ≡ first
+segment_more scans i n first file less is =
+    append_assoc file (segment_bytes scans i) (bytes_from scans (i + 1) (n - (i + 1)))
+    ∙ (ap (λ (l : List ℕ). file ++ l) (sym (bytes_step scans i n less)) ∙ is)
 
 -- nothing is left at the end
-pub none_left : (plan : PlanFields) (b : BoxParts) (i n : ℕ) (first file : List ℕ) → n ≤ i
-    → file ++ bytes_from plan b i (n - i) ≡ first → file ≡ first
-none_left plan b i n first file all is =
+pub none_left : (scans : List BoxSeen) (i n : ℕ) (first file : List ℕ) → n ≤ i
+    → file ++ bytes_from scans i (n - i) ≡ first → file ≡ first
+none_left scans i n first file all is =
     let e : n - i ≡ 0 = omega arith in
-    sym (append-nil file) ∙ (ap (λ (k : ℕ). file ++ bytes_from plan b i k) (sym e) ∙ is)
+    sym (append-nil file) ∙ (ap (λ (k : ℕ). file ++ bytes_from scans i k) (sym e) ∙ is)
+
+-- the first header is that of scan 0
+pub first_is : (scans : List BoxSeen) (s : BoxSeen) → slice_get scans 0 ≡ Some s
+    → s.parts.header ≡ first_header scans
+first_is [] s e = absurd (cc)
+first_is (t ∷ scans) s e =
+    let same : t ≡ s = cc in ap (λ (x : BoxSeen). x.parts.header) (sym same)
 
 -- a container that stands for a file isn't refused
-pub not_refused : (bytes file : List ℕ) (refusal : BoxRefusal) → StandsFor bytes file
-    → IsRefusedBox bytes refusal → ⊥
+pub not_refused : (bytes file : List ℕ) (refusal : BoxRefusal) → StandsForFile bytes file
+    → IsRefusedContainer bytes refusal → ⊥
 not_refused bytes file refusal x refused =
-    never_both decoded bytes x.0 x.1 refusal (all_read x.1.version) x.2 refused
+    refused_is_none_from never_both_scans x.0 bytes refusal x.1 refused
 
--- its file, by its parts
-pub shown_bytes : (bytes file : List ℕ) (plan : PlanFields) (b : BoxParts)
-    → StandsFor bytes file → IsBoxOf plan b bytes
-    → b.header ++ bytes_from plan b 0 (length b.handovers) ++ b.trailer ≡ file
-shown_bytes bytes file plan b x box =
-    let same = one_box plan x.0 b x.1 bytes box x.2 in
-    restored_bytes plan b file (ap (λ (parts : BoxParts). parts.chunk) same.1 ∙ x.3)
-    (ap₂ (λ (p : PlanFields) (parts : BoxParts). meaning_of p parts) same.0 same.1 ∙ x.4)
+-- its file, by its scans
+pub shown_bytes : (bytes file : List ℕ) (scans : List BoxSeen)
+    → StandsForFile bytes file → IsContainer scans bytes
+    → first_header scans ++ bytes_from scans 0 (segment_count scans) ++ trailer_of (all_parts scans) ≡ file
+shown_bytes bytes file scans x is =
+    ap (λ (l : List BoxSeen). first_header l ++ bytes_from l 0 (segment_count l) ++ trailer_of (all_parts l))
+    (one_list_of_boxes_from one_list_of_scans scans x.0 bytes is x.1)
+    ∙ restored_bytes x.0 file (container_is_joined x.0 bytes x.1 x.2) x.3

@@ -1,21 +1,23 @@
 -- Steps: a container's file, put together segment by segment (own).
 use Rattle.std.specs.Prelude.{ℕ, ◌≡◌, List, None, flat_map}
-use Rattle.jpeg_marker.specs.Plans.{PlanFields}
-use Rattle.box_format.specs.Parts.{BoxParts, IsBoxOf}
+use Rattle.std.specs.List.{AllByRecursion}
 use Rattle.box_format.specs.Raws.{numbers}
-use Rattle.container_spec.specs.Segments.{segment_output}
-use Rattle.container_spec.specs.Meanings.{Restored, meaning_of, segment_in}
+use Rattle.box_format.specs.Parts.{BoxSeen}
+use Rattle.container_spec.specs.Meanings.{Restored}
+use Rattle.scans_format.specs.Containers.{IsContainer}
+use Rattle.scans_spec.specs.ScansMeanings.{output_at, scans_meaning}
 
 -- bytes are a container with no chunk that stands for a file
-abbrev pub StandsFor : List ℕ → List ℕ → Type 0
-StandsFor made file =
-    (plan : PlanFields) × (b : BoxParts) × IsBoxOf plan b made × (b.chunk ≡ None)
-    × (meaning_of plan b ≡ record { bytes = file; verdict = Restored })
+abbrev pub StandsForFile : List ℕ → List ℕ → Type 0
+StandsForFile made file =
+    (scans : List BoxSeen) × IsContainer scans made
+    × AllByRecursion (λ (s : BoxSeen). s.parts.chunk ≡ None) scans
+    × (scans_meaning scans ≡ record { bytes = file; verdict = Restored })
 
 -- the bytes of segment i
-abbrev pub segment_bytes : PlanFields → BoxParts → ℕ → List ℕ
-segment_bytes plan b i = (segment_output (segment_in plan b i)).0
+abbrev pub segment_bytes : List BoxSeen → ℕ → List ℕ
+segment_bytes scans i = (output_at scans i).0
 
 -- the bytes of `count` segments, from segment i on
-abbrev pub bytes_from : PlanFields → BoxParts → ℕ → ℕ → List ℕ
-bytes_from plan b i count = flat_map (segment_bytes plan b) (numbers i count)
+abbrev pub bytes_from : List BoxSeen → ℕ → ℕ → List ℕ
+bytes_from scans i count = flat_map (segment_bytes scans) (numbers i count)

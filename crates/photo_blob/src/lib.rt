@@ -3,8 +3,8 @@
 //!     file --encode--> 1, container        a file that isn't accepted --> 0, file
 //!     blob --show_blob--> file
 //!
-//! A file has one blob, and a blob is that of one file. Not handled here: `encode` (`photo_store` uses
-//! `lepton_encode`), and where blobs are kept.
+//! A file has one blob, and a blob is that of one file. The container has one segment for each scan. Not handled here:
+//! `encode` (`photo_store` uses `lepton_encode`), and where blobs are kept.
 #![tactic(auto)]
 
 mod laws;

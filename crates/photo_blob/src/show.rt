@@ -1,14 +1,14 @@
 // A blob's file.
 ghost use Rattle.std.specs.Prelude.{◌≡◌, ◌++◌, ℕ, List, IfOk, OnOk, true};
 ghost use Rattle.handover.specs.declared.outcome.Outcome.{Outcome};
-ghost use Rattle.segment_code.specs.Decoding.{Owes};
+ghost use Rattle.segment_code.specs.FileDecoding.{FileOwes};
 ghost use Rattle.photo_blob.specs.Blobs.{IsBlobOf};
-ghost use Rattle.photo_blob.specs.Showing.{StandsFor};
+ghost use Rattle.photo_blob.specs.Showing.{StandsForFile};
 
 use bit_list::Piece;
-use box_format::read_box;
 use growth::{NoMemory, extend_from_slice, from_slice};
-use segment_code::{SegmentDecoder, Step};
+use scans_format::read_container;
+use segment_code::{FileDecoder, Step};
 use std::alloc::Global;
 
 /// The first byte of a blob if the file follows it.
@@ -35,17 +35,17 @@ pub fn show_blob(alloc: Global, blob: &[u8]) -> Result<Vec<u8>, NoMemory>
 
 // The file that a container stands for.
 fn show_container(alloc: Global, bytes: &[u8]) -> Result<Vec<u8>, NoMemory>
-    requires stands { (file : List ℕ) × StandsFor bytes.now file }
-    ensures shown { (file : List ℕ) → StandsFor bytes.now file
+    requires stands { (file : List ℕ) × StandsForFile bytes.now file }
+    ensures shown { (file : List ℕ) → StandsForFile bytes.now file
         → IfOk result (λ shown. shown.items ≡ file) }
 {
-    let view = match read_box(bytes) {
+    let view = match read_container(bytes) {
         Ok(view) => view,
         Err(_) => unreachable!(),
     };
-    let mut decoder = SegmentDecoder::prepare(alloc, view.plan())?;
+    let mut decoder = FileDecoder::prepare(alloc, view.plans())?;
     let mut piece = Piece::new(alloc)?;
-    let mut file = from_slice(alloc, view.header())?;
+    let mut file = from_slice(alloc, view.scan(0).header())?;
     for segment in 0..view.segments() {
         decoder.begin(&view, segment);
         append_segment(&mut decoder, &mut piece, &mut file)?;
@@ -56,16 +56,16 @@ fn show_container(alloc: Global, bytes: &[u8]) -> Result<Vec<u8>, NoMemory>
 
 // Appends the bytes of the segment that was begun.
 fn append_segment<'a>(
-    decoder: &mut SegmentDecoder<'a>,
+    decoder: &mut FileDecoder<'a>,
     piece: &mut Piece,
     file: &mut Vec<u8>,
 ) -> Result<(), NoMemory>
     requires running { decoder.old.running ≡ true }
-    requires owes { (bytes : List ℕ) × (outcome : Outcome) × Owes decoder.old bytes outcome }
-    ensures appended { (bytes : List ℕ) (outcome : Outcome) → Owes decoder.old bytes outcome
+    requires owes { (bytes : List ℕ) × (outcome : Outcome) × FileOwes decoder.old bytes outcome }
+    ensures appended { (bytes : List ℕ) (outcome : Outcome) → FileOwes decoder.old bytes outcome
         → OnOk result (file.new.items ≡ file.old.items ++ bytes) }
     ensures begun { decoder.new.begun ≡ decoder.old.begun }
-    ensures plan { decoder.new.plan ≡ decoder.old.plan }
+    ensures plans { decoder.new.plans ≡ decoder.old.plans }
 {
     loop {
         let step = decoder.step(piece);

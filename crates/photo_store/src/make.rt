@@ -12,7 +12,7 @@ use sha2::{Digest, Sha256};
 use std::alloc::Global;
 use std::thread::Threads;
 
-// How many segments a blob's container has.
+// How many segments `encode` is asked for at most. So each scan has one.
 const SEGMENTS: u8 = 1;
 
 /// Makes the blob of a file. The one error is out of memory.

@@ -1,11 +1,13 @@
-use Rattle.std.proofs.Common.{◌≡◌, ◌-◌, ◌++◌, length}
+use Rattle.std.proofs.Common.{◌≡◌, ◌-◌, ◌++◌}
+use Rattle.scans_format.specs.Scans.{all_plans, segment_count}
+use Rattle.scans_spec.specs.ScansJoined.{first_header}
 use Rattle.photo_blob.specs.Showing.{bytes_from}
 use Rattle.photo_blob.proofs.show.show_container.Given as goal
 
 abbrev pub invariant-loop-segment : goal.invariant-loop-segment
 invariant-loop-segment l = record {
-  plan : l.decoder.plan ≡ l.view.plan;
+  plans : l.decoder.plans ≡ all_plans l.view;
   begun : l.decoder.begun ≡ l.segment;
-  so_far : l.file.items ++ bytes_from l.view.plan l.view.parts l.segment (length l.view.parts.handovers - l.segment)
-      ≡ l.view.parts.header ++ bytes_from l.view.plan l.view.parts 0 (length l.view.parts.handovers);
+  so_far : l.file.items ++ bytes_from l.view l.segment (segment_count l.view - l.segment)
+      ≡ first_header l.view ++ bytes_from l.view 0 (segment_count l.view);
 }
