@@ -22,7 +22,7 @@ byte_small : (k n : ℕ) → IsByte (byte_at k n)
 byte_small zero n = omega arith
 byte_small (suc k) n = omega arith
 
-number_are : (k n : ℕ) → AllByRecursion IsByte (big_bytes k n)
+pub number_are : (k n : ℕ) → AllByRecursion IsByte (big_bytes k n)
 number_are zero n = tt
 number_are (suc k) n = (byte_small k n, number_are k n)
 
@@ -33,7 +33,7 @@ joined_are f [] each = tt
 joined_are f (x ∷ xs) each =
     all-append IsByte (f x) (flat_map f xs) (each x) (joined_are f xs each)
 
-streams_are : (xs : List (List ℕ)) → AllByRecursion (AllByRecursion IsByte) xs
+pub streams_are : (xs : List (List ℕ)) → AllByRecursion (AllByRecursion IsByte) xs
     → AllByRecursion IsByte (flat_map (λ stream. stream) xs)
 streams_are [] all = tt
 streams_are (x ∷ xs) all =
@@ -56,7 +56,7 @@ place_are : (places : Option (List ℕ)) (i : ℕ) → AllByRecursion IsByte (pl
 place_are None i = tt
 place_are (Some places) i = number_are 8 (slice_index places i)
 
-records_are : (places : Option (List ℕ)) (i : ℕ) (hs : List HandoverFields) (ss : List (List ℕ))
+pub records_are : (places : Option (List ℕ)) (i : ℕ) (hs : List HandoverFields) (ss : List (List ℕ))
     → AllByRecursion IsHandover hs → AllByRecursion IsByte (records places i hs ss)
 records_are places i [] ss each = tt
 records_are places i (h ∷ hs) [] each = tt
@@ -72,7 +72,7 @@ bit_is : (pad : Bool) → IsByte (bit_byte pad)
 bit_is true = omega arith
 bit_is false = omega arith
 
-pad_is : (pads : PadBits) → IsByte (pad_byte pads)
+pub pad_is : (pads : PadBits) → IsByte (pad_byte pads)
 pad_is (Same pad) = bit_is pad
 pad_is (Listed bytes) = omega arith
 
@@ -110,7 +110,7 @@ named_are true list = number_are 4 (length list)
 named_are false list = tt
 
 -- two lists of bytes
-both_are : (xs ys : List ℕ) → AllByRecursion IsByte xs → AllByRecursion IsByte ys
+pub both_are : (xs ys : List ℕ) → AllByRecursion IsByte xs → AllByRecursion IsByte ys
     → AllByRecursion IsByte (xs ++ ys)
 both_are xs ys a b = all-append IsByte xs ys a b
 

@@ -1,12 +1,12 @@
 -- From how words ended to what the top call promises.
-use Rattle.std.proofs.Common.{◌≡◌, ℕ, ◌<◌, ◌≤◌, ◌⊎◌, inl, inr, List, length, Option, Some, refl, sym, ap, subst, ◌∙◌, arith}
+use Rattle.std.proofs.Common.{◌≡◌, ℕ, ◌<◌, ◌≤◌, ◌⊎◌, inl, inr, List, length, sum, Option, Some, refl, sym, ap, subst, ◌∙◌, arith}
 use Rattle.std.specs.Io.KnownBytes.{Appends}
 use Rattle.outside_core.specs.Faults.{Rose}
 use Rattle.std.specs.List.{AllByRecursion}
 use Rattle.bit_list.specs.Bits.{IsByte}
 use Rattle.jpeg_marker.specs.Plans.{PlanFields}
 use Rattle.box_format.specs.Parts.{BoxParts, IsBoxOf, box_bytes, migrated}
-use Rattle.box_format.specs.Versions.{IsRead, indexable, layout_of, migratable, version_in}
+use Rattle.box_format.specs.Versions.{IsRead, indexable, layout_of, migratable, most_segments, version_in}
 use Rattle.box_format.specs.declared.version.Version.{Version}
 use Rattle.box_format.specs.declared.version.Version.TheVariants.{Fifth, Third}
 use Rattle.chunk_cut.specs.ChunksOfFiles.{IsChunkOf, chunk_of}
@@ -24,7 +24,8 @@ use Rattle.lepton_run.specs.Endings.{ending_line, ending_of, status_at}
 use Rattle.lepton_run.specs.CommandEnds.{Answered, Given, SampleEnds}
 use Rattle.lepton_run.specs.declared.ending.Ending.{Ending}
 use Rattle.lepton_run.specs.declared.ending.Ending.TheVariants.{Done, Refused, WordsRefused, ReadFailed, WriteFailed, NoMemory}
-use Rattle.lepton_run.proofs.BothWays.{file_back}
+use Rattle.scans_spec.specs.ScansFiles.{IsContainerOfScans}
+use Rattle.lepton_run.proofs.BothWays.{file_back, scans_back}
 use Rattle.lepton_run.proofs.BoxesOfBytes.{box_are}
 use Rattle.lepton_run.proofs.BytesTaken.{answer_had}
 use Rattle.lepton_run.proofs.ChunksBack.{chunk_back}
@@ -200,6 +201,22 @@ module _ {Sink Source : Type 0} (held : Sink → Option (List ℕ)) (faults : Si
       some few of =
       elim (complete_of (Decode workers) bytes (Made file) means had
       (file_back version most workers bytes file some few short of) ending status is ends said calm
+      (λ _. still)) [
+        | inl given ↦ inl (is ∙ ap status_at given.0, given.1)
+        | inr five ↦ inr five
+      ]
+
+  pub scans_back_of : (ending : Ending) (status : ℕ) → status ≡ status_at ending → Ends ending
+      → Said (ending_line ending) → (workers most : ℕ) (mosts : List ℕ) (bytes file : List ℕ)
+      → Means words (Decode workers) → ¬ Rose failures lost source rest
+      → ¬ Rose faults full old new → left source ≡ Some bytes
+      → length file ≤ limit_of (Encode most) → AllByRecursion (λ some. 0 < some) mosts
+      → sum mosts ≤ most_segments → IsContainerOfScans mosts bytes file
+      → ((status ≡ 0) × Appends (held old) (held new) file) ⊎ (status ≡ 5)
+  scans_back_of ending status is ends said workers most mosts bytes file means calm still had short some
+      few of =
+      elim (complete_of (Decode workers) bytes (Made file) means had
+      (scans_back mosts most workers bytes file short some few of) ending status is ends said calm
       (λ _. still)) [
         | inl given ↦ inl (is ∙ ap status_at given.0, given.1)
         | inr five ↦ inr five

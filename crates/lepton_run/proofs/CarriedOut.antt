@@ -1,5 +1,5 @@
 -- How a command ends that has bytes, from what the encoder and the decoder say.
-use Rattle.std.proofs.Common.{◌≡◌, ℕ, ◌+◌, ◌<◌, ◌≤◌, ◌++◌, ◌∙◌, append-nil, Bool, true, false, if◌then◌else◌, inl, inr, List, [], length, take, Option, Some, None, refl, sym, ap, subst, arith, Result, Ok, Err}
+use Rattle.std.proofs.Common.{◌≡◌, ℕ, ◌+◌, ◌<◌, ◌≤◌, ◌++◌, ◌∙◌, append-nil, Bool, true, false, if◌then◌else◌, inl, inr, List, [], ◌∷◌, length, take, Option, Some, None, refl, sym, ap, subst, arith, Result, Ok, Err}
 use Rattle.std.specs.Prelude.{nat_lt}
 use Rattle.std.specs.List.{AllByRecursion}
 use Rattle.std.specs.Io.KnownBytes.{Appends}
@@ -10,11 +10,12 @@ use Rattle.outside_core.specs.Takes.{TakesNext}
 use Rattle.jpeg_marker.specs.Plans.{PlanFields}
 use Rattle.handover.specs.declared.outcome.StreamFault.{StreamFault}
 use Rattle.scan_spec.specs.Pads.{is_spelled}
-use Rattle.box_format.specs.Parts.{BoxParts, IsBoxOf, rows_most}
+use Rattle.box_format.specs.Parts.{BoxParts, rows_most, BoxSeen}
 use Rattle.box_format.specs.declared.chunk.Chunk.{Chunk}
-use Rattle.box_format.specs.BoxChecks.{IsRefusedBox}
 use Rattle.box_format.specs.declared.refusal.BoxRefusal.{BoxRefusal}
-use Rattle.container_spec.specs.Meanings.{Joined, Meaning, Restored, PadSpelled, ChunkShort as ShortChunk, Faulty, NoBox, begun_bytes, good_end, joined, meaning_by, meaning_of, outputs_of}
+use Rattle.container_spec.specs.Meanings.{Joined, Meaning, Verdict, Restored, PadSpelled, ChunkShort as ShortChunk, Faulty, NoBox, begun_bytes, good_end, joined, meaning_by, meaning_of, outputs_of}
+use Rattle.scans_format.specs.Containers.{IsContainer, IsRefusedContainer}
+use Rattle.scans_spec.specs.ScansMeanings.{followed_by, meaning_after, meaning_from, scans_meaning, spelled_otherwise, verdict_after}
 use Rattle.segment_worker.specs.Written.{HasFailed, HasWritten}
 use Rattle.command_words.specs.declared.command.Command.{Command}
 use Rattle.command_words.specs.declared.command.Command.TheVariants.{Decode}
@@ -28,36 +29,88 @@ use Rattle.lepton_run.specs.declared.ending.Ending.TheVariants.{Done, Refused, W
 use Rattle.lepton_run.specs.declared.refusal.Refusal.{Refusal}
 use Rattle.lepton_run.specs.declared.refusal.Refusal.TheVariants.{Box, Fault, PadSpelling, ChunkShort, TooLong}
 
--- what parts stand for is written, whatever their verdict
+-- what scans stand for is written, whatever their verdict
 abbrev Written : Meaning → Type 0
 Written m = Writes (answer_by m.bytes m.verdict) × (bytes_of (answer_by m.bytes m.verdict) ≡ m.bytes)
 
-written_by_pad : (bytes : List ℕ) (spelled : Bool)
-    → Written (record { bytes = bytes; verdict = if spelled then Restored else PadSpelled })
-written_by_pad bytes true = (tt, refl)
-written_by_pad bytes false = (tt, refl)
+-- a verdict on a container, and not that bytes are none
+abbrev IsOfBox : Verdict → Type 0
+IsOfBox Restored = Unit {0}
+IsOfBox PadSpelled = Unit {0}
+IsOfBox ShortChunk = Unit {0}
+IsOfBox (Faulty fault) = Unit {0}
+IsOfBox (NoBox refusal) = ⊥
 
-written_by_length : (few bytes : List ℕ) (short : Bool)
-    → Written (if short then record { bytes = few; verdict = ShortChunk }
-    else record { bytes = bytes; verdict = Restored })
-written_by_length few bytes true = (tt, refl)
-written_by_length few bytes false = (tt, refl)
+written_of : (bytes : List ℕ) (verdict : Verdict) → IsOfBox verdict
+    → Written (record { bytes = bytes; verdict = verdict })
+written_of bytes Restored is = (tt, refl)
+written_of bytes PadSpelled is = (tt, refl)
+written_of bytes ShortChunk is = (tt, refl)
+written_of bytes (Faulty fault) is = (tt, refl)
+written_of bytes (NoBox refusal) is = absurd is
 
-written_at_end : (c : Option Chunk) (b : BoxParts) (all : Joined) → Written (good_end c b all)
-written_at_end None b all =
-    written_by_pad (begun_bytes b all ++ b.trailer) (is_spelled b.pads all.padded)
-written_at_end (Some c) b all =
-    written_by_length (begun_bytes b all) (begun_bytes b all ++ b.trailer)
+by_pad : (spelled : Bool) → IsOfBox (if spelled then Restored else PadSpelled)
+by_pad true = tt
+by_pad false = tt
+
+by_length : (few bytes : List ℕ) (short : Bool)
+    → IsOfBox (if short then (let m : Meaning = record { bytes = few; verdict = ShortChunk } in m)
+    else record { bytes = bytes; verdict = Restored }).verdict
+by_length few bytes true = tt
+by_length few bytes false = tt
+
+at_end : (c : Option Chunk) (b : BoxParts) (all : Joined) → IsOfBox (good_end c b all).verdict
+at_end None b all = by_pad (is_spelled b.pads all.padded)
+at_end (Some c) b all =
+    by_length (begun_bytes b all) (begun_bytes b all ++ b.trailer)
     (nat_lt (length all.bytes) (c.skip + rows_most c b.header b.trailer))
 
-written_by : (b : BoxParts) (all : Joined) (fault : Option StreamFault)
-    → Written (meaning_by b all fault)
-written_by b all (Some fault) = (tt, refl)
-written_by b all None = written_at_end b.chunk b all
+by_fault : (b : BoxParts) (all : Joined) (fault : Option StreamFault)
+    → IsOfBox (meaning_by b all fault).verdict
+by_fault b all (Some fault) = tt
+by_fault b all None = at_end b.chunk b all
 
-parts_written : (plan : PlanFields) (b : BoxParts) → Written (meaning_of plan b)
+of_parts : (plan : PlanFields) (b : BoxParts) → IsOfBox (meaning_of plan b).verdict
 unfolding meaning_of
-parts_written plan b = let all = joined (outputs_of plan b) in written_by b all all.fault
+of_parts plan b = let all = joined (outputs_of plan b) in by_fault b all all.fault
+
+numbered_on : (first : ℕ) (verdict : Verdict) → IsOfBox verdict → IsOfBox (verdict_after first verdict)
+numbered_on first Restored is = tt
+numbered_on first PadSpelled is = tt
+numbered_on first ShortChunk is = tt
+numbered_on first (Faulty fault) is = tt
+numbered_on first (NoBox refusal) is = absurd is
+
+otherwise : (verdict : Verdict) → IsOfBox verdict → IsOfBox (spelled_otherwise verdict)
+otherwise Restored is = tt
+otherwise PadSpelled is = tt
+otherwise ShortChunk is = tt
+otherwise (Faulty fault) is = tt
+otherwise (NoBox refusal) is = absurd is
+
+before_next : (bytes : List ℕ) (verdict : Verdict) (next : Meaning) → IsOfBox verdict
+    → IsOfBox next.verdict → IsOfBox (followed_by bytes verdict next).verdict
+before_next bytes Restored next is more = more
+before_next bytes PadSpelled next is more = otherwise next.verdict more
+before_next bytes ShortChunk next is more = tt
+before_next bytes (Faulty fault) next is more = tt
+before_next bytes (NoBox refusal) next is more = absurd is
+
+of_scans : (first : ℕ) (scans : List BoxSeen) → IsOfBox (meaning_from first scans).verdict
+of_scans first [] = tt
+of_scans first (s ∷ []) =
+    numbered_on first (meaning_of s.plan s.parts).verdict (of_parts s.plan s.parts)
+of_scans first (s ∷ t ∷ scans) =
+    let m = meaning_after first s in
+    before_next m.bytes m.verdict
+    (meaning_from (first + length s.parts.handovers) (t ∷ scans))
+    (numbered_on first (meaning_of s.plan s.parts).verdict (of_parts s.plan s.parts))
+    (of_scans (first + length s.parts.handovers) (t ∷ scans))
+
+scans_written : (scans : List BoxSeen) → Written (scans_meaning scans)
+unfolding scans_meaning
+scans_written scans =
+    let m = meaning_from 0 scans in written_of m.bytes m.verdict (of_scans 0 scans)
 
 module _ {Sink : Type 0} (held : Sink → Option (List ℕ)) (faults : Sink → ℕ)
     (full : Sink → Type 0) (old new : Sink) where
@@ -123,7 +176,7 @@ module _ {Sink : Type 0} (held : Sink → Option (List ℕ)) (faults : Sink → 
 
     -- the bytes are no container
     pub no_box : (workers : ℕ) (refusal : BoxRefusal) → length bytes ≤ limit_of (Decode workers)
-        → IsRefusedBox bytes refusal
+        → IsRefusedContainer bytes refusal
         → CarriedOut held faults full (Decode workers) bytes old old (Refused (Box refusal))
     no_box workers refusal short why = refused_early (Decode workers) (Box refusal) short (
       record { bytes = []; verdict = NoBox refusal },
@@ -132,17 +185,17 @@ module _ {Sink : Type 0} (held : Sink → Option (List ℕ)) (faults : Sink → 
     )
 
     module _ (takes : Sink → List ℕ → Type 0) (workers : ℕ) (short : length bytes ≤ limit_of (Decode workers))
-        (plan : PlanFields) (b : BoxParts) (of : IsBoxOf plan b bytes) where
+        (scans : List BoxSeen) (of : IsContainer scans bytes) where
       answers_by : (answer : Answer)
-          → answer ≡ answer_by (meaning_of plan b).bytes (meaning_of plan b).verdict
+          → answer ≡ answer_by (scans_meaning scans).bytes (scans_meaning scans).verdict
           → Answers (Decode workers) bytes answer
       answers_by answer e =
-          answers_so (Decode workers) answer short (meaning_of plan b, inr (plan, b, of, refl), e)
+          answers_so (Decode workers) answer short (scans_meaning scans, inr (scans, of, refl), e)
 
-      decoded : (meaning_of plan b).verdict ≡ Restored
-          → HasWritten held takes faults old new (meaning_of plan b).bytes
+      decoded : (scans_meaning scans).verdict ≡ Restored
+          → HasWritten held takes faults old new (scans_meaning scans).bytes
           → CarriedOut held faults full (Decode workers) bytes old new Done
-      decoded e has = let file = (meaning_of plan b).bytes in (
+      decoded e has = let file = (scans_meaning scans).bytes in (
         Made file,
         record {
           answers = answers_by (Made file) (sym (ap (answer_by file) e));
@@ -155,14 +208,14 @@ module _ {Sink : Type 0} (held : Sink → Option (List ℕ)) (faults : Sink → 
 
       -- a refusal after the file's bytes, all of them or those before a fault
       refused_late : (refusal : Refusal)
-          → Late (meaning_of plan b).bytes refusal
-          ≡ answer_by (meaning_of plan b).bytes (meaning_of plan b).verdict
-          → HasWritten held takes faults old new (meaning_of plan b).bytes
+          → Late (scans_meaning scans).bytes refusal
+          ≡ answer_by (scans_meaning scans).bytes (scans_meaning scans).verdict
+          → HasWritten held takes faults old new (scans_meaning scans).bytes
           → CarriedOut held faults full (Decode workers) bytes old new (Refused refusal)
       refused_late refusal e has = (
-        Late (meaning_of plan b).bytes refusal,
+        Late (scans_meaning scans).bytes refusal,
         record {
-          answers = answers_by (Late (meaning_of plan b).bytes refusal) e;
+          answers = answers_by (Late (scans_meaning scans).bytes refusal) e;
           appended = has.appended;
           unfailed = has.unfailed;
           kept = λ none. absurd (none tt);
@@ -170,29 +223,29 @@ module _ {Sink : Type 0} (held : Sink → Option (List ℕ)) (faults : Sink → 
         refl,
       )
 
-      pad_spelled : (meaning_of plan b).verdict ≡ PadSpelled
-          → HasWritten held takes faults old new (meaning_of plan b).bytes
+      pad_spelled : (scans_meaning scans).verdict ≡ PadSpelled
+          → HasWritten held takes faults old new (scans_meaning scans).bytes
           → CarriedOut held faults full (Decode workers) bytes old new (Refused PadSpelling)
       pad_spelled e has =
-          refused_late PadSpelling (sym (ap (answer_by (meaning_of plan b).bytes) e)) has
+          refused_late PadSpelling (sym (ap (answer_by (scans_meaning scans).bytes) e)) has
 
-      chunk_short : (meaning_of plan b).verdict ≡ ShortChunk
-          → HasWritten held takes faults old new (meaning_of plan b).bytes
+      chunk_short : (scans_meaning scans).verdict ≡ ShortChunk
+          → HasWritten held takes faults old new (scans_meaning scans).bytes
           → CarriedOut held faults full (Decode workers) bytes old new (Refused ChunkShort)
       chunk_short e has =
-          refused_late ChunkShort (sym (ap (answer_by (meaning_of plan b).bytes) e)) has
+          refused_late ChunkShort (sym (ap (answer_by (scans_meaning scans).bytes) e)) has
 
-      faulty : (fault : StreamFault) → (meaning_of plan b).verdict ≡ Faulty fault
-          → HasWritten held takes faults old new (meaning_of plan b).bytes
+      faulty : (fault : StreamFault) → (scans_meaning scans).verdict ≡ Faulty fault
+          → HasWritten held takes faults old new (scans_meaning scans).bytes
           → CarriedOut held faults full (Decode workers) bytes old new (Refused (Fault fault))
       faulty fault e has =
-          refused_late (Fault fault) (sym (ap (answer_by (meaning_of plan b).bytes) e)) has
+          refused_late (Fault fault) (sym (ap (answer_by (scans_meaning scans).bytes) e)) has
 
-      decoded_part : (n : ℕ) → HasFailed held faults full old new (meaning_of plan b).bytes n
+      decoded_part : (n : ℕ) → HasFailed held faults full old new (scans_meaning scans).bytes n
           → CarriedOut held faults full (Decode workers) bytes old new WriteFailed
       decoded_part n has =
-          let m = meaning_of plan b in
-          let written = parts_written plan b in (
+          let m = scans_meaning scans in
+          let written = scans_written scans in (
             answer_by m.bytes m.verdict,
             record {
               answers = answers_by (answer_by m.bytes m.verdict) refl;
@@ -208,16 +261,16 @@ module _ {Sink : Type 0} (held : Sink → Option (List ℕ)) (faults : Sink → 
           )
 
       -- the sink takes what they stand for
-      pub meaning_taken : TakesAnswers takes (Decode workers) bytes old → TakesNext takes old (meaning_of plan b).bytes
+      pub meaning_taken : TakesAnswers takes (Decode workers) bytes old → TakesNext takes old (scans_meaning scans).bytes
       meaning_taken all =
-          let m = meaning_of plan b in (
+          let m = scans_meaning scans in (
             [],
-            subst (takes old) ((parts_written plan b).1 ∙ sym (append-nil m.bytes))
+            subst (takes old) ((scans_written scans).1 ∙ sym (append-nil m.bytes))
                 (all (answer_by m.bytes m.verdict) (answers_by (answer_by m.bytes m.verdict) refl)),
           )
 
       -- however it ended
-      pub ended : (end : Result ℕ DecodeError) → Ends held takes faults full old new (meaning_of plan b) end
+      pub ended : (end : Result ℕ DecodeError) → Ends held takes faults full old new (scans_meaning scans) end
           → CarriedOut held faults full (Decode workers) bytes old new (decode_ending end)
       ended (Ok written) e = decoded e.0 e.2
       ended (Err DecodeErrors.PadSpelling) e = pad_spelled e.0 e.1

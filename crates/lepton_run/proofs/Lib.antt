@@ -10,3 +10,4 @@ pub mod RangesBack
 pub mod CallEnds
 pub mod LinesNoted
 pub mod SamplesCoded
+pub mod ScansOfBytes

@@ -1,15 +1,9 @@
 -- Bytes have one answer.
-use Rattle.std.proofs.Common.{◌≡◌, ℕ, inl, inr, List, [], length, refl, sym, ap, ap₂, ◌∙◌, subst, arith}
+use Rattle.std.proofs.Common.{◌≡◌, ℕ, ◌*◌, ◌≤◌, ◌⊎◌, inl, inr, List, [], ◌∷◌, length, refl, sym, ap, ap₂, ◌∙◌, arith}
 use Rattle.std.specs.List.{AllByRecursion}
 use Rattle.bit_list.specs.Bits.{IsByte}
 use Rattle.jpeg_marker.specs.Plans.{PlanFields}
-use Rattle.jpeg_marker.proofs.HeaderLaws.{one_plan, one_refusal, never_both}
-use Rattle.scan_spec.specs.Items.{Refuses}
-use Rattle.scan_spec.specs.ScanLaws.{IsShape}
-use Rattle.scan_spec.specs.Slots.{shape_of}
-use Rattle.scan_spec.specs.declared.refusal.ScanRefusal.{ScanRefusal}
-use Rattle.scan_spec.proofs.ItemsOnce.{one_outcome}
-use Rattle.scan_spec.proofs.PlanShapes.{accepted_is_shape}
+use Rattle.scan_spec.proofs.FilesOnce.{one_is_all}
 use Rattle.cut_spec.specs.Cuts.{cut_of}
 use Rattle.box_format.specs.Parts.{BoxParts}
 use Rattle.box_format.specs.declared.refusal.BoxRefusal.{BoxRefusal}
@@ -17,78 +11,68 @@ use Rattle.box_format.specs.declared.version.Version.{Version}
 use Rattle.box_format.specs.declared.version.Version.TheVariants.{Second}
 use Rattle.box_format.proofs.BoxLawsProved.{one_box, one_box_refusal, never_both as box_or_refused}
 use Rattle.container_spec.specs.Meanings.{Meaning}
-use Rattle.container_spec.proofs.AcceptedFiles.{scan_apart}
-use Rattle.container_spec.proofs.OneMeanings.{one_container, one_meaning}
+use Rattle.container_spec.proofs.OneMeanings.{one_container}
+use Rattle.scans_format.proofs.ScansProved.{one_list_of_scans, one_scans_refusal, never_both_scans}
+use Rattle.scans_spec.specs.ScansFiles.{FileRefusal, FileIsRefused, HasSeveralScans, IsContainerOfFile, Header as FileHeader, Scan as FileScan}
+use Rattle.scans_spec.specs.ScansMeaningLaws.{StandsForOne}
+use Rattle.scans_spec.proofs.BoxesOnce.{stands_for_one_from}
+use Rattle.scans_spec.proofs.FilesRefused.{one_file_refusal}
+use Rattle.scans_spec.proofs.OneContainers.{accepted_is_not_refused, contained_is_not_refused, one_container_of_file, several_is_not_one}
+use Rattle.chunk_cut.specs.ChunksOfFiles.{IsChunkOf, IsOneScanFile}
+use Rattle.chunk_cut.proofs.ChunkedFiles.{chunked_is_not_refused, chunked_is_one}
 use Rattle.chunk_cut.proofs.OneChunks.{one_chunk}
 use Rattle.command_words.specs.declared.command.Command.{Command}
 use Rattle.command_words.specs.declared.command.Command.TheVariants.{Encode, Decode, Migrate, Chunk, Index, Range, Sample}
 use Rattle.sample_jpeg.specs.SampleFile.{sample_file}
 use Rattle.lepton_run.specs.Summaries.{IsSummary, sample_segments, summary_of}
-use Rattle.lepton_run.specs.Answers.{Answer, Answers, BoxMakes, Early, Late, Made, Makes, ScanRefuses, answer_by}
+use Rattle.lepton_run.specs.Answers.{Answer, Answers, BoxMakes, Early, Late, Made, Makes, answer_by}
 use Rattle.lepton_run.specs.declared.refusal.Refusal.{Refusal}
-use Rattle.lepton_run.specs.declared.refusal.Refusal.TheVariants.{Header, Scan, Box, Fault, PadSpelling, ChunkShort, NoChunk, RangeBad, TooLong}
+use Rattle.lepton_run.specs.declared.refusal.Refusal.TheVariants.{Header, Scan, Box, Fault, PadSpelling, ChunkShort, ManyScans, NoChunk, RangeBad, TooLong}
 
-one_scan_refusal : (bytes : List ℕ) (refusal other : ScanRefusal) → AllByRecursion IsByte bytes
-    → ScanRefuses bytes refusal → ScanRefuses bytes other → refusal ≡ other
-one_scan_refusal bytes refusal other all p q =
-    let shape : IsShape (shape_of p.0) = (accepted_is_shape bytes p.0 all p.1).0 in
-    let same = one_plan bytes q.0 p.0 q.1 p.1 in
-    let refuses = subst (λ (f : PlanFields). Refuses (shape_of f) bytes f.header_length other)
-    same q.2 in
-    (one_outcome (shape_of p.0) bytes p.0.header_length 0 [] refusal other shape p.2).0 refuses
+-- why a file is refused, as the top call says it
+abbrev refusal_of : FileRefusal → Refusal
+refusal_of (FileHeader refusal) = Header refusal
+refusal_of (FileScan refusal) = Scan refusal
 
--- what encode makes of bytes is one thing
-one_encoded : (segments : ℕ) (bytes : List ℕ) (a b : Answer) → AllByRecursion IsByte bytes
-    → Makes (Encode segments) bytes a → Makes (Encode segments) bytes b → a ≡ b
-one_encoded n bytes (Made a) (Made b) all p q = ap Made (one_container Second n a b bytes p q)
-one_encoded n bytes (Made a) (Early (Header r)) all p q =
-    absurd (never_both bytes p.plan r p.is.header q)
-one_encoded n bytes (Made a) (Early (Scan r)) all p q =
-    absurd (scan_apart bytes p.plan p.mcus p.pads p.trailer r all p.is q)
-one_encoded n bytes (Made a) (Early (Box r)) all p q = absurd q
-one_encoded n bytes (Made a) (Early (Fault r)) all p q = absurd q
-one_encoded n bytes (Made a) (Early PadSpelling) all p q = absurd q
-one_encoded n bytes (Made a) (Early ChunkShort) all p q = absurd q
-one_encoded n bytes (Made a) (Early TooLong) all p q = absurd q
-one_encoded n bytes (Made a) (Early RangeBad) all p q = absurd q
-one_encoded n bytes (Made a) (Early NoChunk) all p q = absurd q
-one_encoded n bytes (Made a) (Late w r) all p q = absurd q
-one_encoded n bytes (Early (Header r)) (Made b) all p q =
-    absurd (never_both bytes q.plan r q.is.header p)
-one_encoded n bytes (Early (Header r)) (Early (Header s)) all p q =
-    ap (λ (x : Refusal). Early x) (ap Header (one_refusal bytes r s p q))
-one_encoded n bytes (Early (Header r)) (Early (Scan s)) all p q =
-    absurd (never_both bytes q.0 r q.1 p)
-one_encoded n bytes (Early (Header r)) (Early (Box s)) all p q = absurd q
-one_encoded n bytes (Early (Header r)) (Early (Fault s)) all p q = absurd q
-one_encoded n bytes (Early (Header r)) (Early PadSpelling) all p q = absurd q
-one_encoded n bytes (Early (Header r)) (Early ChunkShort) all p q = absurd q
-one_encoded n bytes (Early (Header r)) (Early TooLong) all p q = absurd q
-one_encoded n bytes (Early (Header r)) (Early RangeBad) all p q = absurd q
-one_encoded n bytes (Early (Header r)) (Early NoChunk) all p q = absurd q
-one_encoded n bytes (Early (Header r)) (Late w s) all p q = absurd q
-one_encoded n bytes (Early (Scan r)) (Made b) all p q =
-    absurd (scan_apart bytes q.plan q.mcus q.pads q.trailer r all q.is p)
-one_encoded n bytes (Early (Scan r)) (Early (Header s)) all p q =
-    absurd (never_both bytes p.0 s p.1 q)
-one_encoded n bytes (Early (Scan r)) (Early (Scan s)) all p q =
-    ap (λ (x : Refusal). Early x) (ap Scan (one_scan_refusal bytes r s all p q))
-one_encoded n bytes (Early (Scan r)) (Early (Box s)) all p q = absurd q
-one_encoded n bytes (Early (Scan r)) (Early (Fault s)) all p q = absurd q
-one_encoded n bytes (Early (Scan r)) (Early PadSpelling) all p q = absurd q
-one_encoded n bytes (Early (Scan r)) (Early ChunkShort) all p q = absurd q
-one_encoded n bytes (Early (Scan r)) (Early TooLong) all p q = absurd q
-one_encoded n bytes (Early (Scan r)) (Early RangeBad) all p q = absurd q
-one_encoded n bytes (Early (Scan r)) (Early NoChunk) all p q = absurd q
-one_encoded n bytes (Early (Scan r)) (Late w s) all p q = absurd q
-one_encoded n bytes (Early (Box r)) b all p q = absurd p
-one_encoded n bytes (Early (Fault r)) b all p q = absurd p
-one_encoded n bytes (Early PadSpelling) b all p q = absurd p
-one_encoded n bytes (Early ChunkShort) b all p q = absurd p
-one_encoded n bytes (Early TooLong) b all p q = absurd p
-one_encoded n bytes (Early RangeBad) b all p q = absurd p
-one_encoded n bytes (Early NoChunk) b all p q = absurd p
-one_encoded n bytes (Late w r) b all p q = absurd p
+-- a file is refused
+abbrev GivesRefusal : List ℕ → Answer → Type 0
+GivesRefusal bytes a = (r : FileRefusal) × (a ≡ Early (refusal_of r)) × FileIsRefused bytes r
+
+one_refused : (bytes : List ℕ) (a b : Answer) → AllByRecursion IsByte bytes → GivesRefusal bytes a
+    → GivesRefusal bytes b → a ≡ b
+one_refused bytes a b all p q =
+    p.1 ∙ ap (λ (r : FileRefusal). Early (refusal_of r)) (one_file_refusal bytes p.0 q.0 all p.2 q.2)
+    ∙ sym q.1
+
+-- encode makes a container, or a file is refused
+abbrev Encoded : ℕ → List ℕ → Answer → Type 0
+Encoded n bytes a =
+    ((made : List ℕ) × (a ≡ Made made) × IsContainerOfFile n made bytes) ⊎ GivesRefusal bytes a
+
+encoded_so : (n : ℕ) (bytes : List ℕ) (a : Answer) → Makes (Encode n) bytes a → Encoded n bytes a
+encoded_so n bytes (Made made) p = inl (made, refl, p)
+encoded_so n bytes (Early (Header r)) p = inr (FileHeader r, refl, p)
+encoded_so n bytes (Early (Scan r)) p = inr (FileScan r, refl, p)
+encoded_so n bytes (Early (Box r)) p = absurd p
+encoded_so n bytes (Early (Fault r)) p = absurd p
+encoded_so n bytes (Early PadSpelling) p = absurd p
+encoded_so n bytes (Early ChunkShort) p = absurd p
+encoded_so n bytes (Early TooLong) p = absurd p
+encoded_so n bytes (Early NoChunk) p = absurd p
+encoded_so n bytes (Early ManyScans) p = absurd p
+encoded_so n bytes (Early RangeBad) p = absurd p
+encoded_so n bytes (Late written r) p = absurd p
+
+-- so what it makes is one thing
+one_encoded : (n : ℕ) (bytes : List ℕ) (a b : Answer) → AllByRecursion IsByte bytes
+    → Encoded n bytes a → Encoded n bytes b → a ≡ b
+one_encoded n bytes a b all (inl p) (inl q) =
+    p.1 ∙ ap Made (one_container_of_file n p.0 q.0 bytes p.2 q.2) ∙ sym q.1
+one_encoded n bytes a b all (inl p) (inr q) =
+    absurd (contained_is_not_refused n p.0 bytes q.0 p.2 q.2)
+one_encoded n bytes a b all (inr p) (inl q) =
+    absurd (contained_is_not_refused n q.0 bytes p.0 q.2 p.2)
+one_encoded n bytes a b all (inr p) (inr q) = one_refused bytes a b all p q
 
 -- what is made of containers is one thing
 one_boxed : (versions : List Version) (answer_to : PlanFields → BoxParts → Answer) (bytes : List ℕ)
@@ -105,75 +89,78 @@ one_boxed versions f bytes a b (inr p) (inr q) =
     let same = one_box p.0 q.0 p.1 q.1 bytes p.2 q.2 in
     p.4 ∙ ap₂ f same.0 same.1 ∙ sym q.4
 
--- what `chunk` makes of bytes is one thing
-one_chunked : (index size segments : ℕ) (bytes : List ℕ) (a b : Answer)
-    → AllByRecursion IsByte bytes → Makes (Chunk index size segments) bytes a
-    → Makes (Chunk index size segments) bytes b → a ≡ b
-one_chunked i s n bytes (Made a) (Made b) all p q = ap Made (one_chunk n s i a b bytes p q)
-one_chunked i s n bytes (Made a) (Early (Header r)) all p q =
-    absurd (never_both bytes p.plan r p.is.header q)
-one_chunked i s n bytes (Made a) (Early (Scan r)) all p q =
-    absurd (scan_apart bytes p.plan p.mcus p.pads p.trailer r all p.is q)
-one_chunked i s n bytes (Made a) (Early NoChunk) all p q =
-    absurd (let h = p.there in let l = q.1 in omega (arith, h, l))
-one_chunked i s n bytes (Made a) (Early (Box r)) all p q = absurd q
-one_chunked i s n bytes (Made a) (Early (Fault r)) all p q = absurd q
-one_chunked i s n bytes (Made a) (Early PadSpelling) all p q = absurd q
-one_chunked i s n bytes (Made a) (Early ChunkShort) all p q = absurd q
-one_chunked i s n bytes (Made a) (Early TooLong) all p q = absurd q
-one_chunked i s n bytes (Made a) (Early RangeBad) all p q = absurd q
-one_chunked i s n bytes (Made a) (Late w r) all p q = absurd q
-one_chunked i s n bytes (Early (Header r)) (Made b) all p q =
-    absurd (never_both bytes q.plan r q.is.header p)
-one_chunked i s n bytes (Early (Header r)) (Early (Header t)) all p q =
-    ap (λ (x : Refusal). Early x) (ap Header (one_refusal bytes r t p q))
-one_chunked i s n bytes (Early (Header r)) (Early (Scan t)) all p q =
-    absurd (never_both bytes q.0 r q.1 p)
-one_chunked i s n bytes (Early (Header r)) (Early NoChunk) all p q =
-    absurd (never_both bytes q.0.0 r q.0.4.header p)
-one_chunked i s n bytes (Early (Header r)) (Early (Box t)) all p q = absurd q
-one_chunked i s n bytes (Early (Header r)) (Early (Fault t)) all p q = absurd q
-one_chunked i s n bytes (Early (Header r)) (Early PadSpelling) all p q = absurd q
-one_chunked i s n bytes (Early (Header r)) (Early ChunkShort) all p q = absurd q
-one_chunked i s n bytes (Early (Header r)) (Early TooLong) all p q = absurd q
-one_chunked i s n bytes (Early (Header r)) (Early RangeBad) all p q = absurd q
-one_chunked i s n bytes (Early (Header r)) (Late w t) all p q = absurd q
-one_chunked i s n bytes (Early (Scan r)) (Made b) all p q =
-    absurd (scan_apart bytes q.plan q.mcus q.pads q.trailer r all q.is p)
-one_chunked i s n bytes (Early (Scan r)) (Early (Header t)) all p q =
-    absurd (never_both bytes p.0 t p.1 q)
-one_chunked i s n bytes (Early (Scan r)) (Early (Scan t)) all p q =
-    ap (λ (x : Refusal). Early x) (ap Scan (one_scan_refusal bytes r t all p q))
-one_chunked i s n bytes (Early (Scan r)) (Early NoChunk) all p q =
-    let f = q.0 in absurd (scan_apart bytes f.0 f.1 f.2 f.3 r all f.4 p)
-one_chunked i s n bytes (Early (Scan r)) (Early (Box t)) all p q = absurd q
-one_chunked i s n bytes (Early (Scan r)) (Early (Fault t)) all p q = absurd q
-one_chunked i s n bytes (Early (Scan r)) (Early PadSpelling) all p q = absurd q
-one_chunked i s n bytes (Early (Scan r)) (Early ChunkShort) all p q = absurd q
-one_chunked i s n bytes (Early (Scan r)) (Early TooLong) all p q = absurd q
-one_chunked i s n bytes (Early (Scan r)) (Early RangeBad) all p q = absurd q
-one_chunked i s n bytes (Early (Scan r)) (Late w t) all p q = absurd q
-one_chunked i s n bytes (Early NoChunk) (Made b) all p q =
-    absurd (let h = q.there in let l = p.1 in omega (arith, h, l))
-one_chunked i s n bytes (Early NoChunk) (Early (Header t)) all p q =
-    absurd (never_both bytes p.0.0 t p.0.4.header q)
-one_chunked i s n bytes (Early NoChunk) (Early (Scan t)) all p q =
-    let f = p.0 in absurd (scan_apart bytes f.0 f.1 f.2 f.3 t all f.4 q)
-one_chunked i s n bytes (Early NoChunk) (Early NoChunk) all p q = refl
-one_chunked i s n bytes (Early NoChunk) (Early (Box t)) all p q = absurd q
-one_chunked i s n bytes (Early NoChunk) (Early (Fault t)) all p q = absurd q
-one_chunked i s n bytes (Early NoChunk) (Early PadSpelling) all p q = absurd q
-one_chunked i s n bytes (Early NoChunk) (Early ChunkShort) all p q = absurd q
-one_chunked i s n bytes (Early NoChunk) (Early TooLong) all p q = absurd q
-one_chunked i s n bytes (Early NoChunk) (Early RangeBad) all p q = absurd q
-one_chunked i s n bytes (Early NoChunk) (Late w t) all p q = absurd q
-one_chunked i s n bytes (Early (Box r)) b all p q = absurd p
-one_chunked i s n bytes (Early (Fault r)) b all p q = absurd p
-one_chunked i s n bytes (Early PadSpelling) b all p q = absurd p
-one_chunked i s n bytes (Early ChunkShort) b all p q = absurd p
-one_chunked i s n bytes (Early TooLong) b all p q = absurd p
-one_chunked i s n bytes (Early RangeBad) b all p q = absurd p
-one_chunked i s n bytes (Late w r) b all p q = absurd p
+-- `chunk` makes a chunk's container, or a file is refused, or it has several scans, or it ends before the chunk
+data Chunked (index size segments : ℕ) (bytes : List ℕ) (a : Answer) : Type 0 where
+  Cut : (made : List ℕ) → a ≡ Made made → IsChunkOf segments size index made bytes
+      → Chunked index size segments bytes a
+  Not : GivesRefusal bytes a → Chunked index size segments bytes a
+  Many : a ≡ Early ManyScans → HasSeveralScans bytes → Chunked index size segments bytes a
+  Past : a ≡ Early NoChunk → IsOneScanFile bytes → length bytes ≤ index * size
+      → Chunked index size segments bytes a
+
+chunked_so : (i s n : ℕ) (bytes : List ℕ) (a : Answer) → Makes (Chunk i s n) bytes a
+    → Chunked i s n bytes a
+chunked_so i s n bytes (Made made) p = Cut made refl p
+chunked_so i s n bytes (Early (Header r)) p = Not (FileHeader r, refl, p)
+chunked_so i s n bytes (Early (Scan r)) p = Not (FileScan r, refl, p)
+chunked_so i s n bytes (Early (Box r)) p = absurd p
+chunked_so i s n bytes (Early (Fault r)) p = absurd p
+chunked_so i s n bytes (Early PadSpelling) p = absurd p
+chunked_so i s n bytes (Early ChunkShort) p = absurd p
+chunked_so i s n bytes (Early TooLong) p = absurd p
+chunked_so i s n bytes (Early NoChunk) p = Past refl p.0 p.1
+chunked_so i s n bytes (Early ManyScans) p = Many refl p
+chunked_so i s n bytes (Early RangeBad) p = absurd p
+chunked_so i s n bytes (Late written r) p = absurd p
+
+-- a file of one scan isn't refused, and hasn't several
+one_not_refused : (bytes : List ℕ) (r : FileRefusal) → AllByRecursion IsByte bytes → IsOneScanFile bytes
+    → FileIsRefused bytes r → ⊥
+one_not_refused bytes r all (plan, mcus, pads, trailer, is) refused =
+    accepted_is_not_refused bytes trailer
+    (record { plan = plan; mcus = mcus; pads = pads } ∷ []) r all
+    (one_is_all bytes trailer plan mcus pads all is) refused
+
+one_not_several : (bytes : List ℕ) → AllByRecursion IsByte bytes → IsOneScanFile bytes
+    → HasSeveralScans bytes → ⊥
+one_not_several bytes all (plan, mcus, pads, trailer, is) several =
+    several_is_not_one bytes trailer plan mcus pads all several is
+
+several_not_refused : (bytes : List ℕ) (r : FileRefusal) → AllByRecursion IsByte bytes
+    → HasSeveralScans bytes → FileIsRefused bytes r → ⊥
+several_not_refused bytes r all (scans, trailer, is, many) refused =
+    accepted_is_not_refused bytes trailer scans r all is refused
+
+-- what it makes is one thing
+one_chunked : (i s n : ℕ) (bytes : List ℕ) (a b : Answer) → AllByRecursion IsByte bytes
+    → Chunked i s n bytes a → Chunked i s n bytes b → a ≡ b
+one_chunked i s n bytes a b all (Cut x e p) (Cut y f q) =
+    e ∙ ap Made (one_chunk n s i x y bytes p q) ∙ sym f
+one_chunked i s n bytes a b all (Cut x e p) (Not q) =
+    absurd (chunked_is_not_refused n s i x bytes q.0 p q.2)
+one_chunked i s n bytes a b all (Cut x e p) (Many f q) = absurd (chunked_is_one n s i x bytes p q)
+one_chunked i s n bytes a b all (Cut x e p) (Past f q past) =
+    absurd (let there = p.there in omega (arith, there, past))
+one_chunked i s n bytes a b all (Not p) (Cut y f q) =
+    absurd (chunked_is_not_refused n s i y bytes p.0 q p.2)
+one_chunked i s n bytes a b all (Not p) (Not q) = one_refused bytes a b all p q
+one_chunked i s n bytes a b all (Not p) (Many f q) =
+    absurd (several_not_refused bytes p.0 all q p.2)
+one_chunked i s n bytes a b all (Not p) (Past f q past) =
+    absurd (one_not_refused bytes p.0 all q p.2)
+one_chunked i s n bytes a b all (Many e p) (Cut y f q) = absurd (chunked_is_one n s i y bytes q p)
+one_chunked i s n bytes a b all (Many e p) (Not q) =
+    absurd (several_not_refused bytes q.0 all p q.2)
+one_chunked i s n bytes a b all (Many e p) (Many f q) = e ∙ sym f
+one_chunked i s n bytes a b all (Many e p) (Past f q past) =
+    absurd (one_not_several bytes all q p)
+one_chunked i s n bytes a b all (Past e p past) (Cut y f q) =
+    absurd (let there = q.there in omega (arith, there, past))
+one_chunked i s n bytes a b all (Past e p past) (Not q) =
+    absurd (one_not_refused bytes q.0 all p q.2)
+one_chunked i s n bytes a b all (Past e p past) (Many f q) =
+    absurd (one_not_several bytes all p q)
+one_chunked i s n bytes a b all (Past e p past) (Past f q later) = e ∙ sym f
 
 -- what `sample` says is one thing
 one_summary : (seed columns rows : ℕ) (a b : List ℕ) → IsSummary seed columns rows a
@@ -194,17 +181,23 @@ one_sampled s c r bytes (Made a) (Late written refusal) p q = absurd q
 one_sampled s c r bytes (Early refusal) b p q = absurd p
 one_sampled s c r bytes (Late written refusal) b p q = absurd p
 
+pub stands_for_one : StandsForOne
+stands_for_one = stands_for_one_from one_list_of_scans one_scans_refusal never_both_scans
+
 one_made : (command : Command) (bytes : List ℕ) (a b : Answer) → AllByRecursion IsByte bytes
     → Makes command bytes a → Makes command bytes b → a ≡ b
-one_made (Encode segments) bytes a b all p q = one_encoded segments bytes a b all p q
+one_made (Encode segments) bytes a b all p q =
+    one_encoded segments bytes a b all (encoded_so segments bytes a p)
+    (encoded_so segments bytes b q)
 one_made (Decode workers) bytes a b all p q =
     p.2 ∙ ap (λ (m : Meaning). answer_by m.bytes m.verdict)
-    (one_meaning bytes p.0 q.0 all p.1 q.1) ∙ sym q.2
+    (stands_for_one bytes p.0 q.0 p.1 q.1) ∙ sym q.2
 one_made Migrate bytes a b all p q = one_boxed _ _ bytes a b p q
 one_made Index bytes a b all p q = one_boxed _ _ bytes a b p q
 one_made (Range from to workers) bytes a b all p q = one_boxed _ _ bytes a b p q
 one_made (Chunk index size segments) bytes a b all p q =
-    one_chunked index size segments bytes a b all p q
+    one_chunked index size segments bytes a b all (chunked_so index size segments bytes a p)
+    (chunked_so index size segments bytes b q)
 one_made (Sample seed columns rows) bytes a b all p q =
     one_sampled seed columns rows bytes a b p q
 

@@ -21,7 +21,7 @@ use Rattle.range_read.specs.RangeMeanings.{RangeMeaning}
 use Rattle.range_read.proofs.RestoredRanges.{range_of_container_is_slice}
 use Rattle.command_words.specs.declared.command.Command.TheVariants.{Encode, Decode, Index, Range}
 use Rattle.lepton_run.specs.Answers.{Answers, IndexMakes, Made, index_by, limit_of, range_answer}
-use Rattle.lepton_run.proofs.BothWays.{container_are}
+use Rattle.lepton_run.proofs.BothWays.{container_are, container_stands}
 use Rattle.lepton_run.proofs.BoxesOfBytes.{box_are}
 use Rattle.lepton_run.proofs.ChunksBack.{is_meant}
 use Rattle.lepton_run.proofs.RangesCarried.{good_answer}
@@ -133,7 +133,7 @@ both_made workers bytes made file decoded answers =
     let i = is_indexed bytes made answers in
     let are = subst (AllByRecursion IsByte) (sym i.of.text) (box_are i.plan i.parts i.of.box) in
     let stands = one_meaning bytes _ _ are (inr (i.plan, i.parts, i.of, refl))
-    (is_meant workers bytes file decoded) in
+    (is_meant workers bytes file i.plan i.parts i.of decoded) in
     are_placed bytes made file i.plan i.parts i.of i.read stands i.text
 
 pub ranges_alone : (from to workers others : ℕ) (bytes file made : List ℕ)
@@ -154,7 +154,7 @@ whole_again workers others bytes file made decoded answers short =
       are = container_are Fifth p.most made file p.some p.few p.after;
       makes = (
         record { bytes = file; verdict = Restored },
-        container_is_restored Fifth p.most made file p.some p.few p.after,
+        container_stands Fifth p.most made file p.some p.few p.after,
         refl,
       );
     })

@@ -1,19 +1,18 @@
 -- A sample is encoded and decoded, and never refused.
-use Rattle.std.proofs.Common.{◌≡◌, ℕ, ◌≤◌, inl, inr, List, [], length, Option, Result, Ok, Err, refl, sym, ap, subst, ◌∙◌, arith}
+use Rattle.std.proofs.Common.{◌≡◌, ℕ, ◌≤◌, Bool, inl, inr, List, [], ◌∷◌, length, replicate, Option, Result, Ok, Err, refl, sym, ap, subst, ◌∙◌, arith}
 use Rattle.outside_core.specs.Faults.{Never, Rose, no_faults}
-use Rattle.jpeg_marker.specs.HeaderPlan.{Refuses as HeaderRefuses}
 use Rattle.jpeg_marker.specs.Plans.{PlanFields}
-use Rattle.jpeg_marker.specs.declared.refusal.HeaderRefusal.{HeaderRefusal}
-use Rattle.jpeg_marker.proofs.HeaderLaws.{never_both}
-use Rattle.scan_spec.specs.declared.refusal.ScanRefusal.{ScanRefusal}
-use Rattle.box_format.specs.Parts.{BoxParts, IsBoxOf}
-use Rattle.box_format.specs.BoxChecks.{IsRefusedBox}
+use Rattle.scan_spec.specs.Scans.{Mcu}
+use Rattle.scan_spec.proofs.FilesOnce.{one_is_all}
+use Rattle.box_format.specs.Parts.{BoxSeen}
 use Rattle.box_format.specs.declared.refusal.BoxRefusal.{BoxRefusal}
 use Rattle.box_format.specs.declared.version.Version.TheVariants.{Second}
 use Rattle.container_spec.specs.Files.{IsContainerOf}
-use Rattle.container_spec.specs.Meanings.{IsMeaning, Meaning, NoBox, Restored, meaning_of}
-use Rattle.container_spec.proofs.OneMeanings.{one_meaning}
-use Rattle.container_spec.proofs.RestoredFiles.{container_is_restored}
+use Rattle.container_spec.specs.Meanings.{Meaning, NoBox, Restored}
+use Rattle.scans_format.specs.Containers.{IsContainer, IsRefusedContainer}
+use Rattle.scans_spec.specs.ScansFiles.{FileRefusal, FileIsRefused, IsContainerOfFile, share_of}
+use Rattle.scans_spec.specs.ScansMeanings.{StandsFor, scans_meaning}
+use Rattle.scans_spec.proofs.OneContainers.{accepted_is_not_refused, scans_are_several, several_is_not_one}
 use Rattle.lepton_decode.specs.Ends.{Ends}
 use Rattle.lepton_decode.specs.declared.error.DecodeError.{DecodeError}
 use Rattle.lepton_decode.specs.declared.error.DecodeError.TheVariants.{WriteFault, Fault, PadSpelling, ChunkShort}
@@ -22,14 +21,14 @@ use Rattle.sample_jpeg.specs.SampleLaw.{IsSample}
 use Rattle.sample_jpeg.specs.SampleHeader.{extent_of, sample_plan}
 use Rattle.sample_jpeg.proofs.SampleLaws.{samples}
 use Rattle.command_words.specs.declared.command.Command.TheVariants.{Sample}
-use Rattle.lepton_run.specs.Answers.{Answers, Early, Late, Made, ScanRefuses}
+use Rattle.lepton_run.specs.Answers.{Answers, Early, Late, Made}
 use Rattle.lepton_run.specs.CommandEnds.{CarriedOut, SampleEnds}
 use Rattle.lepton_run.specs.Samples.{IsSampleFile}
 use Rattle.lepton_run.specs.Summaries.{IsSummary, sample_segments}
 use Rattle.lepton_run.specs.declared.ending.Ending.{Ending}
 use Rattle.lepton_run.specs.declared.ending.Ending.TheVariants.{Done, Refused, WordsRefused, ReadFailed, WriteFailed, NoMemory}
-use Rattle.lepton_run.proofs.BothWays.{container_are}
-use Rattle.container_spec.proofs.AcceptedFiles.{scan_apart}
+use Rattle.lepton_run.proofs.BothWays.{container_stands}
+use Rattle.lepton_run.proofs.OneAnswers.{stands_for_one}
 
 -- ---- encoding
 
@@ -40,18 +39,37 @@ law_of file is =
     subst (λ (f : List ℕ). IsSample is.seed (extent_of is.seed is.columns is.rows) f) (sym is.is)
     (samples is.seed is.columns is.rows is.extent)
 
-pub header_is_taken : (file : List ℕ) (refusal : HeaderRefusal) → IsSampleFile file
-    → HeaderRefuses file refusal → ⊥
-header_is_taken file refusal is why = never_both file _ refusal (law_of file is).is.header why
+-- its plan, its MCUs and its pad bits
+abbrev plan_of : (file : List ℕ) → IsSampleFile file → PlanFields
+plan_of file is = sample_plan (extent_of is.seed is.columns is.rows)
 
-pub scan_is_taken : (file : List ℕ) (refusal : ScanRefusal) → IsSampleFile file
-    → ScanRefuses file refusal → ⊥
-scan_is_taken file refusal is why =
+abbrev mcus_of : (file : List ℕ) → IsSampleFile file → List Mcu
+mcus_of file is = sample_mcus is.seed (extent_of is.seed is.columns is.rows)
+
+abbrev pads_of : (file : List ℕ) → IsSampleFile file → List Bool
+pads_of file is = sample_pads (extent_of is.seed is.columns is.rows)
+
+-- it isn't refused
+pub sample_is_taken : (file : List ℕ) (refusal : FileRefusal) → IsSampleFile file
+    → FileIsRefused file refusal → ⊥
+sample_is_taken file refusal is why =
     let law = law_of file is in
-    scan_apart file (sample_plan (extent_of is.seed is.columns is.rows))
-    (sample_mcus is.seed (extent_of is.seed is.columns is.rows))
-    (sample_pads (extent_of is.seed is.columns is.rows)) end_of_image refusal law.bytes
-    law.is why
+    accepted_is_not_refused file end_of_image
+    (record { plan = plan_of file is; mcus = mcus_of file is; pads = pads_of file is } ∷ []) refusal
+    law.bytes
+    (one_is_all file end_of_image (plan_of file is) (mcus_of file is) (pads_of file is) law.bytes
+    law.is) why
+
+-- and has one scan
+pub sample_has_one : (file made : List ℕ) → IsSampleFile file
+    → IsContainerOfFile sample_segments made file
+    → IsContainerOf Second sample_segments made file
+sample_has_one file made is (inl of) = of
+sample_has_one file made is (inr (n, two, of)) =
+    let law = law_of file is in
+    absurd (several_is_not_one file end_of_image (plan_of file is) (mcus_of file is) (pads_of file is)
+    law.bytes
+    (scans_are_several (replicate n (share_of sample_segments n)) made file of) law.is)
 
 pub sample_fits : (file : List ℕ) → IsSampleFile file → length file ≤ 40000000
 sample_fits file is = (law_of file is).short
@@ -60,14 +78,13 @@ sample_fits file is = (law_of file is).short
 
 -- a container's meaning is its file
 meaning_restored : (made file : List ℕ) (m : Meaning) → IsContainerOf Second sample_segments made file
-    → IsMeaning made m → m ≡ record { bytes = file; verdict = Restored }
+    → StandsFor made m → m ≡ record { bytes = file; verdict = Restored }
 meaning_restored made file m of is =
-    one_meaning made m (record { bytes = file; verdict = Restored })
-    (container_are Second sample_segments made file (omega arith) (omega arith) of) is
-    (container_is_restored Second sample_segments made file (omega arith) (omega arith) of)
+    stands_for_one made m (record { bytes = file; verdict = Restored }) is
+    (container_stands Second sample_segments made file (omega arith) (omega arith) of)
 
 pub box_is_taken : (made file : List ℕ) (refusal : BoxRefusal)
-    → IsContainerOf Second sample_segments made file → IsRefusedBox made refusal → ⊥
+    → IsContainerOf Second sample_segments made file → IsRefusedContainer made refusal → ⊥
 box_is_taken made file refusal of why =
     let e = meaning_restored made file (record { bytes = []; verdict = NoBox refusal }) of
     (inl (refusal, why, refl)) in
@@ -75,14 +92,13 @@ box_is_taken made file refusal of why =
     absurd cc
 
 module _ {Sink : Type 0} (held : Sink → Option (List ℕ)) (takes : Sink → List ℕ → Type 0)
-    (faults : Sink → ℕ) (full : Sink → Type 0) (old new : Sink) (made file : List ℕ) (plan : PlanFields)
-    (parts : BoxParts) (of : IsContainerOf Second sample_segments made file)
-    (is : IsBoxOf plan parts made) where
+    (faults : Sink → ℕ) (full : Sink → Type 0) (old new : Sink) (made file : List ℕ) (scans : List BoxSeen)
+    (of : IsContainerOf Second sample_segments made file) (is : IsContainer scans made) where
   abbrev meaning : Meaning
-  meaning = meaning_of plan parts
+  meaning = scans_meaning scans
 
   restored : meaning ≡ record { bytes = file; verdict = Restored }
-  restored = meaning_restored made file meaning of (inr (plan, parts, is, refl))
+  restored = meaning_restored made file meaning of (inr (scans, is, refl))
 
   -- as many bytes come back as the file has
   all_back : (written : ℕ) → Ends held takes faults full old new meaning (Ok written)
@@ -108,23 +124,23 @@ module _ {Sink : Type 0} (held : Sink → Option (List ℕ)) (takes : Sink → L
 
 -- the same of what the decoder answered
 pub decoded_whole : {Sink : Type 0} (held : Sink → Option (List ℕ)) (takes : Sink → List ℕ → Type 0)
-    (faults : Sink → ℕ) (full : Sink → Type 0) (old new : Sink) (made file : List ℕ) (plan : PlanFields)
-    (parts : BoxParts) → IsContainerOf Second sample_segments made file → IsBoxOf plan parts made
+    (faults : Sink → ℕ) (full : Sink → Type 0) (old new : Sink) (made file : List ℕ)
+    (scans : List BoxSeen) → IsContainerOf Second sample_segments made file → IsContainer scans made
     → (result : Result ℕ DecodeError) (written : ℕ) → result ≡ Ok written
-    → Ends held takes faults full old new (meaning_of plan parts) result → written ≡ length file
-decoded_whole held takes faults full old new made file plan parts of is result written ok ends =
-    all_back held takes faults full old new made file plan parts of is written
-    (subst (λ (r : Result ℕ DecodeError). Ends held takes faults full old new (meaning_of plan parts) r)
+    → Ends held takes faults full old new (scans_meaning scans) result → written ≡ length file
+decoded_whole held takes faults full old new made file scans of is result written ok ends =
+    all_back held takes faults full old new made file scans of is written
+    (subst (λ (r : Result ℕ DecodeError). Ends held takes faults full old new (scans_meaning scans) r)
     ok ends)
 
-pub never_fails : {Sink : Type 0} (held : Sink → Option (List ℕ)) (takes : Sink → List ℕ → Type 0) (old new : Sink) (made file : List ℕ) (plan : PlanFields) (parts : BoxParts)
-    → IsContainerOf Second sample_segments made file → IsBoxOf plan parts made
+pub never_fails : {Sink : Type 0} (held : Sink → Option (List ℕ)) (takes : Sink → List ℕ → Type 0) (old new : Sink) (made file : List ℕ) (scans : List BoxSeen)
+    → IsContainerOf Second sample_segments made file → IsContainer scans made
     → (result : Result ℕ DecodeError) (error : DecodeError) → result ≡ Err error
-    → Ends held takes no_faults Never old new (meaning_of plan parts) result → ⊥
-never_fails held takes old new made file plan parts of is result error err ends =
-    never_ends held takes no_faults Never old new made file plan parts of is error
+    → Ends held takes no_faults Never old new (scans_meaning scans) result → ⊥
+never_fails held takes old new made file scans of is result error err ends =
+    never_ends held takes no_faults Never old new made file scans of is error
     (λ rose. elim rose [ inl higher ↦ omega (arith, higher) | inr at_end ↦ at_end ])
-    (subst (λ (r : Result ℕ DecodeError). Ends held takes no_faults Never old new (meaning_of plan parts)
+    (subst (λ (r : Result ℕ DecodeError). Ends held takes no_faults Never old new (scans_meaning scans)
     r) err ends)
 
 -- ---- the ending

@@ -5,22 +5,18 @@ use Rattle.std.specs.List.{AllByRecursion}
 use Rattle.std.specs.Io.KnownBytes.{Appends, Consumes, IsAtEnd}
 use Rattle.bit_list.specs.Bits.{IsByte}
 use Rattle.jpeg_marker.specs.Plans.{PlanFields}
-use Rattle.jpeg_marker.specs.HeaderPlan.{Accepts, Refuses as HeaderRefuses}
-use Rattle.scan_spec.specs.Items.{Refuses as ItemsRefuse}
-use Rattle.scan_spec.specs.Slots.{shape_of}
-use Rattle.scan_spec.specs.declared.refusal.ScanRefusal.{ScanRefusal}
 use Rattle.handover.specs.declared.outcome.StreamFault.{StreamFault}
 use Rattle.box_format.specs.BoxChecks.{IsRefusedBy}
 use Rattle.box_format.specs.Parts.{BoxParts, IsBoxOf, box_bytes, migrated}
 use Rattle.box_format.specs.Versions.{IsRead, indexable, migratable, ranged}
 use Rattle.box_format.specs.declared.refusal.BoxRefusal.{BoxRefusal}
 use Rattle.box_format.specs.declared.version.Version.{Version}
-use Rattle.box_format.specs.declared.version.Version.TheVariants.{Second}
-use Rattle.container_spec.specs.Files.{IsContainerOf}
 use Rattle.container_spec.specs.Indexed.{indexed}
 use Rattle.container_spec.specs.Limits.{most_of_a_container, most_of_a_file}
-use Rattle.container_spec.specs.Meanings.{Meaning, Verdict, Restored, PadSpelled, ChunkShort as ShortChunk, Faulty, NoBox, IsMeaning, meaning_of}
-use Rattle.chunk_cut.specs.ChunksOfFiles.{IsChunkOf, IsFile}
+use Rattle.container_spec.specs.Meanings.{Meaning, Verdict, Restored, PadSpelled, ChunkShort as ShortChunk, Faulty, NoBox, meaning_of}
+use Rattle.scans_spec.specs.ScansFiles.{FileIsRefused, HasSeveralScans, IsContainerOfFile, Header as FileHeader, Scan as FileScan}
+use Rattle.scans_spec.specs.ScansMeanings.{StandsFor}
+use Rattle.chunk_cut.specs.ChunksOfFiles.{IsChunkOf, IsOneScanFile}
 use Rattle.range_read.specs.RangeMeanings.{is_bad_range, range_meaning}
 use Rattle.command_words.specs.declared.command.Command.{Command}
 use Rattle.command_words.specs.declared.command.Command.TheVariants.{Encode, Decode, Migrate, Chunk, Index, Range, Sample}
@@ -29,7 +25,7 @@ use Rattle.lepton_run.specs.Summaries.{IsSummary}
 use Rattle.lepton_run.specs.declared.input.Input.{Input}
 use Rattle.lepton_run.specs.declared.input.Input.TheVariants.{File, Container, Nothing}
 use Rattle.lepton_run.specs.declared.refusal.Refusal.{Refusal}
-use Rattle.lepton_run.specs.declared.refusal.Refusal.TheVariants.{Header, Scan, Box, Fault, PadSpelling, ChunkShort, NoChunk, RangeBad, TooLong}
+use Rattle.lepton_run.specs.declared.refusal.Refusal.TheVariants.{Header, Scan, Box, Fault, PadSpelling, ChunkShort, ManyScans, NoChunk, RangeBad, TooLong}
 
 -- the answer to a command, if nothing fails and memory suffices: these bytes are made; or the bytes given are refused,
 -- before any byte is written or after some
@@ -84,23 +80,18 @@ answer_by bytes ShortChunk = Late bytes ChunkShort
 answer_by bytes (Faulty fault) = Late bytes (Fault fault)
 answer_by bytes (NoBox refusal) = Early (Box refusal)
 
--- bytes begin with a header that is accepted, and the items of its scan stop with this refusal
-abbrev pub ScanRefuses : List ℕ → ScanRefusal → Type 0
-ScanRefuses bytes refusal =
-    (plan : PlanFields) × Accepts bytes plan
-    × ItemsRefuse (shape_of plan) bytes plan.header_length refusal
-
--- what encode makes of a file: its container in at most N segments; or it refuses the header, or else the scan
+-- what encode makes of a file: its container in at most N segments, but at least one a scan; or the first header or
+-- scan that is refused
 abbrev pub EncodeMakes : ℕ → List ℕ → Answer → Type 0
-EncodeMakes segments bytes (Made made) = IsContainerOf Second segments made bytes
-EncodeMakes segments bytes (Early (Header refusal)) = HeaderRefuses bytes refusal
-EncodeMakes segments bytes (Early (Scan refusal)) = ScanRefuses bytes refusal
+EncodeMakes segments bytes (Made made) = IsContainerOfFile segments made bytes
+EncodeMakes segments bytes (Early (Header refusal)) = FileIsRefused bytes (FileHeader refusal)
+EncodeMakes segments bytes (Early (Scan refusal)) = FileIsRefused bytes (FileScan refusal)
 EncodeMakes segments bytes other = ⊥
 
 -- what decode makes of bytes: what they stand for as a container, whatever the number of workers
 abbrev pub DecodeMakes : List ℕ → Answer → Type 0
 DecodeMakes bytes answer =
-    (meaning : Meaning) × IsMeaning bytes meaning
+    (meaning : Meaning) × StandsFor bytes meaning
     × (answer ≡ answer_by meaning.bytes meaning.verdict)
 
 -- what is made of bytes by who reads containers of these versions: the refusal of the first check that fails, or the
@@ -115,14 +106,17 @@ BoxMakes versions answer_to bytes answer =
 abbrev pub MigrateMakes : List ℕ → Answer → Type 0
 MigrateMakes = BoxMakes migratable (λ plan b. Made (box_bytes (migrated b)))
 
--- what `chunk` makes of a file: the container of its chunk with this number, of chunks of this size; or it refuses the
--- header, or else the scan, or else there is no such chunk
+-- what `chunk` makes of a file: the container of its chunk with this number, of chunks of this size; or the first
+-- header or scan that is refused, or else the file has several scans, or else there is no such chunk
 abbrev pub ChunkMakes : ℕ → ℕ → ℕ → List ℕ → Answer → Type 0
 ChunkMakes index size segments bytes (Made made) = IsChunkOf segments size index made bytes
-ChunkMakes index size segments bytes (Early (Header refusal)) = HeaderRefuses bytes refusal
-ChunkMakes index size segments bytes (Early (Scan refusal)) = ScanRefuses bytes refusal
+ChunkMakes index size segments bytes (Early (Header refusal)) =
+    FileIsRefused bytes (FileHeader refusal)
+ChunkMakes index size segments bytes (Early (Scan refusal)) =
+    FileIsRefused bytes (FileScan refusal)
+ChunkMakes index size segments bytes (Early ManyScans) = HasSeveralScans bytes
 ChunkMakes index size segments bytes (Early NoChunk) =
-    IsFile bytes × (length bytes ≤ index * size)
+    IsOneScanFile bytes × (length bytes ≤ index * size)
 ChunkMakes index size segments bytes other = ⊥
 
 -- the answer of `index` to a container that ends so, if this is the same one with places

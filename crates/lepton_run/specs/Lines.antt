@@ -10,7 +10,7 @@ use Rattle.box_format.specs.declared.refusal.BoxRefusal.TheVariants.{BoxMagic, B
 use Rattle.handover.specs.declared.outcome.StreamCause.{StreamCause}
 use Rattle.handover.specs.declared.outcome.StreamCause.TheVariants as causes
 use Rattle.lepton_run.specs.declared.refusal.Refusal.{Refusal}
-use Rattle.lepton_run.specs.declared.refusal.Refusal.TheVariants.{Header, Scan, Box, Fault, PadSpelling, ChunkShort, NoChunk, RangeBad, TooLong}
+use Rattle.lepton_run.specs.declared.refusal.Refusal.TheVariants.{Header, Scan, Box, Fault, PadSpelling, ChunkShort, NoChunk, ManyScans, RangeBad, TooLong}
 
 -- room for every line, and for the lines of a summary
 abbrev pub line_room : ℕ
@@ -130,6 +130,7 @@ refusal_text PadSpelling = codes "46 PadSpelling"
 refusal_text ChunkShort = codes "47 ChunkShort"
 refusal_text TooLong = codes "50 TooLong"
 refusal_text NoChunk = codes "51 NoChunk"
+refusal_text ManyScans = codes "52 ManyScans"
 refusal_text RangeBad = codes "54 RangeBad"
 
 -- a line

@@ -212,6 +212,7 @@ fn chunk<R: Threads + Sync, K: Sink>(
         Ok(made) => made,
         Err(CutError::Header(refusal)) => return Ending::Refused(Refusal::Header(refusal)),
         Err(CutError::Scan(refusal)) => return Ending::Refused(Refusal::Scan(refusal)),
+        Err(CutError::ManyScans) => return Ending::Refused(Refusal::ManyScans),
         Err(CutError::NoChunk) => return Ending::Refused(Refusal::NoChunk),
         Err(CutError::NoMemory(short)) => return Ending::NoMemory(short),
     };

@@ -12,9 +12,9 @@ use scan_spec::ScanRefusal;
 /// Why bytes are refused.
 #[derive(Clone, Copy, Debug, PartialEq, Eq)]
 pub enum Refusal {
-    /// 1 to 15: the bytes begin with no header that is accepted.
+    /// 1 to 15: a header is due that isn't accepted.
     Header(HeaderRefusal),
-    /// 16 to 24: after the header there is no scan that is accepted.
+    /// 16 to 24: after a header there is no scan that is accepted.
     Scan(ScanRefusal),
     /// 30 to 39, 53: the bytes are no container.
     Box(BoxRefusal),
@@ -27,8 +27,10 @@ pub enum Refusal {
     ChunkShort,
     /// 50: there are more bytes than the limit.
     TooLong,
-    /// 51: the file ends before the chunk.
+    /// 51: the file of one scan ends before the chunk.
     NoChunk,
+    /// 52: the file has several scans, and chunks are of files of one scan.
+    ManyScans,
     /// 54: the range ends before it begins, or after the file's end.
     RangeBad,
 }
@@ -60,6 +62,7 @@ impl Refusal {
             Refusal::ChunkShort => line.push(b"47 ChunkShort"),
             Refusal::TooLong => line.push(b"50 TooLong"),
             Refusal::NoChunk => line.push(b"51 NoChunk"),
+            Refusal::ManyScans => line.push(b"52 ManyScans"),
             Refusal::RangeBad => line.push(b"54 RangeBad"),
         }
     }

@@ -70,7 +70,7 @@ fn recoded<R: Threads + Wait + Sync, G: Gate + Sync>(
     Ok(summary(file.len(), made.len(), segments, restored))
 }
 
-// The container of a sample, which every header and scan check lets pass.
+// The container of a sample, which has one scan and which every header and scan check lets pass.
 fn encoded<R: Threads + Sync>(rt: &R, alloc: Global, file: &[u8]) -> Result<Vec<u8>, NoMemory>
     requires { IsSampleFile file.now }
     ensures { IfOk result (λ made. IsContainerOf Second sample_segments made.items file.now) }

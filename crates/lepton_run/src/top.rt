@@ -1,5 +1,6 @@
 // The top call.
-ghost use Rattle.std.specs.Prelude.{◌≡◌, ◌≢◌, ◌⊎◌, ◌+◌, ◌<◌, ◌≤◌, ℕ, List, Some, true, String, string_bytes, map, length};
+ghost use Rattle.std.specs.Prelude.{◌≡◌, ◌≢◌, ◌⊎◌, ◌+◌, ◌<◌, ◌≤◌, ℕ, List, Some, true, String, string_bytes, map, length, sum};
+ghost use Rattle.std.specs.List.{AllByRecursion};
 ghost use Rattle.std.specs.Io.KnownBytes.{Appends};
 ghost use Rattle.outside_core.specs.Faults.{Rose};
 ghost use Rattle.outside_core.specs.Takes.{TakesAll};
@@ -8,9 +9,10 @@ ghost use Rattle.container_spec.specs.Files.{IsContainerOf};
 ghost use Rattle.container_spec.specs.Meanings.{IsMeaning, Meaning, Restored};
 ghost use Rattle.byte_window.specs.Slices.{slice};
 ghost use Rattle.box_format.specs.Parts.{BoxParts, IsBoxOf, box_bytes, migrated};
-ghost use Rattle.box_format.specs.Versions.{IsRead, indexable, layout_of, migratable, version_in};
+ghost use Rattle.box_format.specs.Versions.{IsRead, indexable, layout_of, migratable, most_segments, version_in};
 ghost use Rattle.box_format.specs.declared.version.Version.{Version};
 ghost use Rattle.box_format.specs.declared.version.Version.TheVariants.{Fifth, Third};
+ghost use Rattle.scans_spec.specs.ScansFiles.{IsContainerOfScans};
 ghost use Rattle.chunk_cut.specs.ChunksOfFiles.{IsChunkOf, chunk_of};
 ghost use Rattle.command_words.specs.Meaning.{IsInRange, Means};
 ghost use Rattle.command_words.specs.declared.command.Command.{Command};
@@ -133,13 +135,23 @@ pub fn run<R: Threads + Wait + Sync, S: Source, K: Sink + Send, N: Sink + Send, 
         → ((made : List ℕ) → ¬ Answers command bytes (Made made))
         → (status_at result ≡ 1) ⊎ (status_at result ≡ 5) }
 
-    // What was encoded is decoded: of the container of a file within the limit, in a version that can say its pad bits,
-    // exactly that file is appended.
+    // What was encoded is decoded: of the container of a file of one scan within the limit, in a version that can say
+    // its pad bits, exactly that file is appended.
     ensures back { (version : Version) (workers most : ℕ) (bytes file : List ℕ)
         → Means (map string_bytes words.now) (Decode workers)
         → ¬ Rose S.faults S.full source.old source.new → ¬ Rose K.faults K.full sink.old sink.new
         → S.left source.old ≡ Some bytes → length file ≤ limit_of (Encode most)
         → 0 < most → most ≤ (layout_of version).most → IsContainerOf version most bytes file
+        → ((status_at result ≡ 0) × Appends (K.held sink.old) (K.held sink.new) file)
+        ⊎ (status_at result ≡ 5) }
+
+    // The same of a file of several scans, with any number of segments in each.
+    ensures scans_back { (workers most : ℕ) (segments : List ℕ) (bytes file : List ℕ)
+        → Means (map string_bytes words.now) (Decode workers)
+        → ¬ Rose S.faults S.full source.old source.new → ¬ Rose K.faults K.full sink.old sink.new
+        → S.left source.old ≡ Some bytes → length file ≤ limit_of (Encode most)
+        → AllByRecursion (λ some. 0 < some) segments → sum segments ≤ most_segments
+        → IsContainerOfScans segments bytes file
         → ((status_at result ≡ 0) × Appends (K.held sink.old) (K.held sink.new) file)
         ⊎ (status_at result ≡ 5) }
 

@@ -6,7 +6,7 @@ use Rattle.chunk_cut.specs.ChunksOfFiles.{IsChunkOf}
 use Rattle.chunk_cut.specs.declared.error.CutError.{CutError}
 use Rattle.command_words.specs.declared.command.Command.TheVariants.{Chunk}
 use Rattle.lepton_run.specs.Answers.{Answers, Made}
-use Rattle.lepton_run.specs.declared.refusal.Refusal.TheVariants.{Header, Scan, NoChunk}
+use Rattle.lepton_run.specs.declared.refusal.Refusal.TheVariants.{Header, Scan, ManyScans, NoChunk}
 use Rattle.lepton_run.proofs.CarriedOut.{answers_so, refused_early}
 use Rattle.lepton_run.proofs.commands.chunk.Goals as goal
 
@@ -25,6 +25,14 @@ returns-in-Err-Scan-clause-ending g c =
     (Scan c.in-Err-Scan.refusal) c.requires.short
     (c.in-Err-Scan.ensures.scan c.in-Err-Scan.refusal
     (ap (λ (error : CutError). Err error) c.in-Err-Scan.field-0-is))
+
+pub returns-in-Err-ManyScans-clause-ending : goal.returns-in-Err-ManyScans-clause-ending
+returns-in-Err-ManyScans-clause-ending g c =
+    refused_early g.K.Sink.held g.K.Sink.faults g.K.Sink.full c.args.sink.now c.args.sink.now
+    c.args.bytes.now (all_bytes c.args.bytes.now (λ i. search rules))
+    (Chunk c.args.index c.args.size c.args.segments) ManyScans c.requires.short
+    (c.in-Err-ManyScans.ensures.many
+    (ap (λ (error : CutError). Err error) c.in-Err-ManyScans.field-0-is))
 
 pub returns-in-Err-NoChunk-clause-ending : goal.returns-in-Err-NoChunk-clause-ending
 returns-in-Err-NoChunk-clause-ending g c =

@@ -22,10 +22,10 @@ returns-clause-ending g c =
     (sym c.restore_alone.ensures.ends.1)
     (ended g.K.Sink.held g.K.Sink.faults g.K.Sink.full c.args.sink.now c.restore_alone.new.sink
     c.args.bytes.now (all_bytes c.args.bytes.now (λ i. search rules)) g.K.Sink.takes 0 c.requires.short
-    c.in-Ok.ready.plan c.in-Ok.ready.parts c.in-Ok.ensures.ready c.restore_alone.ensures.ends.0 c.restore_alone.ensures.ends.2)
+    c.in-Ok.ready.scans c.in-Ok.ensures.ready c.restore_alone.ensures.ends.0 c.restore_alone.ensures.ends.2)
 
 pub restore_alone-requires-clause-takes : goal.restore_alone-requires-clause-takes
 restore_alone-requires-clause-takes g c =
     meaning_taken g.K.Sink.held g.K.Sink.faults g.K.Sink.full c.args.sink.now c.args.sink.now
     c.args.bytes.now (all_bytes c.args.bytes.now (λ i. search rules)) g.K.Sink.takes 0 c.requires.short
-    c.in-Ok.ready.plan c.in-Ok.ready.parts c.in-Ok.ensures.ready c.requires.takes
+    c.in-Ok.ready.scans c.in-Ok.ensures.ready c.requires.takes

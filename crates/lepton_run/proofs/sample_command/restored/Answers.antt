@@ -11,12 +11,12 @@ unreachable-requires g c =
 
 pub unreachable-requires-in-Err : goal.unreachable-requires-in-Err
 unreachable-requires-in-Err g c =
-    never_fails _ _ c.new-sink.result _ c.args.made.now c.args.file.now c.in-Ok.ready.plan
-    c.in-Ok.ready.parts c.requires.container c.in-Ok.ensures.ready c.run.result c.in-Err.field-0
+    never_fails _ _ c.new-sink.result _ c.args.made.now c.args.file.now c.in-Ok.ready.scans
+    c.requires.container c.in-Ok.ensures.ready c.run.result c.in-Err.field-0
     c.in-Err.is c.run.ensures.ends
 
 pub returns : goal.returns
 returns g c =
-    decoded_whole _ _ _ _ c.new-sink.result _ c.args.made.now c.args.file.now c.in-Ok.ready.plan
-    c.in-Ok.ready.parts c.requires.container c.in-Ok.ensures.ready c.run.result
+    decoded_whole _ _ _ _ c.new-sink.result _ c.args.made.now c.args.file.now c.in-Ok.ready.scans
+    c.requires.container c.in-Ok.ensures.ready c.run.result
     c.in-Ok-run.restored c.in-Ok-run.is c.run.ensures.ends
