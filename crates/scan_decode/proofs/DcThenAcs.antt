@@ -1,14 +1,19 @@
 -- A block by its DC and its AC coefficients.
-use Rattle.std.proofs.Common.{◌≡◌, ℕ, List, [], ◌∷◌, get_or, ℤ, pos, false, Result, Ok, Err, ap, sym, ◌∙◌}
+use Rattle.std.proofs.Common.{◌≡◌, ℕ, List, [], ◌∷◌, get_or, replicate, ℤ, pos, false, Result, Ok, Err, refl, ap, sym, ◌∙◌}
 use Rattle.bit_list.specs.Units.{Cursor}
 use Rattle.huff_table.specs.declared.plan_codes.ComponentCodes.{ComponentCodes}
-use Rattle.scan_spec.specs.BlockBits.{coefficient_at, in_zigzag}
+use Rattle.scan_spec.specs.BlockBits.{ac_values, coefficient_at, in_zigzag}
 use Rattle.scan_spec.specs.ScanReading.{and_then, dc_at, acs_at, prefixed_values}
 use Rattle.scan_spec.specs.declared.refusal.ScanRefusal.{ScanRefusal}
 use Rattle.scan_decode.specs.ReadResults.{coded_at}
 
 abbrev Whole : Type 0
 Whole = Result (List ℤ × Cursor) ScanRefusal
+
+-- a block with a DC alone
+pub dc_alone : (v : ℤ) → ac_values (v ∷ replicate 63 (pos 0)) ≡ replicate 63 (pos 0)
+unfolding ac_values
+dc_alone v = refl
 
 -- the AC coefficients after a DC
 pub coded : (codes : ComponentCodes) (before dc value : ℤ) (bytes later : List ℕ) (cursor to : Cursor) → Ok (dc, to) ≡ dc_at codes.dc before bytes cursor

@@ -7,3 +7,4 @@ pub mod BytesBegun
 pub mod Standings
 pub mod IntervalEnds
 pub mod DcThenAcs
+pub mod SkipReading

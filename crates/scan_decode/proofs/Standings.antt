@@ -21,22 +21,28 @@ blocks_there : (shape : Shape) (bytes : List ℕ) (at : Standing) (read : Blocks
 unfolding mcu_at
 blocks_there shape bytes at read e = ap (λ (r : Result BlocksRead ScanRefusal). and_then r (dcs_after_read shape bytes at)) e
 
-abbrev by_closing : Shape → List ℕ → Standing → BlocksRead → Bool → Mcu
+-- what follows an MCU's blocks in its interval, or at its end
+abbrev by_closing : Shape → List ℕ → Standing → BlocksRead → Bool → Result Standing ScanRefusal
 by_closing shape bytes at read closed =
-    and_then (if closed then and_then (pads_at read.cursor) (after_pads shape bytes at.count) else Ok (record { cursor = read.cursor; before = read.before; count = at.count + 1; pad = None })) (λ next. Ok (read.blocks, next))
+    if closed then and_then (pads_at read.cursor) (after_pads shape bytes at.count) else Ok (record { cursor = read.cursor; before = read.before; count = at.count + 1; pad = None })
 
-pub goes_on : (shape : Shape) (bytes : List ℕ) (at : Standing) (read : BlocksRead) → Ok read ≡ blocks_at shape.slots at.before bytes at.cursor → false ≡ is_closed shape (at.count + 1)
-    → Ok (read.blocks, record { cursor = read.cursor; before = read.before; count = at.count + 1; pad = None }) ≡ mcu_at shape bytes at
-goes_on shape bytes at read e more = ap (by_closing shape bytes at read) more ∙ blocks_there shape bytes at read e
+pub goes_on : (shape : Shape) (bytes : List ℕ) (at : Standing) (read : BlocksRead) → false ≡ is_closed shape (at.count + 1)
+    → Ok (record { cursor = read.cursor; before = read.before; count = at.count + 1; pad = None }) ≡ after_mcu shape bytes at read
+goes_on shape bytes at read more = ap (by_closing shape bytes at read) more
+
+pub closes_here : (r : Result Standing ScanRefusal) (shape : Shape) (bytes : List ℕ) (at : Standing) (read : BlocksRead) → true ≡ is_closed shape (at.count + 1)
+    → r ≡ and_then (pads_at read.cursor) (after_pads shape bytes at.count) → r ≡ after_mcu shape bytes at read
+closes_here r shape bytes at read closed is = is ∙ ap (by_closing shape bytes at read) closed
 
 put_both : {A : Type 0} (r : Result A ScanRefusal) (blocks : List (List ℤ)) (next : Standing) → mcu_read r blocks next ≡ and_then (standing_read r next) (λ at. Ok (blocks, at))
 put_both (Ok x) blocks next = refl
 put_both (Err e) blocks next = refl
 
-pub closes_here : {A : Type 0} (r : Result A ScanRefusal) (next : Standing) (shape : Shape) (bytes : List ℕ) (at : Standing) (read : BlocksRead) → Ok read ≡ blocks_at shape.slots at.before bytes at.cursor
-    → true ≡ is_closed shape (at.count + 1) → standing_read r next ≡ and_then (pads_at read.cursor) (after_pads shape bytes at.count) → mcu_read r read.blocks next ≡ mcu_at shape bytes at
-closes_here r next shape bytes at read e closed is =
-    put_both r read.blocks next ∙ ap (λ (s : Result Standing ScanRefusal). and_then s (λ n. Ok (read.blocks, n))) is ∙ ap (by_closing shape bytes at read) closed ∙ blocks_there shape bytes at read e
+-- an MCU by its blocks and what follows them
+pub ends_well : {A : Type 0} (r : Result A ScanRefusal) (next : Standing) (shape : Shape) (bytes : List ℕ) (at : Standing) (read : BlocksRead) → Ok read ≡ blocks_at shape.slots at.before bytes at.cursor
+    → standing_read r next ≡ after_mcu shape bytes at read → mcu_read r read.blocks next ≡ mcu_at shape bytes at
+ends_well r next shape bytes at read e is =
+    put_both r read.blocks next ∙ ap (λ (s : Result Standing ScanRefusal). and_then s (λ n. Ok (read.blocks, n))) is ∙ blocks_there shape bytes at read e
 
 -- a fact, where a call answers well
 pub kept_if : {A : Type 0} {P : Type 0} (r : Result A ScanRefusal) → P → OnOk r P

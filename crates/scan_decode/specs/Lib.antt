@@ -1,4 +1,5 @@
 pub mod ReadResults
 pub mod BlockSteps
 pub mod McuBlocks
+pub mod SkipWords
 pub mod ReaderInside

@@ -2,7 +2,7 @@
 use Rattle.std.specs.Prelude.{ℕ, List, [], ◌∷◌, ℤ, false, Result, Ok, Err}
 use Rattle.bit_list.specs.Units.{Cursor}
 use Rattle.huff_table.specs.declared.plan_codes.ComponentCodes.{ComponentCodes}
-use Rattle.scan_spec.specs.ScanReading.{and_then, dc_at, acs_at, prefixed_values}
+use Rattle.scan_spec.specs.ScanReading.{and_then, dc_at, acs_at, prefixed_values, BlocksRead, Standing}
 use Rattle.scan_spec.specs.declared.refusal.ScanRefusal.{ScanRefusal}
 
 -- a value and the cursor after it, or a refusal
@@ -32,3 +32,7 @@ mcu_read (Err refusal) values at = Err refusal
 abbrev pub standing_read : {A C : Type 0} → Result A ScanRefusal → C → Result C ScanRefusal
 standing_read (Ok done) at = Ok at
 standing_read (Err refusal) at = Err refusal
+
+-- the blocks of an MCU before a reader's place, of which nothing but that place is wanted
+abbrev pub after_blocks : Standing → BlocksRead
+after_blocks at = record { blocks = []; before = at.before; cursor = at.cursor }

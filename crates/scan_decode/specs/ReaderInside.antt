@@ -1,8 +1,9 @@
 -- View: a reader's fields as a reader of the definitions, and what always holds of them (own).
-use Rattle.std.specs.Prelude.{◌≡◌, ◌^◌, ◌<◌, ◌≤◌}
+use Rattle.std.specs.Prelude.{◌≡◌, ◌^◌, ◌<◌, ◌≤◌, IfSome}
 use Rattle.std.specs.List.{All}
 use Rattle.coef_block.specs.Block.{IsDc}
 use Rattle.scan_spec.specs.ScanCalls.{ScanReader}
+use Rattle.scan_decode.specs.SkipWords.{AreSkipSlots}
 use Rattle.scan_decode.specs.declared.reader.Reader.TheInside.{Inside}
 
 -- the scan, its bytes, where the reader is in them, and its refusal
@@ -14,10 +15,11 @@ reader_of r = record {
   stop = r.stop;
 }
 
--- the last DCs are some that blocks can have, no more MCUs were read than there are, and the bits are those of the
--- bytes
+-- the last DCs are some that blocks can have, no more MCUs were read than there are, the bits are those of the bytes,
+-- and what nine bits skip is by the tables of the scan
 pub record IsReader (r : Inside) : Type 0 where
   pub before : All IsDc r.before
   pub count : r.count ≤ r.shape.mcus
   pub size : r.shape.mcus < 2 ^ 32
   pub bytes : r.input.bytes ≡ r.bytes.now
+  pub skips : IfSome r.skips (λ known. AreSkipSlots r.shape.slots known.words)

@@ -24,11 +24,11 @@ enum Step {
     Unknown,
 }
 
-// The next zigzag index, and whether sixteen zeros were the last.
+/// The next zigzag index, and whether sixteen zeros were the last.
 #[derive(Clone, Copy)]
-struct At {
-    index: usize,
-    loose: bool,
+pub(crate) struct At {
+    pub(crate) index: usize,
+    pub(crate) loose: bool,
 }
 
 #[inline(always)]
@@ -59,9 +59,9 @@ fn step_of(left: usize, loose: bool, symbol: u8) -> Step
     Step::Value { zeros, size }
 }
 
-// What one symbol says.
+/// What one symbol says.
 #[inline(always)]
-fn go_on<T: Target>(
+pub(crate) fn go_on<T: Target>(
     codes: &Codes,
     input: &mut BitIn,
     out: &mut T,

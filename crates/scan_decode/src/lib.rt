@@ -17,6 +17,9 @@ mod dc;
 mod pads;
 mod reader;
 mod refusals;
+mod skip;
+mod skip_symbols;
+mod skip_word;
 mod target;
 mod values;
 

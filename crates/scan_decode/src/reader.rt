@@ -1,28 +1,29 @@
 // A scan, MCU by MCU.
-ghost use Rattle.std.specs.Prelude.{◌≡◌, ◌+◌, ◌*◌, ◌<◌, ◌≤◌, ◌==◌, List, ℤ, length, map, OnErr, OnOk};
+ghost use Rattle.std.specs.Prelude.{◌≡◌, ◌+◌, ◌*◌, ◌<◌, ◌≤◌, ◌==◌, List, ℤ, length, map, IfErr, OnErr, OnOk, Some};
 ghost use Rattle.std.specs.List.{AllZip};
 ghost use Rattle.scan_spec.specs.ScanCalls.{McuIsRead, reader_at, resume_place, stopped_at};
 ghost use Rattle.scan_spec.specs.Slots.{shape_of};
 ghost use Rattle.scan_spec.specs.Spots.{is_closed};
 ghost use Rattle.scan_spec.specs.ShapeInside.{most_slots};
 ghost use Rattle.huff_table.specs.ComponentTables.{codes_of};
-ghost use Rattle.scan_spec.specs.ScanReading.{and_then, mcu_at, pads_at, after_pads};
+ghost use Rattle.scan_spec.specs.ScanReading.{after_mcu, after_pads, and_then, mcu_at, pads_at};
 ghost use Rattle.scan_spec.specs.BlockBits.{in_zigzag};
 ghost use Rattle.scan_spec.specs.Scans.{no_dcs};
 ghost use Rattle.cut_spec.specs.HandedOver.{reader_from, spot_in};
 ghost use Rattle.cut_spec.specs.RowHandovers.{handover_of, markers_before};
-ghost use Rattle.scan_decode.specs.ReadResults.{mcu_read, standing_read};
+ghost use Rattle.scan_decode.specs.ReadResults.{after_blocks, mcu_read, standing_read};
 
 use crate::blocks::blocks;
 use crate::byte_begun::{after_bits, byte_begun};
 use crate::pads::{pads, restart};
-use crate::target::{Nothing, Target};
+use crate::skip::{SkipCodes, skip_blocks};
+use crate::target::Target;
 use bit_list::BitIn;
 use coef_block::Block;
 use handover::Handover;
 use huff_table::PlanCodes;
 use jpeg_marker::Plan;
-use scan_spec::{MOST_SLOTS, ScanRefusal, ScanShape};
+use scan_spec::{ScanRefusal, ScanShape};
 use std::marker::Model;
 
 /// A scan that is read MCU by MCU (ITU-T T.81, F.2.2). It keeps the first refusal, and allocates nothing.
@@ -40,6 +41,8 @@ pub struct Reader<'a> {
     // The pad bit of the interval that the last of them ended.
     pad: Option<bool>,
     stop: Option<ScanRefusal>,
+    // Made for the first MCU that is skipped.
+    skips: Option<SkipCodes>,
 }
 
 impl<'a> Model for Reader<'a> {
@@ -67,6 +70,7 @@ impl<'a> Reader<'a> {
             count: 0,
             pad: None,
             stop: None,
+            skips: None,
         }
     }
 
@@ -95,6 +99,7 @@ impl<'a> Reader<'a> {
             count: mcus_before(plan, row),
             pad: None,
             stop: None,
+            skips: None,
         }
     }
 
@@ -116,9 +121,11 @@ impl<'a> Reader<'a> {
         ensures { (blocks : List (List ℤ))
             × McuIsRead self.old.stop self.old result self.new blocks }
     {
-        let mut nothing = [Nothing {}; MOST_SLOTS];
-        let slots = self.mcu_blocks();
-        self.read(&mut nothing[..slots])
+        if let Some(refusal) = self.stop {
+            return Err(refusal);
+        }
+        let read = self.mcu_skipped();
+        self.keep(read)
     }
 
     /// Blocks of an MCU, at most ten.
@@ -198,15 +205,11 @@ impl<'a> Reader<'a> {
         if let Some(refusal) = self.stop {
             return Err(refusal);
         }
-        match self.mcu(out) {
-            Ok(()) => Ok(()),
-            Err(refusal) => {
-                self.stop = Some(refusal);
-                Err(refusal)
-            }
-        }
+        let read = self.mcu(out);
+        self.keep(read)
     }
 
+    // Reads an MCU, the pad bits and the marker after it.
     #[inline]
     fn mcu<T: Target>(&mut self, out: &mut [T]) -> Result<(), ScanRefusal>
         requires more { self.old.at.count < self.old.shape.mcus }
@@ -219,6 +222,54 @@ impl<'a> Reader<'a> {
     {
         let (codes, slots) = self.shape.slots();
         blocks(codes, slots, &mut self.before, &mut self.input, out)?;
+        self.end_mcu()
+    }
+
+    // Keeps a refusal.
+    #[inline]
+    fn keep(&mut self, read: Result<(), ScanRefusal>) -> Result<(), ScanRefusal>
+        ensures same { result ≡ read }
+        ensures ok { OnOk read (self.new ≡ self.old) }
+        ensures err { IfErr read (λ refusal. self.new ≡ record self.old { stop = Some refusal }) }
+    {
+        match read {
+            Ok(()) => Ok(()),
+            Err(refusal) => {
+                self.stop = Some(refusal);
+                Err(refusal)
+            }
+        }
+    }
+
+    // Reads an MCU, the pad bits and the marker after it, and keeps no coefficients.
+    #[inline]
+    fn mcu_skipped(&mut self) -> Result<(), ScanRefusal>
+        requires { self.old.at.count < self.old.shape.mcus }
+        ensures same { self.new ≡ record self.old { at = self.new.at } }
+        ensures is { (read : List (List ℤ)) × (mcu_read result (map in_zigzag read) self.new.at
+            ≡ mcu_at self.old.shape self.old.bytes self.old.at) }
+        ensures stays { OnErr result (self.new.at ≡ stopped_at self.old.at self.new.at) }
+    {
+        let (codes, slots) = self.shape.slots();
+        skip_blocks(
+            &mut self.skips,
+            codes,
+            slots,
+            &mut self.before,
+            &mut self.input,
+        )?;
+        self.end_mcu()
+    }
+
+    // Counts an MCU whose blocks were read, and reads what follows if it ends an interval.
+    #[inline(always)]
+    fn end_mcu(&mut self) -> Result<(), ScanRefusal>
+        requires { self.old.at.count < self.old.shape.mcus }
+        ensures same { self.new ≡ record self.old { at = self.new.at } }
+        ensures is { standing_read result self.new.at
+            ≡ after_mcu self.old.shape self.old.bytes self.old.at (after_blocks self.old.at) }
+        ensures stays { OnErr result (self.new.at ≡ stopped_at self.old.at self.new.at) }
+    {
         if self.shape.is_closed(self.count + 1) {
             return self.close();
         }

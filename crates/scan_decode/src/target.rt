@@ -39,7 +39,7 @@ impl Target for Block {
     }
 }
 
-/// Keeps no coefficients: for a reader that only goes past an MCU.
+/// Keeps no coefficients: for a symbol of a block that is skipped.
 #[derive(Clone, Copy)]
 pub(crate) struct Nothing {}
 

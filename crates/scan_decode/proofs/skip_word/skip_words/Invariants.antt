@@ -1,0 +1,10 @@
+use Rattle.std.proofs.Common.{◌≡◌, ◌<◌, ℕ, length, get_or}
+use Rattle.bit_list.specs.Bits.{low_bits}
+use Rattle.scan_decode.specs.SkipWords.{Skips, blank}
+use Rattle.scan_decode.proofs.skip_word.skip_words.Given as goal
+
+abbrev pub invariant-loop-index : goal.invariant-loop-index
+invariant-loop-index l = record {
+  size : length l.words ≡ 512;
+  made : (k : ℕ) → k < l.index → Skips l.codes (low_bits 9 k) (get_or l.words k blank);
+}

@@ -1,0 +1,220 @@
+// Blocks that are skipped: nobody keeps their coefficients.
+ghost use Rattle.std.specs.Prelude.{◌≡◌, ◌≤◌, ◌<◌, List, ℤ, ◌∷◌, [], false, length, map, Result, Err, IfSome, IfNone, IfOk, IfErr, OnOk, unsigned_abs};
+ghost use Rattle.std.specs.List.{All};
+ghost use Rattle.bit_list.specs.Units.{Cursor};
+ghost use Rattle.coef_block.specs.Block.{IsDc};
+ghost use Rattle.scan_spec.specs.BlockBits.{coefficient_at, in_zigzag};
+ghost use Rattle.scan_spec.specs.ScanReading.{acs_at, blocks_at, prefixed_values};
+ghost use Rattle.scan_spec.specs.ShapeInside.{slot_in};
+ghost use Rattle.scan_spec.specs.declared.refusal.ScanRefusal.{ScanRefusal as Refusal};
+ghost use Rattle.scan_decode.specs.McuBlocks.{blocks_read};
+ghost use Rattle.scan_decode.specs.SkipWords.{AreSkips, AreSkipCodes, AreSkipSlots, GoesOn, IsRefused};
+ghost use Rattle.scan_decode.specs.ReadResults.{coded_at, values_at_cursor};
+
+use crate::dc::dc;
+use crate::skip_symbols::by_symbols_apart;
+use crate::skip_word::{NO_SKIP, SkipWord, skip_words};
+use bit_list::BitIn;
+use huff_table::{Codes, ComponentCodes};
+use scan_spec::ScanRefusal;
+
+/// What nine bits skip among the AC coefficients of each component.
+#[derive(Drop)]
+pub(crate) struct SkipCodes {
+    words: [[SkipWord; 512]; 4],
+}
+
+impl SkipCodes {
+    /// By the code words of each component.
+    pub(crate) fn build(codes: &[ComponentCodes]) -> SkipCodes
+        requires { length codes.now ≤ 4 }
+        ensures { AreSkipCodes codes.now result.words }
+    {
+        let mut words = [[NO_SKIP; 512]; 4];
+        for (i, component) in codes.iter().enumerate() {
+            words[i] = skip_words(&component.ac);
+        }
+        SkipCodes { words }
+    }
+}
+
+/// The blocks of an MCU, by words that are made with the first one.
+#[inline]
+pub(crate) fn skip_blocks(
+    skips: &mut Option<SkipCodes>,
+    codes: &[ComponentCodes],
+    slots: &[u8],
+    before: &mut [i16; 4],
+    input: &mut BitIn,
+) -> Result<(), ScanRefusal>
+    requires skips { IfSome skips.old
+        (λ known. AreSkipSlots (map (slot_in codes.now) slots.now) known.words) }
+    requires few { length codes.now ≤ 4 }
+    requires slots { All (λ slot. slot < length codes.now) slots.now }
+    requires before { All IsDc before.old }
+    ensures skips { IfSome skips.new
+        (λ known. AreSkipSlots (map (slot_in codes.now) slots.now) known.words) }
+    ensures is { (read : List (List ℤ))
+        × (blocks_read result (map in_zigzag read) before.new input.new.cursor
+        ≡ blocks_at (map
+        (slot_in codes.now) slots.now) before.old input.old.bytes input.old.cursor) }
+    ensures small { All IsDc before.new }
+    ensures bytes { input.new.bytes ≡ input.old.bytes }
+{
+    if let Some(known) = skips {
+        return skip_blocks_by(known, codes, slots, before, input);
+    }
+    let made = SkipCodes::build(codes);
+    let result = skip_blocks_by(&made, codes, slots, before, input);
+    *skips = Some(made);
+    result
+}
+
+// The blocks of an MCU, each of the component that its slot names, after the last DC of each component.
+#[inline]
+fn skip_blocks_by(
+    skips: &SkipCodes,
+    codes: &[ComponentCodes],
+    slots: &[u8],
+    before: &mut [i16; 4],
+    input: &mut BitIn,
+) -> Result<(), ScanRefusal>
+    requires skips { AreSkipSlots (map (slot_in codes.now) slots.now) skips.now.words }
+    requires few { length codes.now ≤ 4 }
+    requires slots { All (λ slot. slot < length codes.now) slots.now }
+    requires before { All IsDc before.old }
+    ensures is { (read : List (List ℤ))
+        × (blocks_read result (map in_zigzag read) before.new input.new.cursor
+        ≡ blocks_at (map
+        (slot_in codes.now) slots.now) before.old input.old.bytes input.old.cursor) }
+    ensures small { All IsDc before.new }
+    ensures bytes { input.new.bytes ≡ input.old.bytes }
+{
+    let mut local = input.copied();
+    let result = skip_blocks_of(skips, codes, slots, before, &mut local);
+    *input = local;
+    result
+}
+
+// The same for an input in a local value, whose state stays in registers.
+#[inline(always)]
+fn skip_blocks_of(
+    skips: &SkipCodes,
+    codes: &[ComponentCodes],
+    slots: &[u8],
+    before: &mut [i16; 4],
+    input: &mut BitIn,
+) -> Result<(), ScanRefusal>
+    requires skips { AreSkipSlots (map (slot_in codes.now) slots.now) skips.now.words }
+    requires few { length codes.now ≤ 4 }
+    requires slots { All (λ slot. slot < length codes.now) slots.now }
+    requires before { All IsDc before.old }
+    ensures is { (read : List (List ℤ))
+        × (blocks_read result (map in_zigzag read) before.new input.new.cursor
+        ≡ blocks_at (map
+        (slot_in codes.now) slots.now) before.old input.old.bytes input.old.cursor) }
+    ensures small { All IsDc before.new }
+    ensures bytes { input.new.bytes ≡ input.old.bytes }
+{
+    for i in 0..slots.len() {
+        let component = usize::from(slots[i]);
+        before[component] = skip_block(
+            &skips.words[component],
+            &codes[component],
+            before[component],
+            input,
+        )?;
+    }
+    Ok(())
+}
+
+// A block after one with the DC before. Answers its DC.
+#[inline(always)]
+fn skip_block(
+    words: &[SkipWord; 512],
+    codes: &ComponentCodes,
+    before: i16,
+    input: &mut BitIn,
+) -> Result<i16, ScanRefusal>
+    requires words { AreSkips codes.now.ac words.now }
+    requires before { IsDc before }
+    ensures is { (block : List ℤ)
+        × (values_at_cursor result (in_zigzag block) input.new.cursor
+        ≡ coded_at codes.now before input.old.bytes input.old.cursor)
+        × IfOk result (λ dc. dc ≡ coefficient_at block 0) }
+    ensures small { IfOk result IsDc }
+    ensures bytes { input.new.bytes ≡ input.old.bytes }
+{
+    let value = dc(&codes.dc, before, input)?;
+    skip_acs(words, &codes.ac, input)?;
+    Ok(value)
+}
+
+// The AC coefficients of a block (ITU-T T.81, F.2.2.2).
+#[inline(always)]
+fn skip_acs(words: &[SkipWord; 512], codes: &Codes, input: &mut BitIn) -> Result<(), ScanRefusal>
+    requires { AreSkips codes.now words.now }
+    ensures is { (dc : ℤ) → (block : List ℤ)
+        × (values_at_cursor result (in_zigzag block) input.new.cursor
+        ≡ prefixed_values (dc ∷ []) (acs_at 63 codes.now 63 false input.old.bytes input.old.cursor)) }
+    ensures bytes { input.new.bytes ≡ input.old.bytes }
+{
+    let mut index = 1;
+    while index < 64 {
+        index = skip_symbols(words, codes, input, index)?;
+    }
+    Ok(())
+}
+
+// The zigzag index after the next symbols: those that nine bits begin with, or else up to the first that isn't sixteen
+// zeros.
+#[inline(always)]
+fn skip_symbols(
+    words: &[SkipWord; 512],
+    codes: &Codes,
+    input: &mut BitIn,
+    index: usize,
+) -> Result<usize, ScanRefusal>
+    requires words { AreSkips codes.now words.now }
+    requires some { 0 < index }
+    requires left { index < 64 }
+    ensures ok { IfOk result
+        (λ next. GoesOn codes.now input.old.bytes index input.old.cursor next input.new.cursor) }
+    ensures some { IfOk result (λ next. (index < next) × (next ≤ 64)) }
+    ensures err { IfErr result
+        (λ refusal. IsRefused codes.now input.old.bytes index input.old.cursor refusal) }
+    ensures bytes { input.new.bytes ≡ input.old.bytes }
+{
+    match by_nine_bits(words, codes, input, index) {
+        Some(next) => Ok(next),
+        None => by_symbols_apart(codes, input, index),
+    }
+}
+
+// The zigzag index after the symbols that the next nine bits begin with, if a word has them and its bits are there.
+#[inline(always)]
+fn by_nine_bits(
+    words: &[SkipWord; 512],
+    codes: &Codes,
+    input: &mut BitIn,
+    index: usize,
+) -> Option<usize>
+    requires words { AreSkips codes.now words.now }
+    requires left { index < 64 }
+    ensures is { IfSome result
+        (λ next. GoesOn codes.now input.old.bytes index input.old.cursor next input.new.cursor) }
+    ensures some { IfSome result (λ next. (index < next) × (next ≤ 64)) }
+    ensures none { IfNone result (input.new ≡ input.old) }
+    ensures bytes { input.new.bytes ≡ input.old.bytes }
+{
+    input.ready();
+    let word = words[usize::from(input.peek9())];
+    let next = index + usize::from(word.coefficients);
+    if next > 64 {
+        return None;
+    }
+    match input.take(word.bits) {
+        Ok(_) => Some(if word.ends { 64 } else { next }),
+        Err(_) => None,
+    }
+}
