@@ -2,6 +2,7 @@
 import os
 import shutil
 import subprocess
+import sys
 
 ROOT = os.path.dirname(os.path.dirname(os.path.realpath(__file__)))
 TIME = shutil.which("time")
@@ -33,6 +34,19 @@ def built(crate="lepton", words=("encode",)):
     with open(LEAST_FILE, "rb") as least:
         subprocess.run(["rt", "run", "--", *words], cwd=folder, stdin=least, stdout=subprocess.DEVNULL, check=True)
     return os.path.join(folder, "out", crate)
+
+
+def chosen(program, crate="lepton", words=("encode",)):
+    """The program that was given, or else the built one. If there is none, this script ends with a line that says so."""
+    if program is None:
+        try:
+            return built(crate, words)
+        except (OSError, subprocess.CalledProcessError) as why:
+            sys.exit(f"{crate} can't be built: {why}")
+    found = shutil.which(program)
+    if found is None:
+        sys.exit(f"there is no program at {program}")
+    return os.path.abspath(found)
 
 
 def peak_of(command, source):
