@@ -1,4 +1,5 @@
-//! The board on which workers and an emitter share the segments of a file (docs/THREADS.md, The board). No threads.
+//! The board on which workers and an emitter share some of a container's segments, numbered from 0 here
+//! (docs/THREADS.md, The board). It knows no threads.
 //!
 //!     segment      0          1          2          3          4
 //!               emitted    emitted    claimed    claimed   unclaimed
@@ -11,11 +12,11 @@
 //!     Finish    a segment has an outcome, and nobody owns it
 //!     Advance   `cur` is one more, if its segment is good and its ring empty
 //!     Stop      nothing but Leave happens from then on
-//!     Leave     a worker left
+//!     Leave     a worker left, and owns nothing
 //!
 //! Nothing else happens, and each event only if its condition holds. The laws in `laws.rt` say what holds after every
-//! list of lawful events. Not handled here: the lock and who waits for whom (see `output_board`), and what the bytes
-//! are (see `segment_worker`).
+//! list of lawful events. Not handled here: the lock (see `seat_lock`), seats and the bell (see `output_board`), which
+//! of the container's segments these are (see `segment_crew`), and their bytes (see `segment_worker`).
 #![tactic(auto)]
 
 mod actor;

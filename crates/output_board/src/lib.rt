@@ -1,4 +1,4 @@
-//! The board of a file's segments under a lock, and the calls by which workers and the emitter share it.
+//! A board of some of a container's segments under a lock, and the calls by which workers and the emitter share it.
 //!
 //!                    claim            put              finish
 //!     worker          |                | bytes           | outcome      leave
@@ -9,11 +9,12 @@
 //!     emitter                        take              take             stop
 //!       of its own  claim_own        pass              finish_own
 //!
-//! Each call through a seat is one hold of the lock, and returns what that hold found of the board (`Seen`). A seat's
-//! view is what the seat knows whatever others do: the segment that is its own, and how far it is. A `Content` has the
-//! bytes and the outcome of each segment, of which the clauses speak. A call rings the bell if it changes what another
-//! seat may wait for. `board_core` has the events of a board, `seat_lock` what a lock keeps. Not handled here: coding a
-//! segment and writing it (see `segment_worker`).
+//! Each of these calls is one hold of the lock. Its clauses say what that hold found of the board (`Seen`) and what it
+//! changed. The call rings the bell if it changes what another seat may wait for; `pause_worker` and `pause_emitter`
+//! wait for the bell, and hold nothing. A seat's view is what the seat knows whatever others do: the segment that is
+//! its own, and how far it is. A `Content` has the bytes and the outcome of each segment, which the clauses name. Not
+//! handled here: the events of a board (see `board_core`), what a lock keeps (see `seat_lock`), and coding a segment
+//! and writing it (see `segment_worker`).
 #![tactic(auto)]
 
 mod answers;

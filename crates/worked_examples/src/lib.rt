@@ -1,5 +1,6 @@
-//! What a row of `tests/rows.txt` can't say of the top call: sources and sinks that fail, threads that meet, each byte
-//! changed, samples by their digests, chunks and ranges; and a file of two scans, which the top call refuses.
+//! Tests of the top call, and of the calls right below it, for what a row of `tests/rows.txt` can't show: sources and
+//! sinks that fail, two workers that decode at the same time, each byte of a container changed, samples by their
+//! digests, chunks cut after one pass, which segments a range begins, and files of several scans segment by segment.
 #![tactic(auto)]
 
 #[cfg(test)]
