@@ -11,3 +11,4 @@ pub mod CallEnds
 pub mod LinesNoted
 pub mod SamplesCoded
 pub mod ScansOfBytes
+pub mod AcceptedFiles
