@@ -12,3 +12,4 @@ pub mod LinesNoted
 pub mod SamplesCoded
 pub mod ScansOfBytes
 pub mod AcceptedFiles
+pub mod FilesEncoded
