@@ -12,4 +12,6 @@ pub mod LinesNoted
 pub mod SamplesCoded
 pub mod ScansOfBytes
 pub mod AcceptedFiles
+pub mod TwoScansFile
 pub mod FilesEncoded
+pub mod LeastFile

@@ -15,6 +15,7 @@ ghost use Rattle.chunk_cut.specs.ChunksOfFiles.{chunk_of};
 ghost use Rattle.command_words.specs.declared.command.Command.{Command};
 ghost use Rattle.command_words.specs.declared.command.Command.TheVariants.{Encode, Decode, Migrate, Chunk, Index, Range};
 ghost use Rattle.lepton_run.specs.Answers.{Answer, Answers, Made, limit_of};
+ghost use Rattle.lepton_run.specs.FileRows.{least, two_scans};
 
 /// Each file that is accepted has a container, whatever its number of scans, and for each number of segments.
 pub fn each_accepted_file_has_a_container()
@@ -86,4 +87,10 @@ pub fn migrated_stands_for_the_same()
 pub fn one_answer()
     ensures { (command : Command) (bytes : List ℕ) (a b : Answer)
         → Answers command bytes a → Answers command bytes b → a ≡ b }
+{}
+
+/// The definitions computed on a file of two scans, which is accepted, and on the least file and its container.
+pub fn rows_of_files()
+    ensures two_scans { two_scans }
+    ensures least { least }
 {}
