@@ -5,6 +5,7 @@ use Rattle.outside_core.specs.Faults.{Rose}
 use Rattle.std.specs.List.{AllByRecursion}
 use Rattle.bit_list.specs.Bits.{IsByte}
 use Rattle.jpeg_marker.specs.Plans.{PlanFields}
+use Rattle.scan_spec.specs.FileParts.{FileScan, IsFile}
 use Rattle.box_format.specs.Parts.{BoxParts, IsBoxOf, box_bytes, migrated}
 use Rattle.box_format.specs.Versions.{IsRead, indexable, layout_of, migratable, most_segments, version_in}
 use Rattle.box_format.specs.declared.version.Version.{Version}
@@ -24,11 +25,12 @@ use Rattle.lepton_run.specs.Endings.{ending_line, ending_of, status_at}
 use Rattle.lepton_run.specs.CommandEnds.{Answered, Given, SampleEnds}
 use Rattle.lepton_run.specs.declared.ending.Ending.{Ending}
 use Rattle.lepton_run.specs.declared.ending.Ending.TheVariants.{Done, Refused, WordsRefused, ReadFailed, WriteFailed, NoMemory}
-use Rattle.scans_spec.specs.ScansFiles.{IsContainerOfScans}
+use Rattle.scans_spec.specs.ScansFiles.{IsContainerOfFile, IsContainerOfScans}
 use Rattle.lepton_run.proofs.BothWays.{file_back, scans_back}
 use Rattle.lepton_run.proofs.BoxesOfBytes.{box_are}
 use Rattle.lepton_run.proofs.BytesTaken.{answer_had}
 use Rattle.lepton_run.proofs.ChunksBack.{chunk_back}
+use Rattle.lepton_run.proofs.FilesEncoded.{accepted_made}
 use Rattle.lepton_run.proofs.OneAnswers.{one_answer}
 use Rattle.lepton_run.proofs.RangesBack.{are_placed, indexed_answer, range_within}
 use Rattle.lepton_run.proofs.SameCommand.{same_command}
@@ -50,7 +52,7 @@ answer_to words command other had taken left rest given means meant is took so =
     (answer_had other had taken left rest given input took so)
 
 -- and they have one, whichever of them were taken
-same_answer : (words : List (List ℕ)) (command other : Command) (had taken : List ℕ)
+pub same_answer : (words : List (List ℕ)) (command other : Command) (had taken : List ℕ)
     (left rest : Option (List ℕ)) (answer given : Answer)
     → Means words command → Means words other → IsInput command left had
     → Took other left rest taken → Answers other taken given
@@ -189,6 +191,45 @@ module _ {Sink Source : Type 0} (held : Sink → Option (List ℕ)) (faults : Si
   outside_of WriteFailed status is ends command had means calm still all none =
       absurd (still ends.2.3.1.rose)
   outside_of (NoMemory short) status is ends command had means calm still all none = inr is
+
+  -- a file that is accepted is encoded
+  pub accepted_of : (ending : Ending) (status : ℕ) → status ≡ status_at ending → Ends ending
+      → (most : ℕ) (file : List ℕ) (scans : List FileScan) (trailer : List ℕ)
+      → Means words (Encode most) → ¬ Rose failures lost source rest
+      → ¬ Rose faults full old new → left source ≡ Some file
+      → length file ≤ limit_of (Encode most) → IsFile file scans trailer
+      → ((status ≡ 0) × (made : List ℕ) × IsContainerOfFile most made file
+      × Appends (held old) (held new) made) ⊎ (status ≡ 5)
+  accepted_of Done status is ends most file scans trailer means calm still had short accepted =
+      let given = ends.2.3 in
+      let made = accepted_made most file scans trailer given.0 short accepted
+      (answer_to words (Encode most) ends.0 file ends.2.0 (left source) (left rest) given.0 means ends.1
+      had ends.2.1 given.1.answers) in
+      inl (
+        is,
+        made.0,
+        made.2,
+        subst (λ (a : Answer). Appends (held old) (held new) (bytes_of a)) made.1 given.1.appended,
+      )
+  accepted_of (Refused refusal) status is ends most file scans trailer means calm still had short
+      accepted =
+      let given = ends.2.3 in
+      let made = accepted_made most file scans trailer given.0 short accepted
+      (answer_to words (Encode most) ends.0 file ends.2.0 (left source) (left rest) given.0 means ends.1
+      had ends.2.1 given.1.answers) in
+      absurd (let e = given.2 ∙ ap ending_of made.1 in cc)
+  accepted_of WordsRefused status is ends most file scans trailer means calm still had short
+      accepted =
+      absurd (ends.0 (Encode most) means)
+  accepted_of ReadFailed status is ends most file scans trailer means calm still had short
+      accepted =
+      absurd (calm ends.2.0)
+  accepted_of WriteFailed status is ends most file scans trailer means calm still had short
+      accepted =
+      absurd (still ends.2.3.1.rose)
+  accepted_of (NoMemory short) status is ends most file scans trailer means calm still had few
+      accepted =
+      inr is
 
   pub back_of : (ending : Ending) (status : ℕ) → status ≡ status_at ending → Ends ending
       → Said (ending_line ending) → (version : Version) (workers most : ℕ) (bytes file : List ℕ)

@@ -11,3 +11,7 @@ pub mod CallEnds
 pub mod LinesNoted
 pub mod SamplesCoded
 pub mod ScansOfBytes
+pub mod AcceptedFiles
+pub mod TwoScansFile
+pub mod FilesEncoded
+pub mod LeastFile

@@ -30,12 +30,12 @@ use Rattle.lepton_run.specs.declared.refusal.Refusal.{Refusal}
 use Rattle.lepton_run.specs.declared.refusal.Refusal.TheVariants.{Header, Scan, Box, Fault, PadSpelling, ChunkShort, ManyScans, NoChunk, RangeBad, TooLong}
 
 -- why a file is refused, as the top call says it
-abbrev refusal_of : FileRefusal → Refusal
+abbrev pub refusal_of : FileRefusal → Refusal
 refusal_of (FileHeader refusal) = Header refusal
 refusal_of (FileScan refusal) = Scan refusal
 
 -- a file is refused
-abbrev GivesRefusal : List ℕ → Answer → Type 0
+abbrev pub GivesRefusal : List ℕ → Answer → Type 0
 GivesRefusal bytes a = (r : FileRefusal) × (a ≡ Early (refusal_of r)) × FileIsRefused bytes r
 
 one_refused : (bytes : List ℕ) (a b : Answer) → AllByRecursion IsByte bytes → GivesRefusal bytes a
@@ -45,11 +45,11 @@ one_refused bytes a b all p q =
     ∙ sym q.1
 
 -- encode makes a container, or a file is refused
-abbrev Encoded : ℕ → List ℕ → Answer → Type 0
+abbrev pub Encoded : ℕ → List ℕ → Answer → Type 0
 Encoded n bytes a =
     ((made : List ℕ) × (a ≡ Made made) × IsContainerOfFile n made bytes) ⊎ GivesRefusal bytes a
 
-encoded_so : (n : ℕ) (bytes : List ℕ) (a : Answer) → Makes (Encode n) bytes a → Encoded n bytes a
+pub encoded_so : (n : ℕ) (bytes : List ℕ) (a : Answer) → Makes (Encode n) bytes a → Encoded n bytes a
 encoded_so n bytes (Made made) p = inl (made, refl, p)
 encoded_so n bytes (Early (Header r)) p = inr (FileHeader r, refl, p)
 encoded_so n bytes (Early (Scan r)) p = inr (FileScan r, refl, p)

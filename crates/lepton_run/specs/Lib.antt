@@ -5,3 +5,4 @@ pub mod Answers
 pub mod Endings
 pub mod CommandEnds
 pub mod DecodeEndings
+pub mod FileRows

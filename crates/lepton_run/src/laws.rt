@@ -1,17 +1,28 @@
 // What holds of every file and every container.
 ghost use Rattle.std.specs.Prelude.{◌≡◌, ◌*◌, ◌<◌, ◌≤◌, ℕ, List, false, true, flat_map, length, sum};
 ghost use Rattle.std.specs.List.{AllByRecursion};
+ghost use Rattle.bit_list.specs.Bits.{IsByte};
+ghost use Rattle.scan_spec.specs.FileParts.{FileScan, IsFile};
 ghost use Rattle.box_format.specs.Raws.{numbers};
 ghost use Rattle.box_format.specs.Versions.{layout_of, most_segments, version_in};
 ghost use Rattle.box_format.specs.declared.version.Version.TheVariants.{Second, Third};
 ghost use Rattle.byte_window.specs.Slices.{slice};
 ghost use Rattle.container_spec.specs.Files.{IsContainerOf};
+ghost use Rattle.container_spec.specs.Limits.{most_of_a_file};
 ghost use Rattle.scans_format.specs.Containers.{names_several};
-ghost use Rattle.scans_spec.specs.ScansFiles.{IsContainerOfScans};
+ghost use Rattle.scans_spec.specs.ScansFiles.{IsContainerOfFile, IsContainerOfScans};
 ghost use Rattle.chunk_cut.specs.ChunksOfFiles.{chunk_of};
 ghost use Rattle.command_words.specs.declared.command.Command.{Command};
 ghost use Rattle.command_words.specs.declared.command.Command.TheVariants.{Encode, Decode, Migrate, Chunk, Index, Range};
 ghost use Rattle.lepton_run.specs.Answers.{Answer, Answers, Made, limit_of};
+ghost use Rattle.lepton_run.specs.FileRows.{least, two_scans};
+
+/// Each file that is accepted has a container, whatever its number of scans, and for each number of segments.
+pub fn each_accepted_file_has_a_container()
+    ensures { (most : ℕ) (file : List ℕ) (scans : List FileScan) (trailer : List ℕ)
+        → AllByRecursion IsByte file → IsFile file scans trailer → length file ≤ most_of_a_file
+        → (made : List ℕ) × IsContainerOfFile most made file }
+{}
 
 /// What was encoded is decoded: of the container that encode makes of a file, in any number of segments, decode makes
 /// that file, with any number of workers.
@@ -76,4 +87,10 @@ pub fn migrated_stands_for_the_same()
 pub fn one_answer()
     ensures { (command : Command) (bytes : List ℕ) (a b : Answer)
         → Answers command bytes a → Answers command bytes b → a ≡ b }
+{}
+
+/// The definitions computed on a file of two scans, which is accepted, and on the least file and its container.
+pub fn rows_of_files()
+    ensures two_scans { two_scans }
+    ensures least { least }
 {}

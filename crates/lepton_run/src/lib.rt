@@ -28,8 +28,9 @@ mod writing;
 pub use command_words::Command;
 pub use ending::Ending;
 pub use laws::{
-    chunks_are_decoded_alone, decode_undoes_encode, migrated_stands_for_the_same, one_answer,
-    one_spelling_a_file, ranges_are_read_alone,
+    chunks_are_decoded_alone, decode_undoes_encode, each_accepted_file_has_a_container,
+    migrated_stands_for_the_same, one_answer, one_spelling_a_file, ranges_are_read_alone,
+    rows_of_files,
 };
 pub use refusal::Refusal;
 pub use top::{no_memory_for_words, run};

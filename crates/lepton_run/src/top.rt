@@ -5,6 +5,7 @@ ghost use Rattle.std.specs.Io.KnownBytes.{Appends};
 ghost use Rattle.outside_core.specs.Faults.{Rose};
 ghost use Rattle.outside_core.specs.Takes.{TakesAll};
 ghost use Rattle.jpeg_marker.specs.Plans.{PlanFields};
+ghost use Rattle.scan_spec.specs.FileParts.{FileScan, IsFile};
 ghost use Rattle.container_spec.specs.Files.{IsContainerOf};
 ghost use Rattle.container_spec.specs.Meanings.{IsMeaning, Meaning, Restored};
 ghost use Rattle.byte_window.specs.Slices.{slice};
@@ -12,7 +13,7 @@ ghost use Rattle.box_format.specs.Parts.{BoxParts, IsBoxOf, box_bytes, migrated}
 ghost use Rattle.box_format.specs.Versions.{IsRead, indexable, layout_of, migratable, most_segments, version_in};
 ghost use Rattle.box_format.specs.declared.version.Version.{Version};
 ghost use Rattle.box_format.specs.declared.version.Version.TheVariants.{Fifth, Third};
-ghost use Rattle.scans_spec.specs.ScansFiles.{IsContainerOfScans};
+ghost use Rattle.scans_spec.specs.ScansFiles.{IsContainerOfFile, IsContainerOfScans};
 ghost use Rattle.chunk_cut.specs.ChunksOfFiles.{IsChunkOf, chunk_of};
 ghost use Rattle.command_words.specs.Meaning.{IsInRange, Means};
 ghost use Rattle.command_words.specs.declared.command.Command.{Command};
@@ -50,10 +51,10 @@ use std::thread::Threads;
 ///
 /// The commands are `encode` with `--segments`, `decode` with `--workers`, `migrate`, `chunk` with `--index`, `--size`
 /// and `--segments`, `index`, `range` with `--from`, `--to` and `--workers`, or `sample` with `--seed`, `--columns` and
-/// `--rows`, as `command_words` has them. The whole source is read before anything is written. Once the first byte is
-/// written, no memory is asked for but what a new thread is handed. `sample` reads nothing. The segments of a file are
-/// coded, and those of a container decoded, in other threads too if these can be had. A failure of `note` changes no
-/// status.
+/// `--rows`, as `command_words` has them. `encode` accepts each file that docs/JPEG.md accepts, up to 64 MiB
+/// (`accepted`). The whole source is read before anything is written. Once the first byte is written, no memory is
+/// asked for but what a new thread is handed. `sample` reads nothing. The segments of a file are coded, and those of a
+/// container decoded, in other threads too if these can be had. A failure of `note` changes no status.
 pub fn run<R: Threads + Wait + Sync, S: Source, K: Sink + Send, N: Sink + Send, G: Gate + Sync>(
     rt: &R,
     alloc: Global,
@@ -134,6 +135,16 @@ pub fn run<R: Threads + Wait + Sync, S: Source, K: Sink + Send, N: Sink + Send, 
         → IsInput command (S.left source.old) bytes
         → ((made : List ℕ) → ¬ Answers command bytes (Made made))
         → (status_at result ≡ 1) ⊎ (status_at result ≡ 5) }
+
+    // A file that docs/JPEG.md accepts is encoded: exactly its container is appended.
+    ensures accepted { (most : ℕ) (file : List ℕ) (scans : List FileScan) (trailer : List ℕ)
+        → Means (map string_bytes words.now) (Encode most)
+        → ¬ Rose S.faults S.full source.old source.new → ¬ Rose K.faults K.full sink.old sink.new
+        → S.left source.old ≡ Some file → length file ≤ limit_of (Encode most)
+        → IsFile file scans trailer
+        → ((status_at result ≡ 0) × (made : List ℕ) × IsContainerOfFile most made file
+        × Appends (K.held sink.old) (K.held sink.new) made)
+        ⊎ (status_at result ≡ 5) }
 
     // What was encoded is decoded: of the container of a file of one scan within the limit, in a version that can say
     // its pad bits, exactly that file is appended.

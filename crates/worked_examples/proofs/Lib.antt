@@ -1,0 +1,2 @@
+pub mod LeastEncoded
+pub mod WrittenPieces
