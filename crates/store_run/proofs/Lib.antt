@@ -5,3 +5,4 @@ pub mod Turned
 pub mod Served
 pub mod OneReading
 pub mod RunsAsRead
+pub mod KeptFiles

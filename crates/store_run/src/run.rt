@@ -3,9 +3,12 @@ ghost use Rattle.std.specs.Prelude.{◌≡◌, ◌≤◌, [], IfSome, IfNone};
 ghost use Rattle.outside_core.specs.Takes.{TakesAll};
 ghost use Rattle.blob_store.specs.Journals.{AreBy};
 ghost use Rattle.blob_store.specs.States.{HasRisen};
+ghost use Rattle.photo_store.specs.FileEntries.{AreSame};
+ghost use Rattle.photo_store.specs.FileStores.{no_files};
 ghost use Rattle.store_run.specs.Answering.{IsLater, IsSameCaller};
+ghost use Rattle.store_run.specs.Kept.{HasKept, HaveFiles};
 ghost use Rattle.store_run.specs.Reading.{call_of};
-ghost use Rattle.store_run.specs.Records.{IsWhole, most_records};
+ghost use Rattle.store_run.specs.Records.{IsWhole, files_by, most_records};
 ghost use Rattle.store_run.specs.RunEnds.{Ends, KeeperRose, Notes, line_of, status_of};
 ghost use Rattle.store_run.specs.Turns.{CallTurns, Turns, ending_by};
 
@@ -54,6 +57,11 @@ pub fn run_store<R: Threads + Wait + Sync, S: Source, K: Sink, N: Sink, P: Keepe
     // How it ends: what was read, and which replies were written.
     ensures ends { Ends S.left K.held S.faults S.full K.faults K.full source.old source.new
         sink.old sink.new (KeeperRose P.fault_count keeper result.1) result.0 }
+
+    // However it ends, the keeper that is given back has the blob of each file that the answered records leave in the
+    // store.
+    ensures kept_files { IfSome result.1 (λ last. HasKept S.left K.held source.old source.new
+        sink.old sink.new (HaveFiles (P.blobs last)) result.0) }
 
     // The ending's line, or a prefix of it if `note` failed.
     ensures notes { Notes N.held N.faults N.full note.old note.new (line_of result.0) }
@@ -111,6 +119,10 @@ fn serve<R: Threads + Wait + Sync, S: Source, K: Sink, P: Keeper>(
         → Ends S.left K.held S.faults S.full K.faults K.full
         source.old source.new sink.old sink.new
         (HasRisen caller.old.view.faults caller.new.view.faults) result }
+    ensures kept { AreBy 0 caller.new.view.seen
+        → HasKept S.left K.held source.old source.new sink.old sink.new
+        (λ records. AreSame caller.new.view.blobs caller.new.view.mine (files_by no_files records))
+        result }
     ensures same { IsSameCaller caller.old caller.new }
     ensures source_lasting { S.faults source.old ≤ S.faults source.new }
     ensures sink_lasting { K.faults sink.old ≤ K.faults sink.new }
