@@ -6,3 +6,4 @@ pub mod Served
 pub mod OneReading
 pub mod RunsAsRead
 pub mod KeptFiles
+pub mod RepliesTaken

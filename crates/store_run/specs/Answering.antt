@@ -81,11 +81,19 @@ pub record IsLater (old new : CallerValue) : Type 0 where
   pub faults : old.view.faults ≤ new.view.faults
   pub entries : length new.view.mine ≤ length old.view.mine + 1
 
+-- an answer is a reply that some store of files would give
+abbrev pub IsReply : FileCall → Result Answer Stop → Type 0
+IsReply call (Ok answer) =
+    (files : Files)
+    × (answer_bytes answer ≡ reply_bytes call (file_reply (files (key_asked call)) call))
+IsReply call (Err stop) = Unit {0}
+
 -- what a call gives
 pub record HasAnswered (old new : CallerValue) (call : FileCall) (result : Result Answer Stop)
     : Type 0 where
   pub later : IsLater old new
   pub gives : Gives old new call result
+  pub reply : IsReply call result
 
 -- a caller after some calls
 pub record IsSameCaller (old new : CallerValue) : Type 0 where

@@ -5,3 +5,4 @@ pub mod RunEnds
 pub mod Turns
 pub mod RecordLaws
 pub mod Kept
+pub mod TakesReplies
