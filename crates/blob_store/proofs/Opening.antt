@@ -1,8 +1,9 @@
 -- A store before the first call.
-use Rattle.std.proofs.Common.{◌≡◌, ℕ, zero, suc, List, [], ◌∷◌, ◌++◌, sym, ◌∙◌, subst, refl, append-nil, arith}
+use Rattle.std.proofs.Common.{◌≡◌, ℕ, zero, suc, List, [], ◌∷◌, ◌++◌, sym, ◌∙◌, subst, refl, append-nil, arith, ap, length}
 use mathlib.Core.Option.{some, some-injective, some-ne-none}
 use lib.ListN.{get_elem?}
 use Rattle.blob_store.specs.declared.view.View.{View}
+use Rattle.blob_store.specs.Journals.{calls_by, stored_in}
 use Rattle.blob_store.specs.States.{empty_store}
 use Rattle.blob_store.specs.StoreRule.{Fits, FitsCaller}
 
@@ -22,7 +23,9 @@ opening suits faults limit v seen mine blobs count most = record {
   each = λ j u e. subst (λ (w : View). FitsCaller (empty_store faults limit) j w) (only v u j e) record {
     seen = ([], nothing v.seen seen);
     mine = sym mine;
+    own = ap (calls_by j) seen ∙ sym mine;
     blobs = ([], nothing v.blobs blobs);
+    counted = ap (λ (bs : List (List ℕ)). length bs) blobs ∙ sym (ap stored_in seen);
     faults = omega (arith, count);
     limit = sym most;
   };

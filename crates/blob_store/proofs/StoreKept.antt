@@ -219,7 +219,11 @@ module _ (suits : List ℕ → List ℕ → Type 0) where
       seen = itself t.journal _ m.journal;
       mine = ap (calls_by id) m.journal ∙ (by_own id asked answer s.journal
           ∙ ap (λ (l : List Record). l ++ entries_by id asked answer) f.mine);
+      own = by_own id asked answer s.journal
+          ∙ ap (λ (l : List Record). l ++ entries_by id asked answer) f.mine;
       blobs = itself t.blobs _ m.blobs;
+      counted = ap (λ (bs : List (List ℕ)). length bs) (sym m.blobs)
+          ∙ ((sound_after s t id asked answer h.sound e fit).named ∙ ap stored_in m.journal);
       faults = omega arith;
       limit = m.limit ∙ f.limit;
     }
@@ -229,8 +233,10 @@ module _ (suits : List ℕ → List ℕ → Type 0) where
       seen = subst (λ (l : List Record). StartsWith l u.seen) (sym m.journal)
           (longer s.journal u.seen (entries_by id asked answer) g.seen);
       mine = ap (calls_by j) m.journal ∙ (by_other id j asked answer s.journal (λ k. other (sym k)) ∙ g.mine);
+      own = g.own;
       blobs = subst (λ (l : List (List ℕ)). StartsWith l u.blobs) (sym m.blobs)
           (longer s.blobs u.blobs (blobs_by asked answer) g.blobs);
+      counted = g.counted;
       faults = let a = m.faults in let b = g.faults in omega (arith, a, b);
       limit = m.limit ∙ g.limit;
     }

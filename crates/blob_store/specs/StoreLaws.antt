@@ -1,10 +1,15 @@
 -- Law: what holds of every journal (own).
-use Rattle.std.specs.Prelude.{◌≡◌, ℕ, List, ◌∷◌, ◌++◌, Some}
+use Rattle.std.specs.Prelude.{◌≡◌, ◌⊎◌, ℕ, List, ◌∷◌, ◌++◌, Some}
+use mathlib.Core.Option.{some}
+use lib.ListN.{get_elem?}
 use Rattle.std.specs.List.{AllByRecursion}
 use Rattle.blob_store.specs.declared.record.Reply.{Reply}
 use Rattle.blob_store.specs.declared.record.Reply.TheVariants.{Stored, Held, Found, Missing, Removed}
 use Rattle.blob_store.specs.declared.record.Record.{Record}
-use Rattle.blob_store.specs.Journals.{kept}
+use Rattle.blob_store.specs.declared.view.View.{View}
+use Rattle.blob_store.specs.Journals.{StartsWith, calls_by, kept}
+use Rattle.blob_store.specs.States.{StoreState}
+use Rattle.blob_store.specs.StoreRule.{Fits}
 
 -- a reply after which the key has what it had, whatever that was
 abbrev pub IsQuiet : Reply → Type 0
@@ -33,3 +38,12 @@ abbrev pub KeptIsStoredLast : Type 0
 KeptIsStoredLast =
     (journal : List Record) (key : List ℕ) (number : ℕ) → kept journal key ≡ Some number
     → IsStoredLast journal key number
+
+-- two callers of a store know one journal and one list of blobs, each caller as far as its last call: what one knows is
+-- a prefix of what the other knows, and each knows all entries of its own
+abbrev pub OneJournal : (List ℕ → List ℕ → Type 0) → Type 0
+OneJournal suits =
+    (store : StoreState) (views : List View) (i j : ℕ) (v w : View) → Fits suits store views
+    → get_elem? views i ≡ some v → get_elem? views j ≡ some w
+    → (StartsWith w.seen v.seen ⊎ StartsWith v.seen w.seen)
+    × (StartsWith w.blobs v.blobs ⊎ StartsWith v.blobs w.blobs) × (calls_by i v.seen ≡ v.mine)

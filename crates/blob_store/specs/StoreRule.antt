@@ -11,16 +11,18 @@ use Rattle.blob_store.specs.declared.view.View.{View}
 use Rattle.blob_store.specs.declared.note.Ask.{Ask}
 use Rattle.blob_store.specs.declared.note.Ask.TheVariants.{Put, Find, Remove}
 use Rattle.blob_store.specs.declared.note.Note.{Note}
-use Rattle.blob_store.specs.Journals.{StartsWith, calls_by}
+use Rattle.blob_store.specs.Journals.{StartsWith, calls_by, stored_in}
 use Rattle.blob_store.specs.States.{StoreState, Asked, Puts, Finds, Removes, IsSound, entry_of}
 use Rattle.blob_store.specs.CallSteps.{Calls, added_by}
 
--- what the caller with this number knows: a prefix of the journal and of the blobs, all its own entries, a count of
--- faults that the keeper's isn't below, and the journal's limit
+-- what the caller with this number knows: a prefix of the journal, with all its own entries; as many of the blobs, from
+-- the first on, as that prefix stored; a count of faults that the keeper's isn't below; and the journal's limit
 pub record FitsCaller (store : StoreState) (caller : ℕ) (view : View) : Type 0 where
   pub seen : StartsWith store.journal view.seen
   pub mine : calls_by caller store.journal ≡ view.mine
+  pub own : calls_by caller view.seen ≡ view.mine
   pub blobs : StartsWith store.blobs view.blobs
+  pub counted : length view.blobs ≡ stored_in view.seen
   pub faults : view.faults ≤ store.faults
   pub limit : store.limit ≡ view.limit
 

@@ -1,6 +1,6 @@
 // A store, its callers, and their calls.
 ghost use Rattle.std.specs.Prelude.{◌≡◌, ◌<◌, ◌≤◌, [], IfOk};
-ghost use Rattle.blob_store.specs.Journals.{AreBy, StartsWith};
+ghost use Rattle.blob_store.specs.Journals.{AreBy};
 ghost use Rattle.blob_store.specs.States.{Puts, Finds, Removes, find_reply};
 ghost use Rattle.blob_store.specs.Callers.{CallGives, FoundBlob, new_callers};
 
@@ -138,7 +138,7 @@ impl<P: Keeper, F: Form> BlobStore<P, F> {
         requires own { caller.table ≡ self }
         requires first { caller.number ≡ 0 }
         requires alone { caller.splits ≡ 0 }
-        ensures blobs { StartsWith (P.blobs result) caller.view.blobs }
+        ensures blobs { P.blobs result ≡ caller.view.blobs }
         ensures faults { caller.view.faults ≤ P.fault_count result }
         ensures sole { AreBy 0 caller.view.seen }
     {

@@ -27,7 +27,7 @@ mod view;
 pub use caller::{BlobCaller, BlobStore};
 pub use keeper::{Keep, Keeper};
 pub use keepers::{FakeKeeper, VecKeeper};
-pub use laws::what_a_key_has_was_stored_last;
+pub use laws::{callers_share_one_journal, what_a_key_has_was_stored_last};
 pub use note::{Ask, Counts, Note};
 pub use record::{Call, Key, Record, Reply, Sought, Stop};
 pub use rule::{Form, StoreRule};

@@ -1,7 +1,7 @@
 // A store of photos, its callers, and their calls.
 ghost use Rattle.std.specs.Prelude.{◌≡◌, ◌<◌, ◌≤◌, [], length, IfOk, IsErrOf};
 ghost use Rattle.container_spec.specs.Limits.{most_of_a_file};
-ghost use Rattle.blob_store.specs.Journals.{AreBy, StartsWith};
+ghost use Rattle.blob_store.specs.Journals.{AreBy};
 ghost use Rattle.blob_store.specs.Callers.{new_callers};
 ghost use Rattle.blob_store.specs.declared.record.Stop.TheVariants.{Clash};
 ghost use Rattle.photo_store.specs.Photos.{PutGives, FindGives, RemoveGives, HasTwin};
@@ -67,7 +67,7 @@ impl<P: Keeper> Store<P> {
         requires own { caller.table ≡ self }
         requires first { caller.number ≡ 0 }
         requires alone { caller.splits ≡ 0 }
-        ensures blobs { StartsWith (P.blobs result) caller.view.blobs }
+        ensures blobs { P.blobs result ≡ caller.view.blobs }
         ensures faults { caller.view.faults ≤ P.fault_count result }
         ensures sole { AreBy 0 caller.view.seen }
     {

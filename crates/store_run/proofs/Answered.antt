@@ -1,11 +1,12 @@
 -- What the calls of a store's sole caller are answered.
-use Rattle.std.proofs.Common.{◌≡◌, ◌≢◌, ℕ, Bool, true, false, List, ◌∷◌, ◌++◌, length, Option, Some, None, inl, inr, sym, ap, ◌∙◌, subst, refl, arith}
+use Rattle.std.proofs.Common.{◌≡◌, ◌≢◌, ℕ, Bool, true, false, List, [], ◌∷◌, ◌++◌, length, Option, Some, None, inl, inr, sym, ap, ◌∙◌, subst, refl, arith}
 use Rattle.std.specs.Prelude.{slice_get, if◌then◌else◌, bytes_eq}
 use Rattle.std.specs.Global.{Vec}
 use Rattle.std.specs.declared.result.Result.{Result}
 use Rattle.std.specs.declared.result.Result.TheVariants.{Ok, Err}
 use Rattle.std.proofs.lemmas.Slice.Eq.{bytes_eq-Decides}
 use Rattle.sha2.specs.Sha256.{sha256}
+use Rattle.growth.specs.declared.no_memory.NoMemory.{NoMemory as OutOfMemory}
 use Rattle.byteorder.specs.Endian.{big_bytes}
 use Rattle.blob_store.specs.declared.record.Call.TheVariants.{Put, Find, Remove}
 use Rattle.blob_store.specs.declared.record.Record.{Record}
@@ -17,8 +18,8 @@ use Rattle.blob_store.specs.States.{Asked, Puts, Finds, HasRisen, Removes}
 use Rattle.blob_store.specs.Callers.{CallerValue, HasCalled}
 use Rattle.photo_blob.specs.Blobs.{IsBlobOf}
 use Rattle.photo_blob.proofs.BlobFiles.{one_blob, one_file}
-use Rattle.photo_store.specs.FileEntries.{IsFileAt, HasSame}
-use Rattle.photo_store.specs.FileStores.{Files, PutFile, FindFile, RemoveFile, FileHeld, FileClash, file_reply, file_left, files_after}
+use Rattle.photo_store.specs.FileEntries.{AreSame, IsFileAt, HasSame}
+use Rattle.photo_store.specs.FileStores.{Files, PutFile, FindFile, RemoveFile, FileHeld, FileClash, file_reply, file_left, files_after, no_files}
 use Rattle.photo_store.specs.Photos.{SuitsKey, PutGives, FindGives, RemoveGives}
 use Rattle.photo_store.specs.declared.answers.Put.TheVariants.{Stored as PutStored, Held as PutHeld}
 use Rattle.photo_store.specs.declared.answers.Find.TheVariants.{Found as FindFound, Missing as FindMissing}
@@ -26,7 +27,7 @@ use Rattle.photo_store.specs.declared.answers.Remove.TheVariants.{Removed as Rem
 use Rattle.photo_store.specs.declared.answers.Put.{Put as PutAnswer}
 use Rattle.photo_store.specs.declared.answers.Remove.{Remove as RemoveAnswer}
 use Rattle.photo_store.proofs.FileRuns.{bytes_same}
-use Rattle.store_run.specs.Answering.{Gives, HasAnswered, put_answer, remove_answer}
+use Rattle.store_run.specs.Answering.{Gives, HasAnswered, IsTied, KeepsFiles, put_answer, remove_answer}
 use Rattle.store_run.specs.Records.{clash_mark, found_mark, held_mark, not_found_mark, reply_bytes, stored_mark}
 use Rattle.store_run.specs.declared.answers.Answer.TheVariants.{Keyed, File, Mark}
 use Rattle.store_run.proofs.SoleCalls.{all_own, is_later, replied_own, stays_later, still_same, tied_after}
@@ -96,9 +97,22 @@ full_gives old new asked h sole first =
     let mine : new.view.seen ≡ old.view.mine = all_own old new asked (Err Full) h first sole ∙ h.answered.mine in
     ap length (sym mine) ∙ (h.answered.cause ∙ h.knows.limit)
 
+-- without a reply the files stay
+stop_keeps : (old new : CallerValue) (asked : Asked) (stop : Stop) → HasCalled SuitsKey old new asked (Err stop)
+    → KeepsFiles old new
+stop_keeps old new asked stop h files sole tied = record {
+  first = h.number ∙ tied.first;
+  same = subst (λ (l : List Record). AreSame new.view.blobs l files) (sym h.answered.mine)
+      (still_same old new asked (Err stop) h files tied.same);
+}
+
+-- and without a call
+still_keeps : (old new : CallerValue) → new ≡ old → KeepsFiles old new
+still_keeps old new e files sole tied = subst (λ (v : CallerValue). IsTied v files) (sym e) tied
+
 fault_gives : (old new : CallerValue) (asked : Asked) → HasCalled SuitsKey old new asked (Err KeeperFault)
-    → HasRisen old.view.faults new.view.faults
-fault_gives old new asked h = h.answered.cause.1
+    → HasRisen old.view.faults new.view.faults × KeepsFiles old new
+fault_gives old new asked h = (h.answered.cause.1, stop_keeps old new asked KeeperFault h)
 
 -- ---- puts
 
@@ -196,31 +210,61 @@ module _ (old new : CallerValue) (file blob : List ℕ) (is : IsBlobOf blob file
         ),
   )
 
+-- ---- a store of files that would give a reply
+
+-- each key has this file
+abbrev all_have : List ℕ → Files
+all_have file asked = Some file
+
+held_reply : (file : List ℕ) → FileHeld ≡ file_reply (Some file) (PutFile file)
+held_reply file = sym (by_test file file true (bytes_same file))
+
+longer_differs : (file : List ℕ) → 0 ∷ file ≢ file
+longer_differs file e =
+    let long : length (0 ∷ file) ≡ length file = ap (λ (l : List ℕ). length l) e in
+    absurd (omega (arith, long))
+
+clash_reply : (file : List ℕ) → FileClash ≡ file_reply (Some (0 ∷ file)) (PutFile file)
+clash_reply file =
+    sym (by_test file (0 ∷ file) false
+    (not_true (bytes_eq (0 ∷ file) file) (λ e. longer_differs file ((bytes_eq-Decides (0 ∷ file) file).0 e))))
+
 pub put_answered : (old new : CallerValue) (file : List ℕ) (put : Result PutAnswer Stop)
     → PutGives old new file put → HasAnswered old new (PutFile file) (put_answer file put)
 put_answered old new file (Ok (PutStored key front)) g = record {
   later = is_later old new _ _ g.4.0;
+  reply = (no_files, ap (λ (l : List ℕ). stored_mark ∷ l) g.3);
   gives = stored_gives old new file g.0 g.2 g.1 key g.3 g.4.0;
 }
 put_answered old new file (Ok (PutHeld key front)) g = record {
   later = is_later old new _ _ g.4.0;
+  reply = (all_have file, ap (λ (l : List ℕ). held_mark ∷ l) g.3 ∙ ap (reply_bytes (PutFile file)) (held_reply file));
   gives = held_gives old new file g.0 g.2 g.1 key g.3 g.4.0;
 }
 put_answered old new file (Err Clash) (inl g) = let e = g.1 in absurd (cc)
-put_answered old new file (Err Clash) (inr g) =
-    record { later = is_later old new _ _ g.2; gives = clash_gives old new file g.0 g.1 g.2 }
+put_answered old new file (Err Clash) (inr g) = record {
+  later = is_later old new _ _ g.2;
+  gives = clash_gives old new file g.0 g.1 g.2;
+  reply = (all_have (0 ∷ file), ap (reply_bytes (PutFile file)) (clash_reply file));
+}
 put_answered old new file (Err Full) (inl g) = let e = g.1 in absurd (cc)
 put_answered old new file (Err Full) (inr g) =
-    record { later = is_later old new _ _ g.2; gives = full_gives old new _ g.2 }
+    record { later = is_later old new _ _ g.2; gives = full_gives old new _ g.2; reply = tt }
 put_answered old new file (Err KeeperFault) (inl g) = let e = g.1 in absurd (cc)
 put_answered old new file (Err KeeperFault) (inr g) =
-    record { later = is_later old new _ _ g.2; gives = fault_gives old new _ g.2 }
+    record { later = is_later old new _ _ g.2; gives = fault_gives old new _ g.2; reply = tt }
 put_answered old new file (Err (NoMemory short)) (inl g) =
-    record { later = stays_later old new g.2; gives = tt }
+    record { later = stays_later old new g.2; gives = still_keeps old new g.2; reply = tt }
 put_answered old new file (Err (NoMemory short)) (inr g) =
-    record { later = is_later old new _ _ g.2; gives = tt }
+    record { later = is_later old new _ _ g.2; gives = stop_keeps old new _ _ g.2; reply = tt }
 
 -- ---- finds
+
+-- a find leaves the files
+find_left : (files : Files) (sought other : List ℕ) (b : Bool)
+    → (if b then file_left (files other) (FindFile sought) else files other) ≡ files other
+find_left files sought other true = refl
+find_left files sought other false = refl
 
 module _ (old new : CallerValue) (key : List ℕ) where
   pub missing_answered : (front : ℕ) → FindGives old new key (Ok (FindMissing front))
@@ -229,6 +273,7 @@ module _ (old new : CallerValue) (key : List ℕ) where
       let h = g.0 in
       record {
         later = is_later old new (Finds key) (Ok Missing) h;
+        reply = (no_files, refl);
         gives = (
           tt,
           λ files sole tied.
@@ -252,6 +297,7 @@ module _ (old new : CallerValue) (key : List ℕ) where
       let short = suits.short in
       record {
         later = is_later old new (Finds key) (Ok (Found g.0)) h;
+        reply = (all_have shown.items, refl);
         gives = (
           omega (arith, long, short),
           λ files sole tied.
@@ -267,13 +313,33 @@ module _ (old new : CallerValue) (key : List ℕ) where
         );
       }
 
+  -- a find whose file memory is out for
+  pub unshown_answered : (ticket : List ℕ) (front : ℕ) (short : OutOfMemory)
+      → FindGives old new key (Ok (FindFound ticket front))
+      → HasAnswered old new (FindFile key) (Err (NoMemory short))
+  unshown_answered ticket front short g =
+      let h = g.1.0 in
+      record {
+        later = is_later old new (Finds key) (Ok (Found g.0)) h;
+        reply = tt;
+        gives = λ files sole tied.
+            let has = still_same old new (Finds key) (Ok (Found g.0)) h files tied.same key in
+            let after = tied_after old new (Finds key) (Found g.0) h tied.first sole files (FindFile key) tied.same refl has in
+            record {
+              first = after.first;
+              same = λ other.
+                  subst (λ (o : Option (List ℕ)). HasSame new.view.blobs other (kept new.view.mine other) o)
+                  (find_left files key other (bytes_eq key other)) (after.same other);
+            };
+      }
+
   -- a find that stops
   pub find_stopped : (stop : Stop) → FindGives old new key (Err stop)
       → HasAnswered old new (FindFile key) (Err stop)
-  find_stopped Full h = record { later = is_later old new _ _ h; gives = full_gives old new _ h }
+  find_stopped Full h = record { later = is_later old new _ _ h; gives = full_gives old new _ h; reply = tt }
   find_stopped Clash h = absurd h.answered.cause.1
-  find_stopped KeeperFault h = record { later = is_later old new _ _ h; gives = fault_gives old new _ h }
-  find_stopped (NoMemory short) h = record { later = is_later old new _ _ h; gives = tt }
+  find_stopped KeeperFault h = record { later = is_later old new _ _ h; gives = fault_gives old new _ h; reply = tt }
+  find_stopped (NoMemory short) h = record { later = is_later old new _ _ h; gives = stop_keeps old new _ _ h; reply = tt }
 
 -- ---- removals
 
@@ -283,6 +349,7 @@ remove_answered old new key (Ok (RemoveRemoved front)) g =
     let h = g.0 in
     record {
       later = is_later old new (Removes key) (Ok Removed) h;
+      reply = (all_have [], refl);
       gives = (
         tt,
         λ files sole tied.
@@ -298,6 +365,7 @@ remove_answered old new key (Ok (RemoveMissing front)) g =
     let h = g.0 in
     record {
       later = is_later old new (Removes key) (Ok Missing) h;
+      reply = (no_files, refl);
       gives = (
         tt,
         λ files sole tied.
@@ -311,7 +379,8 @@ remove_answered old new key (Ok (RemoveMissing front)) g =
             ),
       );
     }
-remove_answered old new key (Err Full) h = record { later = is_later old new _ _ h; gives = full_gives old new _ h }
+remove_answered old new key (Err Full) h = record { later = is_later old new _ _ h; gives = full_gives old new _ h; reply = tt }
 remove_answered old new key (Err Clash) h = absurd h.answered.cause.1
-remove_answered old new key (Err KeeperFault) h = record { later = is_later old new _ _ h; gives = fault_gives old new _ h }
-remove_answered old new key (Err (NoMemory short)) h = record { later = is_later old new _ _ h; gives = tt }
+remove_answered old new key (Err KeeperFault) h = record { later = is_later old new _ _ h; gives = fault_gives old new _ h; reply = tt }
+remove_answered old new key (Err (NoMemory short)) h =
+    record { later = is_later old new _ _ h; gives = stop_keeps old new _ _ h; reply = tt }

@@ -5,3 +5,5 @@ pub mod Turned
 pub mod Served
 pub mod OneReading
 pub mod RunsAsRead
+pub mod KeptFiles
+pub mod RepliesTaken

@@ -14,9 +14,10 @@ use Rattle.blob_store.proofs.SoleCaller.{first_are_by}
 use Rattle.photo_store.specs.FileEntries.{AreSame}
 use Rattle.photo_store.specs.FileStores.{Files, FileCall, files_after, no_files}
 use Rattle.store_run.specs.Answering.{IsLater, IsTied}
-use Rattle.store_run.specs.Records.{IsWhole, most_records, record_bytes, replies}
-use Rattle.store_run.specs.RunEnds.{Ends, HasAnsweredAll, HasAnsweredSome}
-use Rattle.store_run.specs.Turns.{CallTurns, Calls, IsServing, Stops, StopsFirst, Turns, files_by, reply_in}
+use Rattle.store_run.specs.Kept.{HasKept}
+use Rattle.store_run.specs.Records.{IsWhole, files_by, most_records, record_bytes, replies}
+use Rattle.store_run.specs.RunEnds.{Ends, HasAnswered, HasAnsweredAll, HasAnsweredSome}
+use Rattle.store_run.specs.Turns.{CallTurns, Calls, IsServing, Stops, StopsFirst, Turns, reply_in}
 use Rattle.store_run.specs.declared.ending.Ending.{Ending}
 use Rattle.store_run.specs.declared.ending.Ending.TheVariants.{Answered, BadRecord, ReadFailed, WriteFailed, NoMemory, KeeperFailed, Full}
 
@@ -180,27 +181,32 @@ module _ {Source Sink : Type 0} (left : Source → Option (List ℕ)) (held : Si
         subst (λ (x : Ending). End rose x) same (by_stop rose f.ending room f.sink f.stops)
 
     -- the replies so far, and a part of one more
-    cut_so_far : (call : FileCall) → IsWhole call → Consumes (left now) (left new) (record_bytes call)
+    cut_here : (call : FileCall) → IsWhole call → Consumes (left now) (left new) (record_bytes call)
         → (written : ℕ) → Appends (held mid) (held to) (take written (reply_in (files_by no_files s.records) call))
-        → HasAnsweredSome left held old new from to
-    cut_so_far call whole read written wrote =
+        → HasAnswered left held old new from to (s.records ++ call ∷ []) [] (length (replies no_files s.records) + written)
+    cut_here call whole read written wrote =
         let text = replies no_files s.records in
         let reply = reply_in (files_by no_files s.records) call in
         record {
-          records = s.records ++ call ∷ [];
-          rest = [];
-          written = length text + written;
-          so_far = record {
-            whole = all_more s.records call s.whole whole;
-            read = subst (Consumes (left old) (left new))
-                (sym (append-nil (flat_map record_bytes (s.records ++ call ∷ [])) ∙ bytes_more s.records call))
-                (Consumes-trans (left old) (left now) (left new) _ _ s.read read);
-            wrote = subst (Appends (held from) (held to))
-                (sym (ap (λ (l : List ℕ). take (length text + written) l) (replies_more no_files s.records call)
-                ∙ take-append-add text reply written))
-                (Appends-trans (held from) (held mid) (held to) text (take written reply) s.wrote wrote);
-          };
+          whole = all_more s.records call s.whole whole;
+          read = subst (Consumes (left old) (left new))
+              (sym (append-nil (flat_map record_bytes (s.records ++ call ∷ [])) ∙ bytes_more s.records call))
+              (Consumes-trans (left old) (left now) (left new) _ _ s.read read);
+          wrote = subst (Appends (held from) (held to))
+              (sym (ap (λ (l : List ℕ). take (length text + written) l) (replies_more no_files s.records call)
+              ∙ take-append-add text reply written))
+              (Appends-trans (held from) (held mid) (held to) text (take written reply) s.wrote wrote);
         }
+
+    cut_so_far : (call : FileCall) → IsWhole call → Consumes (left now) (left new) (record_bytes call)
+        → (written : ℕ) → Appends (held mid) (held to) (take written (reply_in (files_by no_files s.records) call))
+        → HasAnsweredSome left held old new from to
+    cut_so_far call whole read written wrote = record {
+      records = s.records ++ call ∷ [];
+      rest = [];
+      written = length (replies no_files s.records) + written;
+      so_far = cut_here call whole read written wrote;
+    }
 
     by_call : (rose : Type 0) (ending : Ending) → count < most_records → AreBy 0 after.view.seen
         → (HasRisen before.view.faults after.view.faults → rose)
@@ -213,12 +219,12 @@ module _ {Source Sink : Type 0} (left : Source → Option (List ℕ)) (held : Si
     by_call rose ReadFailed room sole rises call whole read worked h = absurd h
     by_call rose WriteFailed room sole rises call whole read worked h =
         let w = h.1 (files_by no_files s.records) sole s.tied in (
-          cut_so_far call whole read w.0 w.1,
+          cut_so_far call whole read w.0 w.2,
           subst (λ (k : ℕ). (k < sink_faults to) ⊎ sink_full to) s.sink_worked h.0,
           worked ∙ s.source_worked,
         )
     by_call rose (NoMemory short) room sole rises call whole read worked h =
-        (s.records, record_bytes call, all_so_far (record_bytes call) read h, inr (call, whole, refl), worked ∙ s.source_worked, sink_still h)
+        (s.records, record_bytes call, all_so_far (record_bytes call) read h.0, inr (call, whole, refl), worked ∙ s.source_worked, sink_still h.0)
     by_call rose KeeperFailed room sole rises call whole read worked h = (
       s.records,
       call,
@@ -249,6 +255,78 @@ module _ {Source Sink : Type 0} (left : Source → Option (List ℕ)) (held : Si
         → End rose ending
     turn_ends rose ending room sole rises (inl c) = called_ends rose ending room sole rises c
     turn_ends rose ending room sole rises (inr f) = stopped_ends rose ending room f
+
+    -- what the keeper has then, as the caller knows it
+    abbrev Holds : Ending → Type 0
+    Holds =
+        HasKept left held old new from to
+        (λ (records : List FileCall). AreSame after.view.blobs after.view.mine (files_by no_files records))
+
+    -- no record more was read
+    kept_before : after ≡ before
+        → AreSame after.view.blobs after.view.mine (files_by no_files s.records)
+    kept_before same =
+        subst (λ (c : CallerValue). AreSame c.view.blobs c.view.mine (files_by no_files s.records))
+        (sym same) s.tied.same
+
+    keeps_stop : (ending : Ending) → to ≡ mid → after ≡ before
+        → Stops left held source_faults source_full sink_faults sink_full now new ending → Holds ending
+    keeps_stop Answered still same h = (s.records, [], all_so_far [] h.0 still, kept_before same)
+    keeps_stop BadRecord still same h = (s.records, h.0, all_so_far h.0 h.1 still, kept_before same)
+    keeps_stop ReadFailed still same h = (s.records, h.0, all_so_far h.0 h.1 still, kept_before same)
+    keeps_stop (NoMemory short) still same h = (s.records, h.0, all_so_far h.0 h.1 still, kept_before same)
+    keeps_stop WriteFailed still same h = absurd h
+    keeps_stop KeeperFailed still same h = absurd h
+    keeps_stop Full still same h = absurd h
+
+    keeps_call : (ending : Ending) → count < most_records → AreBy 0 after.view.seen
+        → (call : FileCall) → IsWhole call → Consumes (left now) (left new) (record_bytes call)
+        → CallTurns held sink_faults sink_full mid to before after call (Some ending) → Holds ending
+    keeps_call Answered room sole call whole read h = absurd h
+    keeps_call BadRecord room sole call whole read h = absurd h
+    keeps_call ReadFailed room sole call whole read h = absurd h
+    keeps_call WriteFailed room sole call whole read h =
+        let files = files_by no_files s.records in
+        let w = h.1 files sole s.tied in
+        let reply = reply_in files call in
+        let text = replies no_files s.records in
+        let long : length (replies no_files (s.records ++ call ∷ [])) ≡ length text + length reply =
+        ap (λ (l : List ℕ). length l) (replies_more no_files s.records call) ∙ length-append text reply in
+        let below = w.1 in (
+          s.records ++ call ∷ [],
+          [],
+          length text + w.0,
+          cut_here call whole read w.0 w.2,
+          omega (arith, long, below),
+          subst (AreSame after.view.blobs after.view.mine) (sym (files_more no_files s.records call)) w.3.same,
+        )
+    keeps_call (NoMemory short) room sole call whole read h = (
+      s.records,
+      record_bytes call,
+      all_so_far (record_bytes call) read h.0,
+      (h.1 (files_by no_files s.records) sole s.tied).same,
+    )
+    keeps_call KeeperFailed room sole call whole read h = (
+      s.records,
+      record_bytes call,
+      all_so_far (record_bytes call) read h.0,
+      (h.2 (files_by no_files s.records) sole s.tied).same,
+    )
+    keeps_call Full room sole call whole read h =
+        let full = h sole s.tied.first in
+        let limit = s.limit in
+        let few = s.few in
+        absurd (omega (arith, full, limit, few, room))
+
+    -- after a record after which the run ends
+    pub turn_keeps : (ending : Ending) → count < most_records → AreBy 0 after.view.seen
+        → Turns left held source_faults source_full sink_faults sink_full now new mid to before after (Some ending)
+        → Holds ending
+    turn_keeps ending room sole (inl c) = keeps_call ending room sole c.call c.whole c.read c.turns
+    turn_keeps ending room sole (inr f) =
+        let is = f.is in
+        let same : f.ending ≡ ending = cc in
+        subst Holds same (keeps_stop f.ending f.sink f.caller f.stops)
 
     -- and one after which it doesn't
     pub turn_serves : IsLater before after → AreBy 0 after.view.seen
@@ -297,3 +375,26 @@ module _ {Source Sink : Type 0} (left : Source → Option (List ℕ)) (held : Si
       rose_later old now new from to to caller caller most_records s failed,
       s.sink_worked,
     )
+
+    -- what the keeper has then, as the caller knows it, with `rest` after the records
+    last_kept : (rest : List ℕ) → Consumes (left now) (left new) rest
+        → (records : List FileCall) × (more : List ℕ) × HasAnsweredAll left held old new from to records more
+        × AreSame caller.view.blobs caller.view.mine (files_by no_files records)
+    last_kept rest read =
+        (s.records, rest, all_so_far old now new from to to caller caller most_records s rest read refl, s.tied.same)
+
+    abbrev HoldsHere : Ending → Type 0
+    HoldsHere =
+        HasKept left held old new from to
+        (λ (records : List FileCall). AreSame caller.view.blobs caller.view.mine (files_by no_files records))
+
+    pub last_keeps_answered : Consumes (left now) (left new) [] → HoldsHere Answered
+    last_keeps_answered read = last_kept [] read
+
+    pub last_keeps_full : (byte : ℕ) → Consumes (left now) (left new) (byte ∷ []) → HoldsHere Full
+    last_keeps_full byte read = last_kept (byte ∷ []) read
+
+    pub last_keeps_failed : Keeps (left now) (left new) → HoldsHere ReadFailed
+    last_keeps_failed kept =
+        last_kept []
+        (Consumes-kept (left now) (left now) (left new) [] (Consumes-nil (left now)) kept)

@@ -1,5 +1,5 @@
 -- What answering one record does.
-use Rattle.std.proofs.Common.{◌≡◌, ℕ, List, take, Option, Some, None, subst, refl}
+use Rattle.std.proofs.Common.{◌≡◌, ℕ, ◌<◌, List, length, take, Option, Some, None, subst, refl}
 use Rattle.std.specs.Io.KnownBytes.{Appends}
 use Rattle.std.specs.declared.result.Result.TheVariants.{Ok, Err}
 use Rattle.outside_core.specs.Faults.{Rose}
@@ -33,8 +33,12 @@ module _ {Sink : Type 0} (held : Sink → Option (List ℕ)) (takes : Sink → L
   cut_turns written f = (
     f.rose,
     λ files sole tied.
-        let g = gives.1 files sole tied in
-        (written, subst (λ (l : List ℕ). Appends (held from) (held to) (take written l)) g.0 f.appended),
+        let g = gives.1 files sole tied in (
+          written,
+          subst (λ (l : List ℕ). written < length l) g.0 f.short,
+          subst (λ (l : List ℕ). Appends (held from) (held to) (take written l)) g.0 f.appended,
+          g.1,
+        ),
   )
 
 module _ {Source Sink : Type 0} (left : Source → Option (List ℕ)) (held : Sink → Option (List ℕ))

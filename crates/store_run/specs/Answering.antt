@@ -52,6 +52,11 @@ pub record IsTied (caller : CallerValue) (files : Files) : Type 0 where
   pub first : caller.number ≡ 0
   pub same : AreSame caller.view.blobs caller.view.mine files
 
+-- if the journal has no other entries, the files stay as they were
+abbrev pub KeepsFiles : CallerValue → CallerValue → Type 0
+KeepsFiles old new =
+    (files : Files) → AreBy 0 new.view.seen → IsTied old files → IsTied new files
+
 -- if the journal has no other entries, the answer is the reply of the store of one thread, or there is a cause
 abbrev pub Gives : CallerValue → CallerValue → FileCall → Result Answer Stop → Type 0
 Gives old new call (Ok answer) =
@@ -62,8 +67,9 @@ Gives old new call (Ok answer) =
 Gives old new call (Err Full) =
     AreBy 0 new.view.seen → old.number ≡ 0 → length old.view.mine ≡ old.view.limit
 Gives old new call (Err Clash) = ⊥
-Gives old new call (Err KeeperFault) = HasRisen old.view.faults new.view.faults
-Gives old new call (Err (NoMemory short)) = Unit {0}
+Gives old new call (Err KeeperFault) =
+    HasRisen old.view.faults new.view.faults × KeepsFiles old new
+Gives old new call (Err (NoMemory short)) = KeepsFiles old new
 
 -- a caller later
 pub record IsLater (old new : CallerValue) : Type 0 where
@@ -75,11 +81,19 @@ pub record IsLater (old new : CallerValue) : Type 0 where
   pub faults : old.view.faults ≤ new.view.faults
   pub entries : length new.view.mine ≤ length old.view.mine + 1
 
+-- an answer is a reply that some store of files would give
+abbrev pub IsReply : FileCall → Result Answer Stop → Type 0
+IsReply call (Ok answer) =
+    (files : Files)
+    × (answer_bytes answer ≡ reply_bytes call (file_reply (files (key_asked call)) call))
+IsReply call (Err stop) = Unit {0}
+
 -- what a call gives
 pub record HasAnswered (old new : CallerValue) (call : FileCall) (result : Result Answer Stop)
     : Type 0 where
   pub later : IsLater old new
   pub gives : Gives old new call result
+  pub reply : IsReply call result
 
 -- a caller after some calls
 pub record IsSameCaller (old new : CallerValue) : Type 0 where

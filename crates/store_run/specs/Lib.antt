@@ -4,3 +4,5 @@ pub mod Answering
 pub mod RunEnds
 pub mod Turns
 pub mod RecordLaws
+pub mod Kept
+pub mod TakesReplies

@@ -108,3 +108,8 @@ abbrev pub replies : Files → List FileCall → List ℕ
 replies files [] = []
 replies files (c ∷ cs) =
     reply_bytes c (file_reply (files (key_asked c)) c) ++ replies (files_after files c) cs
+
+-- the files after the calls that records ask for
+abbrev pub files_by : Files → List FileCall → Files
+files_by files [] = files
+files_by files (c ∷ cs) = files_by (files_after files c) cs

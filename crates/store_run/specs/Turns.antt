@@ -1,5 +1,5 @@
 -- Steps: what answering one record does (own).
-use Rattle.std.specs.Prelude.{ℕ, ◌≡◌, ◌⊎◌, ◌≤◌, List, [], ◌∷◌, length, take, flat_map, Option, Some, None}
+use Rattle.std.specs.Prelude.{ℕ, ◌≡◌, ◌⊎◌, ◌<◌, ◌≤◌, List, [], length, take, flat_map, Option, Some, None}
 use Rattle.std.specs.List.{AllByRecursion}
 use Rattle.std.specs.Io.KnownBytes.{Appends, Consumes, IsAtEnd}
 use Rattle.outside_core.specs.Faults.{Rose}
@@ -7,8 +7,8 @@ use Rattle.blob_store.specs.Callers.{CallerValue}
 use Rattle.blob_store.specs.Journals.{AreBy}
 use Rattle.blob_store.specs.States.{HasRisen}
 use Rattle.photo_store.specs.FileStores.{Files, FileCall, key_asked, file_reply, files_after, no_files}
-use Rattle.store_run.specs.Answering.{IsTied}
-use Rattle.store_run.specs.Records.{IsBad, IsBegun, IsWhole, most_records, record_bytes, replies, reply_bytes}
+use Rattle.store_run.specs.Answering.{IsTied, KeepsFiles}
+use Rattle.store_run.specs.Records.{IsBad, IsBegun, IsWhole, files_by, most_records, record_bytes, replies, reply_bytes}
 use Rattle.store_run.specs.declared.ending.Ending.{Ending}
 use Rattle.store_run.specs.declared.ending.Ending.TheVariants.{Answered, BadRecord, ReadFailed, WriteFailed, NoMemory, KeeperFailed, Full}
 use Rattle.store_run.specs.declared.calls.RecordStop.{RecordStop}
@@ -19,11 +19,6 @@ abbrev pub ending_by : RecordStop → Ending
 ending_by Bad = BadRecord
 ending_by ReadFault = ReadFailed
 ending_by (NoRoom short) = NoMemory short
-
--- the files after calls
-abbrev pub files_by : Files → List FileCall → Files
-files_by files [] = files
-files_by files (c ∷ cs) = files_by (files_after files c) cs
 
 -- the reply to a call, in bytes
 abbrev pub reply_in : Files → FileCall → List ℕ
@@ -41,10 +36,13 @@ module _ {Sink : Type 0} (held : Sink → Option (List ℕ)) (sink_faults : Sink
   CallTurns from to before after call (Some WriteFailed) =
       Rose sink_faults sink_full from to
       × ((files : Files) → AreBy 0 after.view.seen → IsTied before files
-      → (written : ℕ) × Appends (held from) (held to) (take written (reply_in files call)))
-  CallTurns from to before after call (Some (NoMemory short)) = to ≡ from
+      → (written : ℕ) × (written < length (reply_in files call))
+      × Appends (held from) (held to) (take written (reply_in files call))
+      × IsTied after (files_after files call))
+  CallTurns from to before after call (Some (NoMemory short)) =
+      (to ≡ from) × KeepsFiles before after
   CallTurns from to before after call (Some KeeperFailed) =
-      (to ≡ from) × HasRisen before.view.faults after.view.faults
+      (to ≡ from) × HasRisen before.view.faults after.view.faults × KeepsFiles before after
   CallTurns from to before after call (Some Full) =
       AreBy 0 after.view.seen → before.number ≡ 0
       → length before.view.mine ≡ before.view.limit

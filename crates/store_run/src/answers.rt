@@ -2,7 +2,7 @@
 ghost use Rattle.std.specs.Prelude.{◌≡◌, ◌<◌, ◌≤◌, ◌++◌, length, IfErr, OnOk};
 ghost use Rattle.container_spec.specs.Limits.{most_of_a_file};
 ghost use Rattle.photo_store.specs.FileStores.{PutFile, FindFile, RemoveFile};
-ghost use Rattle.outside_core.specs.Takes.{TakesAll};
+ghost use Rattle.outside_core.specs.Takes.{TakesNext};
 ghost use Rattle.segment_worker.specs.Written.{HasWritten, HasFailed};
 ghost use Rattle.store_run.specs.Answering.{HasAnswered, IsShort, answer_bytes, put_answer, remove_answer};
 ghost use Rattle.store_run.specs.Reading.{call_of};
@@ -135,7 +135,7 @@ fn remove_answer(removal: Result<Remove, Stop>) -> Result<Answer, Stop>
 /// Writes the bytes of an answer.
 pub(crate) fn write_answer<K: Sink>(sink: &mut K, answer: &Answer) -> Result<(), WriteFault>
     requires short { IsShort answer.now }
-    requires takes { TakesAll K.takes sink.old }
+    requires takes { TakesNext K.takes sink.old (answer_bytes answer.now) }
     ensures written { OnOk result
         (HasWritten K.held K.takes K.faults sink.old sink.new (answer_bytes answer.now)) }
     ensures failed { IfErr result (λ fault. HasFailed K.held K.faults K.full
@@ -154,7 +154,7 @@ pub(crate) fn write_answer<K: Sink>(sink: &mut K, answer: &Answer) -> Result<(),
 
 // Bytes, and then others.
 fn write_both<K: Sink>(sink: &mut K, first: &[u8], second: &[u8]) -> Result<(), WriteFault>
-    requires { TakesAll K.takes sink.old }
+    requires takes { TakesNext K.takes sink.old (first.now ++ second.now) }
     ensures written { OnOk result
         (HasWritten K.held K.takes K.faults sink.old sink.new (first.now ++ second.now)) }
     ensures failed { IfErr result (λ fault. HasFailed K.held K.faults K.full

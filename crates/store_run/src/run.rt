@@ -1,13 +1,17 @@
 // The records of a source, each answered before the next one is read.
 ghost use Rattle.std.specs.Prelude.{◌≡◌, ◌≤◌, [], IfSome, IfNone};
-ghost use Rattle.outside_core.specs.Takes.{TakesAll};
+ghost use Rattle.outside_core.specs.Takes.{MovesOn, TakesAll, TakesNext};
 ghost use Rattle.blob_store.specs.Journals.{AreBy};
 ghost use Rattle.blob_store.specs.States.{HasRisen};
+ghost use Rattle.photo_store.specs.FileEntries.{AreSame};
+ghost use Rattle.photo_store.specs.FileStores.{Files, no_files};
 ghost use Rattle.store_run.specs.Answering.{IsLater, IsSameCaller};
+ghost use Rattle.store_run.specs.Kept.{HasKept, HaveFiles};
 ghost use Rattle.store_run.specs.Reading.{call_of};
-ghost use Rattle.store_run.specs.Records.{IsWhole, most_records};
+ghost use Rattle.store_run.specs.Records.{IsWhole, files_by, most_records};
 ghost use Rattle.store_run.specs.RunEnds.{Ends, KeeperRose, Notes, line_of, status_of};
-ghost use Rattle.store_run.specs.Turns.{CallTurns, Turns, ending_by};
+ghost use Rattle.store_run.specs.TakesReplies.{TakesReplies};
+ghost use Rattle.store_run.specs.Turns.{CallTurns, Turns, ending_by, reply_in};
 
 use crate::answers::{answer_call, write_answer};
 use crate::calls::{Asked, RecordStop, next_call};
@@ -48,12 +52,19 @@ pub fn run_store<R: Threads + Wait + Sync, S: Source, K: Sink, N: Sink, P: Keepe
 ) -> (Ending, Option<P>)
     requires empty { P.blobs keeper ≡ [] }
     requires readable { S.readable source.old }
-    requires takes { TakesAll K.takes sink.old }
+
+    // The sink need take nothing but replies to the records that the source may give.
+    requires takes { TakesReplies K.takes (S.left source.old) sink.old }
     requires notes { TakesAll N.takes note.old }
 
     // How it ends: what was read, and which replies were written.
     ensures ends { Ends S.left K.held S.faults S.full K.faults K.full source.old source.new
         sink.old sink.new (KeeperRose P.fault_count keeper result.1) result.0 }
+
+    // However it ends, the keeper that is given back has the blob of each file that the answered records leave in the
+    // store.
+    ensures kept_files { IfSome result.1 (λ last. HasKept S.left K.held source.old source.new
+        sink.old sink.new (HaveFiles (P.blobs last)) result.0) }
 
     // The ending's line, or a prefix of it if `note` failed.
     ensures notes { Notes N.held N.faults N.full note.old note.new (line_of result.0) }
@@ -106,11 +117,15 @@ fn serve<R: Threads + Wait + Sync, S: Source, K: Sink, P: Keeper>(
     requires fresh { caller.old.view.mine ≡ [] }
     requires limit { caller.old.view.limit ≡ most_records }
     requires readable { S.readable source.old }
-    requires takes { TakesAll K.takes sink.old }
+    requires takes { TakesReplies K.takes (S.left source.old) sink.old }
     ensures ends { AreBy 0 caller.new.view.seen
         → Ends S.left K.held S.faults S.full K.faults K.full
         source.old source.new sink.old sink.new
         (HasRisen caller.old.view.faults caller.new.view.faults) result }
+    ensures kept { AreBy 0 caller.new.view.seen
+        → HasKept S.left K.held source.old source.new sink.old sink.new
+        (λ records. AreSame caller.new.view.blobs caller.new.view.mine (files_by no_files records))
+        result }
     ensures same { IsSameCaller caller.old caller.new }
     ensures source_lasting { S.faults source.old ≤ S.faults source.new }
     ensures sink_lasting { K.faults sink.old ≤ K.faults sink.new }
@@ -138,12 +153,12 @@ fn answer_next<R: Threads + Wait + Sync, S: Source, K: Sink, P: Keeper>(
 ) -> Option<Ending>
     requires own { caller.old.table ≡ store.now }
     requires readable { S.readable source.old }
-    requires takes { TakesAll K.takes sink.old }
+    requires takes { TakesReplies K.takes (S.left source.old) sink.old }
     ensures turns { Turns S.left K.held S.faults S.full K.faults K.full
         source.old source.new sink.old sink.new caller.old caller.new result }
     ensures later { IsLater caller.old caller.new }
     ensures readable { IfNone result (S.readable source.new) }
-    ensures takes { IfNone result (TakesAll K.takes sink.new) }
+    ensures takes { IfNone result (TakesReplies K.takes (S.left source.new) sink.new) }
     ensures source_lasting { S.faults source.old ≤ S.faults source.new }
     ensures sink_lasting { K.faults sink.old ≤ K.faults sink.new }
 {
@@ -176,11 +191,13 @@ fn answer_asked<R: Threads + Wait + Sync, K: Sink, P: Keeper>(
 ) -> Option<Ending>
     requires own { caller.old.table ≡ store.now }
     requires whole { IsWhole (call_of asked.now) }
-    requires takes { TakesAll K.takes sink.old }
+    requires takes { (files : Files)
+        → TakesNext K.takes sink.old (reply_in files (call_of asked.now)) }
     ensures turns { CallTurns K.held K.faults K.full
         sink.old sink.new caller.old caller.new (call_of asked.now) result }
     ensures later { IsLater caller.old caller.new }
-    ensures takes { IfNone result (TakesAll K.takes sink.new) }
+    ensures onward { IfNone result ((files : Files)
+        × MovesOn K.takes sink.old sink.new (reply_in files (call_of asked.now))) }
     ensures lasting { K.faults sink.old ≤ K.faults sink.new }
 {
     match answer_call(rt, alloc, store, caller, asked) {

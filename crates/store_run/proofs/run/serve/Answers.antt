@@ -1,10 +1,12 @@
-use Rattle.std.proofs.Common.{◌≡◌, ℕ, Option, ◌∙◌, subst, arith}
+use Rattle.std.proofs.Common.{◌≡◌, ℕ, Option, [], ◌∷◌, ◌∙◌, subst, arith}
+use Rattle.std.specs.Prelude.{IfSome}
+use Rattle.std.specs.Io.KnownBytes.{Consumes}
 use Rattle.blob_store.specs.States.{HasRisen}
 use Rattle.blob_store.proofs.Risen.{risen_wider}
 use Rattle.store_run.specs.Records.{most_records}
 use Rattle.store_run.specs.Turns.{IsServing, Turns}
 use Rattle.store_run.specs.declared.ending.Ending.{Ending}
-use Rattle.store_run.proofs.Served.{last_failed, sole_before, turn_ends, turn_serves}
+use Rattle.store_run.proofs.Served.{last_failed, last_keeps_failed, last_keeps_full, sole_before, turn_ends, turn_keeps, turn_serves}
 use Rattle.store_run.proofs.run.serve.Goals as goal
 
 pub returns-in-Some-clause-ends : goal.returns-in-Some-clause-ends
@@ -58,3 +60,36 @@ returns-in-Err-clause-ends g c = λ sole.
     (subst (λ (n : ℕ). IsServing g.S.Source.left g.K.Sink.held g.S.Source.faults g.S.Source.full g.K.Sink.faults g.K.Sink.full
     c.args.source.now c.loop.source c.args.sink.now c.loop.sink c.loop.caller n) all (c.loop.invariant.serving sole))
     (HasRisen c.args.caller.now.view.faults c.loop.caller.view.faults) c.in-Err.ensures.stays c.in-Err.ensures.failed
+
+pub returns-in-Some-clause-kept : goal.returns-in-Some-clause-kept
+returns-in-Some-clause-kept g c = λ sole.
+    let before = c.loop.invariant.serving (sole_before c.loop.caller c.answer_next.new.caller c.in-Some.ensures.later.seen sole) in
+    turn_keeps g.S.Source.left g.K.Sink.held g.S.Source.faults g.S.Source.full g.K.Sink.faults g.K.Sink.full
+    c.args.source.now c.loop.source c.answer_next.new.source c.args.sink.now c.loop.sink c.answer_next.new.sink
+    c.loop.caller c.answer_next.new.caller c.loop.counter before
+    c.in-Some.ending (omega (arith, c.loop-test.true)) sole c.in-Some.ensures.turns
+
+pub returns-in-Err-clause-kept : goal.returns-in-Err-clause-kept
+returns-in-Err-clause-kept g c = λ sole.
+    let test = c.loop-test.false in
+    let end = c.loop.auto.counter-end in
+    let all : c.loop.counter ≡ most_records = omega (arith, test, end) in
+    last_keeps_failed g.S.Source.left g.K.Sink.held g.S.Source.faults g.S.Source.full g.K.Sink.faults g.K.Sink.full
+    c.args.source.now c.loop.source c.next_byte.new.source c.args.sink.now c.loop.sink c.loop.caller
+    (subst (λ (n : ℕ). IsServing g.S.Source.left g.K.Sink.held g.S.Source.faults g.S.Source.full g.K.Sink.faults g.K.Sink.full
+    c.args.source.now c.loop.source c.args.sink.now c.loop.sink c.loop.caller n) all (c.loop.invariant.serving sole))
+    c.in-Err.ensures.stays
+
+pub returns-in-Ok-Some-clause-kept : goal.returns-in-Ok-Some-clause-kept
+returns-in-Ok-Some-clause-kept g c = λ sole.
+    let test = c.loop-test.false in
+    let end = c.loop.auto.counter-end in
+    let all : c.loop.counter ≡ most_records = omega (arith, test, end) in
+    last_keeps_full g.S.Source.left g.K.Sink.held g.S.Source.faults g.S.Source.full g.K.Sink.faults g.K.Sink.full
+    c.args.source.now c.loop.source c.next_byte.new.source c.args.sink.now c.loop.sink c.loop.caller
+    (subst (λ (n : ℕ). IsServing g.S.Source.left g.K.Sink.held g.S.Source.faults g.S.Source.full g.K.Sink.faults g.K.Sink.full
+    c.args.source.now c.loop.source c.args.sink.now c.loop.sink c.loop.caller n) all (c.loop.invariant.serving sole))
+    c.in-Ok-Some.field-0-0
+    (subst (λ (o : Option ℕ). IfSome o (λ b.
+    Consumes (g.S.Source.left c.loop.source) (g.S.Source.left c.next_byte.new.source) (b ∷ [])))
+    c.in-Ok-Some.field-0-is c.in-Ok-Some.ensures.read)
