@@ -17,7 +17,8 @@ ghost use Rattle.command_words.specs.declared.command.Command.TheVariants.{Encod
 ghost use Rattle.lepton_run.specs.Answers.{Answer, Answers, Made, limit_of};
 ghost use Rattle.lepton_run.specs.FileRows.{least, two_scans};
 
-/// Each file that is accepted has a container, whatever its number of scans, and for each number of segments.
+/// Each file that docs/JPEG.md accepts, up to 64 MiB, has a container for each number of segments, be it of one scan or
+/// of several.
 pub fn each_accepted_file_has_a_container()
     ensures { (most : ℕ) (file : List ℕ) (scans : List FileScan) (trailer : List ℕ)
         → AllByRecursion IsByte file → IsFile file scans trailer → length file ≤ most_of_a_file
