@@ -1,5 +1,5 @@
 -- The places of segments by their measures, and what a container stands for by these.
-use Rattle.std.proofs.Common.{◌≡◌, ℕ, suc, ◌+◌, ◌*◌, ◌^◌, ◌<◌, ◌≤◌, if◌then◌else◌, Bool, List, [], ◌∷◌, ◌++◌, length, Option, Some, None, refl, sym, ap, ap₂, subst, ◌∙◌, arith, append_assoc}
+use Rattle.std.proofs.Common.{◌≡◌, ℕ, ◌+◌, ◌*◌, ◌^◌, ◌<◌, ◌≤◌, if◌then◌else◌, Bool, List, [], ◌∷◌, ◌++◌, length, Option, Some, None, refl, sym, ap, ap₂, subst, ◌∙◌, arith, append_assoc}
 use Rattle.jpeg_marker.specs.Plans.{PlanFields}
 use Rattle.scan_spec.specs.Pads.{is_spelled}
 use Rattle.handover.specs.PadSums.{no_pads, pads_with}
@@ -17,8 +17,9 @@ use Rattle.container_spec.proofs.Numbered.{mapped_long}
 use Rattle.container_spec.proofs.PlacesFound.{found_long}
 use Rattle.container_spec.proofs.PutParts.{sums_more, sums_none}
 use Rattle.segment_worker.specs.Contents.{segment_room}
-use Rattle.range_read.specs.Measures.{AreMeasures, IsCounted}
+use Rattle.range_read.specs.Measures.{After, AreMeasures, IsCounted}
 use Rattle.range_read.specs.declared.measure.Measure.{Measure}
+use Rattle.range_read.proofs.MeasuredSegments.{measures_few}
 
 -- ---- what a container stands for
 
@@ -74,21 +75,13 @@ pub record PlacesSoFar (plan : PlanFields) (b : BoxParts) (left : List Measure)
   pub all : joined (outputs_of plan b) ≡ joined_onto bytes pads (joined rest)
   pub few : place + room * length left ≤ 2 ^ 32 + room * most_segments
 
--- as many as outputs
-measures_long : (outputs : List Output) (measures : List Measure) → AreMeasures outputs measures
-    → length measures ≡ length outputs
-measures_long [] [] are = refl
-measures_long [] (m ∷ measures) are = absurd are
-measures_long (o ∷ outputs) [] are = absurd are
-measures_long (o ∷ outputs) (m ∷ measures) are = ap suc (measures_long outputs measures are.1)
-
 -- before the first
 pub no_places : (plan : PlanFields) (b : BoxParts) (measures : List Measure)
     → AreMeasures (outputs_of plan b) measures → length b.header < 2 ^ 32
     → length (outputs_of plan b) ≤ most_segments
     → PlacesSoFar plan b measures [] (length b.header) no_pads
 no_places plan b measures are fits few =
-    let long = measures_long (outputs_of plan b) measures are in record {
+    let long = measures_few (outputs_of plan b) measures are in record {
       rest = outputs_of plan b;
       are = are;
       found = refl;
@@ -115,7 +108,7 @@ good_next plan b m left places place pads more (o ∷ rest) bytes are found all 
     let count = subst (λ (x : Outcome). IsCounted x o.0 m.length) outcome are.0.count in
     let short = count.1 in record {
       rest = rest;
-      are = are.1;
+      are = subst (λ (x : Outcome). After x (AreMeasures rest left) (length left ≤ length rest)) outcome are.1;
       found =
           append_assoc places (place ∷ []) (places_after (place + m.length) rest)
           ∙ ap (λ (n : ℕ). places ++ place ∷ places_after (place + n) rest) count.0 ∙ found;

@@ -3,5 +3,7 @@ pub mod GoodParts
 pub mod RestoredRanges
 mod RangeWritten
 mod StretchRead
+mod CountedSteps
 mod MeasuredSegments
+mod NewLanes
 mod FoundPlaces

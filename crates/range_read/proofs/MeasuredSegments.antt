@@ -1,100 +1,170 @@
--- The measures of segments by what an emitter returns of each alone.
-use Rattle.std.proofs.Common.{◌≡◌, ℕ, zero, suc, ◌+◌, ◌*◌, ◌<◌, ◌≤◌, [], ◌∷◌, ◌++◌, List, length, map, Some, None, Result, Ok, Err, IfOk, refl, sym, ap, subst, ◌∙◌, arith, append-nil}
-use Rattle.std.specs.Prelude.{slice_get}
-use Rattle.std.proofs.lemmas.List.{length-map}
+-- The measures of segments, one after another and in lanes.
+use Rattle.std.proofs.Common.{◌≡◌, ℕ, suc, ◌+◌, ◌-◌, ◌<◌, ◌≤◌, Bool, false, if◌then◌else◌, [], ◌∷◌, ◌++◌, List, length, map, refl, sym, ap, subst, ◌∙◌, arith, append_assoc, append-nil, length-append}
+use Rattle.std.specs.Prelude.{flat_map, slice_index_or}
+use Rattle.std.proofs.lemmas.Bool.{lt-ltb}
+use Rattle.std.proofs.lemmas.List.{map-append}
 use Rattle.handover.specs.declared.outcome.Outcome.{Outcome}
 use Rattle.handover.specs.declared.outcome.Outcome.TheVariants.{Good, Bad}
 use Rattle.handover.specs.declared.outcome.StreamFault.{StreamFault}
 use Rattle.handover.specs.declared.pads.PadSum.{PadSum}
-use Rattle.box_format.specs.Raws.{numbers}
 use Rattle.box_format.specs.Parts.{BoxSeen}
-use Rattle.box_format.specs.Versions.{most_segments}
 use Rattle.container_spec.specs.Segments.{Output, segment_output}
-use Rattle.container_spec.specs.Meanings.{joined, segment_in}
-use Rattle.container_spec.proofs.PutParts.{sums_none}
-use Rattle.scans_spec.specs.ScansJoined.{ScansJoined, joined_alone, sum_in}
-use Rattle.scans_spec.specs.declared.scan_pads.ScanPads.{ScanPads}
-use Rattle.scans_spec.proofs.OneScans.{one_is_joined}
-use Rattle.segment_worker.specs.Contents.{segment_room, stretch}
-use Rattle.segment_worker.specs.Emitting.{joined_in}
-use Rattle.range_read.specs.Measures.{AreMeasures, IsMeasure}
+use Rattle.container_spec.specs.Meanings.{segment_in}
+use Rattle.scans_spec.specs.ScansMeanings.{fault_after, led_output, outcome_after, output_at}
+use Rattle.range_read.specs.Lanes.{HasMeasured, lane_outputs, numbers_in}
+use Rattle.range_read.specs.Measures.{After, AreMeasures, IsMeasure}
+use Rattle.range_read.specs.declared.lanes.Lane.{Lane}
 use Rattle.range_read.specs.declared.measure.Measure.{Measure}
 
--- one segment of a container of one scan, joined
+-- ---- one segment
+
+fault_same : (fault : StreamFault) → fault_after 0 fault ≡ fault
+fault_same fault =
+    let z : 0 + fault.segment ≡ fault.segment = omega arith in
+    ap (λ (n : ℕ). let f : StreamFault = record { segment = n; cause = fault.cause } in f) z
+
+outcome_same : (o : Outcome) → outcome_after 0 o ≡ o
+outcome_same (Good padded) = refl
+outcome_same (Bad fault) =
+    ap (λ (f : StreamFault). let o : Outcome = Bad f in o) (fault_same fault)
+
+-- one segment of a container of one scan
 pub one_alone : (v : BoxSeen) (file : List BoxSeen) (segment : ℕ) → file ≡ v ∷ []
     → segment < length v.parts.handovers
-    → joined_in (stretch file segment 1)
-    ≡ joined_alone (joined (segment_output (segment_in v.plan v.parts segment) ∷ []))
+    → output_at file segment ≡ segment_output (segment_in v.plan v.parts segment)
 one_alone v file segment alone below =
-    ap (λ (scans : List BoxSeen). joined_in (stretch scans segment 1)) alone
-    ∙ one_is_joined v segment 1 (omega (arith, below))
+    let output = segment_output (segment_in v.plan v.parts segment) in
+    let by : Bool → Output =
+    λ t. if t then led_output false 0 v segment else output_at [] segment in
+    ap (λ (scans : List BoxSeen). output_at scans segment) alone
+    ∙ ap by (lt-ltb segment (length v.parts.handovers) below)
+    ∙ ap (λ (o : Outcome). let out : Output = (output.0, o) in out) (outcome_same output.1)
 
-good_measure : (output : Output) (came : ℕ) (padded : PadSum)
-    → (joined (output ∷ [])).fault ≡ None → padded ≡ (joined (output ∷ [])).padded
-    → came ≡ length (joined (output ∷ [])).bytes
-    → length (joined (output ∷ [])).bytes ≤ segment_room * most_segments
-    → IsMeasure output (record { length = came; outcome = Good padded })
-good_measure (bytes, Good pads) came padded none same count few =
-    let all : bytes ++ [] ≡ bytes = append-nil bytes in record {
-      outcome = ap (λ (p : PadSum). let o : Outcome = Good p in o) (same ∙ sums_none pads);
-      count = (count ∙ ap length all, rw count few);
-    }
-good_measure (bytes, Bad fault) came padded none same count few = absurd cc
+-- ---- lists of measures
 
-bad_measure : (output : Output) (fault : StreamFault)
-    → (joined (output ∷ [])).fault ≡ Some fault
-    → IsMeasure output (record { length = 0; outcome = Bad fault })
-bad_measure (bytes, Good padded) fault some = absurd cc
-bad_measure (bytes, Bad other) fault some = record { outcome = cc; count = tt }
+-- either fact follows
+after_either : (o : Outcome) {A B C : Type 0} → (A → C) → (B → C) → After o A B → C
+after_either (Good padded) f g is = f is
+after_either (Bad fault) f g is = g is
 
-module _ (output : Output) (all : ScansJoined) (is : all ≡ joined_alone (joined (output ∷ []))) where
-  -- of one that ends well
-  pub good_alone : (came : ℕ) (pads : ScanPads) (padded : PadSum) → all.fault ≡ None
-      → pads ≡ all.padded → padded ≡ sum_in pads 0 → came ≡ length all.bytes
-      → length all.bytes ≤ segment_room * most_segments
-      → IsMeasure output (record { length = came; outcome = Good padded })
-  good_alone came pads padded none same first count few =
-      let long = ap (λ (j : ScansJoined). length j.bytes) is in
-      good_measure output came padded (sym (ap (λ (j : ScansJoined). j.fault) is) ∙ none)
-      (first ∙ ap (λ (p : ScanPads). sum_in p 0) same
-      ∙ ap (λ (j : ScansJoined). sum_in j.padded 0) is)
-      (count ∙ long) (rw long at few)
+-- each fact gives another
+after_each : (o : Outcome) {A B C D : Type 0} → (A → C) → (B → D) → After o A B → After o C D
+after_each (Good padded) f g is = f is
+after_each (Bad fault) f g is = g is
 
-  -- of one that ends with a fault
-  pub bad_alone : (fault : StreamFault) → all.fault ≡ Some fault
-      → IsMeasure output (record { length = 0; outcome = Bad fault })
-  bad_alone fault some =
-      bad_measure output fault (sym (ap (λ (j : ScansJoined). j.fault) is) ∙ some)
+-- no more than segments
+pub measures_few : (outputs : List Output) (measures : List Measure) → AreMeasures outputs measures
+    → length measures ≤ length outputs
+measures_few [] [] are = omega arith
+measures_few [] (m ∷ measures) are = absurd are
+measures_few (o ∷ outputs) [] are = absurd are
+measures_few (o ∷ outputs) (m ∷ measures) are =
+    let few : length measures ≤ length outputs =
+    after_either o.1 (λ next. measures_few outputs measures next) (λ few. few) are.1 in
+    omega (arith, few)
 
-each_measured : {E : Type 0} (output : ℕ → Output) (from count : ℕ) (measures : List Measure)
-    → length measures ≡ count
-    → ((i : ℕ) (measure : Measure)
-    → (let made : List (Result Measure E) = map Ok measures in slice_get made i ≡ Some (Ok measure))
-    → IsMeasure (output (from + i)) measure)
-    → AreMeasures (map output (numbers from count)) measures
-each_measured output from zero [] long each = tt
-each_measured output from zero (m ∷ measures) long each = absurd (omega (arith, long))
-each_measured output from (suc count) [] long each = absurd (omega (arith, long))
-each_measured output from (suc count) (m ∷ measures) long each =
-    let first : from + 0 ≡ from = omega arith in (
-      subst (λ (n : ℕ). IsMeasure (output n) m) first (each 0 m refl),
-      each_measured output (from + 1) count measures (omega (arith, long))
-          (λ i measure at.
-          let next : from + suc i ≡ (from + 1) + i = omega arith in
-          subst (λ (n : ℕ). IsMeasure (output n) measure) next (each (suc i) measure at)),
-    )
+-- of segments and of those that follow
+pub joined_measures : (xs ys : List Output) (ms ns : List Measure) → AreMeasures xs ms
+    → AreMeasures ys ns → AreMeasures (xs ++ ys) (ms ++ ns)
+joined_measures [] ys [] ns first next = next
+joined_measures [] ys (m ∷ ms) ns first next = absurd first
+joined_measures (x ∷ xs) ys [] ns first next = absurd first
+joined_measures (x ∷ xs) ys (m ∷ ms) ns first next = (
+  first.0,
+  after_each x.1 (λ more. joined_measures xs ys ms ns more next)
+      (λ few.
+      let others = measures_few ys ns next in
+      let long = length-append ms ns in
+      let outputs = length-append xs ys in
+      omega (arith, few, others, long, outputs)) first.1,
+)
 
--- all of them, in order
-pub all_measured : {S E F : Type 0} (all : S → List Measure) (output : ℕ → Output) (count : ℕ)
-    (made : List (Result Measure E)) (result : Result S F) → length made ≡ count
-    → ((i : ℕ) (measure : Measure) → slice_get made i ≡ Some (Ok measure)
-    → IsMeasure (output i) measure)
-    → IfOk result (λ s. made ≡ map Ok (all s))
-    → IfOk result (λ s. AreMeasures (map output (numbers 0 count)) (all s))
-all_measured all output count made (Ok s) long each is =
-    each_measured output 0 count (all s) (sym (length-map (all s) Ok) ∙ sym (ap length is) ∙ long)
-    (λ i measure at.
-    let none : i ≡ 0 + i = omega arith in
-    subst (λ (n : ℕ). IsMeasure (output n) measure) none
-    (each i measure (ap (λ (l : List (Result Measure _)). slice_get l i) is ∙ at)))
-all_measured all output count made (Err e) long each is = tt
+-- ---- the segments of a lane
+
+-- the measures so far of segments before one: with those of the others they are the measures of all
+abbrev pub MeasuredUpTo : BoxSeen → ℕ → ℕ → ℕ → List Measure → Type 0
+MeasuredUpTo v first count segment measures =
+    (more : List Measure) → AreMeasures (lane_outputs v segment ((first + count) - segment)) more
+    → AreMeasures (lane_outputs v first count) (measures ++ more)
+
+module _ (v : BoxSeen) (first count : ℕ) where
+  -- before the first
+  pub none_measured : (measures : List Measure) → measures ≡ []
+      → MeasuredUpTo v first count first measures
+  none_measured measures none = λ more are.
+      let all : (first + count) - first ≡ count = omega arith in
+      let left = subst (λ (n : ℕ). AreMeasures (lane_outputs v first n) more) all are in
+      subst (λ (l : List Measure). AreMeasures (lane_outputs v first count) (l ++ more)) (sym none)
+      left
+
+  module _ (segment : ℕ) (measures next : List Measure) (m : Measure)
+      (below : segment < first + count) (so_far : MeasuredUpTo v first count segment measures)
+      (is : IsMeasure (segment_output (segment_in v.plan v.parts segment)) m)
+      (kept : next ≡ measures ++ m ∷ []) where
+    -- one more, and then others
+    one_more : (more : List Measure)
+        → (let rest = lane_outputs v (segment + 1) ((first + count) - (segment + 1)) in
+        After (segment_output (segment_in v.plan v.parts segment)).1 (AreMeasures rest more)
+        (length more ≤ length rest))
+        → AreMeasures (lane_outputs v first count) (next ++ more)
+    one_more more after =
+        let e : suc ((first + count) - (segment + 1)) ≡ (first + count) - segment =
+        omega (arith, below) in
+        let all = subst (λ (n : ℕ). AreMeasures (lane_outputs v segment n) (m ∷ more)) e (is, after) in
+        let same : measures ++ m ∷ more ≡ next ++ more =
+        sym (append_assoc measures (m ∷ []) more)
+        ∙ ap (λ (l : List Measure). l ++ more) (sym kept) in
+        subst (λ (l : List Measure). AreMeasures (lane_outputs v first count) l) same
+        (so_far (m ∷ more) all)
+
+    -- which ends well
+    pub good_measured : (padded : PadSum) → m.outcome ≡ Good padded
+        → MeasuredUpTo v first count (segment + 1) next
+    good_measured padded good = λ more are.
+        let rest = lane_outputs v (segment + 1) ((first + count) - (segment + 1)) in
+        one_more more
+        (subst (λ (o : Outcome). After o (AreMeasures rest more) (length more ≤ length rest))
+        (sym good ∙ is.outcome) are)
+
+    -- or badly
+    pub bad_measured : (fault : StreamFault) → m.outcome ≡ Bad fault
+        → AreMeasures (lane_outputs v first count) next
+    bad_measured fault bad =
+        let rest = lane_outputs v (segment + 1) ((first + count) - (segment + 1)) in
+        let few : length (let none : List Measure = [] in none) ≤ length rest = omega arith in
+        subst (λ (l : List Measure). AreMeasures (lane_outputs v first count) l) (append-nil next)
+        (one_more []
+        (subst (λ (o : Outcome). After o (AreMeasures rest []) (length (let none : List Measure = [] in none) ≤ length rest))
+        (sym bad ∙ is.outcome) few))
+
+  -- after the last one
+  pub all_measured : (segment : ℕ) (measures : List Measure) → first + count ≤ segment
+      → MeasuredUpTo v first count segment measures
+      → AreMeasures (lane_outputs v first count) measures
+  all_measured segment measures past so_far =
+      let none : 0 ≡ (first + count) - segment = omega (arith, past) in
+      subst (λ (l : List Measure). AreMeasures (lane_outputs v first count) l) (append-nil measures)
+      (so_far [] (subst (λ (n : ℕ). AreMeasures (lane_outputs v segment n) []) none tt))
+
+-- ---- all lanes
+
+-- the measures of all lanes in order
+pub lanes_measured : (v : BoxSeen) (lanes after : List Lane) → length after ≡ length lanes
+    → ((i : ℕ) (lane : Lane) → i < length lanes
+    → HasMeasured v (slice_index_or lanes i lane) (slice_index_or after i lane))
+    → AreMeasures
+    (map (λ i. segment_output (segment_in v.plan v.parts i)) (flat_map numbers_in lanes))
+    (flat_map (λ (lane : Lane). lane.measures.items) after)
+lanes_measured v [] [] long each = tt
+lanes_measured v [] (a ∷ after) long each = absurd (omega (arith, long))
+lanes_measured v (l ∷ lanes) [] long each = absurd (omega (arith, long))
+lanes_measured v (l ∷ lanes) (a ∷ after) long each =
+    let output : ℕ → Output = λ i. segment_output (segment_in v.plan v.parts i) in
+    subst (λ (outputs : List Output).
+    AreMeasures outputs (a.measures.items ++ flat_map (λ (lane : Lane). lane.measures.items) after))
+    (sym (map-append output (numbers_in l) (flat_map numbers_in lanes)))
+    (joined_measures (map output (numbers_in l)) (map output (flat_map numbers_in lanes))
+    a.measures.items (flat_map (λ (lane : Lane). lane.measures.items) after)
+    (each 0 l (omega arith))
+    (lanes_measured v lanes after (omega (arith, long))
+    (λ i lane within. each (suc i) lane (omega (arith, within)))))

@@ -2,6 +2,7 @@ pub mod RangeMeanings
 pub mod RangeMeaningLaws
 pub mod RangeMeaningRows
 pub mod IndexEnds
+pub mod Lanes
 pub mod Measures
 pub mod RangeEnds
 pub mod RangeInside

@@ -17,10 +17,17 @@ pub record IsMeasure (output : Output) (measure : Measure) : Type 0 where
   pub outcome : measure.outcome ≡ output.1
   pub count : IsCounted output.1 output.0 measure.length
 
--- the measures of segments with these outputs
+-- one fact after a segment that ends well, and another after one that ends badly
+abbrev pub After : Outcome → Type 0 → Type 0 → Type 0
+After (Good padded) well badly = well
+After (Bad fault) well badly = badly
+
+-- the measures of segments with these outputs, up to the first that ends badly: after that one they say nothing, and
+-- may be fewer
 abbrev pub AreMeasures : List Output → List Measure → Type 0
 AreMeasures [] [] = Unit {0}
 AreMeasures [] (measure ∷ measures) = ⊥
 AreMeasures (output ∷ outputs) [] = ⊥
 AreMeasures (output ∷ outputs) (measure ∷ measures) =
-    IsMeasure output measure × AreMeasures outputs measures
+    IsMeasure output measure
+    × After output.1 (AreMeasures outputs measures) (length measures ≤ length outputs)

@@ -22,9 +22,9 @@ use std::thread::Threads;
 const INDEXABLE: [Version; 3] = [Version::First, Version::Second, Version::Fifth];
 
 /// The same container in version 5, which keeps the place in the file of each segment's first byte: of a container of
-/// version 1, 2 or 5 that stands for a file. Each segment is decoded, in a thread of its own if one can be had. A
-/// refusal is that of the container, or else its first fault, or else that its pad bits are spelled in another way than
-/// a file's.
+/// version 1, 2 or 5 that stands for a file. The segments are decoded in threads, if these can be had, at most 16 at the
+/// same time. The memory for that is allocated before the first thread starts. A refusal is that of the container, or else
+/// its first fault, or else that its pad bits are spelled in another way than a file's.
 pub fn index<R: Threads + Sync>(rt: &R, alloc: Global, bytes: &[u8]) -> Result<Vec<u8>, IndexError>
     ensures made { IfOk result (λ made. IsIndexOf made.items bytes.now) }
     ensures refused { (refusal : BoxRefusal) → IsErrOf result (IndexError.Box refusal)

@@ -1,7 +1,7 @@
 //! Containers that keep the places of their segments, and ranges of a file that are read from them (this project's
 //! own; docs/FORMAT.md, docs/RANGES.md).
 //!
-//!     index   container --each segment decoded, in its own thread--> lengths --> places --> container of version 5
+//!     index   container --segments decoded, in at most 16 lanes--> lengths --> places --> container of version 5
 //!
 //!     range   from .. to --places--> the segments with a place in it --a crew for these alone--> window --> sink
 //!             before them the header's part, and after them the trailer's
@@ -16,12 +16,14 @@ mod alone;
 mod bounds;
 mod error;
 mod indexing;
+mod lanes;
 mod laws;
 mod measure;
 mod one_scan;
 mod parts;
 mod reading;
 mod ready;
+mod tasks;
 
 pub use alone::{ReadyRangeAlone, prepare_range_alone, run_range_alone};
 pub use error::{IndexError, RangeError};

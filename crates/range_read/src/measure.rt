@@ -1,18 +1,17 @@
-// How many bytes each segment of a container has, and how it ends. The trait has one impl: a closure over a type that
-// names a lifetime can't be proved, one over a type parameter can.
-ghost use Rattle.std.specs.Prelude.{◌≡◌, ◌<◌, ℕ, Ok, Some, IfOk, length, map, slice_get};
-ghost use Rattle.container_spec.specs.Meanings.{outputs_of, segment_in};
-ghost use Rattle.container_spec.specs.Segments.{segment_output};
+// How many bytes each segment of a container has, and how it ends.
+ghost use Rattle.std.specs.Prelude.{◌≡◌, ◌<◌, ◌^◌, IfOk, true};
+ghost use Rattle.container_spec.specs.Meanings.{outputs_of};
+ghost use Rattle.container_spec.specs.Segments.{Output};
+ghost use Rattle.segment_code.specs.FileDecoding.{FileOwes, steps_left};
 ghost use Rattle.range_read.specs.Measures.{AreMeasures, IsMeasure};
 
+use crate::lanes::{lanes_of, put_all};
 use crate::one_scan::OneScan;
+use crate::tasks::perform_all;
 use bit_list::Piece;
-use byte_window::Window;
-use growth::{NoMemory, map_indices, push, with_capacity};
+use growth::{NoMemory, with_capacity};
 use handover::Outcome;
-use outside_core::{Compare, OpenGate};
-use segment_code::FileDecoder;
-use segment_worker::{EmitStop, emit_alone};
+use segment_code::{FileDecoder, Step};
 use std::alloc::Global;
 use std::thread::Threads;
 
@@ -23,80 +22,9 @@ pub(crate) struct Measure {
     pub(crate) outcome: Outcome,
 }
 
-/// What has segments that can be measured, each apart from the others.
-pub(crate) trait Segments {
-    ghost use Rattle.range_read.specs.declared.measure.Measure.{Measure};
-
-    // How many there are.
-    ghost count: { Self → ℕ };
-
-    // What a measure says of one.
-    ghost measured: { Self → ℕ → Measure → Type 0 };
-
-    fn measure(&self, alloc: Global, segment: usize) -> Result<Measure, NoMemory>
-        requires { segment < count self.now }
-        ensures { IfOk result (measured self.now segment) };
-}
-
-impl<'a> Segments for OneScan<'a> {
-    ghost use Rattle.std.specs.Prelude.{length};
-    ghost use Rattle.container_spec.specs.Meanings.{segment_in};
-    ghost use Rattle.container_spec.specs.Segments.{segment_output};
-    ghost use Rattle.range_read.specs.Measures.{IsMeasure};
-
-    ghost count = { λ scan. length scan.parts.handovers };
-
-    ghost measured = { λ scan i measure.
-        IsMeasure (segment_output (segment_in scan.plan scan.parts i)) measure };
-
-    fn measure(&self, alloc: Global, segment: usize) -> Result<Measure, NoMemory> {
-        // Called for its clauses: the number of a segment fits in a byte.
-        let _segments = self.view().segments();
-        measure_segment(alloc, self, segment as u8)
-    }
-}
-
-// The measure of one segment: it is decoded, and nothing of it goes through the window.
-fn measure_segment(alloc: Global, scan: &OneScan, segment: u8) -> Result<Measure, NoMemory>
-    requires { segment < length scan.now.parts.handovers }
-    ensures { IfOk result
-        (IsMeasure (segment_output (segment_in scan.now.plan scan.now.parts segment))) }
-{
-    let file = scan.file();
-    let mut decoder = FileDecoder::prepare(alloc, file.plans())?;
-    let mut piece = Piece::new(alloc)?;
-    let mut nothing = Compare::new(&[]);
-    let emitted = emit_alone(
-        &mut decoder,
-        &mut piece,
-        file,
-        Window {
-            skip: 0,
-            most: Some(0),
-        },
-        &mut nothing,
-        &OpenGate,
-        segment,
-        1,
-    );
-    match emitted {
-        Ok(emitted) => Ok(Measure {
-            length: emitted.came,
-            outcome: Outcome::Good {
-                pads: emitted.pads.scan(0),
-            },
-        }),
-        Err(EmitStop::Fault(fault)) => Ok(Measure {
-            length: 0,
-            outcome: Outcome::Bad(fault),
-        }),
-        // No byte goes through the window, so none can fail to be written.
-        Err(EmitStop::WriteFault { .. }) => unreachable!(),
-    }
-}
-
-/// The measure of each segment of a container, in order, each made in a thread of its own if one can be had. The one
-/// error is out of memory.
+/// The measure of each segment of a container, in order, up to the first that ends badly. At most `MOST_AT_ONCE`
+/// segments are decoded at the same time, in threads if these can be had. All memory is allocated before a thread
+/// starts. The one error is out of memory.
 pub(crate) fn measure_all<R: Threads + Sync>(
     rt: &R,
     alloc: Global,
@@ -105,37 +33,41 @@ pub(crate) fn measure_all<R: Threads + Sync>(
     ensures { IfOk result (λ measures.
         AreMeasures (outputs_of scan.now.plan scan.now.parts) measures.items) }
 {
-    let made = measure_each(rt, alloc, usize::from(scan.view().segments()), scan)?;
-    all_made(alloc, made)
+    let mut measures = with_capacity(alloc, usize::from(scan.view().segments()))?;
+    let mut lanes = lanes_of(alloc, scan)?;
+    perform_all(rt, lanes.as_mut_slice(), scan);
+    put_all(&mut measures, lanes.as_slice())?;
+    Ok(measures)
 }
 
-// The same of anything that has segments.
-fn measure_each<R: Threads + Sync, S: Segments + Sync>(
-    rt: &R,
-    alloc: Global,
-    count: usize,
-    whole: &S,
-) -> Result<Vec<Result<Measure, NoMemory>>, NoMemory>
-    requires { count ≡ S.count whole.now }
-    ensures count { IfOk result (λ made. length made.items ≡ count) }
-    ensures each { IfOk result (λ made. (i : ℕ) (measure : Measure)
-        → slice_get made.items i ≡ Some (Ok measure) → S.measured whole.now i measure) }
+// The measure of the segment that was begun: it is decoded, and its bytes are counted.
+pub(crate) fn measure_begun(decoder: &mut FileDecoder, piece: &mut Piece) -> Measure
+    requires running { decoder.old.running ≡ true }
+    requires owes { (output : Output) × FileOwes decoder.old output.0 output.1 }
+    requires few { steps_left decoder.old < 2 ^ 33 }
+    ensures measured { (output : Output) → FileOwes decoder.old output.0 output.1
+        → IsMeasure output result }
+    ensures begun { decoder.new.begun ≡ decoder.old.begun }
+    ensures plans { decoder.new.plans ≡ decoder.old.plans }
 {
-    map_indices(
-        rt,
-        alloc,
-        count,
-        &|segment| { whole.measure(alloc, segment) },
-    )
-}
-
-// All that were made, or that one wasn't.
-fn all_made<T: Drop>(alloc: Global, made: Vec<Result<T, NoMemory>>) -> Result<Vec<T>, NoMemory>
-    ensures { IfOk result (λ all. made.items ≡ map Ok all.items) }
-{
-    let mut all = with_capacity(alloc, made.len())?;
-    for item in made {
-        push(&mut all, item?)?;
+    let mut length = 0;
+    loop {
+        let step = decoder.step(piece);
+        length += piece.len() as u64;
+        match step {
+            Step::More => {}
+            Step::Done { pads } => {
+                return Measure {
+                    length,
+                    outcome: Outcome::Good { pads },
+                };
+            }
+            Step::Fault(fault) => {
+                return Measure {
+                    length,
+                    outcome: Outcome::Bad(fault),
+                };
+            }
+        }
     }
-    Ok(all)
 }
