@@ -3,6 +3,8 @@
 
 usage: examples/recode.py FILE [PROGRAM]     (a trial: encodes the file, decodes it, compares, and prints both lengths)
 """
+import os
+import signal
 import subprocess
 import sys
 import threading
@@ -33,16 +35,28 @@ def feed(stdin, data):
         pass
 
 
+def end(process):
+    """Kills the program, and what it started, as a script does that is given in its place."""
+    try:
+        os.killpg(process.pid, signal.SIGKILL)
+    except ProcessLookupError:
+        pass
+
+
 def run(program, command, data, most):
     """Returns the status, the bytes and the line of a command over some bytes. It may write `most` bytes."""
     pipe = subprocess.PIPE
-    with subprocess.Popen([program, command], stdin=pipe, stdout=pipe, stderr=pipe) as process:
-        clock = threading.Timer(LONGEST, process.kill)
+    try:
+        process = subprocess.Popen([program, command], stdin=pipe, stdout=pipe, stderr=pipe, start_new_session=True)
+    except OSError as why:
+        raise Failed(str(why)) from why
+    with process:
+        clock = threading.Timer(LONGEST, end, (process,))
         clock.start()
         threading.Thread(target=feed, args=(process.stdin, data)).start()
         made = process.stdout.read(most + 1)
         if len(made) > most:
-            process.kill()
+            end(process)
         line = process.stderr.read().decode(errors="replace").strip()
         status = process.wait()
         clock.cancel()

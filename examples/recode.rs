@@ -122,12 +122,11 @@ fn main() -> ExitCode {
         let container = encode(program, &file)?;
         Ok(container.map_or("stored as it is".to_string(), |made| format!("{} {}", file.len(), made.len())))
     });
-    match said {
-        Ok(said) => println!("{said}"),
+    match said.and_then(|said| Ok(writeln!(io::stdout(), "{said}")?)) {
+        Ok(()) => ExitCode::SUCCESS,
         Err(why) => {
             eprintln!("{name}: {why}");
-            return ExitCode::FAILURE;
+            ExitCode::FAILURE
         }
     }
-    ExitCode::SUCCESS
 }
