@@ -4,7 +4,7 @@
 use std::io::{Read, Write};
 use std::process::{Command, ExitCode, Stdio};
 use std::sync::mpsc::{RecvTimeoutError, channel};
-use std::time::Duration;
+use std::time::{Duration, Instant};
 use std::{env, fmt, fs, io, thread};
 
 /// The longest that a call may take.
@@ -47,7 +47,7 @@ enum Answer {
 }
 
 /// Runs a command of the program over bytes, of which it may write `most`. They are fed by a thread of its own, since the
-/// program may answer before it has read them all; another thread kills the program if it takes too long.
+/// program may answer before it has read them all; another thread kills the program if it takes too long, but not what a script in its place has started.
 fn run(program: &str, command: &str, data: &[u8], most: u64) -> Result<Answer, Error> {
     let mut child = Command::new(program)
         .arg(command)
@@ -63,9 +63,17 @@ fn run(program: &str, command: &str, data: &[u8], most: u64) -> Result<Answer, E
         scope.spawn(move || input.write_all(data));
         let (over, wait) = channel::<()>();
         let watch = scope.spawn(move || {
-            if wait.recv_timeout(LONGEST) != Err(RecvTimeoutError::Disconnected) {
-                child.kill()?;
+            let until = Instant::now() + LONGEST;
+            if wait.recv_timeout(LONGEST) == Err(RecvTimeoutError::Disconnected) {
+                // It closed its output, and should end.
+                while Instant::now() < until {
+                    if let Some(status) = child.try_wait()? {
+                        return Ok(status);
+                    }
+                    thread::sleep(Duration::from_millis(1));
+                }
             }
+            child.kill()?;
             child.wait()
         });
         output.take(most + 1).read_to_end(&mut made)?;
