@@ -1,5 +1,5 @@
 // A bin's two counts, and tables of bins.
-ghost use Rattle.std.specs.Prelude.{◌≡◌, [], ◌+◌, ◌/◌, ◌<◌, ◌≤◌, ℕ, IfOk, length, slice_set, replicate, get_or};
+ghost use Rattle.std.specs.Prelude.{◌≡◌, [], ◌+◌, ◌/◌, ◌^◌, ◌<◌, ◌≤◌, ℕ, IfOk, length, slice_set, replicate, get_or};
 ghost use Rattle.adapt_bins.specs.Counts.{unseen, counts, seen, most_count, halved, with_room, raised, counted, prob_of};
 
 use crate::reciprocals::share;
@@ -154,6 +154,7 @@ impl Model for Bins {
 impl Bins {
     /// `n` bins, before the first bit of each. The one error is out of memory.
     pub fn new(alloc: Global, n: usize) -> Result<Bins, NoMemory>
+        requires few { n ≤ 2 ^ 20 }
         ensures { IfOk result (λ b. b ≡ replicate n unseen) }
     {
         let table = from_elem(alloc, Bin::new(), n)?;

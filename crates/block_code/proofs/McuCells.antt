@@ -55,7 +55,7 @@ row_count e g fits =
     all : (a v0 h0 v1 h1 v2 h2 v3 h3 : ℕ) → 0 + a * v0 * h0 + a * v1 * h1 + a * v2 * h2 + a * v3 * h3 ≡ a * (0 + v0 * h0 + v1 * h1 + v2 * h2 + v3 * h3)
     all a v0 h0 v1 h1 v2 h2 v3 h3 = grind arith
 
-pub row_few : (e : Extents) (g : Grid) → FitsGrid e g → g.across < 2 ^ 25 → block_count g.mcu ≤ 10 → block_count e < 2 ^ 32
+pub row_few : (e : Extents) (g : Grid) → FitsGrid e g → g.across < 2 ^ 25 → block_count g.mcu ≤ 10 → block_count e ≤ 10 * 2 ^ 25
 row_few e g fits narrow few =
     let most : block_count g.mcu * g.across ≤ 10 * g.across = mul-le-mul_right g.across few in
     let count = row_count e g fits in

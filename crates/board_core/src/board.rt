@@ -47,7 +47,7 @@ impl Model for Core {
 impl Core {
     /// The board of `k` segments and `workers` workers before the first event. Each ring holds at most `capacity`
     /// bytes.
-    pub fn new(alloc: Global, k: u8, capacity: usize, workers: u8) -> Result<Core, NoMemory>
+    pub fn new(alloc: Global, k: u8, capacity: u32, workers: u8) -> Result<Core, NoMemory>
         requires { 1 ≤ capacity }
         ensures { IfOk result (λ b. b ≡ opening_board k capacity workers) }
     {
@@ -64,7 +64,7 @@ impl Core {
         }
         let left = from_elem(alloc, false, workers as usize)?;
         Ok(Core {
-            capacity,
+            capacity: capacity as usize,
             next: 0,
             cur: 0,
             segments,

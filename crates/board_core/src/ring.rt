@@ -26,10 +26,10 @@ impl Model for Ring {
 
 impl Ring {
     // An empty ring.
-    pub(crate) fn new(alloc: Global, capacity: usize) -> Result<Ring, NoMemory>
+    pub(crate) fn new(alloc: Global, capacity: u32) -> Result<Ring, NoMemory>
         ensures { IfOk result (λ r. r ≡ ring_bytes [] capacity) }
     {
-        let bytes = ring_with_capacity(alloc, capacity)?;
+        let bytes = ring_with_capacity(alloc, capacity as usize)?;
         Ok(Ring { bytes })
     }
 

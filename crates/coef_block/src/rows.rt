@@ -39,7 +39,7 @@ impl Rows {
     pub fn new(alloc: Global, widths: &[u32], heights: &[u32]) -> Result<Rows, NoMemory>
         requires components { length widths.now ≤ 4 }
         requires same { length heights.now ≡ length widths.now }
-        requires few { block_count (extents_of widths.now heights.now) < 2 ^ 32 }
+        requires few { block_count (extents_of widths.now heights.now) ≤ 10 * 2 ^ 25 }
         ensures extents { IfOk result (λ rows. rows.extents ≡ extents_of widths.now heights.now) }
         ensures cleared { IfOk result AreCleared }
     {

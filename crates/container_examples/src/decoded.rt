@@ -14,7 +14,7 @@ use std::thread::Threads;
 // The numbers of workers, and of the bytes of a ring, that each container is decoded with.
 const WORKERS: &[u8] = &[0, 1, 3, 16];
 
-const RINGS: &[usize] = &[1, 2, 65_536];
+const RINGS: &[u32] = &[1, 2, 65_536];
 
 // The fields of a container with one record, two or three: a pad bit, a header of 69 bytes or of 75, and a trailer of
 // 2.
@@ -586,7 +586,7 @@ fn decoded<R: Threads + Wait + Sync>(
     alloc: Global,
     container: &[u8],
     workers: u8,
-    ring: usize,
+    ring: u32,
     sink: &mut MemSink,
 ) -> End
     requires { 1 ≤ ring }

@@ -1,6 +1,8 @@
 // Lists and texts of std.
-ghost use Rattle.std.specs.Prelude.{◌≡◌, ◌+◌, ◌-◌, ◌<◌, ◌≤◌, ℕ, [], ◌∷◌, ◌++◌, length, take, replicate, insert as inserted, is_ok, if◌then◌else◌, vec_len, vec_capacity, IfOk, IsOk, OnErr, string_bytes};
+ghost use Rattle.std.specs.Prelude.{◌≡◌, ◌+◌, ◌-◌, ◌*◌, ◌<◌, ◌≤◌, ℕ, [], ◌∷◌, ◌++◌, length, take, replicate, insert as inserted, is_ok, if◌then◌else◌, vec_len, vec_capacity, IfOk, IsOk, OnErr, string_bytes};
+ghost use Rattle.std.specs.Mem.{type_size};
 ghost use Rattle.std.specs.Str.Lossy.{utf8_lossy};
+ghost use Rattle.growth.specs.Bounds.{most_at_once};
 
 use crate::no_memory::NoMemory;
 use std::alloc::Global;
@@ -38,8 +40,9 @@ pub fn extend_from_slice<T: Copy>(list: &mut Vec<T>, more: &[T]) -> Result<(), N
     }
 }
 
-/// Cuts the list to `length`, or fills it up with copies of `item`.
+/// Cuts the list to `length`, or fills it up with copies of `item`: at most 256 GiB of them.
 pub fn resize<T: Copy>(list: &mut Vec<T>, length: usize, item: T) -> Result<(), NoMemory>
+    requires few { (length - vec_len list.old) * type_size T.row ≤ most_at_once }
     ensures items { list.new.items ≡ (if is_ok result
         then take length list.old.items ++ replicate (length - vec_len list.old) item
         else list.old.items) }
@@ -70,8 +73,9 @@ pub fn insert<T: Drop>(list: &mut Vec<T>, index: usize, item: T) -> Result<(), N
     }
 }
 
-/// An empty list with room for `capacity` items.
+/// An empty list with room for `capacity` items, at most 256 GiB.
 pub fn with_capacity<T>(alloc: Global, capacity: usize) -> Result<Vec<T>, NoMemory>
+    requires few { capacity * type_size T.row ≤ most_at_once }
     ensures items { IfOk result (λ list. list.items ≡ []) }
     ensures len { IfOk result (λ list. vec_len list ≡ 0) }
     ensures capacity { IfOk result (λ list. capacity ≤ vec_capacity list) }
@@ -95,8 +99,9 @@ pub fn from_slice<T: Copy>(alloc: Global, items: &[T]) -> Result<Vec<T>, NoMemor
     }
 }
 
-/// A list of `length` copies of `item`. They are copied, not cloned: a clone may fail for any reason.
+/// A list of `length` copies of `item`, at most 256 GiB. They are copied, not cloned: a clone may fail for any reason.
 pub fn from_elem<T: Copy>(alloc: Global, item: T, length: usize) -> Result<Vec<T>, NoMemory>
+    requires few { length * type_size T.row ≤ most_at_once }
     ensures items { IfOk result (λ list. list.items ≡ replicate length item) }
     ensures len { IfOk result (λ list. vec_len list ≡ length) }
 {

@@ -1,19 +1,23 @@
 // Calls in threads.
-ghost use Rattle.std.specs.Prelude.{◌≡◌, ◌<◌, ℕ, vec_len, IfOk};
+ghost use Rattle.std.specs.Prelude.{◌≡◌, ◌*◌, ◌<◌, ◌≤◌, ℕ, vec_len, IfOk};
 ghost use Rattle.std.specs.Fork.{GivesEach};
+ghost use Rattle.std.specs.Mem.{type_size};
+ghost use Rattle.growth.specs.Bounds.{most_at_once};
 
 use crate::no_memory::NoMemory;
 use std::alloc::Global;
 use std::thread::{self, Threads};
 
-/// Calls `call` at 0 to `count` - 1, each in a thread of its own if one can be had, and gives the results in order.
+/// Calls `call` at 0 to `count` - 1, each in a thread of its own if one can be had, and gives the results in order,
+/// which take at most 256 GiB.
 pub fn map_indices<R: Threads + Sync, X: Send + Drop, F: Fn(usize) -> X + Sync>(
     rt: &R,
     alloc: Global,
     count: usize,
     call: &F,
 ) -> Result<Vec<X>, NoMemory>
-    requires { (i : ℕ) → i < count → F.pre call.now i }
+    requires each { (i : ℕ) → i < count → F.pre call.now i }
+    requires few { count * type_size X.row ≤ most_at_once }
     ensures len { IfOk result (λ list. vec_len list ≡ count) }
     ensures each { IfOk result (λ list. GivesEach F.Fn call.now count list.items) }
 {

@@ -1,5 +1,5 @@
 // Commands of `clap`.
-ghost use Rattle.std.specs.Prelude.{◌≡◌, ◌≢◌, true, map, string_bytes, IfOk, IfErr};
+ghost use Rattle.std.specs.Prelude.{◌≡◌, ◌≢◌, true, map, string_bytes, IfOk, IfErr, IsErrAnd, OnErr};
 ghost use Rattle.clap.specs.Values.{kind_of};
 ghost use Rattle.clap.specs.declared.error.kind.ErrorKind.TheVariants.{OutOfMemory};
 ghost use Rattle.clap.specs.Words.{AddsArg, AddsSubcommand, FailsBy, HasMatchesOf, app_of, fault_of, is_simple_and_free};
@@ -40,7 +40,18 @@ pub fn try_get_matches_from<'a>(
     ensures refused { IfOk result (λ answer. IfErr answer (λ error.
         kind_of error ≢ OutOfMemory)) }
 {
-    match command.try_get_matches_from(words) {
+    told(command.try_get_matches_from(words))
+}
+
+// The answer of `clap`, without its error for no memory.
+fn told<'a>(
+    answer: Result<ArgMatches<'a>, Error>,
+) -> Result<Result<ArgMatches<'a>, Error>, NoMemory>
+    ensures same { IfOk result (λ same. same ≡ answer.entry) }
+    ensures memory { OnErr result (IsErrAnd answer.entry (λ error. kind_of error ≡ OutOfMemory)) }
+    ensures refused { IfOk result (λ same. IfErr same (λ error. kind_of error ≢ OutOfMemory)) }
+{
+    match answer {
         Ok(matches) => Ok(Ok(matches)),
         Err(error) => match error.kind() {
             ErrorKind::OutOfMemory => Err(NoMemory::new()),

@@ -75,7 +75,7 @@ pub fn prepare(
     alloc: Global,
     bytes: &[u8],
     workers: u8,
-    ring: usize,
+    ring: u32,
 ) -> Result<Ready<'_>, PrepareError>
     requires { 1 ≤ ring }
     ensures ready { IfOk result (λ ready. IsContainer ready.scans bytes.now) }
@@ -106,7 +106,7 @@ fn crew_for<'a>(
     alloc: Global,
     view: &FileView<'a>,
     workers: u8,
-    ring: usize,
+    ring: u32,
 ) -> Result<Option<Crew<'a>>, NoMemory>
     requires { 1 ≤ ring }
     ensures some { IfOk result (λ crew.
@@ -135,7 +135,7 @@ const MOST_RING: usize = 1 << 26;
 /// A ring, in bytes, in which a segment of a photograph fits whole, so that no worker waits for the emitter: twice what
 /// the container has for each of its segments, 64 KiB to 64 MiB. All rings together have at most twice the container's
 /// length, and 64 KiB for each segment.
-pub fn ample_ring(bytes: &[u8]) -> usize
+pub fn ample_ring(bytes: &[u8]) -> u32
     ensures some { 1 ≤ result }
     ensures least { 2 ^ 16 ≤ result }
     ensures most { result ≤ 2 ^ 26 }
@@ -151,7 +151,7 @@ pub fn ample_ring(bytes: &[u8]) -> usize
 }
 
 // The same, by how many bytes the container has and how many segments.
-fn ring_for(length: usize, segments: usize) -> usize
+fn ring_for(length: usize, segments: usize) -> u32
     requires { 0 < segments }
     ensures least { 2 ^ 16 ≤ result }
     ensures most { result ≤ 2 ^ 26 }
@@ -160,5 +160,5 @@ fn ring_for(length: usize, segments: usize) -> usize
 {
     (length / segments)
         .saturating_mul(2)
-        .clamp(LEAST_RING, MOST_RING)
+        .clamp(LEAST_RING, MOST_RING) as u32
 }

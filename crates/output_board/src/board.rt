@@ -39,7 +39,7 @@ impl<C: Content> Board<C> {
         alloc: Global,
         content: &C,
         k: u8,
-        capacity: usize,
+        capacity: u32,
         workers: u8,
     ) -> Result<(Board<C>, EmitterSeat<C>, Vec<WorkerSeat<C>>), NoMemory>
         requires bytes { length (C.bytes content.now) ≡ k }

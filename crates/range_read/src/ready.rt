@@ -65,7 +65,7 @@ pub fn prepare_range(
     from: u64,
     to: u64,
     workers: u8,
-    ring: usize,
+    ring: u32,
 ) -> Result<ReadyRange<'_>, RangeError>
     requires { 1 ≤ ring }
     ensures ready { IfOk result (λ ready. IsBoxOf ready.plan ready.parts bytes.now) }
@@ -122,7 +122,7 @@ fn crew_for<'a>(
     first: u8,
     count: u8,
     workers: u8,
-    ring: usize,
+    ring: u32,
 ) -> Result<Option<Crew<'a>>, NoMemory>
     requires ring { 1 ≤ ring }
     requires within { first + count ≤ length scan.now.parts.handovers }

@@ -7,7 +7,7 @@ use crate::lock::{FREE, Lock, VALUE};
 use crate::pass::Pass;
 use crate::rule::Rule;
 use crate::steps::Part;
-use growth::{NoMemory, new_table, with_capacity};
+use growth::{NoMemory, new_table, push};
 use std::alloc::Global;
 use std::sync::atomic::AtomicU64;
 
@@ -24,8 +24,8 @@ impl<L: Rule> Lock<L> {
         requires fits { L.fits value (view ∷ []) }
         ensures first { IfOk result (λ made. IsNewPass made.0 made.1 0 view) }
     {
-        let mut slots = with_capacity(alloc, 1)?;
-        slots.push_reserved(Slot::Home(value));
+        let mut slots = Vec::new(alloc);
+        push(&mut slots, Slot::Home(value))?;
         let (table, seat) = new_table(alloc, &[FREE, 0], slots, &view)?;
         let lock = Lock {
             table,

@@ -59,7 +59,7 @@ impl<'a> Crew<'a> {
         first: u8,
         count: u8,
         workers: u8,
-        ring: usize,
+        ring: u32,
     ) -> Result<Crew<'a>, NoMemory>
         requires ring { 1 ≤ ring }
         requires within { first + count ≤ segment_count view.now }

@@ -16,7 +16,7 @@ use std::alloc::Global;
 pub fn prepare_board<'a>(
     alloc: Global,
     view: &FileView<'a>,
-    ring: usize,
+    ring: u32,
     workers: u8,
     first: u8,
     count: u8,
