@@ -7,13 +7,9 @@ use Rattle.huff_table.specs.declared.plan_codes.PlanCodes.TheInside.{Inside}
 
 -- the components that there are
 abbrev pub components_of : Inside → List ComponentCodes
-components_of p = p.components
+components_of p = p.components.items
 
 -- there are four, each with two tables
 pub record AreComponents (p : Inside) : Type 0 where
-  pub four : length p.components ≡ 4
-  pub tables : AllByRecursion AreTables p.components
-
--- what is kept of components
-abbrev pub inside_of : List ComponentCodes → Inside
-inside_of all = record { components = all }
+  pub four : length p.components.items ≡ 4
+  pub tables : AllByRecursion AreTables p.components.items

@@ -8,7 +8,7 @@
 //!     |-------------|------|---|---|      what begins with each of them, among all words of one length
 //!
 //! `Codes` gives a value's code word, and reads the value of the next word of a scan's bits: a word of at most nine
-//! bits by a table, a longer one bit by bit. It allocates nothing.
+//! bits by a table, a longer one bit by bit. Only `PlanCodes`, the words of all components, has memory of its own.
 //! Not handled here: what values mean (see `scan_spec`).
 #![tactic(auto)]
 

@@ -1,8 +1,10 @@
 // The code words of all components.
-ghost use Rattle.std.specs.Prelude.{◌≡◌, ◌<◌, length, slice_get, Some, IfSome};
+ghost use Rattle.std.specs.Prelude.{◌≡◌, ◌<◌, length, slice_get, Some, IfOk, IfSome};
 
 use crate::codes::Codes;
+use growth::{NoMemory, from_elem, from_slice};
 use jpeg_marker::{Component, Plan};
+use std::alloc::Global;
 use std::marker::Model;
 
 /// The code words of a component's two tables.
@@ -12,29 +14,24 @@ pub struct ComponentCodes {
     pub ac: Codes,
 }
 
-/// The code words of each component of the frame, by its index: none for one that the plan's scan leaves out. Clauses
-/// see the tables.
-#[derive(Clone, Copy)]
+/// The code words of each component of the frame, by its index: none for one that the plan's scan leaves out. They have
+/// 19 KB of memory of their own, so that they are no part of a stack frame. Clauses see the tables.
+#[derive(Drop)]
 pub struct PlanCodes {
-    components: [ComponentCodes; 4],
+    components: Vec<ComponentCodes>,
 }
 
 impl Model for PlanCodes {
     ghost use Rattle.std.specs.Prelude.{List};
-    ghost use Rattle.std.specs.Prelude.{refl};
     ghost use Rattle.huff_table.specs.declared.plan_codes.ComponentCodes.{ComponentCodes};
 
     ghost Value = { List ComponentCodes };
 
-    ghost use Rattle.huff_table.specs.PlanWords.{components_of, AreComponents, inside_of};
+    ghost use Rattle.huff_table.specs.PlanWords.{components_of, AreComponents};
 
     ghost view = { components_of };
 
     ghost invariant = { AreComponents };
-
-    ghost inverse = { inside_of };
-
-    ghost inverse_ok = { λ a h. refl };
 }
 
 ghost use Rattle.std.specs.List.{AllByRecursion};
@@ -66,17 +63,29 @@ impl ComponentCodes {
 }
 
 impl PlanCodes {
-    /// The code words of a plan's tables.
-    pub fn build(plan: &Plan) -> PlanCodes
-        ensures value { result ≡ codes_of plan.now.components }
-        ensures kept { AllByRecursion AreTables result }
+    /// The code words of a plan's tables. The one error is out of memory.
+    #[cold]
+    #[inline(never)]
+    pub fn build(alloc: Global, plan: &Plan) -> Result<PlanCodes, NoMemory>
+        ensures value { IfOk result (λ codes. codes ≡ codes_of plan.now.components) }
+        ensures kept { IfOk result (λ codes. AllByRecursion AreTables codes) }
     {
         let components = plan.components();
-        let mut all = [ComponentCodes::none(); 4];
+        let mut all = from_elem(alloc, ComponentCodes::none(), 4)?;
         for component in components {
             all[usize::from(component.index())] = ComponentCodes::build(component);
         }
-        PlanCodes { components: all }
+        Ok(PlanCodes { components: all })
+    }
+
+    /// The same code words in memory of their own. The one error is out of memory.
+    #[cold]
+    #[inline(never)]
+    pub fn copied(&self, alloc: Global) -> Result<PlanCodes, NoMemory>
+        ensures { IfOk result (λ copy. copy ≡ self.now) }
+    {
+        let components = from_slice(alloc, &self.components)?;
+        Ok(PlanCodes { components })
     }
 
     /// The code words of a component's DC differences.

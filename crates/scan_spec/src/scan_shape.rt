@@ -42,13 +42,13 @@ impl Model for ScanShape {
 
 impl ScanShape {
     /// The scan of a plan, with the code words of its tables.
-    pub fn of(plan: &Plan, codes: &PlanCodes) -> ScanShape
-        requires { codes.now ≡ codes_of plan.now.components }
+    pub fn of(plan: &Plan, codes: PlanCodes) -> ScanShape
+        requires { codes ≡ codes_of plan.now.components }
         ensures { result ≡ shape_of plan.now }
     {
         let (components, blocks) = blocks_of(plan.components());
         ScanShape {
-            codes: *codes,
+            codes,
             components,
             blocks,
             mcus: plan.mcus(),

@@ -10,7 +10,7 @@ pub invariant_of-result : goal.invariant_of-result
 invariant_of-result c =
     let e : take c.blocks_of-blocks.result.1 c.blocks_of-blocks.result.0 ≡ component_indexes c.args.plan.now.components =
     c.blocks_of-blocks.ensures.indexes ∙ ap component_indexes c.components.ensures.value in
-    let size : length c.args.codes.now ≡ 4 = ap length c.requires in
+    let size : length c.args.codes ≡ 4 = ap length c.requires in
     record {
       few = omega (arith, size);
       blocks = c.blocks_of-blocks.ensures.count;
@@ -21,7 +21,7 @@ pub returns : goal.returns
 returns c =
     let e : take c.blocks_of-blocks.result.1 c.blocks_of-blocks.result.0 ≡ component_indexes c.args.plan.now.components =
     c.blocks_of-blocks.ensures.indexes ∙ ap component_indexes c.components.ensures.value in
-    let slots : map (slot_in c.args.codes.now) (take c.blocks_of-blocks.result.1 c.blocks_of-blocks.result.0) ≡ (shape_of c.args.plan.now).slots =
+    let slots : map (slot_in c.args.codes) (take c.blocks_of-blocks.result.1 c.blocks_of-blocks.result.0) ≡ (shape_of c.args.plan.now).slots =
     ap₂ (λ (codes : List ComponentCodes) (indexes : List ℕ). map (slot_in codes) indexes) c.requires e
     ∙ slots_by_index c.args.plan.now.components (rising_is 0 4 _ c.components.ensures.kept.indexes) in
     shape_is _ _ _ _ _ _ slots c.mcus.ensures.value (c.from.ensures ∙ c.interval.ensures)
