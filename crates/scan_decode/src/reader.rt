@@ -58,8 +58,8 @@ impl<'a> Model for Reader<'a> {
 
 impl<'a> Reader<'a> {
     /// Before the first MCU of the scan at a place of these bytes.
-    pub fn start(plan: &Plan, codes: &PlanCodes, bytes: &'a [u8], place: usize) -> Self
-        requires { codes.now ≡ codes_of plan.now.components }
+    pub fn start(plan: &Plan, codes: PlanCodes, bytes: &'a [u8], place: usize) -> Self
+        requires { codes ≡ codes_of plan.now.components }
         ensures { result ≡ reader_at (shape_of plan.now) bytes.now place }
     {
         Reader {
@@ -78,13 +78,13 @@ impl<'a> Reader<'a> {
     /// and `handover` is what they hand over (own).
     pub fn at(
         plan: &Plan,
-        codes: &PlanCodes,
+        codes: PlanCodes,
         bytes: &'a [u8],
         place: usize,
         handover: Handover,
         row: u32,
     ) -> Self
-        requires codes { codes.now ≡ codes_of plan.now.components }
+        requires codes { codes ≡ codes_of plan.now.components }
         requires row { row < plan.now.down }
         requires restarts { handover.restarts
             ≡ markers_before (shape_of plan.now) (plan.now.across * row) }

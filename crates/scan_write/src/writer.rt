@@ -61,8 +61,8 @@ impl<'a> Model for Writer<'a> {
 
 impl<'a> Writer<'a> {
     /// Before the first MCU of a plan's scan. `pads` are the bits that fill up the last byte of each interval.
-    pub fn start(plan: &Plan, codes: &PlanCodes, pads: Pads<'a>) -> Self
-        requires codes { codes.now ≡ codes_of plan.now.components }
+    pub fn start(plan: &Plan, codes: PlanCodes, pads: Pads<'a>) -> Self
+        requires codes { codes ≡ codes_of plan.now.components }
         requires pads { is_long_for (shape_of plan.now) (pads_given pads) ≡ true }
         ensures { result ≡ writer_of (shape_of plan.now) (pads_given pads.entry) }
     {
@@ -77,27 +77,24 @@ impl<'a> Writer<'a> {
         }
     }
 
-    /// Before the first MCU of a row of MCUs, given what the MCUs before it hand over: the row is one of the grid, from
-    /// 0. `pads` are the bits that fill up the last byte of each interval of the scan.
-    pub fn at(plan: &Plan, codes: &PlanCodes, handover: Handover, row: u32, pads: Pads<'a>) -> Self
-        requires codes { codes.now ≡ codes_of plan.now.components }
+    /// Begins the same scan anew at the first MCU of a row of MCUs, given what the MCUs before it hand over: the row is
+    /// one of the grid, from 0. `pads` are the bits that fill up the last byte of each interval of the scan. The code
+    /// words stay, so that nothing is allocated.
+    pub fn move_to(&mut self, plan: &Plan, handover: Handover, row: u32, pads: Pads<'a>)
+        requires shape { self.old.shape ≡ shape_of plan.now }
         requires row { row < plan.now.down }
         requires restarts { handover.restarts
             ≡ markers_before (shape_of plan.now) (plan.now.across * row) }
         requires pads { is_long_for (shape_of plan.now) (pads_given pads) ≡ true }
-        ensures { result
+        ensures { self.new
             ≡ writer_from (shape_of plan.now) (pads_given pads.entry) handover (plan.now.across * row) }
     {
-        let shape = ScanShape::of(plan, codes);
-        Writer {
-            shape,
-            pads,
-            output: BitOut::at(handover.partial(), handover.bits()),
-            before: handover.preds(),
-            count: plan.across() * row,
-            padded: PadSum::none(),
-            stop: None,
-        }
+        self.pads = pads;
+        self.output = BitOut::at(handover.partial(), handover.bits());
+        self.before = handover.preds();
+        self.count = plan.across() * row;
+        self.padded = PadSum::none();
+        self.stop = None;
     }
 
     /// What the MCUs so far hand over.
