@@ -28,8 +28,8 @@ pub fn sample(alloc: Global, seed: u32, columns: u16, rows: u16) -> Result<Vec<u
     let mut file = Vec::new(alloc);
     put_header(&mut file, &extent)?;
     let plan = plan_of(&file);
-    let codes = PlanCodes::build(&plan);
-    let mut writer = Writer::start(&plan, &codes, Pads::All(true));
+    let codes = PlanCodes::build(alloc, &plan)?;
+    let mut writer = Writer::start(&plan, codes, Pads::All(true));
     let mut piece = Piece::new(alloc)?;
     let mut draws = Draws::new(seed);
     put_mcus(&mut draws, &mut writer, plan.mcus(), &mut piece, &mut file)?;
