@@ -64,6 +64,31 @@ pub(crate) fn skip_blocks(
     if let Some(known) = skips {
         return skip_blocks_by(known, codes, slots, before, input);
     }
+    first_blocks(skips, codes, slots, before, input)
+}
+
+// The blocks of the first MCU. The words have room only in this frame, and not in each frame above it.
+#[cold]
+#[inline(never)]
+fn first_blocks(
+    skips: &mut Option<SkipCodes>,
+    codes: &[ComponentCodes],
+    slots: &[u8],
+    before: &mut [i16; 4],
+    input: &mut BitIn,
+) -> Result<(), ScanRefusal>
+    requires few { length codes.now ≤ 4 }
+    requires slots { All (λ slot. slot < length codes.now) slots.now }
+    requires before { All IsDc before.old }
+    ensures skips { IfSome skips.new
+        (λ known. AreSkipSlots (map (slot_in codes.now) slots.now) known.words) }
+    ensures is { (read : List (List ℤ))
+        × (blocks_read result (map in_zigzag read) before.new input.new.cursor
+        ≡ blocks_at (map
+        (slot_in codes.now) slots.now) before.old input.old.bytes input.old.cursor) }
+    ensures small { All IsDc before.new }
+    ensures bytes { input.new.bytes ≡ input.old.bytes }
+{
     let made = SkipCodes::build(codes);
     let result = skip_blocks_by(&made, codes, slots, before, input);
     *skips = Some(made);
