@@ -1,5 +1,5 @@
 // From bools to the stream, with carries.
-ghost use Rattle.std.specs.Prelude.{◌≡◌, ℕ, ◌+◌, ◌-◌, ◌*◌, ◌^◌, ◌<◌, ◌≤◌, Some, None, List, length, take, drop, IsSome, IfSome, IfOk, OnOk, OnErr, option_map};
+ghost use Rattle.std.specs.Prelude.{[], ◌≡◌, ℕ, ◌+◌, ◌-◌, ◌*◌, ◌^◌, ◌<◌, ◌≤◌, Some, None, List, length, take, drop, IsSome, IfSome, IfOk, OnOk, OnErr, option_map};
 ghost use Rattle.std.specs.Int.Digits.{number_from_digits, AllBelowBase};
 ghost use Rattle.bool_coder.specs.BoolStream.{opening, after, split, chosen, stream};
 ghost use Rattle.bool_coder.specs.EncoderInside.{kept};
@@ -49,8 +49,18 @@ impl Encoder {
     pub fn new(alloc: Global) -> Self
         ensures { result ≡ Some opening }
     {
+        Encoder::over(Vec::new(alloc))
+    }
+
+    /// Before the first bool, with an empty list for the stream's bytes. Memory is asked for only if the list's room
+    /// isn't enough.
+    #[inline(always)]
+    pub fn over(list: Vec<u8>) -> Self
+        requires { list.items ≡ [] }
+        ensures { result ≡ Some opening }
+    {
         Encoder {
-            written: Vec::new(alloc),
+            written: list,
             low: 0,
             bits: 8,
             less: 254,
