@@ -49,6 +49,7 @@ impl Definitions {
     }
 
     /// Adds what a segment says that is no scan's. Its length is at place `at`.
+    #[inline(never)]
     pub(crate) fn take(&mut self, code: u8, body: &[u8], at: usize) -> Result<(), HeaderRefusal>
         requires room { at + 2 + length body.now < 2 ^ 64 }
         ensures fault { fault_in result ≡ segment_fault self.old at code body.now }

@@ -54,6 +54,7 @@ pub fn read_next(plan: &Plan, bytes: &[u8], place: usize) -> Result<Plan, Header
 
 // Walks over the segments of a header, up to its scan's. `bytes` begin with the header, which is at `place` of the file
 // and has `start` bytes before its first segment.
+#[inline(never)]
 fn walk(
     known: &Definitions,
     scans: Scans,

@@ -48,6 +48,7 @@ impl Plan {
 
     /// The plan of a scan of these components of the frame, after what is known, unless it has too many blocks with
     /// those of the scans before.
+    #[inline(never)]
     pub(crate) fn new(
         known: &Definitions,
         frame: &Frame,
@@ -99,6 +100,7 @@ impl Plan {
     }
 
     /// The same plan of a header that is at `place` of a file, with all bytes before its scan as its header.
+    #[inline(never)]
     pub fn at(&self, place: usize) -> Plan
         requires { place + self.now.header_length < 2 ^ 64 }
         ensures { result ≡ plan_at place self.now }

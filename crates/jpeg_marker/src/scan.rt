@@ -16,6 +16,7 @@ use crate::table::RawTable;
 
 /// Parses a scan header (SOS) after what is known, and gives the plan of the header that ends with it and has
 /// `header_length` bytes. `body` is what follows the length field, which is at place `at`.
+#[inline(never)]
 pub(crate) fn read_scan(
     known: &Definitions,
     scans: Scans,
@@ -217,6 +218,7 @@ fn is_sequential(bytes: &[u8]) -> bool
 }
 
 // The components with the tables that the scan names, if all are there.
+#[inline(never)]
 fn components(
     indexes: &[u8],
     parts: &[FrameComponent],
