@@ -11,7 +11,7 @@ use std::process::Abort;
 // The code words of the standard's tables: of luminance first, and then of chrominance.
 fn standard_codes(rt: &impl Abort, alloc: Global) -> PlanCodes {
     let plan = planned(rt, alloc, &[START, TWO, K3, K4, K5, K6, TWO_SCAN]);
-    PlanCodes::build(&plan)
+    PlanCodes::build(alloc, &plan).expect(rt, "memory")
 }
 
 // A component, whether the words are those of AC coefficients, and the words.
@@ -106,7 +106,7 @@ fn put_words(rt: &impl Abort, words: &[Word], out: &mut Piece) {
 // The code words of a DC table with `0` alone, and of an AC table with `0` and `1`.
 fn short_codes(rt: &impl Abort, alloc: Global) -> PlanCodes {
     let plan = planned(rt, alloc, &[START, FRAME, ONE, BOTH, SCAN]);
-    PlanCodes::build(&plan)
+    PlanCodes::build(alloc, &plan).expect(rt, "memory")
 }
 
 // Bits, and what is read of them by the table with the word `0` alone.

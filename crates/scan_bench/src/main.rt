@@ -30,14 +30,14 @@ fn choice(words: &[String]) -> Option<(bool, u32)> {
 // Passes over the scan of a file, as many as are wanted. Answers what the last one came to, if there was one.
 fn passes(alloc: Global, bytes: &[u8], writes: bool, times: u32) -> Option<Passed> {
     let plan = read_header(bytes).ok()?;
-    let codes = PlanCodes::build(&plan);
-    let pad = pad_of(&plan, &codes, bytes)?;
+    let codes = PlanCodes::build(alloc, &plan).ok()?;
+    let pad = pad_of(alloc, &plan, &codes, bytes)?;
     let mut last = None;
     for _ in 0..times {
         last = if writes {
             both(alloc, &plan, &codes, bytes, pad)
         } else {
-            read(&plan, &codes, bytes)
+            read(alloc, &plan, &codes, bytes)
         };
     }
     last

@@ -19,9 +19,15 @@ pub(crate) struct Passed {
 }
 
 /// The bit that the first interval of a scan that pads any is padded with, 1 if none does.
-pub(crate) fn pad_of(plan: &Plan, codes: &PlanCodes, bytes: &[u8]) -> Option<bool>
+pub(crate) fn pad_of(
+    alloc: Global,
+    plan: &Plan,
+    codes: &PlanCodes,
+    bytes: &[u8],
+) -> Option<bool>
     requires { codes.now ≡ codes_of plan.now.components }
 {
+    let codes = codes.copied(alloc).ok()?;
     let mut reader = Reader::start(plan, codes, bytes, plan.header_length());
     let mut blocks = [Block::zero(); MOST_SLOTS];
     let mut pad = None;
@@ -37,10 +43,16 @@ pub(crate) fn pad_of(plan: &Plan, codes: &PlanCodes, bytes: &[u8]) -> Option<boo
 }
 
 /// Reads the scan of these bytes, unless it is refused.
-pub(crate) fn read(plan: &Plan, codes: &PlanCodes, bytes: &[u8]) -> Option<Passed>
+pub(crate) fn read(
+    alloc: Global,
+    plan: &Plan,
+    codes: &PlanCodes,
+    bytes: &[u8],
+) -> Option<Passed>
     requires { codes.now ≡ codes_of plan.now.components }
 {
     let start = plan.header_length();
+    let codes = codes.copied(alloc).ok()?;
     let mut reader = Reader::start(plan, codes, bytes, start);
     let mut blocks = [Block::zero(); MOST_SLOTS];
     for _ in 0..plan.mcus() {
@@ -67,8 +79,8 @@ pub(crate) fn both(
     requires { codes.now ≡ codes_of plan.now.components }
 {
     let start = plan.header_length();
-    let mut reader = Reader::start(plan, codes, bytes, start);
-    let mut writer = Writer::start(plan, codes, Pads::All(pad));
+    let mut reader = Reader::start(plan, codes.copied(alloc).ok()?, bytes, start);
+    let mut writer = Writer::start(plan, codes.copied(alloc).ok()?, Pads::All(pad));
     let mut piece = Piece::new(alloc).ok()?;
     let mut blocks = [Block::zero(); MOST_SLOTS];
     let mut rest = bytes.get(start..)?;

@@ -88,7 +88,7 @@ fn rows_are_read_from_handovers(rt: HostRuntime) {
         let start = bytes.len();
         append(&rt, &mut bytes, scan);
         let plan = planned(&rt, &bytes);
-        assert!(rt; goes_on(&rt, &plan, &bytes, start, *seam), "{scan:?}");
+        assert!(rt; goes_on(&rt, rt.alloc(), &plan, &bytes, start, *seam), "{scan:?}");
     }
 }
 
@@ -116,13 +116,14 @@ fn is_written_on(
     pads: Pads,
     row: u32,
 ) -> bool {
-    let codes = PlanCodes::build(plan);
-    let mut reader = Reader::start(plan, &codes, bytes, start);
+    let codes = PlanCodes::build(alloc, plan).expect(rt, "memory");
+    let same = codes.copied(alloc).expect(rt, "memory");
+    let mut reader = Reader::start(plan, codes, bytes, start);
     for _ in 0..row {
         next_block(rt, &mut reader);
     }
     let place = reader.place();
-    let mut writer = writer_from(rt, plan, &codes, &reader, pads, row);
+    let mut writer = writer_from(rt, plan, same, &reader, pads, row);
     let mut out = Piece::new(alloc).expect(rt, "memory");
     for _ in row..plan.down() {
         let block = next_block(rt, &mut reader);
@@ -135,18 +136,20 @@ fn is_written_on(
 fn writer_from<'a>(
     rt: &impl Abort,
     plan: &Plan,
-    codes: &PlanCodes,
+    codes: PlanCodes,
     reader: &Reader,
     pads: Pads<'a>,
     row: u32,
 ) -> Writer<'a>
-    requires { codes.now ≡ codes_of plan.now.components }
+    requires { codes ≡ codes_of plan.now.components }
 {
     let handover = reader.handover();
     assert!(rt; row < plan.down());
     assert!(rt; handover.restarts() == restarts_before(plan, row));
     assert!(rt; are_for(plan, &pads));
-    Writer::at(plan, codes, handover, row, pads)
+    let mut writer = Writer::start(plan, codes, Pads::All(true));
+    writer.move_to(plan, handover, row, pads);
+    writer
 }
 
 // Writes an MCU of one block.
@@ -158,14 +161,22 @@ fn put_block(rt: &impl Abort, writer: &mut Writer, block: Block, out: &mut Piece
 }
 
 // Whether a reader of the whole scan hands this over before a row, and one that starts from there reads what it reads.
-fn goes_on(rt: &impl Abort, plan: &Plan, bytes: &[u8], start: usize, seam: Seam) -> bool {
-    let codes = PlanCodes::build(plan);
+fn goes_on(
+    rt: &impl Abort,
+    alloc: Global,
+    plan: &Plan,
+    bytes: &[u8],
+    start: usize,
+    seam: Seam,
+) -> bool {
+    let codes = PlanCodes::build(alloc, plan).expect(rt, "memory");
+    let same = codes.copied(alloc).expect(rt, "memory");
     let (row, place, fields) = seam;
-    let mut whole = Reader::start(plan, &codes, bytes, start);
+    let mut whole = Reader::start(plan, codes, bytes, start);
     for _ in 0..row {
         next_block(rt, &mut whole);
     }
-    let mut reader = resumed(rt, plan, &codes, bytes, &whole, row);
+    let mut reader = resumed(rt, plan, same, bytes, &whole, row);
     is_at(&whole, start, place)
         && has_fields(&whole.handover(), fields)
         && has_fields(&reader.handover(), fields)
@@ -191,12 +202,12 @@ fn read_the_same(rt: &impl Abort, whole: &mut Reader, reader: &mut Reader, rows:
 fn resumed<'a>(
     rt: &impl Abort,
     plan: &Plan,
-    codes: &PlanCodes,
+    codes: PlanCodes,
     bytes: &'a [u8],
     whole: &Reader,
     row: u32,
 ) -> Reader<'a>
-    requires { codes.now ≡ codes_of plan.now.components }
+    requires { codes ≡ codes_of plan.now.components }
 {
     let handover = whole.handover();
     assert!(rt; row < plan.down());

@@ -10,6 +10,7 @@ use huff_table::PlanCodes;
 use jpeg_marker::Plan;
 use scan_decode::Reader;
 use scan_spec::{MOST_SLOTS, ScanRefusal};
+use std::alloc::Global;
 use std::process::Abort;
 
 // The coefficients that aren't 0, how many blocks there are, a byte for each MCU, and how many bytes the scan has. The
@@ -99,12 +100,20 @@ fn scans_are_read(rt: HostRuntime) {
         let place = bytes.len();
         append(&rt, &mut bytes, scan);
         let plan = planned(&rt, &bytes);
-        assert!(rt; is_read(&rt, &plan, &bytes, place, *wanted), "{scan:?}");
+        assert!(rt; is_read(&rt, rt.alloc(), &plan, &bytes, place, *wanted), "{scan:?}");
     }
 }
 
-fn is_read(rt: &impl Abort, plan: &Plan, bytes: &[u8], place: usize, wanted: Read) -> bool {
-    let mut reader = Reader::start(plan, &PlanCodes::build(plan), bytes, place);
+fn is_read(
+    rt: &impl Abort,
+    alloc: Global,
+    plan: &Plan,
+    bytes: &[u8],
+    place: usize,
+    wanted: Read,
+) -> bool {
+    let codes = PlanCodes::build(alloc, plan).expect(rt, "memory");
+    let mut reader = Reader::start(plan, codes, bytes, place);
     let (values, count, told, length) = wanted;
     if reader.place() != place {
         return false;
@@ -276,21 +285,23 @@ fn scans_are_refused(rt: HostRuntime) {
         let place = bytes.len();
         append(&rt, &mut bytes, scan);
         let plan = planned(&rt, &bytes);
-        assert!(rt; is_refused(&rt, &plan, &bytes, place, *refusal), "{scan:?}");
+        assert!(rt; is_refused(&rt, rt.alloc(), &plan, &bytes, place, *refusal), "{scan:?}");
     }
 }
 
 // Whether the refusal is answered, and answered again, also by a reader that skips MCUs.
 fn is_refused(
     rt: &impl Abort,
+    alloc: Global,
     plan: &Plan,
     bytes: &[u8],
     place: usize,
     wanted: ScanRefusal,
 ) -> bool {
-    let codes = PlanCodes::build(plan);
-    let mut reader = Reader::start(plan, &codes, bytes, place);
-    let mut skipping = Reader::start(plan, &codes, bytes, place);
+    let codes = PlanCodes::build(alloc, plan).expect(rt, "memory");
+    let same = codes.copied(alloc).expect(rt, "memory");
+    let mut reader = Reader::start(plan, codes, bytes, place);
+    let mut skipping = Reader::start(plan, same, bytes, place);
     for _ in 0..plan.mcus() {
         let answer = next_mcu(rt, &mut reader);
         if skip_mcu(rt, &mut skipping) != answer {

@@ -237,7 +237,8 @@ fn is_written(
     let plan = plan_of(rt, alloc, header);
     let mut out = Piece::new(alloc).expect(rt, "memory");
     assert!(rt; are_for(&plan, &pads));
-    let mut writer = Writer::start(&plan, &PlanCodes::build(&plan), pads);
+    let codes = PlanCodes::build(alloc, &plan).expect(rt, "memory");
+    let mut writer = Writer::start(&plan, codes, pads);
     put_mcus(rt, &mut writer, plan.mcus(), values, &mut out);
     writer.at_end() && writer.padded() == padded && out.bytes() == bytes
 }
@@ -333,7 +334,16 @@ fn scans_are_stopped(rt: HostRuntime) {
         let plan = plan_of(&rt, rt.alloc(), *header);
         let mut out = Piece::new(rt.alloc()).expect(&rt, "memory");
         assert!(rt;
-            stops(&rt, &plan, values, *count, bytes, *stop, &mut out),
+            stops(
+                &rt,
+                rt.alloc(),
+                &plan,
+                values,
+                *count,
+                bytes,
+                *stop,
+                &mut out
+            ),
             "{values:?}"
         );
     }
@@ -342,6 +352,7 @@ fn scans_are_stopped(rt: HostRuntime) {
 // Whether the MCU after these is stopped, twice, and then one that has bits.
 fn stops(
     rt: &impl Abort,
+    alloc: Global,
     plan: &Plan,
     values: &[Value],
     count: u32,
@@ -349,7 +360,8 @@ fn stops(
     stop: WriteStop,
     out: &mut Piece,
 ) -> bool {
-    let mut writer = Writer::start(plan, &PlanCodes::build(plan), Pads::All(true));
+    let codes = PlanCodes::build(alloc, plan).expect(rt, "memory");
+    let mut writer = Writer::start(plan, codes, Pads::All(true));
     put_mcus(rt, &mut writer, count, values, out);
     is_stopped(rt, &mut writer, count, values, stop, out, bytes)
         && is_stopped(rt, &mut writer, count, values, stop, out, bytes)
@@ -384,7 +396,7 @@ fn largest_mcu(rt: HostRuntime) {
     let plan = plan_of(&rt, rt.alloc(), [TEN_BLOCKS, LONG_ELEVEN, LONG_TEN, 0]);
     let mut out = markers(&rt, rt.alloc());
     assert!(rt; out.free() == mcu_room());
-    assert!(rt; are_put(&rt, &plan, &mut out));
+    assert!(rt; are_put(&rt, rt.alloc(), &plan, &mut out));
     assert!(rt; out.len() == 4024 + 3524 && count_of_ff(out.bytes()) == 2012 + 1442);
 }
 
@@ -400,12 +412,13 @@ fn markers(rt: &impl Abort, alloc: Global) -> Piece {
 }
 
 // Whether the ten blocks are a whole scan, whose last byte is padded.
-fn are_put(rt: &impl Abort, plan: &Plan, out: &mut Piece) -> bool {
+fn are_put(rt: &impl Abort, alloc: Global, plan: &Plan, out: &mut Piece) -> bool {
     let mut blocks = [Block::zero(); MOST_SLOTS];
     for i in 0..MOST_SLOTS {
         blocks[i] = full(rt, DCS[i]);
     }
-    let mut writer = Writer::start(plan, &PlanCodes::build(plan), Pads::All(true));
+    let codes = PlanCodes::build(alloc, plan).expect(rt, "memory");
+    let mut writer = Writer::start(plan, codes, Pads::All(true));
     assert!(rt; !writer.at_end());
     assert!(rt; writer.mcu_blocks() == MOST_SLOTS);
     assert!(rt; out.free() >= mcu_room());

@@ -89,7 +89,7 @@ fn are_digits(bits: &[bool], text: &[u8]) -> bool {
 // The code words of a grey image with Table K.3 and this AC table.
 fn codes_of(rt: &impl Abort, alloc: Global, table: usize) -> PlanCodes {
     let plan = plan_of(rt, alloc, [GREY, TABLE_K3, table, 0]);
-    PlanCodes::build(&plan)
+    PlanCodes::build(alloc, &plan).expect(rt, "memory")
 }
 
 fn block_bits(
@@ -191,7 +191,8 @@ fn scans_are_spelled(rt: HostRuntime) {
 
 // Whether these are the bytes of zero blocks.
 fn is_scan(rt: &impl Abort, alloc: Global, plan: &Plan, pad: bool, bytes: &[u8]) -> bool {
-    let slots = slots_of(rt, alloc, &ScanShape::of(plan, &PlanCodes::build(plan)));
+    let codes = PlanCodes::build(alloc, plan).expect(rt, "memory");
+    let slots = slots_of(rt, alloc, &ScanShape::of(plan, codes));
     let count = plan.blocks() as usize;
     let blocks = Vec::from_elem(alloc, Block::zero(), count).expect(rt, "memory");
     match scan_bytes(rt, alloc, plan, &slots, &blocks, pad) {
