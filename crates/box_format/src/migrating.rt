@@ -10,6 +10,7 @@ use crate::reading::read_box_of;
 use crate::refusal::Migrate;
 use crate::version::{MIGRATABLE, Version};
 use crate::view::BoxView;
+use crate::writing::MOST_ROOM;
 use growth::{NoMemory, extend_from_slice, from_slice, push, with_capacity};
 use std::alloc::Global;
 
@@ -44,7 +45,7 @@ fn relaid(alloc: Global, bytes: &[u8]) -> Result<Vec<u8>, NoMemory>
     requires { 15 ≤ length bytes.now }
     ensures { IfOk result (λ made. made.items ≡ relaid bytes.now) }
 {
-    let mut made = with_capacity(alloc, bytes.len().saturating_add(4))?;
+    let mut made = with_capacity(alloc, bytes.len().saturating_add(4).min(MOST_ROOM))?;
     extend_from_slice(&mut made, &bytes[..4])?;
     push(&mut made, Version::Second.byte())?;
     extend_from_slice(&mut made, &bytes[5..15])?;

@@ -5,7 +5,9 @@ ghost use Rattle.box_format.specs.Seen.{room_of};
 
 use crate::version::Version;
 use crate::view::BoxView;
-use crate::writing::{list_of, pad_byte, put_front, put_lengths, put_place_field, put_record};
+use crate::writing::{
+    MOST_ROOM, list_of, pad_byte, put_front, put_lengths, put_place_field, put_record,
+};
 use growth::{NoMemory, extend_from_slice, with_capacity};
 use std::alloc::Global;
 
@@ -16,7 +18,7 @@ pub fn write_placed(alloc: Global, view: &BoxView, places: &[u64]) -> Result<Vec
     requires places { length places.now ≡ length view.now.parts.handovers + 1 }
     ensures { IfOk result (λ made. made.items ≡ box_bytes (with_places view.now.parts places.now)) }
 {
-    let mut made = with_capacity(alloc, room(view))?;
+    let mut made = with_capacity(alloc, room(view).min(MOST_ROOM))?;
     let pads = view.pad();
     let list = list_of(&pads);
     let header = view.header();

@@ -17,13 +17,16 @@ use handover::Handover;
 use scan_spec::Pads;
 use std::alloc::Global;
 
+/// The most room, in bytes, that a container is given before its first byte: 64 GiB. A longer one grows.
+pub(crate) const MOST_ROOM: usize = 1 << 36;
+
 /// Writes the container of these parts: of a chunk in version 3, with places in version 5, else in version 2. They must
 /// be those of a container: their checks pass. The one error is out of memory.
 pub fn write_box(alloc: Global, parts: &Parts) -> Result<Vec<u8>, NoMemory>
     requires { (plan : PlanFields) × IsBox plan (parts_given parts.now) }
     ensures { IfOk result (λ bytes. bytes.items ≡ box_bytes (parts_given parts.now)) }
 {
-    let mut bytes = with_capacity(alloc, room(parts))?;
+    let mut bytes = with_capacity(alloc, room(parts).min(MOST_ROOM))?;
     let list = list_of(&parts.pad);
     put_front(
         &mut bytes,

@@ -21,7 +21,7 @@ use crate::container::write_parts;
 use crate::error::EncodeError;
 use crate::heads::{Head, find_heads};
 use box_format::Parts;
-use growth::{NoMemory, push, with_capacity};
+use growth::{NoMemory, push};
 use jpeg_marker::{Plan, read_first};
 use scans_format::write_scans;
 use segment_code::Starts;
@@ -139,7 +139,7 @@ fn code_scans<R: Threads + Sync>(
     ensures scan { (refusal : ScanRefusal) → IsErrOf result (EncodeError.Scan refusal)
         → FileIsRefused bytes.now (Scan refusal) }
 {
-    let mut coded = with_capacity(alloc, heads.len())?;
+    let mut coded = Vec::new(alloc);
     for head in heads {
         let (starts, streams) = encode_scan(rt, alloc, &head.plan, bytes, share)?;
         push(&mut coded, CodedScan { starts, streams })?;
@@ -177,7 +177,7 @@ fn parts_of<'a>(
     ensures { IfOk result
         (λ parts. map parts_given parts.items ≡ scans_made bytes.now heads.now coded.now) }
 {
-    let mut parts = with_capacity(alloc, heads.len())?;
+    let mut parts = Vec::new(alloc);
     for (i, head) in heads.iter().enumerate() {
         push(
             &mut parts,

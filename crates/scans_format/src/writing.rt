@@ -13,6 +13,9 @@ use box_format::{MAGIC, Parts, list_of, pad_byte, put_records, put_streams};
 use growth::{NoMemory, extend_from_slice, push, with_capacity};
 use std::alloc::Global;
 
+// The most room, in bytes, that a container is given before its first byte: 64 GiB. A longer one grows.
+const MOST_ROOM: usize = 1 << 36;
+
 /// Writes the container of several scans, each with the parts of a container of version 2, and the last one with the
 /// trailer. They must be those of a container: their checks pass. The one error is out of memory.
 pub fn write_scans(alloc: Global, scans: &[Parts]) -> Result<Vec<u8>, NoMemory>
@@ -20,7 +23,7 @@ pub fn write_scans(alloc: Global, scans: &[Parts]) -> Result<Vec<u8>, NoMemory>
         × (all_parts boxes ≡ map parts_given scans.now) }
     ensures { IfOk result (λ made. made.items ≡ scans_bytes (map parts_given scans.now)) }
 {
-    let mut bytes = with_capacity(alloc, room(scans))?;
+    let mut bytes = with_capacity(alloc, room(scans).min(MOST_ROOM))?;
     let trailer = last_trailer(scans);
     put_front(&mut bytes, scans.len() as u8, trailer.len() as u32)?;
     put_all_fields(&mut bytes, scans)?;

@@ -14,7 +14,7 @@ use crate::decoder::SegmentDecoder;
 use crate::step::Step;
 use bit_list::Piece;
 use box_format::BoxView;
-use growth::{NoMemory, push, with_capacity};
+use growth::{NoMemory, push};
 use handover::StreamFault;
 use jpeg_marker::Plan;
 use scans_format::FileView;
@@ -192,7 +192,7 @@ fn decoders_of<'a>(alloc: Global, plans: &[Plan]) -> Result<Vec<SegmentDecoder<'
     ensures plans { IfOk result (λ ds. plans_of ds.items ≡ plans.now) }
     ensures begun { IfOk result (λ ds. All (λ d. d.begun ≤ 0) ds.items) }
 {
-    let mut decoders = with_capacity(alloc, plans.len())?;
+    let mut decoders = Vec::new(alloc);
     for plan in plans {
         push(&mut decoders, SegmentDecoder::prepare(alloc, plan)?)?;
     }

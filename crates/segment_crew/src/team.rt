@@ -7,7 +7,7 @@ ghost use Rattle.segment_crew.specs.Teams.{IsIdleWorker, IsNewSeat, AreNewSeats}
 use crate::threads::{Lead, Task};
 use bit_list::Piece;
 use byte_window::Window;
-use growth::{NoMemory, push, with_capacity};
+use growth::{NoMemory, push};
 use output_board::{Board, EmitterSeat, WorkerSeat};
 use outside_core::{Gate, Sink};
 use scans_format::FileView;
@@ -124,7 +124,7 @@ pub(crate) fn team_of<'a>(
         All (IsIdleWorker board.now (stretch view.now first count)) team.items) }
     ensures count { IfOk result (λ team. length team.items ≡ length seats.entry.items) }
 {
-    let mut team = with_capacity(alloc, seats.len())?;
+    let mut team = Vec::new(alloc);
     for seat in seats {
         let worker = worker_of(alloc, view, board, seat, first, count)?;
         push(&mut team, worker)?;

@@ -265,7 +265,7 @@ fn scans_are_decoded_by_workers(rt: HostRuntime) {
             .ok()
             .expect(&rt, "it is encoded");
         for workers in 0..4 {
-            for ring in [1usize, 2, 70] {
+            for ring in [1u32, 2, 70] {
                 let back = comes_back(
                     &rt,
                     rt.alloc(),

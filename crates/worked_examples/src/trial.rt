@@ -161,7 +161,7 @@ pub(crate) fn comes_back<R: Threads + Wait + Sync + Abort, G: Gate + Sync>(
     container: &[u8],
     file: &[u8],
     workers: u8,
-    ring: usize,
+    ring: u32,
     gate: &G,
 ) -> bool {
     assert!(rt; 1 <= ring);
