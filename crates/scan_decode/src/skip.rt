@@ -26,6 +26,7 @@ pub(crate) struct SkipCodes {
 
 impl SkipCodes {
     /// By the code words of each component.
+    #[inline(never)]
     pub(crate) fn build(codes: &[ComponentCodes]) -> SkipCodes
         requires { length codes.now ≤ 4 }
         ensures { AreSkipCodes codes.now result.words }
