@@ -5,5 +5,4 @@ mod RangeWritten
 mod StretchRead
 mod CountedSteps
 mod MeasuredSegments
-mod NewLanes
 mod FoundPlaces

@@ -1,8 +1,7 @@
--- The measures of segments, one after another and in lanes.
-use Rattle.std.proofs.Common.{◌≡◌, ℕ, suc, ◌+◌, ◌-◌, ◌<◌, ◌≤◌, Bool, false, if◌then◌else◌, [], ◌∷◌, ◌++◌, List, length, map, refl, sym, ap, subst, ◌∙◌, arith, append_assoc, append-nil, length-append}
-use Rattle.std.specs.Prelude.{flat_map, slice_index_or}
+-- The measures of segments, wave by wave.
+use Rattle.std.proofs.Common.{◌≡◌, ℕ, suc, ◌+◌, ◌-◌, ◌<◌, ◌≤◌, Bool, false, if◌then◌else◌, [], ◌∷◌, ◌++◌, List, length, refl, sym, ap, subst, ◌∙◌, arith, append_assoc, append-nil}
+use Rattle.std.specs.Prelude.{All, slice_index_or}
 use Rattle.std.proofs.lemmas.Bool.{lt-ltb}
-use Rattle.std.proofs.lemmas.List.{map-append}
 use Rattle.handover.specs.declared.outcome.Outcome.{Outcome}
 use Rattle.handover.specs.declared.outcome.Outcome.TheVariants.{Good, Bad}
 use Rattle.handover.specs.declared.outcome.StreamFault.{StreamFault}
@@ -11,9 +10,9 @@ use Rattle.box_format.specs.Parts.{BoxSeen}
 use Rattle.container_spec.specs.Segments.{Output, segment_output}
 use Rattle.container_spec.specs.Meanings.{segment_in}
 use Rattle.scans_spec.specs.ScansMeanings.{fault_after, led_output, outcome_after, output_at}
-use Rattle.range_read.specs.Lanes.{HasMeasured, lane_outputs, numbers_in}
-use Rattle.range_read.specs.Measures.{After, AreMeasures, IsMeasure}
+use Rattle.range_read.specs.Lanes.{AreAllMeasured, AreMeasuredUpTo, HasMeasured, IsLane, outputs_from}
 use Rattle.range_read.specs.declared.lanes.Lane.{Lane}
+use Rattle.range_read.specs.Measures.{After, AreMeasures, IsMeasure}
 use Rattle.range_read.specs.declared.measure.Measure.{Measure}
 
 -- ---- one segment
@@ -47,11 +46,6 @@ after_either : (o : Outcome) {A B C : Type 0} → (A → C) → (B → C) → Af
 after_either (Good padded) f g is = f is
 after_either (Bad fault) f g is = g is
 
--- each fact gives another
-after_each : (o : Outcome) {A B C D : Type 0} → (A → C) → (B → D) → After o A B → After o C D
-after_each (Good padded) f g is = f is
-after_each (Bad fault) f g is = g is
-
 -- no more than segments
 pub measures_few : (outputs : List Output) (measures : List Measure) → AreMeasures outputs measures
     → length measures ≤ length outputs
@@ -63,108 +57,76 @@ measures_few (o ∷ outputs) (m ∷ measures) are =
     after_either o.1 (λ next. measures_few outputs measures next) (λ few. few) are.1 in
     omega (arith, few)
 
--- of segments and of those that follow
-pub joined_measures : (xs ys : List Output) (ms ns : List Measure) → AreMeasures xs ms
-    → AreMeasures ys ns → AreMeasures (xs ++ ys) (ms ++ ns)
-joined_measures [] ys [] ns first next = next
-joined_measures [] ys (m ∷ ms) ns first next = absurd first
-joined_measures (x ∷ xs) ys [] ns first next = absurd first
-joined_measures (x ∷ xs) ys (m ∷ ms) ns first next = (
-  first.0,
-  after_each x.1 (λ more. joined_measures xs ys ms ns more next)
-      (λ few.
-      let others = measures_few ys ns next in
-      let long = length-append ms ns in
-      let outputs = length-append xs ys in
-      omega (arith, few, others, long, outputs)) first.1,
-)
+-- ---- the segments of a container, one after another
 
--- ---- the segments of a lane
-
--- the measures so far of segments before one: with those of the others they are the measures of all
-abbrev pub MeasuredUpTo : BoxSeen → ℕ → ℕ → ℕ → List Measure → Type 0
-MeasuredUpTo v first count segment measures =
-    (more : List Measure) → AreMeasures (lane_outputs v segment ((first + count) - segment)) more
-    → AreMeasures (lane_outputs v first count) (measures ++ more)
-
-module _ (v : BoxSeen) (first count : ℕ) where
+module _ (v : BoxSeen) where
   -- before the first
-  pub none_measured : (measures : List Measure) → measures ≡ []
-      → MeasuredUpTo v first count first measures
+  pub none_measured : (measures : List Measure) → measures ≡ [] → AreMeasuredUpTo v 0 measures
   none_measured measures none = λ more are.
-      let all : (first + count) - first ≡ count = omega arith in
-      let left = subst (λ (n : ℕ). AreMeasures (lane_outputs v first n) more) all are in
-      subst (λ (l : List Measure). AreMeasures (lane_outputs v first count) (l ++ more)) (sym none)
-      left
+      let all : length v.parts.handovers - 0 ≡ length v.parts.handovers = omega arith in
+      let left = subst (λ (n : ℕ). AreMeasures (outputs_from v 0 n) more) all are in
+      subst (λ (l : List Measure). AreAllMeasured v (l ++ more)) (sym none) left
 
   module _ (segment : ℕ) (measures next : List Measure) (m : Measure)
-      (below : segment < first + count) (so_far : MeasuredUpTo v first count segment measures)
+      (below : segment < length v.parts.handovers) (so_far : AreMeasuredUpTo v segment measures)
       (is : IsMeasure (segment_output (segment_in v.plan v.parts segment)) m)
       (kept : next ≡ measures ++ m ∷ []) where
     -- one more, and then others
     one_more : (more : List Measure)
-        → (let rest = lane_outputs v (segment + 1) ((first + count) - (segment + 1)) in
+        → (let rest = outputs_from v (segment + 1) (length v.parts.handovers - (segment + 1)) in
         After (segment_output (segment_in v.plan v.parts segment)).1 (AreMeasures rest more)
         (length more ≤ length rest))
-        → AreMeasures (lane_outputs v first count) (next ++ more)
+        → AreAllMeasured v (next ++ more)
     one_more more after =
-        let e : suc ((first + count) - (segment + 1)) ≡ (first + count) - segment =
+        let e : suc (length v.parts.handovers - (segment + 1)) ≡ length v.parts.handovers - segment =
         omega (arith, below) in
-        let all = subst (λ (n : ℕ). AreMeasures (lane_outputs v segment n) (m ∷ more)) e (is, after) in
+        let all = subst (λ (n : ℕ). AreMeasures (outputs_from v segment n) (m ∷ more)) e (is, after) in
         let same : measures ++ m ∷ more ≡ next ++ more =
         sym (append_assoc measures (m ∷ []) more)
         ∙ ap (λ (l : List Measure). l ++ more) (sym kept) in
-        subst (λ (l : List Measure). AreMeasures (lane_outputs v first count) l) same
-        (so_far (m ∷ more) all)
+        subst (λ (l : List Measure). AreAllMeasured v l) same (so_far (m ∷ more) all)
 
     -- which ends well
     pub good_measured : (padded : PadSum) → m.outcome ≡ Good padded
-        → MeasuredUpTo v first count (segment + 1) next
+        → AreMeasuredUpTo v (segment + 1) next
     good_measured padded good = λ more are.
-        let rest = lane_outputs v (segment + 1) ((first + count) - (segment + 1)) in
+        let rest = outputs_from v (segment + 1) (length v.parts.handovers - (segment + 1)) in
         one_more more
         (subst (λ (o : Outcome). After o (AreMeasures rest more) (length more ≤ length rest))
         (sym good ∙ is.outcome) are)
 
     -- or badly
-    pub bad_measured : (fault : StreamFault) → m.outcome ≡ Bad fault
-        → AreMeasures (lane_outputs v first count) next
+    pub bad_measured : (fault : StreamFault) → m.outcome ≡ Bad fault → AreAllMeasured v next
     bad_measured fault bad =
-        let rest = lane_outputs v (segment + 1) ((first + count) - (segment + 1)) in
+        let rest = outputs_from v (segment + 1) (length v.parts.handovers - (segment + 1)) in
         let few : length (let none : List Measure = [] in none) ≤ length rest = omega arith in
-        subst (λ (l : List Measure). AreMeasures (lane_outputs v first count) l) (append-nil next)
+        subst (λ (l : List Measure). AreAllMeasured v l) (append-nil next)
         (one_more []
         (subst (λ (o : Outcome). After o (AreMeasures rest []) (length (let none : List Measure = [] in none) ≤ length rest))
         (sym bad ∙ is.outcome) few))
 
   -- after the last one
-  pub all_measured : (segment : ℕ) (measures : List Measure) → first + count ≤ segment
-      → MeasuredUpTo v first count segment measures
-      → AreMeasures (lane_outputs v first count) measures
+  pub all_measured : (segment : ℕ) (measures : List Measure) → length v.parts.handovers ≤ segment
+      → AreMeasuredUpTo v segment measures → AreAllMeasured v measures
   all_measured segment measures past so_far =
-      let none : 0 ≡ (first + count) - segment = omega (arith, past) in
-      subst (λ (l : List Measure). AreMeasures (lane_outputs v first count) l) (append-nil measures)
-      (so_far [] (subst (λ (n : ℕ). AreMeasures (lane_outputs v segment n) []) none tt))
+      let none : 0 ≡ length v.parts.handovers - segment = omega (arith, past) in
+      subst (λ (l : List Measure). AreAllMeasured v l) (append-nil measures)
+      (so_far [] (subst (λ (n : ℕ). AreMeasures (outputs_from v segment n) []) none tt))
 
--- ---- all lanes
+-- ---- the lanes
 
--- the measures of all lanes in order
-pub lanes_measured : (v : BoxSeen) (lanes after : List Lane) → length after ≡ length lanes
+-- after a wave
+pub lanes_after : (v : BoxSeen) (first next : ℕ) (lanes after : List Lane) → All (IsLane v first) lanes
+    → length after ≡ length lanes → first < next
     → ((i : ℕ) (lane : Lane) → i < length lanes
-    → HasMeasured v (slice_index_or lanes i lane) (slice_index_or after i lane))
-    → AreMeasures
-    (map (λ i. segment_output (segment_in v.plan v.parts i)) (flat_map numbers_in lanes))
-    (flat_map (λ (lane : Lane). lane.measures.items) after)
-lanes_measured v [] [] long each = tt
-lanes_measured v [] (a ∷ after) long each = absurd (omega (arith, long))
-lanes_measured v (l ∷ lanes) [] long each = absurd (omega (arith, long))
-lanes_measured v (l ∷ lanes) (a ∷ after) long each =
-    let output : ℕ → Output = λ i. segment_output (segment_in v.plan v.parts i) in
-    subst (λ (outputs : List Output).
-    AreMeasures outputs (a.measures.items ++ flat_map (λ (lane : Lane). lane.measures.items) after))
-    (sym (map-append output (numbers_in l) (flat_map numbers_in lanes)))
-    (joined_measures (map output (numbers_in l)) (map output (flat_map numbers_in lanes))
-    a.measures.items (flat_map (λ (lane : Lane). lane.measures.items) after)
-    (each 0 l (omega arith))
-    (lanes_measured v lanes after (omega (arith, long))
-    (λ i lane within. each (suc i) lane (omega (arith, within)))))
+    → HasMeasured v first i (slice_index_or lanes i lane) (slice_index_or after i lane))
+    → All (IsLane v next) after
+lanes_after v first next lanes after before long later each = λ k d within.
+    let inside : k < length lanes = omega (arith, within, long) in
+    let was = before k d inside in
+    let is = each k d inside in
+    let few = was.few in
+    let more = is.few in record {
+      plans = is.plans ∙ was.plans;
+      few = omega (arith, few, more, later);
+    }

@@ -6,7 +6,7 @@ ghost use Rattle.box_format.specs.Parts.{BoxParts, IsBoxOf};
 ghost use Rattle.box_format.specs.Versions.{IsRead, ranged};
 ghost use Rattle.box_format.specs.declared.refusal.BoxRefusal.{BoxRefusal};
 ghost use Rattle.outside_core.specs.Takes.{TakesNext};
-ghost use Rattle.range_read.specs.RangeEnds.{RangeEnds, lone_range_in, lone_stretch_in};
+ghost use Rattle.range_read.specs.RangeEnds.{RangeEnds, lone_range_in, lone_stretch_in, stretch_between};
 ghost use Rattle.range_read.specs.RangeMeanings.{is_bad_range, range_meaning};
 
 use crate::bounds::{segments_within, window_within};
@@ -132,6 +132,8 @@ pub fn run_range_alone<K: Sink, G: Gate>(
         (lone_range_in ready.old) result }
     // The decoder began as many segments as there are from the first to the last with a place in the range.
     ensures begun { IfOk result (λ ranged. IfSome ready.new.begun (λ begun. begun ≡ ranged.begun)) }
+    // However it ends, the decoder began no more segments than these.
+    ensures most { IfSome ready.new.begun (λ begun. begun ≤ (lone_stretch_in ready.old).count) }
     ensures decoder { is_some ready.new.begun ≡ is_some ready.old.begun }
     ensures used { ready.new.used ≡ true }
     ensures lasting { K.faults sink.old ≤ K.faults sink.new }
@@ -169,6 +171,7 @@ fn read_alone<'a, K: Sink, G: Gate>(
     ensures ends { RangeEnds K.held K.takes K.faults K.full sink.old sink.new
         (range_meaning scan.now.plan scan.now.parts from to) result }
     ensures begun { IfOk result (λ ranged. decoder.new.begun ≡ ranged.begun) }
+    ensures most { decoder.new.begun ≤ (stretch_between scan.now from to).count }
     ensures plans { decoder.new.plans ≡ decoder.old.plans }
     ensures lasting { K.faults sink.old ≤ K.faults sink.new }
 {

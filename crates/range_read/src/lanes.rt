@@ -1,17 +1,16 @@
-// The segments of a container in lanes, of which each is measured on one thread.
-ghost use Rattle.std.specs.Prelude.{◌≡◌, ◌+◌, ◌<◌, ◌≤◌, [], ◌∷◌, ◌++◌, All, IfOk, OnOk, flat_map, length, vec_capacity, vec_len};
-ghost use Rattle.box_format.specs.Raws.{numbers};
+// Segments of a container that are measured at the same time, each with memory of its own.
+ghost use Rattle.std.specs.Prelude.{◌≡◌, ◌+◌, ◌<◌, ◌≤◌, ℕ, [], ◌∷◌, All, IfOk, length, min, slice_index_or, true, false};
 ghost use Rattle.container_spec.specs.Meanings.{segment_in};
 ghost use Rattle.container_spec.specs.Segments.{segment_output};
-ghost use Rattle.range_read.specs.Lanes.{IsNewLane, lane_outputs, most_at_once, numbers_in};
-ghost use Rattle.range_read.specs.Measures.{AreMeasures, IsMeasure};
+ghost use Rattle.range_read.specs.Lanes.{AreAllMeasured, AreMeasuredUpTo, IsLane, IsMeasuredAt, most_at_once};
+ghost use Rattle.range_read.specs.Measures.{IsMeasure};
 
 use crate::measure::{Measure, measure_begun};
 use crate::one_scan::OneScan;
 use crate::tasks::Task;
 use bit_list::Piece;
-use growth::{NoMemory, extend_from_slice, push, with_capacity};
-use handover::Outcome;
+use growth::{NoMemory, push, with_capacity};
+use handover::{Outcome, PadSum};
 use segment_code::FileDecoder;
 use std::alloc::Global;
 
@@ -19,102 +18,69 @@ use std::alloc::Global;
 /// needs no more than 2 KB to ask for one each.
 pub(crate) const MOST_AT_ONCE: u8 = 16;
 
-// `count` segments from number `first` on, which are measured one after another: the memory that this needs, and the
-// measures so far.
+// The memory that measuring a segment needs, and the measure of the last one.
 #[derive(Drop)]
 pub(crate) struct Lane<'a> {
-    pub(crate) first: u8,
-    pub(crate) count: u8,
     pub(crate) decoder: FileDecoder<'a>,
     pub(crate) piece: Piece,
-    pub(crate) measures: Vec<Measure>,
+    pub(crate) measure: Measure,
 }
 
-impl<'a> Task<OneScan<'a>> for Lane<'a> {
-    ghost use Rattle.range_read.specs.Lanes.{HasMeasured, IsNewLane};
+// The segments that are measured at the same time: from number `first` on, one for each lane.
+#[derive(Drop)]
+pub(crate) struct Wave<'a, 'b> {
+    pub(crate) scan: &'b OneScan<'a>,
+    pub(crate) first: u8,
+}
 
-    ghost ready = { λ lane scan. IsNewLane scan lane };
+impl<'a, 'b> Task<Wave<'a, 'b>> for Lane<'a> {
+    ghost use Rattle.range_read.specs.Lanes.{HasMeasured, IsLane};
 
-    ghost done = { λ lane after scan. HasMeasured scan lane after };
+    ghost ready = { λ lane wave. IsLane wave.scan.now wave.first lane };
 
-    fn perform(&mut self, scan: &OneScan<'a>) {
-        measure_some(
-            &mut self.decoder,
-            &mut self.piece,
-            &mut self.measures,
-            scan,
-            self.first,
-            self.count,
-        );
+    ghost done = { λ lane after wave index. HasMeasured wave.scan.now wave.first index lane after };
+
+    fn perform(&mut self, wave: &Wave<'a, 'b>, index: usize) {
+        let segment = usize::from(wave.first).saturating_add(index);
+        if segment < usize::from(wave.scan.view().segments()) {
+            self.measure = measure_one(
+                &mut self.decoder,
+                &mut self.piece,
+                wave.scan,
+                segment as u8,
+            );
+        }
     }
 }
 
-/// All segments of a container in at most `MOST_AT_ONCE` lanes, with all the memory that measuring them needs.
+/// A lane for each segment, at most `MOST_AT_ONCE`, with all the memory that measuring needs.
 pub(crate) fn lanes_of<'a>(alloc: Global, scan: &OneScan<'a>) -> Result<Vec<Lane<'a>>, NoMemory>
-    ensures new { IfOk result (λ lanes. All (IsNewLane scan.now) lanes.items) }
-    ensures all { IfOk result (λ lanes. flat_map numbers_in lanes.items
-        ≡ numbers 0 (length scan.now.parts.handovers)) }
-    ensures most { IfOk result (λ lanes. length lanes.items ≤ most_at_once) }
+    ensures new { IfOk result (λ lanes. All (IsLane scan.now 0) lanes.items) }
+    ensures count { IfOk result (λ lanes. length lanes.items
+        ≡ min most_at_once (length scan.now.parts.handovers)) }
 {
-    let segments = scan.view().segments();
-    let each = segments.div_ceil(MOST_AT_ONCE);
-    let mut lanes = with_capacity(alloc, usize::from(MOST_AT_ONCE))?;
-    let mut first = 0;
-    while first < segments {
-        let count = each.min(segments - first);
-        push(&mut lanes, lane_of(alloc, scan, first, count)?)?;
-        first += count;
+    let count = usize::from(scan.view().segments().min(MOST_AT_ONCE));
+    let mut lanes = with_capacity(alloc, count)?;
+    while lanes.len() < count {
+        push(&mut lanes, lane_of(alloc, scan)?)?;
     }
     Ok(lanes)
 }
 
-// The lane of some segments.
-fn lane_of<'a>(
-    alloc: Global,
-    scan: &OneScan<'a>,
-    first: u8,
-    count: u8,
-) -> Result<Lane<'a>, NoMemory>
-    requires within { first + count ≤ length scan.now.parts.handovers }
-    requires few { first + count < 256 }
-    ensures new { IfOk result (IsNewLane scan.now) }
-    ensures first { IfOk result (λ lane. lane.first ≡ first) }
-    ensures count { IfOk result (λ lane. lane.count ≡ count) }
+// A lane that has measured nothing.
+fn lane_of<'a>(alloc: Global, scan: &OneScan<'a>) -> Result<Lane<'a>, NoMemory>
+    ensures { IfOk result (IsLane scan.now 0) }
 {
     Ok(Lane {
-        first,
-        count,
         decoder: FileDecoder::prepare(alloc, scan.file().plans())?,
         piece: Piece::new(alloc)?,
-        measures: with_capacity(alloc, usize::from(count))?,
+        measure: Measure {
+            length: 0,
+            outcome: Outcome::Good {
+                pads: PadSum::none(),
+            },
+        },
     })
-}
-
-// Measures segments in order, up to the first that ends badly, with one decoder.
-fn measure_some<'a>(
-    decoder: &mut FileDecoder<'a>,
-    piece: &mut Piece,
-    measures: &mut Vec<Measure>,
-    scan: &OneScan<'a>,
-    first: u8,
-    count: u8,
-)
-    requires within { first + count ≤ length scan.now.parts.handovers }
-    requires few { first + count < 256 }
-    requires plans { decoder.old.plans ≡ scan.now.plan ∷ [] }
-    requires fresh { decoder.old.begun ≡ 0 }
-    requires none { measures.old.items ≡ [] }
-    requires room { count ≤ vec_capacity measures.old }
-    ensures { AreMeasures (lane_outputs scan.now first count) measures.new.items }
-{
-    for segment in first..first + count {
-        let measure = measure_one(decoder, piece, scan, segment);
-        keep(measures, &measure);
-        match measure.outcome {
-            Outcome::Good { .. } => {}
-            Outcome::Bad(_) => return,
-        }
-    }
 }
 
 // The measure of one segment.
@@ -136,23 +102,31 @@ fn measure_one<'a>(
     measure_begun(decoder, piece)
 }
 
-// Appends an item. There is room for it, so no memory is asked for.
-fn keep<T: Copy + Drop>(list: &mut Vec<T>, item: &T)
-    requires { vec_len list.old < vec_capacity list.old }
-    ensures items { list.new.items ≡ list.old.items ++ item.now ∷ [] }
-    ensures len { vec_len list.new ≡ vec_len list.old + 1 }
-    ensures capacity { vec_capacity list.old ≤ vec_capacity list.new }
+/// Appends the measures of a wave, up to the first that ends badly, and returns whether none does.
+pub(crate) fn put_wave(
+    measures: &mut Vec<Measure>,
+    lanes: &[Lane],
+    wave: &Wave,
+) -> Result<bool, NoMemory>
+    requires before { AreMeasuredUpTo wave.now.scan.now wave.now.first measures.old.items }
+    requires measured { (i : ℕ) (lane : Lane) → i < length lanes.now
+        → IsMeasuredAt wave.now.scan.now (wave.now.first + i) (slice_index_or lanes.now i lane) }
+    requires first { wave.now.first < length wave.now.scan.now.parts.handovers }
+    ensures good { IfOk result (λ good. good ≡ true → AreMeasuredUpTo wave.now.scan.now
+        (min (wave.now.first + length lanes.now) (length wave.now.scan.now.parts.handovers))
+        measures.new.items) }
+    ensures bad { IfOk result (λ good. good ≡ false
+        → AreAllMeasured wave.now.scan.now measures.new.items) }
 {
-    let _kept = push(list, *item);
-}
-
-/// Appends the measures of each lane, in order.
-pub(crate) fn put_all(measures: &mut Vec<Measure>, lanes: &[Lane]) -> Result<(), NoMemory>
-    ensures { OnOk result (measures.new.items
-        ≡ measures.old.items ++ flat_map (λ lane. lane.measures.items) lanes.now) }
-{
-    for lane in lanes {
-        extend_from_slice(measures, lane.measures.as_slice())?;
+    let left = usize::from(wave.scan.view().segments() - wave.first);
+    for i in 0..lanes.len().min(left) {
+        let lane = &lanes[i];
+        let outcome = lane.measure.outcome;
+        push(measures, lane.measure)?;
+        match outcome {
+            Outcome::Good { .. } => {}
+            Outcome::Bad(_) => return Ok(false),
+        }
     }
-    Ok(())
+    Ok(true)
 }

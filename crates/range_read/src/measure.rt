@@ -5,7 +5,7 @@ ghost use Rattle.container_spec.specs.Segments.{Output};
 ghost use Rattle.segment_code.specs.FileDecoding.{FileOwes, steps_left};
 ghost use Rattle.range_read.specs.Measures.{AreMeasures, IsMeasure};
 
-use crate::lanes::{lanes_of, put_all};
+use crate::lanes::{MOST_AT_ONCE, Wave, lanes_of, put_wave};
 use crate::one_scan::OneScan;
 use crate::tasks::perform_all;
 use bit_list::Piece;
@@ -23,8 +23,8 @@ pub(crate) struct Measure {
 }
 
 /// The measure of each segment of a container, in order, up to the first that ends badly. At most `MOST_AT_ONCE`
-/// segments are decoded at the same time, in threads if these can be had. All memory is allocated before a thread
-/// starts. The one error is out of memory.
+/// segments are decoded at the same time, in threads if these can be had, and none is begun after those among which one
+/// ends badly. All memory is allocated before a thread starts. The one error is out of memory.
 pub(crate) fn measure_all<R: Threads + Sync>(
     rt: &R,
     alloc: Global,
@@ -33,10 +33,18 @@ pub(crate) fn measure_all<R: Threads + Sync>(
     ensures { IfOk result (λ measures.
         AreMeasures (outputs_of scan.now.plan scan.now.parts) measures.items) }
 {
-    let mut measures = with_capacity(alloc, usize::from(scan.view().segments()))?;
+    let segments = scan.view().segments();
+    let mut measures = with_capacity(alloc, usize::from(segments))?;
     let mut lanes = lanes_of(alloc, scan)?;
-    perform_all(rt, lanes.as_mut_slice(), scan);
-    put_all(&mut measures, lanes.as_slice())?;
+    let mut first = 0;
+    while first < segments {
+        let wave = Wave { scan, first };
+        perform_all(rt, lanes.as_mut_slice(), &wave);
+        if !put_wave(&mut measures, lanes.as_slice(), &wave)? {
+            return Ok(measures);
+        }
+        first = first.saturating_add(MOST_AT_ONCE);
+    }
     Ok(measures)
 }
 

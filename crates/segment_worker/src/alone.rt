@@ -51,6 +51,8 @@ pub fn emit_alone<'a, K: Sink, G: Gate>(
     ensures few { length (joined_in (stretch view.now first count)).bytes
         ≤ segment_room * most_segments }
     ensures begun { OnOk result (decoder.new.begun ≡ decoder.old.begun + count) }
+    // Also if a segment has a fault or the sink fails.
+    ensures most { decoder.new.begun ≤ decoder.old.begun + count }
     ensures plans { decoder.new.plans ≡ decoder.old.plans }
     ensures lasting { K.faults sink.old ≤ K.faults sink.new }
 {
@@ -80,6 +82,7 @@ fn emit_segments<'a, K: Sink, G: Gate>(
     ensures came { IfOk result (λ emitted.
         emitted.came ≡ length (joined_in (stretch view.now first count)).bytes) }
     ensures begun { OnOk result (decoder.new.begun ≡ count) }
+    ensures most { decoder.new.begun ≤ count }
     ensures plans { decoder.new.plans ≡ decoder.old.plans }
     ensures lasting { K.faults sink.old ≤ K.faults sink.new }
 {

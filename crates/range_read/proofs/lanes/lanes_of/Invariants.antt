@@ -1,9 +1,12 @@
-use Rattle.std.specs.Prelude.{◌-◌}
-use Rattle.range_read.proofs.NewLanes.{LanesUpTo}
+use Rattle.std.specs.Prelude.{◌-◌, ◌≤◌, All, length}
+use Rattle.range_read.specs.Lanes.{IsLane}
 use Rattle.range_read.proofs.lanes.lanes_of.Given as goal
 
-abbrev pub invariant-loop-first : goal.invariant-loop-first
-invariant-loop-first l = LanesUpTo l.scan l.segments l.each l.first l.lanes.items
+abbrev pub invariant-loop-alloc : goal.invariant-loop-alloc
+invariant-loop-alloc l = record {
+  new : All (IsLane l.scan 0) l.lanes.items;
+  within : length l.lanes.items ≤ l.count;
+}
 
-abbrev pub decreases-loop-first : goal.decreases-loop-first
-decreases-loop-first l = l.segments - l.first
+abbrev pub decreases-loop-alloc : goal.decreases-loop-alloc
+decreases-loop-alloc l = l.count - length l.lanes.items
