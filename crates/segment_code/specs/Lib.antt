@@ -6,6 +6,8 @@ pub mod Starting
 pub mod ScanPasses
 pub mod StartsInside
 pub mod PassInside
+pub mod ReadyParts
+pub mod ReadyInside
 pub mod PadsInside
 pub mod Pieces
 pub mod PieceLaws

@@ -5,8 +5,9 @@ ghost use Rattle.segment_code.specs.FoundPads.{none_found};
 ghost use Rattle.scan_spec.specs.Pads.{pad_list};
 ghost use Rattle.scan_spec.specs.ScanPads.{pad_sum};
 
-use growth::{NoMemory, push};
+use growth::{NoMemory, push, with_capacity};
 use handover::PadSum;
+use jpeg_marker::Plan;
 use std::alloc::Global;
 use std::marker::Model;
 
@@ -46,6 +47,21 @@ impl PadsFound {
             count: 0,
             sum: PadSum::none(),
         }
+    }
+
+    /// Of no interval yet, with room for the bits of the intervals that `mcus` MCUs of a scan end. The one error is out
+    /// of memory.
+    pub(crate) fn with_room(alloc: Global, plan: &Plan, mcus: u32) -> Result<PadsFound, NoMemory>
+        ensures { IfOk result (λ pads. pads ≡ none_found) }
+    {
+        let interval = u32::from(plan.interval());
+        let intervals = if interval == 0 { 0 } else { mcus / interval };
+        Ok(PadsFound {
+            bytes: with_capacity(alloc, intervals as usize / 8 + 1)?,
+            begun: 0,
+            count: 0,
+            sum: PadSum::none(),
+        })
     }
 
     /// Adds the pad bit of the next interval, which is 1 if that pads none. The one error is out of memory.

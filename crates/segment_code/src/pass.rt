@@ -7,6 +7,7 @@ ghost use Rattle.scan_spec.specs.Items.{Refuses};
 ghost use Rattle.scan_spec.specs.Scans.{Mcu};
 ghost use Rattle.scan_spec.specs.Slots.{shape_of};
 ghost use Rattle.scan_spec.specs.declared.refusal.ScanRefusal.{ScanRefusal};
+ghost use Rattle.segment_code.specs.ReadyParts.{IsReady};
 ghost use Rattle.segment_code.specs.ScanPasses.{HasPassed, IsNextStream, IsNoPart, IsPart, IsPartStream, IsPass, next_part, passed, segments_left};
 ghost use Rattle.segment_code.specs.Starting.{AreStarts, IsFileAt};
 
@@ -15,6 +16,7 @@ use crate::error::ScanError;
 use crate::find::read_mcus;
 use crate::pads::PadsFound;
 use crate::part::SegmentPart;
+use crate::ready::ReadyPart;
 use crate::segment_stream::code_segment;
 use crate::starts::Starts;
 use growth::NoMemory;
@@ -80,6 +82,13 @@ impl<'a> ScanPass<'a> {
         }
     }
 
+    /// The plan whose scan it goes over.
+    pub fn plan(&self) -> &'a Plan
+        ensures { result.now ≡ self.now.plan }
+    {
+        self.plan
+    }
+
     /// How many segments are left.
     pub fn left(&self) -> u32
         requires { IsPass self.now }
@@ -132,6 +141,29 @@ impl<'a> ScanPass<'a> {
         let next = self.part();
         self.starts.push(next.row, next.place, next.handover)?;
         read_mcus(&mut self.reader, &mut self.pads, next.mcus)
+    }
+
+    /// Reads the next segment, keeps where it starts, and makes it ready to be coded. On a refusal or out of memory the
+    /// pass is of no worth.
+    pub fn pass_over(&mut self, alloc: Global) -> Result<ReadyPart<'a>, ScanError>
+        requires pass { IsPass self.old }
+        requires some { 0 < segments_left self.old }
+        ensures passed { OnOk result (HasPassed self.old self.new) }
+        ensures ready { IfOk result IsReady }
+        ensures part { IfOk result (λ ready. ready.part ≡ next_part self.old) }
+        ensures stream { (stream : List ℕ) → IfOk result (λ ready. IsPartStream ready.part stream
+            → IsNextStream self.old stream) }
+        ensures none { IfOk result (λ ready. IsNoPart ready.part
+            → (mcus : List Mcu) (pads : List Bool) (trailer : ℕ)
+            → IsFileAt self.old.bytes self.old.plan mcus pads trailer → ⊥) }
+        ensures refused { (refusal : ScanRefusal) → IsErrOf result (ScanError.Scan refusal)
+            → Refuses (shape_of self.old.plan) self.old.bytes self.old.plan.header_length refusal }
+    {
+        let next = self.next();
+        let from = self.reader.place();
+        self.skip()?;
+        let length = self.reader.place().saturating_sub(from);
+        Ok(ReadyPart::prepare(alloc, next, length)?)
     }
 
     /// Reads and codes the next segment, and keeps where it starts. On a refusal or out of memory the pass is of no

@@ -1,44 +1,15 @@
-use Rattle.std.proofs.Common.{◌≡◌, length, ap, ◌∙◌, sym, subst}
-use Rattle.std.specs.Prelude.{Err}
-use Rattle.std.proofs.lemmas.Result.{err_from_is_err_and}
+use Rattle.std.proofs.Common.{length, sym, ap, ◌∙◌}
 use Rattle.coef_block.specs.TwoRows.{block_count}
-use Rattle.scan_spec.specs.Slots.{Shape}
 use Rattle.block_spec.specs.Grid.{Grid}
-use Rattle.container_spec.specs.ScanStream.{grid_of, blocks_of}
-use Rattle.segment_code.specs.declared.error.ScanError.TheVariants.{Scan, NoMemory}
-use Rattle.segment_code.proofs.ScansCoded.{stream_is, stream_told, fresh_bins, is_memory}
+use Rattle.segment_code.proofs.ScansCoded.{fresh_bins}
 use Rattle.segment_code.proofs.segment_stream.code_segment.Goals as goal
 
-pub code_mcus-requires-clause-slots : goal.code_mcus-requires-clause-slots
-code_mcus-requires-clause-slots c =
-    ap (λ (s : Shape). length s.slots) c.requires.shape ∙ c.grid_of.ensures.blocks
-    ∙ sym (ap (λ (g : Grid). block_count g.mcu) c.in_ok-segment.ensures.grid)
+pub code_over-requires-clause-grid : goal.code_over-requires-clause-grid
+code_over-requires-clause-grid c = c.in_ok-segment.ensures.grid ∙ c.grid_of.ensures.value
 
-pub returns-clause-coded : goal.returns-clause-coded
-returns-clause-coded c =
-    let so = c.in_ok-code_mcus.ensures.coded in
-    let grid : c.in_ok-segment.segment.grid ≡ grid_of c.args.plan.now = c.in_ok-segment.ensures.grid
-    ∙ c.grid_of.ensures.value in
-    let fresh = c.new-3.ensures.fresh (fresh_bins c.in_ok-bins.bins 82744 c.in_ok-bins.ensures)
-    c.new-encoder.ensures in
-    let put = rw grid at (stream_is c.new-3.result c.code_mcus.new.coder
-    c.in_ok-segment.segment.grid (blocks_of so.0) fresh so.1.put) in
-    let name = sym (so.1.put.puts.same_encoder ∙ c.new-3.ensures.same_encoder) in
-    let back = c.encoder-2-1.given.1 name in
-    let stream = rw (back ∙ c.drop-new-2.ensures.encoder ∙ put) at c.in_ok-finish.ensures.stream in
-    (so.0, so.1.blocks, so.1.on, stream ∙ stream_told c.args.plan.now so.0)
+pub code_over-requires-clause-slots : goal.code_over-requires-clause-slots
+code_over-requires-clause-slots c =
+    c.grid_of.ensures.blocks ∙ sym (ap (λ (g : Grid). block_count g.mcu) c.in_ok-segment.ensures.grid)
 
-pub returns-in_err-code_mcus-clause-refused : goal.returns-in_err-code_mcus-clause-refused
-returns-in_err-code_mcus-clause-refused c =
-    let p = err_from_is_err_and c.from_residual-in_err-code_mcus.result
-    c.from_residual-in_err-code_mcus.ensures.1 in
-    rw (p.1, p.2) (λ refusal is.
-    let cause : c.in_err-code_mcus.field-0.0 ≡ Scan refusal = cc in
-    c.in_err-code_mcus.ensures.refused refusal (ap (λ error. Err error) cause))
-
-pub returns-in_err-finish-clause-refused : goal.returns-in_err-finish-clause-refused
-returns-in_err-finish-clause-refused c =
-    let p = err_from_is_err_and c.from_residual-in_err-finish.result
-    c.from_residual-in_err-finish.ensures.1 in
-    rw (p.1, p.2) (λ refusal is. let cause : NoMemory c.in_err-finish.field-0.0 ≡ Scan refusal = cc in
-    absurd (subst is_memory cause tt))
+pub code_over-requires-clause-fresh : goal.code_over-requires-clause-fresh
+code_over-requires-clause-fresh c = fresh_bins c.in_ok-bins.bins 82744 c.in_ok-bins.ensures
