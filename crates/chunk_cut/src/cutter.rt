@@ -16,7 +16,7 @@ use growth::NoMemory;
 use jpeg_marker::Plan;
 use lepton_encode::read_one_scan;
 use segment_code::{Starts, find_rows};
-use segment_worker::encode_all;
+use segment_encode::encode_all;
 use std::alloc::Global;
 use std::marker::Model;
 use std::thread::Threads;

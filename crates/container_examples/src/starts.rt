@@ -8,7 +8,7 @@ use handover::Handover;
 use jpeg_marker::{HeaderRefusal, Plan, read_header};
 use scan_spec::ScanRefusal;
 use segment_code::{ScanError, Starts, encode_segment, find_rows, find_starts, row_of};
-use segment_worker::{encode_all, encode_scan};
+use segment_encode::{encode_all, encode_scan};
 use std::alloc::{AllocError, Global};
 use std::test::Fail;
 use std::thread::Threads;

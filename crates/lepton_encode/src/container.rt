@@ -15,7 +15,7 @@ use box_format::{Parts, write_box};
 use growth::{NoMemory, push, with_capacity};
 use jpeg_marker::Plan;
 use segment_code::Starts;
-use segment_worker::encode_scan;
+use segment_encode::encode_scan;
 use std::alloc::Global;
 use std::thread::Threads;
 

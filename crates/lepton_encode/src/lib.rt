@@ -10,7 +10,7 @@
 //! The segments are coded side by side from the file's bytes, each once a pass over the scan has found where it starts:
 //! beside the bytes, memory is for the streams, for each segment's two MCU rows of blocks and its bins, and for the
 //! container. What a segment's stream is is `container_spec`'s, how it is made `segment_code`'s, and in which thread
-//! `segment_worker`'s. What a file of several scans stands for is `scans_spec`'s.
+//! `segment_encode`'s. What a file of several scans stands for is `scans_spec`'s.
 #![tactic(auto)]
 
 mod container;

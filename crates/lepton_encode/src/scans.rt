@@ -25,7 +25,7 @@ use growth::{NoMemory, push};
 use jpeg_marker::{Plan, read_first};
 use scans_format::write_scans;
 use segment_code::Starts;
-use segment_worker::encode_scan;
+use segment_encode::encode_scan;
 use std::alloc::Global;
 use std::thread::Threads;
 

@@ -5,7 +5,5 @@ pub mod Writing
 pub mod Emissions
 pub mod OwnPieces
 pub mod Putting
-pub mod StreamsMade
-mod StreamsPassed
 pub mod LonePieces
 pub mod LoneWritten

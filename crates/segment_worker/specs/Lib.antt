@@ -5,4 +5,3 @@ pub mod Emitting
 pub mod OwnSegments
 pub mod Working
 pub mod LoneSegments
-pub mod StreamsFound

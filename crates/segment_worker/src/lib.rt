@@ -1,5 +1,4 @@
-//! Segments of a container decoded by workers and an emitter that share a board, and the segments of a file coded side
-//! by side (this project's own).
+//! Segments of a container decoded by workers and an emitter that share a board (this project's own).
 //!
 //!     worker   claim --> FileDecoder::begin, step --> piece --put--> ring of the segment
 //!     emitter  take  <-- ring of the segment that is emitted                 --write_all--> sink
@@ -25,8 +24,6 @@ mod emitter;
 mod emitter_own;
 mod emitter_part;
 mod lengths;
-mod relay;
-mod streams;
 mod worker;
 mod worker_puts;
 mod worker_segment;
@@ -36,5 +33,4 @@ pub use boards::prepare_board;
 pub use content::Told;
 pub use emitted::{EmitStop, Emitted};
 pub use emitter::emit;
-pub use streams::{encode_all, encode_scan};
 pub use worker::work;

@@ -1,0 +1,5 @@
+mod CodedParts
+mod NewLanes
+mod PartsKept
+mod StreamsMade
+mod StreamsPassed

@@ -1,0 +1,10 @@
+use Rattle.std.proofs.Common.{◌≡◌, map}
+use Rattle.segment_encode.specs.StreamsFound.{HasPassedOn}
+use Rattle.segment_encode.proofs.StreamsPassed.{AreSoFar}
+use Rattle.segment_encode.proofs.streams.code_rest.Given as goal
+
+abbrev pub invariant-loop : goal.invariant-loop
+invariant-loop l = record {
+  on : HasPassedOn l.counter l.initial.pass l.pass;
+  streams : AreSoFar l.counter l.initial.pass (map (λ v. v.items) l.streams.items);
+}

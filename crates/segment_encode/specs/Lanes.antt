@@ -1,0 +1,61 @@
+-- Steps: segments that one thread codes (own).
+use Rattle.std.specs.Prelude.{ℕ, ◌≡◌, ◌+◌, ◌≤◌, List, [], ◌∷◌, All, Some, None, length, map, vec_capacity}
+use Rattle.scan_spec.specs.declared.refusal.ScanRefusal.{ScanRefusal}
+use Rattle.segment_code.specs.ReadyParts.{EncoderSeen, IsEncoderFor, IsReady, ReadyFields}
+use Rattle.segment_code.specs.ScanPasses.{IsNoPart, IsPartStream}
+use Rattle.segment_code.specs.declared.error.ScanError.TheVariants.{Scan}
+use Rattle.segment_encode.specs.declared.lanes.Lane.{Lane}
+
+-- the most lanes
+abbrev pub most_at_once : ℕ
+most_at_once = 16
+
+-- a segment is ready for an encoder
+pub record CanCode (e : EncoderSeen) (r : ReadyFields) : Type 0 where
+  pub ready : IsReady r
+  pub encoder : IsEncoderFor r.part.plan e
+
+-- the streams are those of the segments, in order, one for each
+pub AreMade : List ReadyFields → List (List ℕ) → Type 0
+AreMade [] [] = Unit {0}
+AreMade (r ∷ rs) (stream ∷ streams) = IsPartStream r.part stream × AreMade rs streams
+AreMade _ _ = ⊥
+
+-- each segment is rows of a file
+abbrev pub AreOfAFile : List ReadyFields → Type 0
+AreOfAFile rs = All (λ r. IsNoPart r.part → ⊥) rs
+
+-- a lane before it is coded: it has room for a stream of each of its segments
+pub record IsNewLane (lane : Lane) : Type 0 where
+  pub ready : All (CanCode lane.encoder) lane.parts.items
+  pub none : lane.streams.items ≡ []
+  pub room : length lane.parts.items ≤ vec_capacity lane.streams
+  pub fine : lane.error ≡ None
+
+-- after it: it has the streams of the segments that it had before, or an error
+pub record HasCoded (lane after : Lane) : Type 0 where
+  pub made : after.error ≡ None
+      → AreMade lane.parts.items (map (λ v. v.items) after.streams.items)
+  pub refused : (refusal : ScanRefusal) → after.error ≡ Some (Scan refusal)
+      → AreOfAFile lane.parts.items → ⊥
+
+-- lanes after they were coded
+pub AreCoded : List Lane → List Lane → Type 0
+AreCoded [] [] = Unit {0}
+AreCoded (lane ∷ lanes) (after ∷ afters) = HasCoded lane after × AreCoded lanes afters
+AreCoded _ _ = ⊥
+
+abbrev pub parts_in : Lane → List ReadyFields
+parts_in lane = lane.parts.items
+
+-- what comes of segments, if each has the stream of its number, from `first` on
+pub GiveEach : (ℕ → List ℕ) → ℕ → List ReadyFields → Type 0
+GiveEach f first [] = Unit {0}
+GiveEach f first (r ∷ rs) =
+    ((stream : List ℕ) → IsPartStream r.part stream → stream ≡ f first) × GiveEach f (first + 1) rs
+
+abbrev pub LaneMakes : Lane → List (List ℕ) → Type 0
+LaneMakes lane streams = AreMade lane.parts.items streams
+
+abbrev pub LaneRefused : Lane → Type 0
+LaneRefused lane = AreOfAFile lane.parts.items → ⊥

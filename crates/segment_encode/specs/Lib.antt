@@ -1,0 +1,2 @@
+pub mod StreamsFound
+pub mod Lanes

@@ -1,0 +1,140 @@
+// A pass that goes over some work lane by lane, while other threads do the lanes that it has passed. The traits have one
+// impl each (`lanes.rt`, `streams.rt`): a closure over a type that names a lifetime can't be proved, one over a type
+// parameter can.
+ghost use Rattle.std.specs.Prelude.{◌≡◌, ◌+◌, ◌<◌, ◌≤◌, ◌++◌, ℕ, List, [], ◌∷◌, map, IfOk, OnOk, IsErrOf};
+ghost use denote.Param.Send.{IsSend, IsSync};
+ghost use Rattle.scan_spec.specs.declared.refusal.ScanRefusal.{ScanRefusal};
+ghost use Rattle.segment_code.specs.declared.error.ScanError.TheVariants.{Scan};
+
+use crate::tasks::Task;
+use growth::push;
+use segment_code::ScanError;
+use std::alloc::Global;
+use std::thread;
+use std::thread::Threads;
+
+// The pass, whose lanes are of one type. It does the last parts itself.
+pub(crate) trait Pass<N: Task> {
+    // It is between two parts.
+    ghost holds: { Self → Type 0 };
+
+    // How many parts are left.
+    ghost left: { Self → ℕ };
+
+    // From one pass to another at the end, with what comes of each part between them.
+    ghost gives_all: { Self → Self → List (List ℕ) → Type 0 };
+
+    // A refusal of what it goes over.
+    ghost refuses: { Self → ScanRefusal → Type 0 };
+
+    fn left(&self) -> u32
+        requires { holds self.now }
+        ensures { result ≡ left self.now };
+
+    // The lane of the next parts, which are passed over.
+    fn lane(&mut self, alloc: Global, count: u32) -> Result<N, ScanError>
+        requires holds { holds self.old }
+        requires some { 0 < count }
+        requires fewer { count < left self.old }
+        ensures holds { OnOk result (holds self.new) }
+        ensures left { OnOk result (left self.new + count ≡ left self.old) }
+        ensures ready { IfOk result N.ready }
+        ensures gives { (end : Self) (first rest : List (List ℕ)) → IfOk result (λ lane.
+            N.makes lane first → gives_all self.new end rest
+            → gives_all self.old end (first ++ rest)) }
+        ensures later { (refusal : ScanRefusal) → OnOk result (refuses self.new refusal
+            → refuses self.old refusal) }
+        ensures none { (end : Self) (rest : List (List ℕ)) → IfOk result (λ lane.
+            N.refused lane → gives_all self.new end rest → ⊥) }
+        ensures refused { (refusal : ScanRefusal) → IsErrOf result (Scan refusal)
+            → refuses self.old refusal };
+
+    // What comes of each part that is left.
+    fn rest(&mut self, alloc: Global) -> Result<Vec<Vec<u8>>, ScanError>
+        requires holds { holds self.old }
+        requires some { 0 < left self.old }
+        ensures made { IfOk result (λ streams.
+            gives_all self.old self.new (map (λ v. v.items) streams.items)) }
+        ensures refused { (refusal : ScanRefusal) → IsErrOf result (Scan refusal)
+            → refuses self.old refusal };
+}
+
+// What comes of each part that is left, in order, in lanes of `each` parts.
+#[cycle(parts)]
+pub(crate) fn make_all<R: Threads + Sync, N: Task + Send + Drop, P: Pass<N>>(
+    rt: &R,
+    alloc: Global,
+    pass: &mut P,
+    each: u32,
+) -> Result<Vec<Vec<u8>>, ScanError>
+    requires holds { P.holds pass.old }
+    requires some { 0 < P.left pass.old }
+    requires each { 0 < each }
+    ensures made { IfOk result
+        (λ streams. P.gives_all pass.old pass.new (map (λ v. v.items) streams.items)) }
+    ensures refused { (refusal : ScanRefusal) → IsErrOf result (Scan refusal)
+        → P.refuses pass.old refusal }
+{
+    if pass.left() <= each {
+        return pass.rest(alloc);
+    }
+    let mut lane = pass.lane(alloc, each)?;
+    let others = beside(rt, alloc, &mut lane, pass, each)?;
+    match lane.streams() {
+        Ok(streams) => joined(streams, others),
+        Err(ScanError::NoMemory(short)) => Err(ScanError::NoMemory(short)),
+        // What was passed over without a refusal has none.
+        Err(ScanError::Scan(_)) => unreachable!(),
+    }
+}
+
+// A lane in a thread of its own if one can be had, and what comes of the parts after it beside it.
+#[cycle(parts)]
+fn beside<R: Threads + Sync, N: Task + Send + Drop, P: Pass<N>>(
+    rt: &R,
+    alloc: Global,
+    lane: &mut N,
+    pass: &mut P,
+    each: u32,
+) -> Result<Vec<Vec<u8>>, ScanError>
+    requires ready { N.ready lane.old }
+    requires holds { P.holds pass.old }
+    requires some { 0 < P.left pass.old }
+    requires each { 0 < each }
+    ensures done { N.done lane.old lane.new }
+    ensures made { IfOk result
+        (λ streams. P.gives_all pass.old pass.new (map (λ v. v.items) streams.items)) }
+    ensures refused { (refusal : ScanRefusal) → IsErrOf result (Scan refusal)
+        → P.refuses pass.old refusal }
+{
+    let (_, others) = thread::join_mut(
+        rt,
+        &mut ||
+            requires { N.ready lane.now }
+            ensures { N.done lane.entry.now lane.exit.now }
+        { lane.perform() },
+        &mut ||
+            requires { IsSync R.row × IsSend N.row × P.holds pass.now × (0 < P.left pass.now) × (0 < each) }
+            ensures made { IfOk result (λ streams.
+                P.gives_all pass.entry.now pass.exit.now (map (λ v. v.items) streams.items)) }
+            ensures refused { (refusal : ScanRefusal) → IsErrOf result (Scan refusal)
+                → P.refuses pass.entry.now refusal }
+        { make_all(rt, alloc, pass, each) },
+    );
+    others
+}
+
+/// Streams before others.
+pub(crate) fn joined(
+    mut streams: Vec<Vec<u8>>,
+    others: Vec<Vec<u8>>,
+) -> Result<Vec<Vec<u8>>, ScanError>
+    ensures made { IfOk result (λ all. map (λ v. v.items) all.items
+        ≡ map (λ v. v.items) streams.items ++ map (λ v. v.items) others.items) }
+    ensures memory { (refusal : ScanRefusal) → IsErrOf result (Scan refusal) → ⊥ }
+{
+    for stream in others {
+        push(&mut streams, stream)?;
+    }
+    Ok(streams)
+}
