@@ -49,9 +49,10 @@ impl<'a> SegmentPart<'a> {
         ensures refused { (refusal : ScanRefusal) → IsErrOf result (ScanError.Scan refusal)
             → IsNoPart self.now }
     {
+        let codes = self.codes.copied(alloc)?;
         let mut reader = Reader::at(
             self.plan,
-            self.codes,
+            codes,
             self.bytes,
             self.place,
             self.handover,

@@ -53,33 +53,35 @@ impl<'a> Model for ScanPass<'a> {
 }
 
 impl<'a> ScanPass<'a> {
-    /// Before the first segment of the scan of a plan, which follows the bytes that the plan has as its header.
+    /// Before the first segment of the scan of a plan, which follows the bytes that the plan has as its header. The one
+    /// error is out of memory.
     pub fn start(
         alloc: Global,
         plan: &'a Plan,
         codes: &'a PlanCodes,
         bytes: &'a [u8],
         most: u32,
-    ) -> ScanPass<'a>
+    ) -> Result<ScanPass<'a>, NoMemory>
         requires plan { CanScan bytes.now plan.now }
         requires codes { codes.now ≡ codes_of plan.now.components }
         requires some { 0 < most }
-        ensures is { IsPass result }
-        ensures plan { result.plan ≡ plan.now }
-        ensures bytes { result.bytes ≡ bytes.now }
-        ensures most { result.most ≡ most }
-        ensures none { passed result ≡ 0 }
-        ensures some { 0 < segments_left result }
+        ensures is { IfOk result (λ pass. IsPass pass) }
+        ensures plan { IfOk result (λ pass. pass.plan ≡ plan.now) }
+        ensures bytes { IfOk result (λ pass. pass.bytes ≡ bytes.now) }
+        ensures most { IfOk result (λ pass. pass.most ≡ most) }
+        ensures none { IfOk result (λ pass. passed pass ≡ 0) }
+        ensures some { IfOk result (λ pass. 0 < segments_left pass) }
     {
-        ScanPass {
+        let copy = codes.copied(alloc)?;
+        Ok(ScanPass {
             plan,
             codes,
             bytes,
             most,
-            reader: Reader::start(plan, codes, bytes, plan.header_length()),
+            reader: Reader::start(plan, copy, bytes, plan.header_length()),
             starts: Starts::none(alloc),
             pads: PadsFound::none(alloc),
-        }
+        })
     }
 
     /// The plan whose scan it goes over.

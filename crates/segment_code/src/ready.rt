@@ -55,9 +55,10 @@ impl<'a> ReadyPart<'a> {
         ensures ready { IfOk result IsReady }
         ensures part { IfOk result (λ ready. ready.part ≡ part.entry) }
     {
+        let codes = part.codes.copied(alloc)?;
         let reader = Reader::at(
             part.plan,
-            part.codes,
+            codes,
             part.bytes,
             part.place,
             part.handover,

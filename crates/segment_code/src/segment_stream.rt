@@ -67,7 +67,7 @@ pub fn encode_segment(
         (mcus_between mcus (first_mcu (box_cut plan.now chunk count) segment)
         (first_mcu (box_cut plan.now chunk count) (segment + 1)))) }
 {
-    let codes = PlanCodes::build(plan);
+    let codes = PlanCodes::build(alloc, plan)?;
     let part = segment_part(plan, &codes, bytes, starts, chunk, count, segment);
     match part.encode(alloc) {
         Ok(stream) => Ok(stream),

@@ -52,8 +52,8 @@ pub fn encode_scan<R: Threads + Sync>(
     ensures refused { (refusal : ScanRefusal) → IsErrOf result (ScanError.Scan refusal)
         → Refuses (shape_of plan.now) bytes.now plan.now.header_length refusal }
 {
-    let codes = PlanCodes::build(plan);
-    let mut pass = ScanPass::start(alloc, plan, &codes, bytes, segments as u32);
+    let codes = PlanCodes::build(alloc, plan)?;
+    let mut pass = ScanPass::start(alloc, plan, &codes, bytes, segments as u32)?;
     let each = pass.left().div_ceil(MOST_AT_ONCE);
     let streams = make_all(rt, alloc, &mut pass, each)?;
     let starts = pass.end()?;
@@ -145,7 +145,7 @@ pub fn encode_all<R: Threads + Sync>(
         ≡ map (λ i. stream_of plan.now (mcus_between mcus (first_mcu (box_cut plan.now chunk count) i)
         (first_mcu (box_cut plan.now chunk count) (i + 1)))) (numbers 0 count)) }
 {
-    let codes = PlanCodes::build(plan);
+    let codes = PlanCodes::build(alloc, plan)?;
     let mut lanes = lanes_of(alloc, plan, &codes, bytes, starts, chunk, count)?;
     perform_all(rt, lanes.as_mut_slice());
     match all_made(alloc, lanes) {
