@@ -85,8 +85,8 @@ impl<'a> SegmentDecoder<'a> {
         ensures plan { IfOk result (λ d. d.plan ≡ plan.now) }
         ensures begun { IfOk result (λ d. d.begun ≡ 0) }
     {
-        let codes = PlanCodes::build(plan);
-        let writer = Writer::start(plan, &codes, Pads::All(false));
+        let codes = PlanCodes::build(alloc, plan)?;
+        let writer = Writer::start(plan, codes, Pads::All(false));
         let coder = Get::new(Bins::new(alloc, BINS)?, no_stream());
         let segment = SegmentRows::new(alloc, grid_of(plan))?;
         Ok(SegmentDecoder {
@@ -169,8 +169,7 @@ impl<'a> SegmentDecoder<'a> {
         ensures begun { self.new.begun ≡ self.old.begun + 1 }
         ensures plan { self.new.plan ≡ self.old.plan }
     {
-        let codes = PlanCodes::build(&self.plan);
-        self.writer = Writer::at(&self.plan, &codes, handover, row, pads);
+        self.writer.move_to(&self.plan, handover, row, pads);
         self.segment.restart();
         self.started = open(&mut self.coder, stream);
         self.number = number;

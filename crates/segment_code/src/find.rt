@@ -35,8 +35,8 @@ pub fn find_starts(
     ensures refused { (refusal : ScanRefusal) → IsErrOf result (ScanError.Scan refusal)
         → Refuses (shape_of plan.now) bytes.now plan.now.header_length refusal }
 {
-    let codes = PlanCodes::build(plan);
-    let mut pass = ScanPass::start(alloc, plan, &codes, bytes, segments);
+    let codes = PlanCodes::build(alloc, plan)?;
+    let mut pass = ScanPass::start(alloc, plan, &codes, bytes, segments)?;
     for _ in 0..pass.left() {
         pass.skip()?;
     }

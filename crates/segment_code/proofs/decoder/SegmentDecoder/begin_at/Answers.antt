@@ -23,7 +23,7 @@ returns-clause-stands c =
       started = c.open-self-inside.result;
       coder = c.open-self-inside.new.coder;
       segment = c.restart.new.self;
-      writer = c.at-self-inside.result;
+      writer = c.move_to.new.self;
     } in
     stands_first new c.args.self.now.plan c.args.number c.args.stream.now c.args.handover c.args.row
     c.args.count c.args.next c.args.kept (pads_given c.args.pads) (record {
@@ -36,8 +36,8 @@ returns-clause-stands c =
       next = refl;
       kept = refl;
       writer =
-          subst (λ (plan : PlanFields). c.at-self-inside.result
-          ≡ writer_from (shape_of plan) (pads_given c.args.pads) c.args.handover (plan.across * c.args.row)) same c.at-self-inside.ensures;
+          subst (λ (plan : PlanFields). c.move_to.new.self
+          ≡ writer_from (shape_of plan) (pads_given c.args.pads) c.args.handover (plan.across * c.args.row)) same c.move_to.ensures;
       started = c.open-self-inside.ensures.started;
       got = c.open-self-inside.ensures.got;
       grid = c.restart.ensures.grid ∙ (let inside = c.self.invariant in inside.grid)
