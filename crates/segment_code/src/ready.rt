@@ -1,5 +1,5 @@
 // A segment of a file that is ready to be coded, with all the memory that this needs.
-ghost use Rattle.std.specs.Prelude.{◌≡◌, [], List, IfOk, OnOk, IsErrOf};
+ghost use Rattle.std.specs.Prelude.{◌≡◌, ◌≤◌, ◌^◌, [], List, IfOk, OnOk, IsErrOf};
 ghost use Rattle.scan_spec.specs.declared.refusal.ScanRefusal.{ScanRefusal};
 ghost use Rattle.segment_code.specs.ReadyParts.{IsEncoderFor, IsReady};
 ghost use Rattle.segment_code.specs.ScanPasses.{IsNoPart, IsPart, IsPartStream};
@@ -98,7 +98,9 @@ impl<'a> ReadyPart<'a> {
 }
 
 // How many bytes the list for the stream of a segment with `length` bytes has room for.
-fn stream_room(length: usize) -> usize {
+fn stream_room(length: usize) -> usize
+    ensures { result ≤ 2 ^ 30 }
+{
     length
         .min(MOST_ROOM)
         .saturating_add(length / 8)

@@ -1,5 +1,5 @@
 // Segments in lanes, each of which one thread codes.
-ghost use Rattle.std.specs.Prelude.{◌≡◌, ◌+◌, ◌<◌, ◌≤◌, ◌++◌, ◌∷◌, [], List, ℕ, All, IfOk, OnOk, IsErrOf, Some, None, length, map, take, vec_capacity, vec_len};
+ghost use Rattle.std.specs.Prelude.{◌≡◌, ◌+◌, ◌^◌, ◌<◌, ◌≤◌, ◌++◌, ◌∷◌, [], List, ℕ, All, IfOk, OnOk, IsErrOf, Some, None, length, map, take, vec_capacity, vec_len};
 ghost use Rattle.scan_spec.specs.declared.refusal.ScanRefusal.{ScanRefusal};
 ghost use Rattle.segment_code.specs.declared.error.ScanError.TheVariants.{Scan};
 ghost use Rattle.segment_code.specs.ReadyParts.{IsEncoderFor, IsReady, ReadyFields};
@@ -65,6 +65,7 @@ impl<'a> Lane<'a> {
     ) -> Result<Lane<'a>, NoMemory>
         requires ready { All IsReady parts.items }
         requires plan { All (λ (r : ReadyFields). r.part.plan ≡ plan.now) parts.items }
+        requires few { length parts.items < 2 ^ 32 }
         ensures new { IfOk result IsNewLane }
         ensures parts { IfOk result (λ lane. lane.parts.items ≡ parts.entry.items) }
     {
