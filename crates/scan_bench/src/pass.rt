@@ -19,12 +19,7 @@ pub(crate) struct Passed {
 }
 
 /// The bit that the first interval of a scan that pads any is padded with, 1 if none does.
-pub(crate) fn pad_of(
-    alloc: Global,
-    plan: &Plan,
-    codes: &PlanCodes,
-    bytes: &[u8],
-) -> Option<bool>
+pub(crate) fn pad_of(alloc: Global, plan: &Plan, codes: &PlanCodes, bytes: &[u8]) -> Option<bool>
     requires { codes.now ≡ codes_of plan.now.components }
 {
     let codes = codes.copied(alloc).ok()?;
@@ -43,12 +38,7 @@ pub(crate) fn pad_of(
 }
 
 /// Reads the scan of these bytes, unless it is refused.
-pub(crate) fn read(
-    alloc: Global,
-    plan: &Plan,
-    codes: &PlanCodes,
-    bytes: &[u8],
-) -> Option<Passed>
+pub(crate) fn read(alloc: Global, plan: &Plan, codes: &PlanCodes, bytes: &[u8]) -> Option<Passed>
     requires { codes.now ≡ codes_of plan.now.components }
 {
     let start = plan.header_length();

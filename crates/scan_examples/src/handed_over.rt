@@ -88,7 +88,10 @@ fn rows_are_read_from_handovers(rt: HostRuntime) {
         let start = bytes.len();
         append(&rt, &mut bytes, scan);
         let plan = planned(&rt, &bytes);
-        assert!(rt; goes_on(&rt, rt.alloc(), &plan, &bytes, start, *seam), "{scan:?}");
+        assert!(rt;
+            goes_on(&rt, rt.alloc(), &plan, &bytes, start, *seam),
+            "{scan:?}"
+        );
     }
 }
 

@@ -100,7 +100,10 @@ fn scans_are_read(rt: HostRuntime) {
         let place = bytes.len();
         append(&rt, &mut bytes, scan);
         let plan = planned(&rt, &bytes);
-        assert!(rt; is_read(&rt, rt.alloc(), &plan, &bytes, place, *wanted), "{scan:?}");
+        assert!(rt;
+            is_read(&rt, rt.alloc(), &plan, &bytes, place, *wanted),
+            "{scan:?}"
+        );
     }
 }
 
@@ -285,7 +288,10 @@ fn scans_are_refused(rt: HostRuntime) {
         let place = bytes.len();
         append(&rt, &mut bytes, scan);
         let plan = planned(&rt, &bytes);
-        assert!(rt; is_refused(&rt, rt.alloc(), &plan, &bytes, place, *refusal), "{scan:?}");
+        assert!(rt;
+            is_refused(&rt, rt.alloc(), &plan, &bytes, place, *refusal),
+            "{scan:?}"
+        );
     }
 }
 
