@@ -16,6 +16,7 @@ use std::alloc::Global;
 
 /// The same container in version 2: of version 1, with the byte of the version changed and a pad list of no bytes; of
 /// version 2, itself. It stands for the same; what its streams stand for isn't looked at.
+#[inline(never)]
 pub fn migrate(alloc: Global, bytes: &[u8]) -> Result<Vec<u8>, Migrate>
     ensures made { IfOk result (λ made. (plan : PlanFields) × (b : BoxParts)
         × IsBoxOf plan b bytes.now × IsRead migratable b.version
@@ -28,6 +29,7 @@ pub fn migrate(alloc: Global, bytes: &[u8]) -> Result<Vec<u8>, Migrate>
 }
 
 // The bytes of a container, in version 2.
+#[inline(never)]
 fn migrated(alloc: Global, view: &BoxView, bytes: &[u8]) -> Result<Vec<u8>, NoMemory>
     requires read { IsRead migratable view.now.parts.version }
     requires text { IsBoxOf view.now.plan view.now.parts bytes.now }

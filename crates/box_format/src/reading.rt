@@ -13,6 +13,7 @@ use jpeg_marker::read_first;
 
 /// Reads a container of any version: its parts, or the refusal of the first check that fails. It takes no memory, and
 /// sums of lengths don't overflow, whatever the fields say.
+#[inline(never)]
 pub fn read_box(bytes: &[u8]) -> Result<BoxView<'_>, BoxRefusal>
     ensures taken { IfOk result (λ view. IsBoxOf view.plan view.parts bytes.now) }
     ensures refused { IfErr result (λ refusal. IsRefusedBox bytes.now refusal) }
@@ -21,6 +22,7 @@ pub fn read_box(bytes: &[u8]) -> Result<BoxView<'_>, BoxRefusal>
 }
 
 /// Reads a container of one of these versions: 31 is the refusal of the others.
+#[inline(never)]
 pub fn read_box_of<'a>(bytes: &'a [u8], versions: &[Version]) -> Result<BoxView<'a>, BoxRefusal>
     ensures taken { IfOk result (λ view. IsBoxOf view.plan view.parts bytes.now) }
     ensures version { IfOk result (λ view. IsRead versions.now view.parts.version) }

@@ -58,6 +58,7 @@ impl<'a> Model for BoxView<'a> {
 
 impl<'a> BoxView<'a> {
     /// The view of a container of one scan, whose checks pass.
+    #[inline(never)]
     pub fn of_bytes(bytes: &'a [u8], plan: &Plan) -> BoxView<'a>
         requires { PassesChecks decoded plan.now bytes.now }
         ensures { result ≡ record { plan = plan.now; parts = parts_of (raw_of bytes.now) } }
@@ -81,6 +82,7 @@ impl<'a> BoxView<'a> {
     /// A scan's part of a container of several, by its slices: the pad byte and the pad list, the header, the trailer,
     /// a record of 22 bytes for each segment, and the streams, one after another. It has the parts of a container of
     /// version 2.
+    #[inline(never)]
     pub fn of_scan(
         plan: &Plan,
         pad: u8,

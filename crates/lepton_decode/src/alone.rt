@@ -52,6 +52,7 @@ impl<'a> ReadyAlone<'a> {
 
 /// Reads a container's scans, and allocates all the memory that its decoding on one thread needs: for each scan the
 /// bins and two MCU rows of blocks, and a piece of bytes.
+#[inline(never)]
 pub fn prepare_alone(alloc: Global, bytes: &[u8]) -> Result<ReadyAlone<'_>, PrepareError>
     ensures ready { IfOk result (λ ready. IsContainer ready.scans bytes.now) }
     ensures fresh { IfOk result (λ ready. ready.used ≡ false) }
@@ -79,6 +80,7 @@ pub fn prepare_alone(alloc: Global, bytes: &[u8]) -> Result<ReadyAlone<'_>, Prep
 /// stands for, since the sink need take nothing else.
 ///
 /// The gate is called before each segment.
+#[inline(never)]
 pub fn run_alone<K: Sink, G: Gate>(
     ready: &mut ReadyAlone,
     sink: &mut K,

@@ -71,6 +71,7 @@ impl From<NoMemory> for PrepareError {
 /// emitter and each worker a piece of bytes, and for each scan the bins and two MCU rows of blocks; and for each
 /// segment a ring of `ring` bytes. No more workers are made than the container has segments. With 0 workers the emitter
 /// decodes all. If the container has no segment, there is no board.
+#[inline(never)]
 pub fn prepare(
     alloc: Global,
     bytes: &[u8],
@@ -102,6 +103,7 @@ pub fn prepare(
 }
 
 // The crew of all of a container's segments, if it has one: no more workers than segments.
+#[inline(never)]
 fn crew_for<'a>(
     alloc: Global,
     view: &FileView<'a>,
@@ -135,6 +137,7 @@ const MOST_RING: usize = 1 << 26;
 /// A ring, in bytes, in which a segment of a photograph fits whole, so that no worker waits for the emitter: twice what
 /// the container has for each of its segments, 64 KiB to 64 MiB. All rings together have at most twice the container's
 /// length, and 64 KiB for each segment.
+#[inline(never)]
 pub fn ample_ring(bytes: &[u8]) -> u32
     ensures some { 1 ≤ result }
     ensures least { 2 ^ 16 ≤ result }

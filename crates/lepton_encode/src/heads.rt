@@ -26,6 +26,7 @@ pub(crate) struct Head {
 
 /// The headers of a file whose first one has this plan and isn't the last. A refusal is the first one from left to
 /// right: a header's, or that of a scan but the last.
+#[inline(never)]
 pub(crate) fn find_heads(
     alloc: Global,
     bytes: &[u8],
@@ -56,6 +57,7 @@ pub(crate) fn find_heads(
 }
 
 // The header after a header and its scan.
+#[inline(never)]
 fn next_head(alloc: Global, bytes: &[u8], head: &Head) -> Result<Head, EncodeError>
     requires head { (w : Walk) × IsHead w bytes.now head.now }
     requires length { length bytes.now < 2 ^ 32 }

@@ -40,6 +40,7 @@ pub(crate) struct CodedScan {
 /// scan: of version 2 for one scan, else that of several scans, each with an equal share. A refusal is the first one
 /// from left to right: a header's, or that of the scan after it. Each segment but the last of a scan is coded in a
 /// thread of its own if one can be had.
+#[inline(never)]
 pub fn encode<R: Threads + Sync>(
     rt: &R,
     alloc: Global,
@@ -64,6 +65,7 @@ pub fn encode<R: Threads + Sync>(
 }
 
 // The container of a file of one scan, whose header has this plan.
+#[inline(never)]
 fn encode_one<R: Threads + Sync>(
     rt: &R,
     alloc: Global,
@@ -87,6 +89,7 @@ fn encode_one<R: Threads + Sync>(
 }
 
 // The container of a file of several scans, whose first header has this plan.
+#[inline(never)]
 fn encode_several<R: Threads + Sync>(
     rt: &R,
     alloc: Global,
@@ -125,6 +128,7 @@ fn share_of(segments: u8, scans: usize) -> u8
 
 // Where the segments of each scan start, and their streams, at most `share` of them. The one refusal is a scan's, after
 // scans that are accepted.
+#[inline(never)]
 fn code_scans<R: Threads + Sync>(
     rt: &R,
     alloc: Global,
@@ -148,6 +152,7 @@ fn code_scans<R: Threads + Sync>(
 }
 
 // The container of these scans.
+#[inline(never)]
 fn write_heads(
     alloc: Global,
     bytes: &[u8],
@@ -167,6 +172,7 @@ fn write_heads(
 }
 
 // The parts of these scans.
+#[inline(never)]
 fn parts_of<'a>(
     alloc: Global,
     bytes: &'a [u8],

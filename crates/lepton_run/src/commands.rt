@@ -33,6 +33,7 @@ use std::sync::Wait;
 use std::thread::Threads;
 
 /// Writes what the command makes of the bytes that it took.
+#[inline(never)]
 pub(crate) fn carry_out<R: Threads + Wait + Sync, K: Sink + Send, G: Gate + Sync>(
     rt: &R,
     alloc: Global,
@@ -75,6 +76,7 @@ pub(crate) fn carry_out<R: Threads + Wait + Sync, K: Sink + Send, G: Gate + Sync
 }
 
 // The container of a file, written once it is whole. It has no `Wait`, so it returns.
+#[inline(never)]
 fn encode<R: Threads + Sync, K: Sink>(
     rt: &R,
     alloc: Global,
@@ -99,6 +101,7 @@ fn encode<R: Threads + Sync, K: Sink>(
 }
 
 // The file or the chunk of a container, decoded by `workers` threads beside this one.
+#[inline(never)]
 fn decode<R: Threads + Wait + Sync, K: Sink + Send, G: Gate + Sync>(
     rt: &R,
     alloc: Global,
@@ -122,6 +125,7 @@ fn decode<R: Threads + Wait + Sync, K: Sink + Send, G: Gate + Sync>(
 }
 
 // The file or the chunk of a container that is ready. Whatever memory this needs was allocated before.
+#[inline(never)]
 fn restore<R: Threads + Wait + Sync, K: Sink + Send, G: Gate + Sync>(
     rt: &R,
     ready: &mut Ready,
@@ -140,6 +144,7 @@ fn restore<R: Threads + Wait + Sync, K: Sink + Send, G: Gate + Sync>(
 }
 
 // The file or the chunk of a container, decoded on this thread. It has no `Wait`, so it returns.
+#[inline(never)]
 fn decode_alone<K: Sink, G: Gate>(alloc: Global, bytes: &[u8], sink: &mut K, gate: &G) -> Ending
     requires short { length bytes.now ≤ limit_of (Decode 0) }
     requires takes { TakesAnswers K.takes (Decode 0) bytes.now sink.old }
@@ -156,6 +161,7 @@ fn decode_alone<K: Sink, G: Gate>(alloc: Global, bytes: &[u8], sink: &mut K, gat
 }
 
 // The file or the chunk of a container that is ready. Whatever memory this needs was allocated before.
+#[inline(never)]
 fn restore_alone<K: Sink, G: Gate>(ready: &mut ReadyAlone, sink: &mut K, gate: &G) -> Ending
     requires fresh { ready.old.used ≡ false }
     requires takes { TakesNext K.takes sink.old (lone_meaning_in ready.old).bytes }
@@ -170,6 +176,7 @@ fn restore_alone<K: Sink, G: Gate>(ready: &mut ReadyAlone, sink: &mut K, gate: &
 
 // The same container in version 2, if it is of version 1 or 2, written once it is whole. It has no `Wait`, so it
 // returns.
+#[inline(never)]
 fn migrate<K: Sink>(alloc: Global, bytes: &[u8], sink: &mut K) -> Ending
     requires short { length bytes.now ≤ limit_of Migrate }
     requires takes { TakesAnswers K.takes Migrate bytes.now sink.old }
@@ -185,6 +192,7 @@ fn migrate<K: Sink>(alloc: Global, bytes: &[u8], sink: &mut K) -> Ending
 }
 
 // The container of a chunk of a file, written once it is whole. It has no `Wait`, so it returns.
+#[inline(never)]
 fn chunk<R: Threads + Sync, K: Sink>(
     rt: &R,
     alloc: Global,
@@ -221,6 +229,7 @@ fn chunk<R: Threads + Sync, K: Sink>(
 
 // The same container in version 5, if it is of version 1, 2 or 5 and stands for a file, written once it is whole. It
 // has no `Wait`, so it returns.
+#[inline(never)]
 fn index<R: Threads + Sync, K: Sink>(rt: &R, alloc: Global, bytes: &[u8], sink: &mut K) -> Ending
     requires short { length bytes.now ≤ limit_of Index }
     requires takes { TakesAnswers K.takes Index bytes.now sink.old }
@@ -238,6 +247,7 @@ fn index<R: Threads + Sync, K: Sink>(rt: &R, alloc: Global, bytes: &[u8], sink: 
 }
 
 // The bytes of a container's file from one place to before another, decoded by `workers` threads beside this one.
+#[inline(never)]
 fn range<R: Threads + Wait + Sync, K: Sink + Send, G: Gate + Sync>(
     rt: &R,
     alloc: Global,
@@ -264,6 +274,7 @@ fn range<R: Threads + Wait + Sync, K: Sink + Send, G: Gate + Sync>(
 }
 
 // A range that is ready. Whatever memory this needs was allocated before.
+#[inline(never)]
 fn read_range<R: Threads + Wait + Sync, K: Sink + Send, G: Gate + Sync>(
     rt: &R,
     ready: &mut ReadyRange,
@@ -283,6 +294,7 @@ fn read_range<R: Threads + Wait + Sync, K: Sink + Send, G: Gate + Sync>(
 
 // The bytes of a container's file from one place to before another, decoded on this thread. It has no `Wait`, so it
 // returns.
+#[inline(never)]
 fn range_alone<K: Sink, G: Gate>(
     alloc: Global,
     from: u64,
@@ -307,6 +319,7 @@ fn range_alone<K: Sink, G: Gate>(
 }
 
 // A range that is ready. Whatever memory this needs was allocated before.
+#[inline(never)]
 fn read_range_alone<K: Sink, G: Gate>(ready: &mut ReadyRangeAlone, sink: &mut K, gate: &G) -> Ending
     requires fresh { ready.old.used ≡ false }
     requires takes { TakesNext K.takes sink.old (lone_range_in ready.old).bytes }

@@ -29,6 +29,7 @@ const SEGMENTS: u8 = 8;
 const WORKERS: u8 = 4;
 
 /// Makes the file of a seed, encodes it, decodes the container, and writes how many bytes each step gave.
+#[inline(never)]
 pub(crate) fn show_sample<R: Threads + Wait + Sync, K: Sink + Send, G: Gate + Sync>(
     rt: &R,
     alloc: Global,

@@ -55,6 +55,7 @@ use std::thread::Threads;
 /// (`accepted`). The whole source is read before anything is written. Once the first byte is written, no memory is
 /// asked for but what a new thread is handed. `sample` reads nothing. The segments of a file are coded, and those of a
 /// container decoded, in other threads too if these can be had. A failure of `note` changes no status.
+#[inline(never)]
 pub fn run<R: Threads + Wait + Sync, S: Source, K: Sink + Send, N: Sink + Send, G: Gate + Sync>(
     rt: &R,
     alloc: Global,
@@ -241,6 +242,7 @@ pub fn no_memory_for_words<N: Sink>(note: &mut N, short: NoMemory) -> Ending
 }
 
 // Carries out the command that the arguments mean.
+#[inline(never)]
 fn answer<R: Threads + Wait + Sync, S: Source, K: Sink + Send, G: Gate + Sync>(
     rt: &R,
     alloc: Global,
@@ -273,6 +275,7 @@ fn answer<R: Threads + Wait + Sync, S: Source, K: Sink + Send, G: Gate + Sync>(
 }
 
 // Writes into the sink what the command makes of the source's bytes, or `sample` of none.
+#[inline(never)]
 fn transfer<R: Threads + Wait + Sync, S: Source, K: Sink + Send, G: Gate + Sync>(
     rt: &R,
     alloc: Global,
@@ -306,6 +309,7 @@ fn transfer<R: Threads + Wait + Sync, S: Source, K: Sink + Send, G: Gate + Sync>
 }
 
 // Notes how a command ended.
+#[inline(never)]
 fn tell<N: Sink>(note: &mut N, ending: &Ending)
     requires { TakesAll N.takes note.old }
     ensures notes { Notes N.held N.faults N.full note.old note.new (ending_line ending.now) }

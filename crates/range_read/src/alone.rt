@@ -67,6 +67,7 @@ impl<'a> ReadyRangeAlone<'a> {
 /// Reads a container's parts, and allocates all the memory that reading the file's bytes from place `from` to before
 /// place `to` on one thread needs: the bins, two MCU rows of blocks and a piece of bytes. If no segment has a place
 /// there, it allocates nothing.
+#[inline(never)]
 pub fn prepare_range_alone(
     alloc: Global,
     bytes: &[u8],
@@ -100,6 +101,7 @@ pub fn prepare_range_alone(
 }
 
 // What decodes `count` of a container's segments, if there is one.
+#[inline(never)]
 fn lone_for<'a>(alloc: Global, scan: &OneScan<'a>, count: u8) -> Result<Option<Lone<'a>>, NoMemory>
     ensures some { IfOk result (λ lone. is_some lone ≡ nat_lt 0 count) }
     ensures plans { IfOk result (λ lone.
@@ -121,6 +123,7 @@ fn lone_for<'a>(alloc: Global, scan: &OneScan<'a>, count: u8) -> Result<Option<L
 /// take nothing else.
 ///
 /// The gate is called before each segment, with the segment's number in the container.
+#[inline(never)]
 pub fn run_range_alone<K: Sink, G: Gate>(
     ready: &mut ReadyRangeAlone,
     sink: &mut K,
@@ -154,6 +157,7 @@ pub fn run_range_alone<K: Sink, G: Gate>(
 }
 
 // What the range has of the header, of the segments and of the trailer.
+#[inline(never)]
 fn read_alone<'a, K: Sink, G: Gate>(
     scan: &OneScan<'a>,
     from: u64,

@@ -25,6 +25,7 @@ const INDEXABLE: [Version; 3] = [Version::First, Version::Second, Version::Fifth
 /// version 1, 2 or 5 that stands for a file. The segments are decoded in threads, if these can be had, at most 16 at the
 /// same time. The memory for that is allocated before the first thread starts. A refusal is that of the container, or else
 /// its first fault, or else that its pad bits are spelled in another way than a file's.
+#[inline(never)]
 pub fn index<R: Threads + Sync>(rt: &R, alloc: Global, bytes: &[u8]) -> Result<Vec<u8>, IndexError>
     ensures made { IfOk result (λ made. IsIndexOf made.items bytes.now) }
     ensures refused { (refusal : BoxRefusal) → IsErrOf result (IndexError.Box refusal)
@@ -41,6 +42,7 @@ pub fn index<R: Threads + Sync>(rt: &R, alloc: Global, bytes: &[u8]) -> Result<V
 }
 
 // The places of a container's segments and of its scan's end, by the measures of the segments.
+#[inline(never)]
 fn places_by(alloc: Global, view: &BoxView, measures: Vec<Measure>) -> Result<Vec<u64>, IndexError>
     requires whole { view.now.parts.chunk ≡ None }
     requires measures { AreMeasures (outputs_of view.now.plan view.now.parts) measures.items }

@@ -28,6 +28,7 @@ impl<'a> Model for OneScan<'a> {
 
 impl<'a> OneScan<'a> {
     /// Reads a container of one of these versions: 31 is the refusal of the others.
+    #[inline(never)]
     pub(crate) fn read(bytes: &'a [u8], versions: &[Version]) -> Result<OneScan<'a>, BoxRefusal>
         ensures taken { IfOk result (λ scan. IsBoxOf scan.plan scan.parts bytes.now) }
         ensures version { IfOk result (λ scan. IsRead versions.now scan.parts.version) }

@@ -59,6 +59,7 @@ impl<'a> ReadyRange<'a> {
 /// place `to` needs: for the emitter and each of at most `workers` workers the bins, two MCU rows of blocks and a piece
 /// of bytes, and for each segment with a place in the range a ring of `ring` bytes. No more workers are made than such
 /// segments. With 0 workers the emitter decodes all. If no segment has a place there, there is no board.
+#[inline(never)]
 pub fn prepare_range(
     alloc: Global,
     bytes: &[u8],
@@ -99,6 +100,7 @@ pub fn prepare_range(
 }
 
 /// The parts of a container with ranges, if the range from one place to before another is one of its file.
+#[inline(never)]
 pub(crate) fn read_ranged(bytes: &[u8], from: u64, to: u64) -> Result<OneScan<'_>, RangeError>
     ensures parts { IfOk result (λ scan. IsBoxOf scan.plan scan.parts bytes.now) }
     ensures version { IfOk result (λ scan. IsRead ranged scan.parts.version) }
@@ -116,6 +118,7 @@ pub(crate) fn read_ranged(bytes: &[u8], from: u64, to: u64) -> Result<OneScan<'_
 }
 
 // The crew of `count` of a container's segments, from number `first` on, if there is one.
+#[inline(never)]
 fn crew_for<'a>(
     alloc: Global,
     scan: &OneScan<'a>,

@@ -50,6 +50,7 @@ fn is_cut(bytes: &[u8]) -> bool
 }
 
 /// The first check after the headers that fails, by the plans of the first four.
+#[inline(never)]
 pub(crate) fn late_fault(bytes: &[u8], plans: &[Plan; 4]) -> Option<BoxRefusal>
     requires { IsWhole bytes.now }
     ensures { result ≡ late_fault (take (scans_in bytes.now) plans.now) bytes.now }

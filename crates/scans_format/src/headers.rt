@@ -14,6 +14,7 @@ use jpeg_marker::{Plan, read_first, read_next};
 
 /// The plans of the first four headers if all headers pass, else the refusal of the first one that fails. If there are
 /// fewer than four, the first plan fills the places after them.
+#[inline(never)]
 pub(crate) fn read_plans(bytes: &[u8]) -> Result<[Plan; 4], BoxRefusal>
     requires whole { IsWhole bytes.now }
     requires some { 1 ≤ scans_in bytes.now }
@@ -37,6 +38,7 @@ pub(crate) fn read_plans(bytes: &[u8]) -> Result<[Plan; 4], BoxRefusal>
 }
 
 // The plan of the first header, whose bytes these are.
+#[inline(never)]
 fn first_plan(header: &[u8]) -> Result<Plan, BoxRefusal>
     ensures passed { IfOk result (λ plan. IsWholeHeader opening_walk header.now plan) }
     ensures failed { IfErr result (λ refusal. IsNoHeader opening_walk header.now refusal) }
@@ -53,6 +55,7 @@ fn first_plan(header: &[u8]) -> Result<Plan, BoxRefusal>
 }
 
 // The plan of a further header, after the scan of `before`.
+#[inline(never)]
 fn next_plan(before: &Plan, header: &[u8]) -> Result<Plan, BoxRefusal>
     requires { AreKnown before.now.known }
     ensures passed { IfOk result (λ plan. IsWholeHeader (next_walk before.now.known 0) header.now plan) }

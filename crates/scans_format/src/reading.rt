@@ -13,6 +13,7 @@ use box_format::{BoxRefusal, Version, read_box, read_box_of};
 
 /// Reads a container of one scan or of several: its scans, or the refusal of the first check that fails. It takes no
 /// memory, and sums of lengths don't overflow, whatever the fields say.
+#[inline(never)]
 pub fn read_container(bytes: &[u8]) -> Result<FileView<'_>, BoxRefusal>
     ensures taken { IfOk result (λ scans. IsContainer scans bytes.now) }
     ensures refused { IfErr result (λ refusal. IsRefusedContainer bytes.now refusal) }
@@ -25,6 +26,7 @@ pub fn read_container(bytes: &[u8]) -> Result<FileView<'_>, BoxRefusal>
 }
 
 /// Reads a container of one scan, of one of these versions: 31 is the refusal of the others.
+#[inline(never)]
 pub fn read_container_of<'a>(
     bytes: &'a [u8],
     versions: &[Version],
@@ -40,6 +42,7 @@ pub fn read_container_of<'a>(
 }
 
 // A container of one scan.
+#[inline(never)]
 fn read_one(bytes: &[u8]) -> Result<FileView<'_>, BoxRefusal>
     requires { names_several bytes.now ≡ false }
     ensures taken { IfOk result (λ scans. IsContainer scans bytes.now) }
@@ -52,6 +55,7 @@ fn read_one(bytes: &[u8]) -> Result<FileView<'_>, BoxRefusal>
 }
 
 // A container of several.
+#[inline(never)]
 fn read_several(bytes: &[u8]) -> Result<FileView<'_>, BoxRefusal>
     requires { names_several bytes.now ≡ true }
     ensures taken { IfOk result (λ scans. IsContainer scans bytes.now) }

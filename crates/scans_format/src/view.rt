@@ -37,6 +37,7 @@ impl<'a> Model for FileView<'a> {
 
 impl<'a> FileView<'a> {
     /// The view of a container of one scan, whose checks pass.
+    #[inline(always)]
     pub(crate) fn of_one(bytes: &'a [u8], plan: &Plan) -> FileView<'a>
         requires one { names_several bytes.now ≡ false }
         requires passes { PassesChecks decoded plan.now bytes.now }
@@ -50,6 +51,7 @@ impl<'a> FileView<'a> {
     }
 
     /// The view of a container of several scans, whose checks pass.
+    #[inline(always)]
     pub(crate) fn of_several(bytes: &'a [u8], plans: [Plan; 4]) -> FileView<'a>
         requires several { names_several bytes.now ≡ true }
         requires passes { PassesScans (take (scans_in bytes.now) plans) bytes.now }
@@ -81,6 +83,7 @@ impl<'a> FileView<'a> {
     }
 
     /// A scan's part of the container; the first scan has number 0.
+    #[inline(never)]
     pub fn scan(&self, scan: u8) -> BoxView<'a>
         requires { scan < length self.now }
         ensures { slice_get self.now scan ≡ Some result }
@@ -94,6 +97,7 @@ impl<'a> FileView<'a> {
     }
 
     /// What follows the last scan, up to the end of the file, or the chunk's part of it.
+    #[inline(never)]
     pub fn trailer(&self) -> &'a [u8]
         ensures bytes { result.now ≡ trailer_of (all_parts self.now) }
         ensures fits { length result.now < 2 ^ 32 }
@@ -103,6 +107,7 @@ impl<'a> FileView<'a> {
     }
 
     /// How many segments all scans have.
+    #[inline(never)]
     pub fn segments(&self) -> u8
         ensures count { result ≡ segment_count self.now }
         ensures few { result ≤ most_segments }
