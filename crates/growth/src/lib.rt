@@ -9,7 +9,8 @@
 //!
 //! A call that takes a length requires that it asks for at most 256 GiB by it (`most_at_once`), so that no body has the
 //! error by asking for what no machine has. The others ask for memory in proportion to what they are given: a list that
-//! is there, an item, a text or words.
+//! is there, an item, a text or words. Items of no size are refused (`sized`): no list holds 2^63 of them, and fewer take
+//! no memory.
 //!
 //! Not handled here: what allocates without this crate, and so can't answer `NoMemory`.
 #![tactic(auto)]

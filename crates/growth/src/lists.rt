@@ -26,6 +26,7 @@ pub fn push<T: Drop>(list: &mut Vec<T>, item: T) -> Result<(), NoMemory>
 /// Appends items.
 #[inline]
 pub fn extend_from_slice<T: Copy>(list: &mut Vec<T>, more: &[T]) -> Result<(), NoMemory>
+    requires sized { 0 < type_size T.row }
     ensures items { list.new.items
         ≡ (if is_ok result then list.old.items ++ more.now else list.old.items) }
     ensures len { vec_len list.new
@@ -42,6 +43,7 @@ pub fn extend_from_slice<T: Copy>(list: &mut Vec<T>, more: &[T]) -> Result<(), N
 
 /// Cuts the list to `length`, or fills it up with copies of `item`: at most 256 GiB of them.
 pub fn resize<T: Copy>(list: &mut Vec<T>, length: usize, item: T) -> Result<(), NoMemory>
+    requires sized { 0 < type_size T.row }
     requires few { (length - vec_len list.old) * type_size T.row ≤ most_at_once }
     ensures items { list.new.items ≡ (if is_ok result
         then take length list.old.items ++ replicate (length - vec_len list.old) item
@@ -75,6 +77,7 @@ pub fn insert<T: Drop>(list: &mut Vec<T>, index: usize, item: T) -> Result<(), N
 
 /// An empty list with room for `capacity` items, at most 256 GiB.
 pub fn with_capacity<T>(alloc: Global, capacity: usize) -> Result<Vec<T>, NoMemory>
+    requires sized { 0 < type_size T.row }
     requires few { capacity * type_size T.row ≤ most_at_once }
     ensures items { IfOk result (λ list. list.items ≡ []) }
     ensures len { IfOk result (λ list. vec_len list ≡ 0) }
@@ -90,6 +93,7 @@ pub fn with_capacity<T>(alloc: Global, capacity: usize) -> Result<Vec<T>, NoMemo
 
 /// A list of these items.
 pub fn from_slice<T: Copy>(alloc: Global, items: &[T]) -> Result<Vec<T>, NoMemory>
+    requires sized { 0 < type_size T.row }
     ensures items { IfOk result (λ list. list.items ≡ items.now) }
     ensures len { IfOk result (λ list. vec_len list ≡ length items.now) }
 {
@@ -101,6 +105,7 @@ pub fn from_slice<T: Copy>(alloc: Global, items: &[T]) -> Result<Vec<T>, NoMemor
 
 /// A list of `length` copies of `item`, at most 256 GiB. They are copied, not cloned: a clone may fail for any reason.
 pub fn from_elem<T: Copy>(alloc: Global, item: T, length: usize) -> Result<Vec<T>, NoMemory>
+    requires sized { 0 < type_size T.row }
     requires few { length * type_size T.row ≤ most_at_once }
     ensures items { IfOk result (λ list. list.items ≡ replicate length item) }
     ensures len { IfOk result (λ list. vec_len list ≡ length) }

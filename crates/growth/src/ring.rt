@@ -1,5 +1,5 @@
 // Rings of `circular_buffer`.
-ghost use Rattle.std.specs.Prelude.{◌≡◌, ◌*◌, ◌≤◌, [], IfOk};
+ghost use Rattle.std.specs.Prelude.{◌≡◌, ◌*◌, ◌<◌, ◌≤◌, [], IfOk};
 ghost use Rattle.std.specs.Mem.{type_size};
 ghost use Rattle.circular_buffer.specs.Buffer.{buffer};
 ghost use Rattle.growth.specs.Bounds.{most_at_once};
@@ -13,6 +13,7 @@ pub fn ring_with_capacity<T>(
     alloc: Global,
     capacity: usize,
 ) -> Result<HeapCircularBuffer<T>, NoMemory>
+    requires sized { 0 < type_size T.row }
     requires few { capacity * type_size T.row ≤ most_at_once }
     ensures { IfOk result (λ ring. ring ≡ buffer [] capacity) }
 {

@@ -17,6 +17,7 @@ pub fn map_indices<R: Threads + Sync, X: Send + Drop, F: Fn(usize) -> X + Sync>(
     call: &F,
 ) -> Result<Vec<X>, NoMemory>
     requires each { (i : ℕ) → i < count → F.pre call.now i }
+    requires sized { 0 < type_size X.row }
     requires few { count * type_size X.row ≤ most_at_once }
     ensures len { IfOk result (λ list. vec_len list ≡ count) }
     ensures each { IfOk result (λ list. GivesEach F.Fn call.now count list.items) }
