@@ -34,13 +34,13 @@ same_next xs ys i d same =
     first_of (z ∷ zs) (suc n) e = first_of zs n e
 
 past_set : (xs : List ReadyFields) (i : ℕ) (x : ReadyFields)
-    → drop (i + 1) (slice_set xs i x) ≡ drop (i + 1) xs
+    → drop (suc i) (slice_set xs i x) ≡ drop (suc i) xs
 past_set [] zero x = refl
 past_set [] (suc i) x = refl
 past_set (y ∷ ys) zero x = refl
 past_set (y ∷ ys) (suc i) x = past_set ys i x
 
-past_one : (xs : List ReadyFields) (i : ℕ) → drop (i + 1) xs ≡ drop 1 (drop i xs)
+past_one : (xs : List ReadyFields) (i : ℕ) → drop (suc i) xs ≡ drop 1 (drop i xs)
 past_one xs zero = refl
 past_one [] (suc i) = refl
 past_one (x ∷ xs) (suc i) = past_one xs i
@@ -49,7 +49,20 @@ past_one (x ∷ xs) (suc i) = past_one xs i
 pub same_rest : (xs ys next : List ReadyFields) (i : ℕ) (x : ReadyFields) → drop i xs ≡ drop i ys
     → next ≡ slice_set xs i x → drop (i + 1) next ≡ drop (i + 1) ys
 same_rest xs ys next i x same is =
-    ap (drop (i + 1)) is ∙ past_set xs i x ∙ past_one xs i ∙ ap (drop 1) same ∙ sym (past_one ys i)
+    let e : i + 1 ≡ suc i = omega arith in
+    ap (λ (n : ℕ). drop n next) e ∙ ap (drop (suc i)) is ∙ past_set xs i x ∙ past_one xs i
+    ∙ ap (drop 1) same ∙ sym (past_one ys i) ∙ ap (λ (n : ℕ). drop n ys) (sym e)
+
+-- the next item can be coded, if all could be at first
+pub can_next : (e : EncoderSeen) (xs ys : List ReadyFields) (i : ℕ) (d now : ReadyFields)
+    → drop i xs ≡ drop i ys → i < length ys → now ≡ get_or xs i d → All (CanCode e) ys → CanCode e now
+can_next e xs ys i d now same below is all =
+    subst (CanCode e) (sym (is ∙ same_next xs ys i d same)) (All-get_or (CanCode e) ys i d below all)
+
+-- before the first stream
+pub none_made : {V : Type 0} (part : V → List ℕ) (rs : List ReadyFields) (streams : List V)
+    → streams ≡ [] → AreMade (take 0 rs) (map part streams)
+none_made part rs streams none = rw none tt
 
 -- one stream more
 pub made_next : {V : Type 0} (part : V → List ℕ) (rs : List ReadyFields) (i : ℕ)

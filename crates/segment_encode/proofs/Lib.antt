@@ -1,4 +1,5 @@
 mod CodedParts
+mod LanesMade
 mod NewLanes
 mod PartsKept
 mod StreamsMade

@@ -16,10 +16,11 @@ pub record CanCode (e : EncoderSeen) (r : ReadyFields) : Type 0 where
   pub encoder : IsEncoderFor r.part.plan e
 
 -- the streams are those of the segments, in order, one for each
-pub AreMade : List ReadyFields → List (List ℕ) → Type 0
+abbrev pub AreMade : List ReadyFields → List (List ℕ) → Type 0
 AreMade [] [] = Unit {0}
+AreMade [] (stream ∷ streams) = ⊥
+AreMade (r ∷ rs) [] = ⊥
 AreMade (r ∷ rs) (stream ∷ streams) = IsPartStream r.part stream × AreMade rs streams
-AreMade _ _ = ⊥
 
 -- each segment is rows of a file
 abbrev pub AreOfAFile : List ReadyFields → Type 0
@@ -40,16 +41,17 @@ pub record HasCoded (lane after : Lane) : Type 0 where
       → AreOfAFile lane.parts.items → ⊥
 
 -- lanes after they were coded
-pub AreCoded : List Lane → List Lane → Type 0
+abbrev pub AreCoded : List Lane → List Lane → Type 0
 AreCoded [] [] = Unit {0}
+AreCoded [] (after ∷ afters) = ⊥
+AreCoded (lane ∷ lanes) [] = ⊥
 AreCoded (lane ∷ lanes) (after ∷ afters) = HasCoded lane after × AreCoded lanes afters
-AreCoded _ _ = ⊥
 
 abbrev pub parts_in : Lane → List ReadyFields
 parts_in lane = lane.parts.items
 
 -- what comes of segments, if each has the stream of its number, from `first` on
-pub GiveEach : (ℕ → List ℕ) → ℕ → List ReadyFields → Type 0
+abbrev pub GiveEach : (ℕ → List ℕ) → ℕ → List ReadyFields → Type 0
 GiveEach f first [] = Unit {0}
 GiveEach f first (r ∷ rs) =
     ((stream : List ℕ) → IsPartStream r.part stream → stream ≡ f first) × GiveEach f (first + 1) rs

@@ -16,3 +16,11 @@ loop-preserved c =
           (sym (ap (map (λ v. v.items)) c.in_ok-push.ensures.items
           ∙ mapped_on (λ v. v.items) c.loop.streams.items (c.in_ok-stream.stream ∷ []))) so;
     }
+
+pub returns-clause-made : goal.returns-clause-made
+returns-clause-made c =
+    let counted = c.loop-test.false in
+    let within = c.loop.auto.counter-end in
+    let left = c.left-count.ensures in
+    all_coded c.loop.counter c.args.pass.now c.loop.pass (map (λ v. v.items) c.loop.streams.items)
+    c.loop.invariant.on (omega (arith, counted, within, left)) c.loop.invariant.streams
