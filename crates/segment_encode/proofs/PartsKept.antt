@@ -1,11 +1,12 @@
 -- Segments that are kept, one after another.
-use Rattle.std.proofs.Common.{◌≡◌, ℕ, ◌+◌, List, [], ◌∷◌, ◌++◌, length, sym, ap, subst, ◌∙◌, arith, length-append}
-use Rattle.std.specs.Prelude.{All}
+use Rattle.std.proofs.Common.{◌≡◌, ℕ, ◌+◌, List, [], ◌∷◌, ◌++◌, length, sym, ap, subst, ◌∙◌, length-append}
+use Rattle.std.specs.Prelude.{All, IfOk, Result, Ok, Err}
 use Rattle.std.proofs.lemmas.List.Elements.{All-push}
 use Rattle.jpeg_marker.specs.Plans.{PlanFields}
 use Rattle.segment_code.specs.ReadyParts.{IsReady, ReadyFields}
 use Rattle.segment_code.specs.ScanPasses.{IsNoPart, IsPartStream}
-use Rattle.segment_encode.specs.Lanes.{AreOfAFile, GiveEach}
+use Rattle.segment_encode.specs.Lanes.{AreOfAFile, GiveEach, parts_in}
+use Rattle.segment_encode.specs.declared.lanes.Lane.{Lane}
 use Rattle.segment_encode.proofs.StreamsMade.{give_more}
 
 pub one_longer : (rs next : List ReadyFields) (r : ReadyFields) → next ≡ rs ++ r ∷ []
@@ -35,3 +36,10 @@ pub one_given : (f : ℕ → List ℕ) (first n : ℕ) (rs next : List ReadyFiel
 one_given f first n rs next r give at one kept =
     subst (GiveEach f first) (sym kept) (give_more f first rs (r ∷ []) give
     (subst (λ (m : ℕ). GiveEach f m (r ∷ [])) (sym at) (one, tt)))
+
+-- what holds of segments holds of the lane that has them
+pub if_ok_parts : {E : Type 0} (P : List ReadyFields → Type 0) (result : Result Lane E)
+    (rs : List ReadyFields) → IfOk result (λ lane. lane.parts.items ≡ rs) → P rs
+    → IfOk result (λ lane. P (parts_in lane))
+if_ok_parts P (Ok lane) rs is p = subst P (sym is) p
+if_ok_parts P (Err error) rs is p = tt

@@ -1,10 +1,7 @@
 -- Streams that come of segments in order.
-use Rattle.std.proofs.Common.{◌≡◌, ℕ, zero, suc, ◌+◌, ◌<◌, List, [], ◌∷◌, ◌++◌, length, map, refl, sym, ap, ap₂, subst, ◌∙◌, arith}
-use Rattle.std.specs.Prelude.{All, flat_map, slice_index_or}
-use Rattle.std.proofs.lemmas.List.Elements.{All-nil, All-push}
+use Rattle.std.proofs.Common.{◌≡◌, ℕ, zero, suc, ◌+◌, List, [], ◌∷◌, ◌++◌, length, map, refl, sym, ap, ap₂, subst, ◌∙◌, arith}
 use Rattle.box_format.specs.Raws.{numbers}
 use Rattle.segment_code.specs.ReadyParts.{ReadyFields}
-use Rattle.segment_code.specs.ScanPasses.{IsPartStream}
 use Rattle.segment_encode.specs.Lanes.{AreMade, GiveEach}
 
 pub numbers_on : (from k n : ℕ) → numbers from (k + n) ≡ numbers from k ++ numbers (from + k) n

@@ -1,6 +1,6 @@
 -- Streams between two passes over a file's scan.
-use Rattle.std.proofs.Common.{◌≡◌, ℕ, suc, ◌+◌, ◌<◌, ◌++◌, ◌∷◌, Bool, List, [], length, map, refl, ap, ap₂, ◌∙◌, sym, subst, arith}
-use Rattle.std.specs.Prelude.{All}
+use Rattle.std.proofs.Common.{◌≡◌, ℕ, ◌+◌, ◌++◌, ◌∷◌, Bool, List, [], length, map, refl, ap, ap₂, ◌∙◌, sym, subst, arith}
+use Rattle.std.specs.Prelude.{IfOk, OnOk, Result, Ok, Err}
 use Rattle.std.proofs.lemmas.List.Elements.{All-push}
 use Rattle.scan_spec.specs.Scans.{Mcu}
 use Rattle.scan_spec.specs.Slots.{shape_of}
@@ -14,7 +14,8 @@ use Rattle.segment_code.specs.ReadyParts.{ReadyFields}
 use Rattle.segment_code.specs.ScanPasses.{HasPassed, IsNextStream, IsNoPart, IsPartStream, IsPass, PassFields, pass_cut, passed, segments_left}
 use Rattle.segment_code.specs.Starting.{IsFileAt}
 use Rattle.segment_code.proofs.PassesOn.{has_ended}
-use Rattle.segment_encode.specs.Lanes.{AreMade, AreOfAFile, GiveEach}
+use Rattle.segment_encode.specs.Lanes.{AreMade, GiveEach, LaneMakes, LaneRefused, parts_in}
+use Rattle.segment_encode.specs.declared.lanes.Lane.{Lane}
 use Rattle.segment_encode.specs.StreamsFound.{ArePassed, AreStreams, HasPassedOn, PassRefuses}
 use Rattle.segment_encode.proofs.StreamsMade.{each_on, give_more, given}
 
@@ -212,3 +213,25 @@ all_passed old new plan bytes most streams are plan_is bytes_is most_is none mcu
     none left
     ∙ ap₂ (λ (p : PlanFields) m. map (λ i. stream_of p (segment_mcus p mcus m i))
     (numbers 0 (plan_cut p m).segments)) plan_is most_is
+
+-- a lane that was passed: with its streams, those of the segments after it are all
+pub lane_gives : {E : Type 0} (n : ℕ) (old mid : PassFields) (result : Result Lane E)
+    → OnOk result (HasPassedOn n old mid) → IfOk result (λ lane. length (parts_in lane) ≡ n)
+    → IfOk result (λ lane. ArePassed old (parts_in lane))
+    → (end : PassFields) (first rest : List (List ℕ))
+    → IfOk result (λ lane. LaneMakes lane first → AreStreams mid end rest
+    → AreStreams old end (first ++ rest))
+lane_gives n old mid (Ok lane) on long passed_are end first rest =
+    λ made are. lane_joined n old mid end (parts_in lane) first rest on long passed_are made are
+lane_gives n old mid (Err error) on long passed_are end first rest = tt
+
+-- and after the last segment it isn't refused
+pub lane_stays : {E : Type 0} (n : ℕ) (old mid : PassFields) (result : Result Lane E)
+    → OnOk result (HasPassedOn n old mid) → IfOk result (λ lane. ArePassed old (parts_in lane))
+    → (end : PassFields) (rest : List (List ℕ))
+    → IfOk result (λ lane. LaneRefused lane → AreStreams mid end rest → ⊥)
+lane_stays n old mid (Ok lane) on passed_are end rest =
+    λ refused are.
+    let f = a_file n old mid end rest on are in
+    refused (passed_are f.0 f.1 f.2 f.3).1
+lane_stays n old mid (Err error) on passed_are end rest = tt

@@ -1,10 +1,9 @@
-use Rattle.std.proofs.Common.{rules, ◌≡◌, ◌∷◌, List, [], length, map, sym, ap, subst, arith}
+use Rattle.std.proofs.Common.{rules, ◌≡◌, ◌∷◌, length, map, sym, ap, subst}
 use Rattle.std.specs.Prelude.{Err}
 use Rattle.std.proofs.lemmas.Result.{err_from_is_err_and}
 use Rattle.segment_code.specs.declared.error.ScanError.{ScanError}
 use Rattle.segment_code.specs.declared.error.ScanError.TheVariants.{Scan}
 use Rattle.segment_encode.specs.Lanes.{AreCoded}
-use Rattle.segment_encode.specs.declared.lanes.Lane.{Lane}
 use Rattle.segment_encode.proofs.LanesMade.{all_lanes_made, lane_not_refused, no_lane, one_lane}
 use Rattle.segment_encode.proofs.streams.all_made.Goals as goal
 
@@ -12,18 +11,18 @@ pub loop-lane-init : goal.loop-lane-init
 loop-lane-init c =
     let all : c.into_iter-lane-iterator.result.rest.items ≡ c.args.lanes.items = search rules in
     λ olds coded. no_lane olds c.into_iter-lane-iterator.result.rest.items
-        (map (λ v. v.items) c.new-streams.result.items)
-        (subst (AreCoded olds) (sym all) coded) (ap (map (λ v. v.items)) c.new-streams.ensures.items)
+    (map (λ v. v.items) c.new-streams.result.items)
+    (subst (AreCoded olds) (sym all) coded) (ap (map (λ v. v.items)) c.new-streams.ensures.items)
 
 pub loop-lane-preserved : goal.loop-lane-preserved
 loop-lane-preserved c =
     let front : c.loop-lane.lane-iterator.rest.items ≡ c.in-Some.lane ∷ c.next.new.self.rest.items =
     search rules in
     λ olds coded. one_lane olds c.loop-lane.lane-iterator.rest.items c.next.new.self.rest.items
-        c.in-Some.lane (map (λ v. v.items) c.loop-lane.streams.items)
-        (map (λ v. v.items) c.in_ok-streams.field-0.items)
-        (map (λ v. v.items) c.in_ok-streams-2.streams.items) (c.loop-lane.invariant olds coded) front
-        (λ old has. c.in_ok-streams.ensures.made old has) c.in_ok-streams-2.ensures.made
+    c.in-Some.lane (map (λ v. v.items) c.loop-lane.streams.items)
+    (map (λ v. v.items) c.in_ok-streams.field-0.items)
+    (map (λ v. v.items) c.in_ok-streams-2.streams.items) (c.loop-lane.invariant olds coded) front
+    (λ old has. c.in_ok-streams.ensures.made old has) c.in_ok-streams-2.ensures.made
 
 pub returns-in_err-streams-clause-refused : goal.returns-in_err-streams-clause-refused
 returns-in_err-streams-clause-refused c =

@@ -1,6 +1,6 @@
-use Rattle.std.proofs.Common.{◌≡◌, ◌∷◌, [], List, ℕ, ◌+◌, map, ap, ◌∙◌, sym, subst, arith}
+use Rattle.std.proofs.Common.{◌∷◌, [], ◌+◌, map, ap, ◌∙◌, sym, subst, arith}
 use Rattle.segment_encode.proofs.StreamsMade.{mapped_on}
-use Rattle.segment_encode.proofs.StreamsPassed.{AreSoFar, all_coded, fewer_left, one_more, passed_more, refused_on}
+use Rattle.segment_encode.proofs.StreamsPassed.{AreSoFar, all_coded, one_more, passed_more}
 use Rattle.segment_encode.proofs.streams.code_rest.Goals as goal
 
 pub loop-preserved : goal.loop-preserved

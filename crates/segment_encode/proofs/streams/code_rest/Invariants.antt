@@ -1,4 +1,4 @@
-use Rattle.std.proofs.Common.{◌≡◌, map}
+use Rattle.std.proofs.Common.{map}
 use Rattle.segment_encode.specs.StreamsFound.{HasPassedOn}
 use Rattle.segment_encode.proofs.StreamsPassed.{AreSoFar}
 use Rattle.segment_encode.proofs.streams.code_rest.Given as goal

@@ -1,9 +1,10 @@
-use Rattle.std.proofs.Common.{◌≡◌, ◌+◌, ◌<◌, ◌≤◌, length, ◌∙◌, arith}
+use Rattle.std.proofs.Common.{◌+◌, arith}
 use Rattle.cut_spec.specs.Cuts.{first_mcu}
 use Rattle.cut_spec.specs.RowHandovers.{mcus_between}
 use Rattle.box_format.specs.Parts.{box_cut}
 use Rattle.container_spec.specs.ScanStream.{stream_of}
-use Rattle.segment_encode.proofs.PartsKept.{more_filed, more_planned, more_ready, one_given, one_longer}
+use Rattle.segment_encode.specs.Lanes.{AreOfAFile, GiveEach}
+use Rattle.segment_encode.proofs.PartsKept.{if_ok_parts, more_filed, more_planned, more_ready, one_given, one_longer}
 use Rattle.segment_encode.proofs.streams.lane_of.Goals as goal
 
 pub loop-segment-preserved : goal.loop-segment-preserved
@@ -27,3 +28,16 @@ loop-segment-preserved c =
           c.args.first c.loop-segment.segment rs next r (before.streams mcus pads file are) was
           (λ stream. c.in_ok-part.ensures.stream mcus pads stream file are) kept;
     }
+
+pub returns-clause-file : goal.returns-clause-file
+returns-clause-file c =
+    if_ok_parts AreOfAFile c.prepare.result c.loop-segment.parts.items c.prepare.ensures.parts
+    c.loop-segment.invariant.file
+
+pub returns-clause-streams : goal.returns-clause-streams
+returns-clause-streams c = λ mcus pads file are.
+    let plan = c.args.plan.now in
+    let cut = box_cut plan c.args.chunk c.args.count in
+    if_ok_parts (GiveEach (λ i. stream_of plan (mcus_between mcus (first_mcu cut i) (first_mcu cut (i + 1))))
+    c.args.first) c.prepare.result c.loop-segment.parts.items c.prepare.ensures.parts
+    (c.loop-segment.invariant.streams mcus pads file are)

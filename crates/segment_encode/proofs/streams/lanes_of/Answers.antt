@@ -1,11 +1,9 @@
-use Rattle.std.proofs.Common.{◌+◌, ◌≤◌, ◌∙◌, sym, subst, arith, ap}
-use Rattle.std.specs.Prelude.{flat_map}
+use Rattle.std.proofs.Common.{◌+◌, arith}
 use Rattle.std.proofs.lemmas.Grind.{div_ceil_times}
 use Rattle.cut_spec.specs.Cuts.{first_mcu}
 use Rattle.cut_spec.specs.RowHandovers.{mcus_between}
 use Rattle.box_format.specs.Parts.{box_cut}
 use Rattle.container_spec.specs.ScanStream.{stream_of}
-use Rattle.segment_encode.specs.Lanes.{GiveEach, parts_in}
 use Rattle.segment_encode.proofs.NewLanes.{more_given, more_lanes, no_lanes}
 use Rattle.segment_encode.proofs.streams.lanes_of.Goals as goal
 

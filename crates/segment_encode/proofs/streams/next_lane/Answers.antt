@@ -1,7 +1,8 @@
-use Rattle.std.proofs.Common.{◌≡◌, ◌+◌, length, ap, ◌∙◌, arith}
+use Rattle.std.proofs.Common.{sym, ap, subst, ◌∙◌, arith}
 use Rattle.segment_code.specs.ScanPasses.{PartFields}
+use Rattle.segment_encode.specs.StreamsFound.{ArePassed}
 use Rattle.segment_encode.proofs.PartsKept.{more_planned, more_ready, one_longer}
-use Rattle.segment_encode.proofs.StreamsPassed.{fewer_left, passed_more, passed_none, plan_on, ready_more, refused_on}
+use Rattle.segment_encode.proofs.StreamsPassed.{passed_more, plan_on, ready_more}
 use Rattle.segment_encode.proofs.streams.next_lane.Goals as goal
 
 pub loop-preserved : goal.loop-preserved
@@ -25,3 +26,7 @@ loop-preserved c =
       passed = ready_more c.loop.counter old mid rs next r before.on before.passed was kept
           c.in_ok-part.ensures.stream c.in_ok-part.ensures.none;
     }
+
+pub returns-clause-parts : goal.returns-clause-parts
+returns-clause-parts c =
+    subst (ArePassed c.args.pass.now) (sym c.in_ok-prepare.ensures.parts) c.loop.invariant.passed
