@@ -69,7 +69,7 @@ impl<'a> ChunkCutter<'a> {
 
     /// The container, of version 3, of one of the file's chunks of `size` bytes, the one with number `index`, of which
     /// the first is 0; none if the file ends before it. It has at most `segments` segments, and at most as many as the
-    /// chunk has rows. Each segment is coded in a thread of its own if one can be had.
+    /// chunk has rows. At most 16 are coded at the same time, in threads if these can be had.
     pub fn cut<R: Threads + Sync>(
         &self,
         rt: &R,

@@ -21,8 +21,8 @@ use std::thread::Threads;
 
 /// The container, of version 5, of a file of one scan, in at most `segments` segments: it keeps the place in the file
 /// of each segment's first byte, so that a range of the file can be read from it. It has at most as many segments as
-/// rows of MCUs. A refusal is the first one from left to right, or else that the file has several scans. Each segment
-/// but the last is coded in a thread of its own if one can be had.
+/// rows of MCUs. A refusal is the first one from left to right, or else that the file has several scans. At most 16
+/// segments are coded at the same time, in threads if these can be had.
 pub fn encode_placed<R: Threads + Sync>(
     rt: &R,
     alloc: Global,

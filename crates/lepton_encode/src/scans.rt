@@ -38,8 +38,8 @@ pub(crate) struct CodedScan {
 
 /// The container of a file of one scan or of several, in at most `segments` segments in all, but at least one for each
 /// scan: of version 2 for one scan, else that of several scans, each with an equal share. A refusal is the first one
-/// from left to right: a header's, or that of the scan after it. Each segment but the last of a scan is coded in a
-/// thread of its own if one can be had.
+/// from left to right: a header's, or that of the scan after it. At most 16 segments are coded at the same time, in
+/// threads if these can be had.
 #[inline(never)]
 pub fn encode<R: Threads + Sync>(
     rt: &R,

@@ -1,10 +1,11 @@
 // A pass that goes over some work lane by lane, while other threads do the lanes that it has passed. The traits have one
 // impl each (`lanes.rt`, `streams.rt`): a closure over a type that names a lifetime can't be proved, one over a type
 // parameter can.
-ghost use Rattle.std.specs.Prelude.{◌≡◌, ◌+◌, ◌<◌, ◌≤◌, ◌++◌, ℕ, List, [], ◌∷◌, map, IfOk, OnOk, IsErrOf};
+ghost use Rattle.std.specs.Prelude.{◌≡◌, ◌+◌, ◌*◌, ◌<◌, ◌≤◌, ◌++◌, ℕ, List, [], ◌∷◌, map, IfOk, OnOk, IsErrOf};
 ghost use denote.Param.Send.{IsSend, IsSync};
 ghost use Rattle.scan_spec.specs.declared.refusal.ScanRefusal.{ScanRefusal};
 ghost use Rattle.segment_code.specs.declared.error.ScanError.TheVariants.{Scan};
+ghost use Rattle.segment_encode.specs.Lanes.{most_at_once};
 
 use crate::tasks::Task;
 use growth::push;
@@ -70,6 +71,8 @@ pub(crate) fn make_all<R: Threads + Sync, N: Task + Send + Drop, P: Pass<N>>(
     requires holds { P.holds pass.old }
     requires some { 0 < P.left pass.old }
     requires each { 0 < each }
+    // So there are at most 16 lanes, with that which the pass does.
+    requires most { P.left pass.old ≤ most_at_once * each }
     ensures made { IfOk result
         (λ streams. P.gives_all pass.old pass.new (map (λ v. v.items) streams.items)) }
     ensures refused { (refusal : ScanRefusal) → IsErrOf result (Scan refusal)
@@ -101,6 +104,7 @@ fn beside<R: Threads + Sync, N: Task + Send + Drop, P: Pass<N>>(
     requires holds { P.holds pass.old }
     requires some { 0 < P.left pass.old }
     requires each { 0 < each }
+    requires most { P.left pass.old ≤ most_at_once * each }
     ensures done { N.done lane.old lane.new }
     ensures made { IfOk result
         (λ streams. P.gives_all pass.old pass.new (map (λ v. v.items) streams.items)) }
@@ -114,7 +118,8 @@ fn beside<R: Threads + Sync, N: Task + Send + Drop, P: Pass<N>>(
             ensures { N.done lane.entry.now lane.exit.now }
         { lane.perform() },
         &mut ||
-            requires { IsSync R.row × IsSend N.row × P.holds pass.now × (0 < P.left pass.now) × (0 < each) }
+            requires { IsSync R.row × IsSend N.row × P.holds pass.now × (0 < P.left pass.now) × (0 < each)
+                × (P.left pass.now ≤ most_at_once * each) }
             ensures made { IfOk result (λ streams.
                 P.gives_all pass.entry.now pass.exit.now (map (λ v. v.items) streams.items)) }
             ensures refused { (refusal : ScanRefusal) → IsErrOf result (Scan refusal)

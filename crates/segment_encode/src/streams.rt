@@ -122,9 +122,8 @@ fn code_rest(pass: &mut ScanPass, alloc: Global) -> Result<Vec<Vec<u8>>, ScanErr
 }
 
 /// The stream of each of `count` segments of a file, or of a chunk's rows of it, in order, by the starts of all the
-/// file's rows. They are coded in at most 16 lanes, one after another in each, and
-/// each lane in a thread of its own if one can be had. The memory of all lanes is allocated before the first thread
-/// starts. The one error is out of memory.
+/// file's rows. They are coded in at most 16 lanes, one after another in each, and each lane in a thread of its own if
+/// one can be had. The memory of all lanes is allocated before the first thread starts. The one error is out of memory.
 pub fn encode_all<R: Threads + Sync>(
     rt: &R,
     alloc: Global,

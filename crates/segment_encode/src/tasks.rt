@@ -8,7 +8,7 @@ use segment_code::ScanError;
 use std::thread;
 use std::thread::Threads;
 
-/// What a thread does with a value of its own. It has no allocator.
+/// What a thread does with a value of its own.
 pub(crate) trait Task {
     // It can be done.
     ghost ready: { Self → Type 0 };

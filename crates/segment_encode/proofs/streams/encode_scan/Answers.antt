@@ -1,3 +1,5 @@
+use Rattle.std.proofs.Common.{arith}
+use Rattle.std.proofs.lemmas.Grind.{div_ceil_times}
 use Rattle.segment_encode.proofs.StreamsPassed.{all_passed}
 use Rattle.segment_encode.proofs.streams.encode_scan.Goals as goal
 
@@ -6,3 +8,10 @@ returns-clause-streams g c =
     all_passed c.in_ok-pass.pass c.make_all.new.pass c.args.plan.now c.args.bytes.now
     c.args.segments _ c.in_ok-streams.ensures.made c.in_ok-pass.ensures.plan
     c.in_ok-pass.ensures.bytes c.in_ok-pass.ensures.most c.in_ok-pass.ensures.none
+
+pub make_all-requires-clause-most : goal.make_all-requires-clause-most
+make_all-requires-clause-most g c =
+    let each = c.div_ceil-each.ensures in
+    let left = c.left.ensures in
+    let room = (div_ceil_times c.left.result 16 (omega arith)).0 in
+    omega (arith, each, left, room)
