@@ -96,7 +96,7 @@ fn next_lane<'a>(pass: &mut ScanPass<'a>, alloc: Global, count: u32) -> Result<L
     ensures refused { (refusal : ScanRefusal) → IsErrOf result (Scan refusal)
         → PassRefuses pass.old refusal }
 {
-    let mut parts = with_capacity(alloc, count as usize)?;
+    let mut parts = Vec::new(alloc);
     for _ in 0..count {
         let part = pass.pass_over(alloc)?;
         push(&mut parts, part)?;
@@ -221,7 +221,7 @@ fn lane_of<'a>(
         (mcus_between mcus (first_mcu (box_cut plan.now chunk count) i)
         (first_mcu (box_cut plan.now chunk count) (i + 1)))) first (parts_in lane)) }
 {
-    let mut parts = with_capacity(alloc, some as usize)?;
+    let mut parts = Vec::new(alloc);
     for segment in first..first + some {
         let part = ready_segment(alloc, plan, codes, bytes, starts, chunk, count, segment)?;
         push(&mut parts, part)?;
