@@ -570,7 +570,7 @@ fn is_decoded<R: Threads + Wait + Abort + Sync>(
     rt: &R,
     alloc: Global,
     container: &[u8],
-    by: (u8, usize),
+    by: (u8, u32),
     sink: (usize, &[u64]),
     wanted: (End, &[u8]),
 ) -> Result<bool, AllocError> {

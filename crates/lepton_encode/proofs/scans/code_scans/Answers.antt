@@ -35,8 +35,8 @@ returns-in_err-starts-clause-scan g c =
     let below : i < length c.args.heads.now = omega (arith, test) in
     let split = item_first c.args.heads.now i h below c.head-item.is in
     let left = subst (AreLeft bytes) split c.loop-head.invariant.left in
-    let p = err_from_is_err_and c.from_residual-in_err-starts.result
-    c.from_residual-in_err-starts.ensures.1 in
+    let p = err_from_is_err_and c.from_residual.result
+    c.from_residual.ensures.1 in
     rw (p.1, p.2) (λ refusal is.
     let scan : error_of c.in_err-starts.field-0.0 ≡ Scan refusal = cc in
     let cause = ap (λ error. Err error) (scan_found c.in_err-starts.field-0.0 refusal scan) in
