@@ -3,14 +3,14 @@
 //!     a call of std or of a library --no memory--> its error --> NoMemory, made here alone
 //!
 //! `NoMemory` has a private field, so it comes only from a call of this crate that got no memory. Each call is that of
-//! std, of `circular_buffer`, of `atomic_table` or of `clap` whose name it has, with the clauses of it that callers need.
-//! A value that such a call gives back with its error is dropped. No call runs code of its caller whose `AllocError` it
-//! could hand on.
+//! std, of `circular_buffer`, of `atomic_table` or of `clap` whose name it has, with the clauses of it that callers
+//! need. A value that such a call gives back with its error is dropped. No call runs code of its caller whose
+//! `AllocError` it could hand on.
 //!
 //! A call that takes a length requires that it asks for at most 256 GiB by it (`most_at_once`), so that no body has the
 //! error by asking for what no machine has. The others ask for memory in proportion to what they are given: a list that
-//! is there, an item, a text or words. Items of no size are refused (`sized`): no list holds 2^63 of them, and fewer take
-//! no memory.
+//! is there, an item, a text or words. Items of no size are refused (`sized`): no list holds 2^63 of them, and fewer
+//! take no memory.
 //!
 //! Not handled here: what allocates without this crate, and so can't answer `NoMemory`.
 #![tactic(auto)]

@@ -10,6 +10,7 @@ use std::alloc::Global;
 /// Appends an item.
 #[inline]
 pub fn push<T: Drop>(list: &mut Vec<T>, item: T) -> Result<(), NoMemory>
+    requires sized { 0 < type_size T.row }
     ensures items { list.new.items
         ≡ (if is_ok result then list.old.items ++ item ∷ [] else list.old.items) }
     ensures len { vec_len list.new ≡ (if is_ok result then vec_len list.old + 1 else vec_len list.old) }
@@ -61,7 +62,8 @@ pub fn resize<T: Copy>(list: &mut Vec<T>, length: usize, item: T) -> Result<(), 
 
 /// Inserts an item before the one with this index, or at the end.
 pub fn insert<T: Drop>(list: &mut Vec<T>, index: usize, item: T) -> Result<(), NoMemory>
-    requires { index ≤ vec_len list.old }
+    requires index { index ≤ vec_len list.old }
+    requires sized { 0 < type_size T.row }
     ensures items { list.new.items
         ≡ (if is_ok result then inserted list.old.items index item else list.old.items) }
     ensures len { vec_len list.new ≡ (if is_ok result then vec_len list.old + 1 else vec_len list.old) }
