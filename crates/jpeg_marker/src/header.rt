@@ -15,6 +15,7 @@ use crate::segment::segment_at;
 
 /// Reads the header of a file of one scan, which the bytes begin with, whatever follows it. A refusal is that of the
 /// first check that fails.
+#[inline(never)]
 pub fn read_header(bytes: &[u8]) -> Result<Plan, HeaderRefusal>
     ensures accepted { IfOk result (λ plan. Accepts bytes.now plan) }
     ensures refused { IfErr result (λ refusal. Refuses bytes.now refusal) }
@@ -24,6 +25,7 @@ pub fn read_header(bytes: &[u8]) -> Result<Plan, HeaderRefusal>
 
 /// Reads the first header of a file that may have its components in several scans, which the bytes begin with, whatever
 /// follows it. A refusal is that of the first check that fails. Further headers: `read_next`.
+#[inline(never)]
 pub fn read_first(bytes: &[u8]) -> Result<Plan, HeaderRefusal>
     ensures accepted { IfOk result (λ plan. Opens Several bytes.now plan) }
     ensures refused { IfErr result (λ refusal. OpensNot Several bytes.now refusal) }
@@ -44,6 +46,7 @@ fn open(bytes: &[u8], scans: Scans) -> Result<Plan, HeaderRefusal>
 
 /// Reads the header of a further scan, which is at `place`, after the scan of `plan`, whatever follows it. A refusal is
 /// that of the first check that fails. The plan may be of other bytes.
+#[inline(never)]
 pub fn read_next(plan: &Plan, bytes: &[u8], place: usize) -> Result<Plan, HeaderRefusal>
     requires { place ≤ length bytes.now }
     ensures accepted { IfOk result (λ next. AcceptsNext plan.now bytes.now place next) }

@@ -44,19 +44,22 @@ pub(crate) fn read_scan(
     ) else {
         return Err(HeaderRefusal::NoTable);
     };
-    Plan::new(
+    match Plan::new(
         known,
         frame,
         &indexes[..count],
         &parts[..count],
         components,
         header_length,
-    )
-    .ok_or(HeaderRefusal::TooManyBlocks)
+    ) {
+        Some(plan) => Ok(plan),
+        None => Err(HeaderRefusal::TooManyBlocks),
+    }
 }
 
 // Checks that the scan has some of the frame's components in the frame's order, and none that a scan before had. Gives
 // their indexes.
+#[inline(never)]
 fn check_order(
     scans: Scans,
     coded: &[bool; 4],
