@@ -6,7 +6,7 @@ use std::test::Fail;
 
 // The byte begun and how many bits of it are there; two codes and how many bits each has; the bytes that are written,
 // and the byte begun then with its bits.
-type Codes<'a> = ([u8; 2], [u16; 4], &'a [u8], [u8; 2]);
+type Codes<'a> = ([u8; 2], [u32; 4], &'a [u8], [u8; 2]);
 
 const CODES: &[Codes<'static>] = &[
     ([0, 0], [0b101, 3, 0x1ffd, 13], &[0xbf, 0xfd], [0, 0]),
@@ -20,6 +20,24 @@ const CODES: &[Codes<'static>] = &[
         [0, 0],
     ),
     ([0x40, 2], [0x2b, 6, 0x1d8, 9], &[0x6b, 0xec], [0, 1]),
+    (
+        [0, 0],
+        [0x123_4567, 27, 0x1f, 5],
+        &[0x24, 0x68, 0xac, 0xff, 0x00],
+        [0, 0],
+    ),
+    (
+        [0x24, 7],
+        [0x34_5678, 27, 0, 0],
+        &[0x24, 0x0d, 0x15, 0x9e],
+        [0, 2],
+    ),
+    (
+        [0xfe, 7],
+        [0x7ff_ffff, 27, 0, 6],
+        &[0xff, 0x00, 0xff, 0x00, 0xff, 0x00, 0xff, 0x00, 0xc0],
+        [0, 0],
+    ),
 ];
 
 #[test]
@@ -37,7 +55,7 @@ fn is_written(
     rt: &impl Abort,
     alloc: Global,
     begun: [u8; 2],
-    codes: [u16; 4],
+    codes: [u32; 4],
     bytes: &[u8],
     after: [u8; 2],
 ) -> Result<bool, AllocError> {
@@ -54,11 +72,11 @@ fn begun_at(rt: &impl Abort, partial: u8, bits: u8) -> BitOut {
     BitOut::at(partial, bits)
 }
 
-fn put(rt: &impl Abort, bit_out: &mut BitOut, code: u16, count: u16, out: &mut Piece) {
-    assert!(rt; count <= 16);
-    assert!(rt; u32::from(code) >> count == 0);
+fn put(rt: &impl Abort, bit_out: &mut BitOut, code: u32, count: u32, out: &mut Piece) {
+    assert!(rt; count <= 27);
+    assert!(rt; code >> count == 0);
     assert!(rt; out.len() < 100);
-    bit_out.put(code, count as u8, out);
+    bit_out.put(code, count, out);
 }
 
 // The byte begun and its bits, the bit after them, the bytes, and whether there was a byte begun.

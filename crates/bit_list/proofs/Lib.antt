@@ -5,7 +5,8 @@ pub mod Cursors
 pub mod Rounds
 pub mod Machine
 pub mod Putting
-pub mod TwoBytes
+pub mod WholeBytes
+pub mod FullBytes
 pub mod Spanning
 pub mod Ahead
 pub mod Peeking

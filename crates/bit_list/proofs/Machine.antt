@@ -66,9 +66,9 @@ pub record IsPartial (number count free partial : ℕ) : Type 0 where
   pub bits : take count (low_bits 8 partial) ≡ low_bits count number
   pub clear : partial % 2 ^ free ≡ 0
 
-pub partial_of : (number count free partial : ℕ) → count + free ≡ 8 → number < 2 ^ count → partial ≡ number * 2 ^ free % 2 ^ 16 → IsPartial number count free partial
+pub partial_of : (number count free partial : ℕ) → count + free ≡ 8 → number < 2 ^ count → partial ≡ number * 2 ^ free % 2 ^ 32 → IsPartial number count free partial
 partial_of number count free partial e h f =
-    let same : partial ≡ number * 2 ^ free = f ∙ shl_whole number count free 16 h (omega arith) in
+    let same : partial ≡ number * 2 ^ free = f ∙ shl_whole number count free 32 h (omega arith) in
     let below : number * 2 ^ free < 2 ^ (count + free) = shl_below number count free h in
     let plain : number * 2 ^ free + 0 ≡ number * 2 ^ free = omega arith in
     record {
@@ -138,9 +138,9 @@ grown m k number prefix from next few a b e f =
     record { is = is; below = below; word = omega arith }
 
 -- a byte made of two numbers
-pub joined_word : (number count free prefix word : ℕ) → count + free ≡ 8 → number < 2 ^ count → prefix < 2 ^ free → word ≡ number * 2 ^ free % 2 ^ 16 + prefix
+pub joined_word : (number count free prefix word : ℕ) → count + free ≡ 8 → number < 2 ^ count → prefix < 2 ^ free → word ≡ number * 2 ^ free % 2 ^ 32 + prefix
     → (word ≡ number * 2 ^ free + prefix) × (word < 256)
 joined_word number count free prefix word e a b f =
-    let is : word ≡ number * 2 ^ free + prefix = f ∙ ap (λ (x : ℕ). x + prefix) (shl_whole number count free 16 a (omega arith)) in
+    let is : word ≡ number * 2 ^ free + prefix = f ∙ ap (λ (x : ℕ). x + prefix) (shl_whole number count free 32 a (omega arith)) in
     let below : number * 2 ^ free + prefix < 2 ^ (count + free) = joined_below count free number prefix a b in
     (is, rw is (rw e at below))

@@ -1,12 +1,11 @@
 -- Bits as whole bytes and a byte begun.
-use Rattle.std.proofs.Common.{◌≡◌, ℕ, zero, suc, ◌+◌, ◌*◌, ◌/◌, ◌%◌, ◌^◌, ◌<◌, Bool, true, false, ◌==◌, if◌then◌else◌, List, [], ◌∷◌, ◌++◌, length, refl, sym, ap, ap₂, ◌∙◌, arith, append_assoc, length-append}
+use Rattle.std.proofs.Common.{◌≡◌, ℕ, zero, suc, ◌+◌, ◌*◌, ◌/◌, ◌%◌, ◌<◌, Bool, true, false, ◌==◌, if◌then◌else◌, List, [], ◌∷◌, ◌++◌, length, refl, sym, ap, ap₂, ◌∙◌, arith, append_assoc, length-append}
 use Rattle.std.specs.List.{AllByRecursion}
 use Rattle.std.proofs.lemmas.Bool.{eqb-true, false_from_ne_true}
 use Rattle.std.proofs.lemmas.List.{append-nil, length-replicate}
-use Rattle.std.proofs.lemmas.Nat.{shr_below, mod_below, pow_pos}
 use Rattle.bit_list.specs.Bits.{IsByte, low_bits, number_of, bits_of, bytes_after, begun_after, padding}
-use Rattle.bit_list.specs.NumbersOfBits.{number_again, mod_small}
-use Rattle.bit_list.proofs.LowBits.{low_bits-append, low_bits-same, bits_again}
+use Rattle.bit_list.specs.NumbersOfBits.{number_again}
+use Rattle.bit_list.proofs.LowBits.{bits_again}
 
 -- bits complete the same bytes in two parts
 pub bytes_cut : (begun xs ys : List Bool) → bytes_after begun (xs ++ ys) ≡ bytes_after begun xs ++ bytes_after (begun_after begun xs) ys
@@ -57,34 +56,6 @@ begun_joined begun xs h = sym (begun_cut [] begun xs ∙ ap (λ (rest : List Boo
 -- the bits of a byte complete it
 pub byte_first : (byte : ℕ) (xs : List Bool) → byte < 256 → bytes_after [] (low_bits 8 byte ++ xs) ≡ byte ∷ bytes_after [] xs
 byte_first byte xs h = ap (λ (n : ℕ). n ∷ bytes_after [] xs) (number_again 8 byte h)
-
--- a number's highest byte, and the bits below it
-pub record Split (left number byte rest low : ℕ) : Type 0 where
-  pub byte_fits : byte < 256
-  pub low_fits : low < 2 ^ rest
-  pub bytes : bytes_after [] (low_bits left number) ≡ byte ∷ bytes_after [] (low_bits rest low)
-  pub begun : begun_after [] (low_bits left number) ≡ begun_after [] (low_bits rest low)
-
--- what is below a power leaves itself
-left_below : (number low rest : ℕ) → low < 2 ^ rest → low ≡ number % 2 ^ rest → number % 2 ^ rest ≡ low % 2 ^ rest
-left_below number low rest small f = sym f ∙ sym (mod_small rest low small)
-
--- so it is with the highest byte of a number with at least eight bits
-pub highest_byte : (left rest number low : ℕ) → left ≡ 8 + rest → number < 2 ^ left → low ≡ number % 2 ^ rest → Split left number (number / 2 ^ rest) rest low
-highest_byte left rest number low e h f =
-    let byte = number / 2 ^ rest in
-    let below : number < 2 ^ (8 + rest) = rw e at h in
-    let fits : byte < 256 = shr_below number 8 rest below in
-    let small : low < 2 ^ rest = rw f (mod_below number (2 ^ rest) (pow_pos rest)) in
-    let same : low_bits rest number ≡ low_bits rest low = low_bits-same rest number low (left_below number low rest small f) in
-    let cut : low_bits left number ≡ low_bits 8 byte ++ low_bits rest low =
-    ap (λ (k : ℕ). low_bits k number) e ∙ low_bits-append 8 rest number ∙ ap (λ (xs : List Bool). low_bits 8 byte ++ xs) same in
-    record {
-      byte_fits = fits;
-      low_fits = small;
-      bytes = ap (bytes_after []) cut ∙ byte_first byte (low_bits rest low) fits;
-      begun = ap (begun_after []) cut;
-    }
 
 -- bytes are those that their bits complete
 pub bytes_after-bits_of : (bytes : List ℕ) → AllByRecursion IsByte bytes → bytes_after [] (bits_of bytes) ≡ bytes

@@ -1,11 +1,17 @@
 // From bits to stuffed bytes.
-ghost use Rattle.std.specs.Prelude.{◌≡◌, ◌+◌, ◌-◌, ◌*◌, ◌/◌, ◌%◌, ◌^◌, ◌<◌, ◌≤◌, ◌↔◌, [], ◌∷◌, ◌++◌, length, take, replicate, IsTrue};
+ghost use Rattle.std.specs.Int.{bytes_high_first};
+ghost use Rattle.std.specs.List.{AllByRecursion};
+ghost use Rattle.std.specs.Prelude.{◌≡◌, ◌≢◌, ◌+◌, ◌-◌, ◌*◌, ◌/◌, ◌%◌, ◌^◌, ◌<◌, ◌≤◌, ◌↔◌, [], ◌∷◌, ◌++◌, false, length, take, replicate, IsTrue};
 ghost use Rattle.bit_list.specs.Bits.{low_bits, bytes_after, begun_after, padding, stuffed};
-ghost use Rattle.bit_list.specs.BitsInside.{IsKept};
 ghost use Rattle.bit_list.specs.Pieces.{piece_room};
 
 use crate::piece::Piece;
 use std::marker::Model;
+
+// The lowest bit of each of eight bytes, and the highest.
+const LOWEST: u64 = 0x0101_0101_0101_0101;
+
+const HIGHEST: u64 = 0x8080_8080_8080_8080;
 
 /// The bits of a byte begun, fewer than eight (ITU-T T.81, C.3).
 ///
@@ -13,9 +19,9 @@ use std::marker::Model;
 #[derive(Clone, Copy)]
 pub struct BitOut {
     // The bits as a number.
-    number: u8,
+    number: u32,
     // How many they are.
-    count: u8,
+    count: u32,
 }
 
 impl Model for BitOut {
@@ -46,24 +52,27 @@ impl BitOut {
         ensures { result ≡ take bits (low_bits 8 partial) }
     {
         BitOut {
-            number: (u16::from(partial) >> (8 - bits)) as u8,
-            count: bits,
+            number: u32::from(partial) >> (8 - bits),
+            count: u32::from(bits),
         }
     }
 
-    /// Puts the low `count` bits of a code, the highest first.
-    #[inline]
-    pub fn put(&mut self, code: u16, count: u8, out: &mut Piece)
-        requires count { count ≤ 16 }
+    /// Puts the low `count` bits of a code, the highest first. They are 27 at most, as many as a code word and the bits
+    /// of a value after it have.
+    #[inline(always)]
+    pub fn put(&mut self, code: u32, count: u32, out: &mut Piece)
+        requires count { count ≤ 27 }
         requires code { code < 2 ^ count }
-        requires room { length out.old + 4 ≤ piece_room }
+        requires room { length out.old + 2 * ((7 + count) / 8) ≤ piece_room }
         ensures bytes { out.new ≡ out.old ++ stuffed (bytes_after self.old (low_bits count code)) }
         ensures begun { self.new ≡ begun_after self.old (low_bits count code) }
-        ensures few { length out.new ≤ length out.old + 4 }
+        ensures few { length out.new ≤ length out.old + 2 * ((7 + count) / 8) }
     {
-        let number = (u32::from(self.number) << count) + u32::from(code);
-        let (number, left) = put_whole(number, self.count + count, out);
-        self.number = number;
+        let number = (u64::from(self.number) << count) + u64::from(code);
+        let total = self.count + count;
+        put_whole(number, total, out);
+        let left = total % 8;
+        self.number = (number & ((1 << left) - 1)) as u32;
         self.count = left;
     }
 
@@ -79,10 +88,7 @@ impl BitOut {
             return false;
         }
         let free = 8 - self.count;
-        put_byte(
-            ((u16::from(self.number) << free) + repeated(bit, free)) as u8,
-            out,
-        );
+        put_byte(((self.number << free) + repeated(bit, free)) as u8, out);
         self.number = 0;
         self.count = 0;
         true
@@ -106,16 +112,13 @@ impl BitOut {
         ensures bits { take result.1 (low_bits 8 result.0) ≡ self.now }
         ensures clear { result.0 % 2 ^ (8 - result.1) ≡ 0 }
     {
-        (
-            (u16::from(self.number) << (8 - self.count)) as u8,
-            self.count,
-        )
+        ((self.number << (8 - self.count)) as u8, self.count as u8)
     }
 }
 
 // One bit again and again, as a number.
 #[inline(always)]
-fn repeated(bit: bool, count: u8) -> u16
+fn repeated(bit: bool, count: u32) -> u32
     requires { count ≤ 8 }
     ensures below { result < 2 ^ count }
     ensures bits { low_bits count result ≡ replicate count bit }
@@ -123,51 +126,48 @@ fn repeated(bit: bool, count: u8) -> u16
     if bit { (1 << count) - 1 } else { 0 }
 }
 
-// Puts the whole bytes of a number with up to 23 bits, and answers the bits that are left. If no byte is 0xff, nothing
-// branches on how many bytes there are: two are pushed, and those that aren't whole are dropped.
+// Puts the whole bytes of a number of up to 34 bits: by one store, if none of them is 0xff. The byte begun after them
+// isn't 0xff, since its free bits are 0.
 #[inline(always)]
-fn put_whole(number: u32, count: u8, out: &mut Piece) -> (u8, u8)
-    requires few { count ≤ 23 }
+fn put_whole(number: u64, count: u32, out: &mut Piece)
+    requires few { count ≤ 34 }
     requires below { number < 2 ^ count }
-    requires room { length out.old + 4 ≤ piece_room }
+    requires room { length out.old + 2 * (count / 8) ≤ piece_room }
     ensures bytes { out.new ≡ out.old ++ stuffed (bytes_after [] (low_bits count number)) }
-    ensures begun { low_bits result.1 result.0 ≡ begun_after [] (low_bits count number) }
-    ensures kept { IsKept 7 result.0 result.1 }
-    ensures few { length out.new ≤ length out.old + 4 }
+    ensures few { length out.new ≤ length out.old + 2 * (count / 8) }
 {
-    let bits = number << (24 - count);
-    let first = (bits >> 16) as u8;
-    let second = ((bits >> 8) & 0xff) as u8;
-    if first == 0xff || second == 0xff {
-        return put_one_by_one(number, count, out);
+    // No bits, a number of 0, are shifted by 0 in place of 64.
+    let bits = number.wrapping_shl(64 - count);
+    if may_have_full_byte(bits) {
+        put_one_by_one(number, count, out);
+        return;
     }
-    let len = out.len();
-    out.push(first);
-    out.push(second);
-    out.back_to(len + usize::from(count / 8));
-    let left = count % 8;
-    ((number & ((1 << left) - 1)) as u8, left)
+    out.push_first(bits, (count / 8) as usize);
+}
+
+// Whether a byte of a number of eight may be 0xff: if not, none is. A byte of 0xff is a zero of the complement, and the
+// lowest zero becomes 0xff if one is taken from each byte, since nothing is borrowed below it.
+#[inline(always)]
+fn may_have_full_byte(eight: u64) -> bool
+    ensures { result ≡ false → AllByRecursion (λ byte. byte ≢ 255) (bytes_high_first 8 eight) }
+{
+    (!eight).wrapping_sub(LOWEST) & eight & HIGHEST != 0
 }
 
 // The same byte by byte, each with a zero after it if it is 0xff.
+#[cold]
 #[inline(never)]
-fn put_one_by_one(number: u32, count: u8, out: &mut Piece) -> (u8, u8)
-    requires few { count ≤ 23 }
-    requires below { number < 2 ^ count }
-    requires room { length out.old + 4 ≤ piece_room }
+fn put_one_by_one(number: u64, count: u32, out: &mut Piece)
+    requires few { count ≤ 34 }
+    requires room { length out.old + 2 * (count / 8) ≤ piece_room }
     ensures bytes { out.new ≡ out.old ++ stuffed (bytes_after [] (low_bits count number)) }
-    ensures begun { low_bits result.1 result.0 ≡ begun_after [] (low_bits count number) }
-    ensures kept { IsKept 7 result.0 result.1 }
-    ensures few { length out.new ≤ length out.old + 4 }
+    ensures few { length out.new ≤ length out.old + 2 * (count / 8) }
 {
     let mut left = count;
-    let mut number = number;
     while left >= 8 {
         left -= 8;
-        put_byte((number >> left) as u8, out);
-        number &= (1 << left) - 1;
+        put_byte(((number >> left) & 0xff) as u8, out);
     }
-    (number as u8, left)
 }
 
 // Puts a coded byte, and a zero after 0xff.

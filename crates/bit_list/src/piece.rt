@@ -1,5 +1,6 @@
 // Bytes on their way out, in memory that is allocated once.
 ghost use Rattle.std.specs.Prelude.{◌≡◌, ◌+◌, ◌-◌, ◌<◌, ◌≤◌, [], ◌∷◌, ◌++◌, length, take, IfOk};
+ghost use Rattle.std.specs.Int.{bytes_high_first};
 ghost use Rattle.bit_list.specs.Pieces.{piece_room};
 
 use growth::{NoMemory, from_elem};
@@ -8,6 +9,9 @@ use std::marker::Model;
 
 /// How many bytes a piece has room for: `piece_room` in clauses.
 pub const ROOM: usize = 8_192;
+
+// How many bytes the memory has after that room, so that eight bytes can be stored at the end of any piece.
+const SPARE: usize = 8;
 
 /// Up to `ROOM` bytes, in memory that is allocated once.
 ///
@@ -20,14 +24,14 @@ pub struct Piece {
 }
 
 impl Model for Piece {
-    ghost use Rattle.std.specs.Prelude.{◌≡◌, ℕ, ◌≤◌, List, length, take};
+    ghost use Rattle.std.specs.Prelude.{◌≡◌, ℕ, ◌+◌, ◌≤◌, List, length, take};
     ghost use Rattle.bit_list.specs.Pieces.{piece_room};
 
     ghost Value = { List ℕ };
 
     ghost view = { λ p. take p.used p.room.items };
 
-    ghost invariant = { λ p. (length p.room.items ≡ piece_room) × (p.used ≤ piece_room) };
+    ghost invariant = { λ p. (length p.room.items ≡ piece_room + 8) × (p.used ≤ piece_room) };
 }
 
 impl Piece {
@@ -36,7 +40,7 @@ impl Piece {
         ensures { IfOk result (λ p. p ≡ []) }
     {
         Ok(Piece {
-            room: from_elem(alloc, 0, ROOM)?,
+            room: from_elem(alloc, 0, ROOM + SPARE)?,
             used: 0,
         })
     }
@@ -83,13 +87,25 @@ impl Piece {
         self.used = len;
     }
 
-    /// One byte more.
+    /// Appends a byte.
     #[inline(always)]
-    pub(crate) fn push(&mut self, byte: u8)
+    pub fn push(&mut self, byte: u8)
         requires { length self.old < piece_room }
         ensures { self.new ≡ self.old ++ byte ∷ [] }
     {
         self.room[self.used] = byte;
         self.used += 1;
+    }
+
+    /// Appends the first `count` bytes of a number of eight, the highest first, by one store of all eight.
+    #[inline(always)]
+    pub(crate) fn push_first(&mut self, eight: u64, count: usize)
+        requires few { count ≤ 8 }
+        requires room { length self.old + count ≤ piece_room }
+        ensures { self.new ≡ self.old ++ take count (bytes_high_first 8 eight) }
+    {
+        let end = self.used + SPARE;
+        self.room[self.used..end].copy_from_slice(&eight.to_be_bytes());
+        self.used += count;
     }
 }

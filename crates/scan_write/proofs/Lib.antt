@@ -5,4 +5,5 @@ pub mod SmallNumbers
 pub mod DueTexts
 pub mod McuWriting
 pub mod SpotWriting
+pub mod LowestBit
 pub mod Runs

@@ -103,7 +103,7 @@ module _ (left last index : ℕ) (block : List ℤ) (is : AreLeft left last bloc
   skipped within other later before =
       bit_none (is_nonzero block other) (sym (is.others other later (omega arith)) ∙ below other before)
 
-  found : bit_at left index ≡ 1 → last < index → index < 64 → is_nonzero block index ≡ true
+  pub found : bit_at left index ≡ 1 → last < index → index < 64 → is_nonzero block index ≡ true
   found here later within = bit_some (is_nonzero block index) (sym (is.others index later within) ∙ here)
 
   -- so it is due next, after the zeros before it
@@ -133,3 +133,9 @@ pub no_bit : (left last : ℕ) (block : List ℤ) → AreLeft left last block �
 no_bit left last block is none index later within =
     bit_none (is_nonzero block index)
     (sym (is.others index later within) ∙ ap (λ (n : ℕ). bit_at n index) none ∙ bit_at-zero index)
+
+-- a coefficient that isn't 0 has a magnitude
+pub magnitude_some : (block : List ℤ) (index : ℕ) (value : ℤ) → is_nonzero block index ≡ true → at block index ≡ value → 0 < unsigned_abs value
+magnitude_some block index value some e =
+    let here : ¬ (unsigned_abs value ≡ 0) = λ none. some_bits (unsigned_abs (at block index)) some (ap unsigned_abs e ∙ none) in
+    omega arith

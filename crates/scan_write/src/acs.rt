@@ -1,7 +1,9 @@
 // The AC coefficients of a block.
-ghost use Rattle.std.specs.Prelude.{◌≡◌, ◌≢◌, ◌+◌, ◌-◌, ◌*◌, ◌<◌, ◌≤◌, ℕ, [], IfOk, IfErr, OnOk, slice_index};
+ghost use Rattle.std.specs.Prelude.{◌≡◌, ◌≢◌, ◌+◌, ◌-◌, ◌*◌, ◌^◌, ◌<◌, ◌≤◌, ℕ, true, [], IfOk, IfErr, OnOk, slice_index, unsigned_abs};
 ghost use Rattle.std.specs.Int.{bit_at};
 ghost use Rattle.coef_block.specs.Block.{IsAc};
+ghost use Rattle.coef_block.specs.Categories.{category};
+ghost use Rattle.coef_block.specs.Nonzeros.{is_nonzero};
 ghost use Rattle.coef_block.specs.Zigzag.{zigzag};
 ghost use Rattle.scan_spec.specs.BlockBits.{zeros_text, coefficient_at, coefficient_text, ac_text, ac_values};
 ghost use Rattle.scan_write.specs.Outputs.{output_of, HasRoom, IsBegun};
@@ -10,7 +12,7 @@ ghost use Rattle.scan_write.specs.Appending.{IsWritten, HasAppended, IsStopped};
 
 use crate::values::{value, word};
 use bit_list::{BitOut, Piece};
-use coef_block::{Block, natural_position, size};
+use coef_block::{Block, natural_position};
 use huff_table::Codes;
 use scan_spec::WriteStop;
 
@@ -20,7 +22,7 @@ const SIXTEEN_ZEROS: u8 = 0xf0;
 const END_OF_BLOCK: u8 = 0x00;
 
 /// The AC coefficients of a block (ITU-T T.81, F.1.2.2).
-#[inline]
+#[inline(always)]
 pub(crate) fn acs(
     codes: &Codes,
     block: &Block,
@@ -69,7 +71,7 @@ fn coefficients(
     while left != 0 {
         let index = lowest(left);
         after(codes, block, last, index, output, out)?;
-        left = without(left, index);
+        left = without_lowest(left);
         last = index;
     }
     Ok(last)
@@ -97,7 +99,19 @@ fn without(mask: u64, index: usize) -> u64
     mask & !(1 << index)
 }
 
-// The coefficient at a zigzag index after another one, and the zeros between both.
+// A mask with the lowest of its bits that are 1 cleared.
+#[inline(always)]
+fn without_lowest(mask: u64) -> u64
+    requires { 0 < mask }
+    ensures { (index : ℕ) → bit_at mask index ≡ 1
+        → ((lower : ℕ) → lower < index → bit_at mask lower ≡ 0)
+        → (bit_at result index ≡ 0)
+        × ((other : ℕ) → other ≢ index → bit_at result other ≡ bit_at mask other) }
+{
+    mask & (mask - 1)
+}
+
+// The coefficient at a zigzag index after another one, which isn't 0, and the zeros between both.
 #[inline(always)]
 fn after(
     codes: &Codes,
@@ -109,6 +123,7 @@ fn after(
 ) -> Result<(), WriteStop>
     requires after { last < index }
     requires within { index < 64 }
+    requires some { is_nonzero block.now index ≡ true }
     requires begun { IsBegun output.old }
     requires room { HasRoom (coefficient_bits * (index - last)) output.old out.old }
     ensures is { IsWritten result (output_of output.old out.old) (output_of output.new out.new)
@@ -123,8 +138,8 @@ fn after(
     coefficient(codes, zeros as u8, i32::from(value), output, out)
 }
 
-// A coefficient and the zeros before it.
-#[inline]
+// A coefficient that isn't 0, and the zeros before it.
+#[inline(always)]
 fn coefficient(
     codes: &Codes,
     zeros: u8,
@@ -133,6 +148,7 @@ fn coefficient(
     out: &mut Piece,
 ) -> Result<(), WriteStop>
     requires value { IsAc number }
+    requires some { 0 < unsigned_abs number }
     requires zeros { zeros < 63 }
     requires begun { IsBegun output.old }
     requires room { HasRoom (coefficient_bits * (zeros + 1)) output.old out.old }
@@ -147,8 +163,19 @@ fn coefficient(
     value(codes, 16 * (zeros % 16) + size, number, size, output, out)
 }
 
+// The category of a number that isn't 0 (ITU-T T.81, Table F.2). Its lowest bit makes no difference, so it is set: then
+// the machine counts the zeros with no test for 0.
+#[inline(always)]
+fn size(number: i32) -> u8
+    requires some { 0 < unsigned_abs number }
+    ensures category { result ≡ category (unsigned_abs number) }
+    ensures no_more { (bits : ℕ) → unsigned_abs number < 2 ^ bits → result ≤ bits }
+{
+    (32 - (number.unsigned_abs() | 1).leading_zeros()) as u8
+}
+
 // The code word of sixteen zeros, `count` times.
-#[inline]
+#[inline(always)]
 fn sixteens(codes: &Codes, count: u8, output: &mut BitOut, out: &mut Piece) -> Result<(), WriteStop>
     requires begun { IsBegun output.old }
     requires room { HasRoom (word_bits * count) output.old out.old }

@@ -14,7 +14,7 @@ use huff_table::ComponentCodes;
 use scan_spec::WriteStop;
 
 /// A block after one with the DC before. Answers its DC.
-#[inline]
+#[inline(always)]
 pub(crate) fn block(
     codes: &ComponentCodes,
     before: i16,

@@ -15,7 +15,7 @@ use huff_table::ComponentCodes;
 use scan_spec::WriteStop;
 
 /// The blocks of an MCU, each of the component that its slot names, after the last DC of each component.
-#[inline]
+#[inline(always)]
 pub(crate) fn blocks(
     codes: &[ComponentCodes],
     slots: &[u8],

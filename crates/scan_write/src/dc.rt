@@ -13,7 +13,7 @@ use huff_table::Codes;
 use scan_spec::WriteStop;
 
 /// The DC after the one before (ITU-T T.81, F.1.2.1).
-#[inline]
+#[inline(always)]
 pub(crate) fn dc(
     codes: &Codes,
     before: i16,

@@ -13,7 +13,7 @@ use huff_table::Codes;
 use scan_spec::{WriteStop, value_bits};
 
 /// The code word of a symbol.
-#[inline]
+#[inline(always)]
 pub(crate) fn word(
     codes: &Codes,
     symbol: u8,
@@ -30,12 +30,12 @@ pub(crate) fn word(
     let Some((code, size)) = codes.word(symbol) else {
         return Err(WriteStop::NoCode);
     };
-    put(code, size, output, out);
+    put(u32::from(code), u32::from(size), output, out);
     Ok(())
 }
 
 /// The code word of a symbol with the category of a value, and the value's bits. `size` is that category.
-#[inline]
+#[inline(always)]
 pub(crate) fn value(
     codes: &Codes,
     symbol: u8,
@@ -60,7 +60,7 @@ pub(crate) fn value(
     Ok(())
 }
 
-// Two codes, one after the other: at once if that is sixteen bits at most.
+// Two codes, one after the other, as one.
 #[inline(always)]
 fn put_both(code: u16, count: u8, next: u16, size: u8, output: &mut BitOut, out: &mut Piece)
     requires count { count ≤ 16 }
@@ -74,18 +74,14 @@ fn put_both(code: u16, count: u8, next: u16, size: u8, output: &mut BitOut, out:
     ensures begun { IsBegun output.new }
     ensures spent { quarters output.new out.new ≤ count + size + quarters output.old out.old }
 {
-    if count + size <= 16 {
-        put((code << size) + next, count + size, output, out);
-    } else {
-        put(code, count, output, out);
-        put(next, size, output, out);
-    }
+    let joined = (u32::from(code) << size) + u32::from(next);
+    put(joined, u32::from(count + size), output, out);
 }
 
 // The low `count` bits of a code, which has no others.
 #[inline(always)]
-fn put(code: u16, count: u8, output: &mut BitOut, out: &mut Piece)
-    requires count { count ≤ 16 }
+fn put(code: u32, count: u32, output: &mut BitOut, out: &mut Piece)
+    requires count { count ≤ 27 }
     requires code { code < 2 ^ count }
     requires begun { IsBegun output.old }
     requires room { HasRoom count output.old out.old }

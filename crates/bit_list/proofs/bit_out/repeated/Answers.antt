@@ -6,7 +6,7 @@ use Rattle.bit_list.proofs.bit_out.repeated.Goals as goal
 
 pub returns-then-bit-clause-bits : goal.returns-then-bit-clause-bits
 returns-then-bit-clause-bits c =
-    ap (λ (p : ℕ). low_bits c.args.count (p - 1)) (one_shl c.args.count 16 (omega (arith, c.requires))) ∙ ones_are c.args.count c.args.count (omega arith)
+    ap (λ (p : ℕ). low_bits c.args.count (p - 1)) (one_shl c.args.count 32 (omega (arith, c.requires))) ∙ ones_are c.args.count c.args.count (omega arith)
     ∙ ap (λ (b : Bool). replicate c.args.count b) (sym c.if-bit.true)
 
 pub returns-else-bit-clause-bits : goal.returns-else-bit-clause-bits

@@ -4,7 +4,19 @@ use Rattle.scan_spec.proofs.SignedValues.{widened}
 use Rattle.scan_spec.proofs.Words.{value_is, small_value}
 use Rattle.scan_write.specs.Outputs.{output_of}
 use Rattle.scan_write.specs.Appending.{IsWritten}
+use Rattle.scan_write.proofs.Runs.{magnitude_some}
 use Rattle.scan_write.proofs.acs.after.Goals as goal
+
+pub coefficient-requires-clause-some : goal.coefficient-requires-clause-some
+coefficient-requires-clause-some c =
+    let block = c.args.block.now in
+    let position = c.natural_position.result in
+    let value = c.get-value.result in
+    let small = small_value position value (c.natural_position.ensures.later (omega arith)) c.get-value.ensures.coefficient in
+    let wide = widened value c.from.result small c.from.ensures in
+    let is = value_is block position value c.get-value.ensures.value in
+    let there = ap (coefficient_at block) c.natural_position.ensures.position in
+    magnitude_some block c.args.index _ c.requires.some (sym (wide ∙ sym is ∙ there))
 
 pub returns-clause-is : goal.returns-clause-is
 returns-clause-is c =

@@ -3,11 +3,9 @@ use Rattle.std.proofs.lemmas.Int.{to_z-of_z}
 use Rattle.std.specs.Int.{w32}
 use Rattle.coef_block.specs.Categories.{category}
 use Rattle.scan_spec.specs.BlockBits.{Text, zeros_text, value_text, coefficient_text}
-use Rattle.scan_spec.proofs.ValueLemmas.{size_is}
 use Rattle.scan_write.specs.Outputs.{output_of}
 use Rattle.scan_write.specs.Appending.{IsWritten}
 use Rattle.scan_write.proofs.AppendedTexts.{texts_start, texts_more, texts_last}
-use Rattle.scan_write.proofs.SmallNumbers.{made}
 use Rattle.scan_write.proofs.acs.coefficient.Goals as goal
 
 pub overflow_add-zeros : goal.overflow_add-zeros
@@ -26,7 +24,7 @@ pub returns-clause-is : goal.returns-clause-is
 returns-clause-is c =
     let codes = c.args.codes.now in
     let same = to_z-of_z w32 c.args.number c.ranges.number in
-    let sized = size_is (made c.args.number) c.size-size.result c.size-size.ensures.below c.size-size.ensures.least ∙ ap (λ (z : ℤ). category (unsigned_abs z)) same in
+    let sized = c.size-size.ensures.category ∙ ap (λ (z : ℤ). category (unsigned_abs z)) same in
     let symbol = 16 * (c.args.zeros % 16) in
     let value = value_text codes (symbol + category (unsigned_abs c.args.number)) c.args.number in
     let zeros = zeros_text codes (c.args.zeros / 16) in

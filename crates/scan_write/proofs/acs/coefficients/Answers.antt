@@ -5,8 +5,16 @@ use Rattle.scan_spec.specs.BlockBits.{Text, ac_text, ac_values, coefficient_at, 
 use Rattle.scan_write.specs.Outputs.{output_of}
 use Rattle.scan_write.specs.Appending.{HasAppended}
 use Rattle.scan_write.proofs.AppendedTexts.{texts_more, texts_stop}
-use Rattle.scan_write.proofs.Runs.{none_after, later_is, due, left_after, no_bit}
+use Rattle.scan_write.proofs.Runs.{none_after, later_is, found, due, left_after, no_bit}
 use Rattle.scan_write.proofs.acs.coefficients.Goals as goal
+
+pub after-requires-clause-some : goal.after-requires-clause-some
+after-requires-clause-some c =
+    let l = c.loop-left in
+    let lowest = c.lowest-index.ensures in
+    let index = c.lowest-index.result in
+    let later = later_is l.left l.last index c.args.block.now l.invariant.left lowest.below lowest.here in
+    found l.left l.last index c.args.block.now l.invariant.left lowest.below lowest.here later lowest.within
 
 pub returns-in_err-after-clause-err : goal.returns-in_err-after-clause-err
 returns-in_err-after-clause-err c =
@@ -33,7 +41,8 @@ loop-left-preserved c =
     let l = c.loop-left in
     let index = c.lowest-index.result in
     let lowest = c.lowest-index.ensures in
-    let left = c.without-left-in-loop-left in
+    let left = c.without_lowest-left in
+    let cleared = left.ensures index lowest.here lowest.below in
     let whole = ac_text codes 0 (ac_values block) in
     let old = output_of c.args.output.now c.args.out.now in
     let now = output_of l.output l.out in
@@ -45,8 +54,8 @@ loop-left-preserved c =
     l.invariant.going in
     record {
       few = lowest.within;
-      left = left_after l.left l.last index block l.invariant.left lowest.below left.result lowest.within later
-          left.ensures.here left.ensures.others;
+      left = left_after l.left l.last index block l.invariant.left lowest.below left.result lowest.within later cleared.0
+          (λ other within apart. cleared.1 other apart);
       begun = c.after.ensures.begun;
       spent = omega (arith, c.after.ensures.spent, l.invariant.spent);
       going = texts_more whole old now new text rest next c.in_ok-after.ensures.is;
