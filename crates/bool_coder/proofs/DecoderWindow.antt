@@ -124,50 +124,50 @@ window_taken bytes fetched value bits k range prob value' part bit p few w is_bi
     let taken = taken_at bytes fetched value (bits - k) k range prob value' part bit p (subst P e w) (subst Q e is_bit) (subst R e is_value) is_part d in
     (taken.0, taken.1 ∙ ap (λ m. seen_after (seen_in bytes fetched value m range) prob) (sym e))
 
--- the bytes that were fetched, and four more, or as many as before where all before were zero
-record Moved (bytes : List ℕ) (fetched fetched' bits four : ℕ) : Type 0 where
-  pub begun : 8 + (bits + 32) ≤ 8 * fetched'
-  pub next : first_bits bytes (8 * fetched) % 2 ^ bits * 2 ^ 32 + four ≡ first_bits bytes (8 * fetched') % 2 ^ (bits + 32)
-  pub position : min (8 * fetched' - 8 - (bits + 32)) (end_position bytes) ≡ min (8 * fetched - 8 - bits) (end_position bytes)
+-- the bytes that were fetched, and six more, or as many as before where all before were zero
+record Moved (bytes : List ℕ) (fetched fetched' bits six : ℕ) : Type 0 where
+  pub begun : 8 + (bits + 48) ≤ 8 * fetched'
+  pub next : first_bits bytes (8 * fetched) % 2 ^ bits * 2 ^ 48 + six ≡ first_bits bytes (8 * fetched') % 2 ^ (bits + 48)
+  pub position : min (8 * fetched' - 8 - (bits + 48)) (end_position bytes) ≡ min (8 * fetched - 8 - bits) (end_position bytes)
 
-moved_near : (bytes : List ℕ) (fetched fetched' bits four : ℕ) → 8 + bits ≤ 8 * fetched → fetched' ≡ fetched + 4
-    → four ≡ first_bits bytes (8 * fetched + 32) % 2 ^ 32 → Moved bytes fetched fetched' bits four
-moved_near bytes fetched fetched' bits four begun e is_four =
-    let f : 8 * fetched' ≡ 8 * fetched + 32 = omega (arith, e) in
-    let position : 8 * fetched' - 8 - (bits + 32) ≡ 8 * fetched - 8 - bits = omega (arith, e) in
+moved_near : (bytes : List ℕ) (fetched fetched' bits six : ℕ) → 8 + bits ≤ 8 * fetched → fetched' ≡ fetched + 6
+    → six ≡ first_bits bytes (8 * fetched + 48) % 2 ^ 48 → Moved bytes fetched fetched' bits six
+moved_near bytes fetched fetched' bits six begun e is_six =
+    let f : 8 * fetched' ≡ 8 * fetched + 48 = omega (arith, e) in
+    let position : 8 * fetched' - 8 - (bits + 48) ≡ 8 * fetched - 8 - bits = omega (arith, e) in
     record {
       begun = omega (arith, e);
-      next = rw f (sym (mod-pow-add (first_bits bytes (8 * fetched + 32)) bits 32 ∙ rw (first_bits_shr bytes (8 * fetched) 32, ← is_four) refl));
+      next = rw f (sym (mod-pow-add (first_bits bytes (8 * fetched + 48)) bits 48 ∙ rw (first_bits_shr bytes (8 * fetched) 48, ← is_six) refl));
       position = ap (λ m. min m (end_position bytes)) position;
     }
 
-moved_far : (bytes : List ℕ) (fetched fetched' bits four : ℕ) → bits < 7 → length bytes + 8 ≤ fetched → fetched' ≡ fetched
-    → four ≡ first_bits bytes (8 * fetched + 32) % 2 ^ 32 → Moved bytes fetched fetched' bits four
-moved_far bytes fetched fetched' bits four few far e is_four =
+moved_far : (bytes : List ℕ) (fetched fetched' bits six : ℕ) → bits < 7 → length bytes + 8 ≤ fetched → fetched' ≡ fetched
+    → six ≡ first_bits bytes (8 * fetched + 48) % 2 ^ 48 → Moved bytes fetched fetched' bits six
+moved_far bytes fetched fetched' bits six few far e is_six =
     let none : first_bits bytes (8 * fetched) % 2 ^ bits ≡ 0 = first_bits_past bytes (8 * fetched - bits) bits (8 * fetched) (omega arith) (omega arith) in
-    let all : first_bits bytes (8 * fetched') % 2 ^ (bits + 32) ≡ 0 = first_bits_past bytes (8 * fetched' - (bits + 32)) (bits + 32) (8 * fetched') (omega (arith, e)) (omega (arith, e)) in
-    let zero : four ≡ 0 = is_four ∙ first_bits_past bytes (8 * fetched) 32 (8 * fetched + 32) refl (omega arith) in
-    let now : end_position bytes ≤ 8 * fetched' - 8 - (bits + 32) = omega (arith, e) in
+    let all : first_bits bytes (8 * fetched') % 2 ^ (bits + 48) ≡ 0 = first_bits_past bytes (8 * fetched' - (bits + 48)) (bits + 48) (8 * fetched') (omega (arith, e)) (omega (arith, e)) in
+    let zero : six ≡ 0 = is_six ∙ first_bits_past bytes (8 * fetched) 48 (8 * fetched + 48) refl (omega arith) in
+    let now : end_position bytes ≤ 8 * fetched' - 8 - (bits + 48) = omega (arith, e) in
     let before : end_position bytes ≤ 8 * fetched - 8 - bits = omega arith in
     record { begun = omega (arith, e); next = rw (none, all, zero) refl; position = min-eq_right now ∙ sym (min-eq_right before) }
 
--- the word and four bytes more
-pub window_filled : (bytes : List ℕ) (fetched value bits range four fetched' : ℕ) → IsWindow bytes fetched value bits range → bits < 7
-    → four ≡ first_bits bytes (8 * fetched + 32) % 2 ^ 32 → (fetched < length bytes + 8 → fetched' ≡ fetched + 4) → (length bytes + 8 ≤ fetched → fetched' ≡ fetched)
-    → IsWindow bytes fetched' (value * 2 ^ 32 + four) (bits + 32) range × (seen_in bytes fetched' (value * 2 ^ 32 + four) (bits + 32) range ≡ seen_in bytes fetched value bits range)
-window_filled bytes fetched value bits range four fetched' w few is_four on still =
-    let word = value * 2 ^ 32 + four in
-    let small : four < 2 ^ 32 = omega (arith, is_four) in
-    let top : word / 2 ^ 32 ≡ value = shr_high value 32 four small in
-    let low : word % 2 ^ 32 ≡ four = mod_low value 32 four small in
-    let turned : bits + 32 ≡ 32 + bits = omega arith in
-    let offset : word / 2 ^ (bits + 32) ≡ value / 2 ^ bits = ap (λ m. word / 2 ^ m) turned ∙ sym (shr-shr word 32 bits) ∙ ap (λ m. m / 2 ^ bits) top in
-    let rest : word % 2 ^ (bits + 32) ≡ first_bits bytes (8 * fetched) % 2 ^ bits * 2 ^ 32 + four = mod-pow-add word bits 32 ∙ rw (top, low, w.next) refl in
+-- the word and six bytes more
+pub window_filled : (bytes : List ℕ) (fetched value bits range six fetched' : ℕ) → IsWindow bytes fetched value bits range → bits < 7
+    → six ≡ first_bits bytes (8 * fetched + 48) % 2 ^ 48 → (fetched < length bytes + 8 → fetched' ≡ fetched + 6) → (length bytes + 8 ≤ fetched → fetched' ≡ fetched)
+    → IsWindow bytes fetched' (value * 2 ^ 48 + six) (bits + 48) range × (seen_in bytes fetched' (value * 2 ^ 48 + six) (bits + 48) range ≡ seen_in bytes fetched value bits range)
+window_filled bytes fetched value bits range six fetched' w few is_six on still =
+    let word = value * 2 ^ 48 + six in
+    let small : six < 2 ^ 48 = omega (arith, is_six) in
+    let top : word / 2 ^ 48 ≡ value = shr_high value 48 six small in
+    let low : word % 2 ^ 48 ≡ six = mod_low value 48 six small in
+    let turned : bits + 48 ≡ 48 + bits = omega arith in
+    let offset : word / 2 ^ (bits + 48) ≡ value / 2 ^ bits = ap (λ m. word / 2 ^ m) turned ∙ sym (shr-shr word 48 bits) ∙ ap (λ m. m / 2 ^ bits) top in
+    let rest : word % 2 ^ (bits + 48) ≡ first_bits bytes (8 * fetched) % 2 ^ bits * 2 ^ 48 + six = mod-pow-add word bits 48 ∙ rw (top, low, w.next) refl in
     let more : value + 1 ≤ range * 2 ^ bits = omega (arith, w.below) in
-    let below = mul-le-mul_right (2 ^ 32) more in
-    let moved = elim (cases_lt fetched (length bytes + 8)) as (λ _. Moved bytes fetched fetched' bits four) [
-      | inl near ↦ moved_near bytes fetched fetched' bits four w.begun (on near) is_four
-      | inr far ↦ moved_far bytes fetched fetched' bits four few far (still far) is_four
+    let below = mul-le-mul_right (2 ^ 48) more in
+    let moved = elim (cases_lt fetched (length bytes + 8)) as (λ _. Moved bytes fetched fetched' bits six) [
+      | inl near ↦ moved_near bytes fetched fetched' bits six w.begun (on near) is_six
+      | inr far ↦ moved_far bytes fetched fetched' bits six few far (still far) is_six
     ] in (
       record {
         some = w.some;
@@ -177,7 +177,7 @@ window_filled bytes fetched value bits range four fetched' w few is_four on stil
         short = omega arith;
         begun = moved.begun;
         within = elim (cases_lt fetched (length bytes + 8)) [ inl near ↦ omega (arith, on near) | inr far ↦ omega (arith, still far, w.within) ];
-        below = rw (pow-add 2 bits 32) (omega (arith, below, small));
+        below = rw (pow-add 2 bits 48) (omega (arith, below, small));
         next = rest ∙ moved.next;
       },
       same_seen bytes _ _ _ _ _ _ offset refl moved.position,

@@ -89,14 +89,17 @@ prefix_push bytes m n j e below =
     let byte = prefix_byte bytes m below in
     rw e (mod-pow-add (first_bits bytes (8 * m + 8)) j 8 ∙ rw (first_bits_shr bytes (8 * m) 8, byte) refl)
 
-pub prefix_four : (bytes : List ℕ) (f : ℕ) → AllBelowBase 256 bytes
-    → first_bits bytes (8 * f + 32) % 2 ^ 32 ≡ ((get_or bytes f 0 * 256 + get_or bytes (f + 1) 0) * 256 + get_or bytes (f + 2) 0) * 256 + get_or bytes (f + 3) 0
-prefix_four bytes f below =
+-- six bytes more
+pub prefix_six : (bytes : List ℕ) (f : ℕ) → AllBelowBase 256 bytes
+    → first_bits bytes (8 * f + 48) % 2 ^ 48 ≡ ((((get_or bytes f 0 * 256 + get_or bytes (f + 1) 0) * 256 + get_or bytes (f + 2) 0) * 256 + get_or bytes (f + 3) 0) * 256 + get_or bytes (f + 4) 0) * 256 + get_or bytes (f + 5) 0
+prefix_six bytes f below =
     let a = prefix_push bytes f (8 * (f + 1)) 0 (omega arith) below in
     let b = prefix_push bytes (f + 1) (8 * (f + 2)) 8 (omega arith) below in
     let c = prefix_push bytes (f + 2) (8 * (f + 3)) 16 (omega arith) below in
-    let d = prefix_push bytes (f + 3) (8 * f + 32) 24 (omega arith) below in
-    omega (arith, a, b, c, d)
+    let d = prefix_push bytes (f + 3) (8 * (f + 4)) 24 (omega arith) below in
+    let e = prefix_push bytes (f + 4) (8 * (f + 5)) 32 (omega arith) below in
+    let g = prefix_push bytes (f + 5) (8 * f + 48) 40 (omega arith) below in
+    omega (arith, a, b, c, d, e, g)
 
 pub prefix_start : (bytes : List ℕ) → AllBelowBase 256 bytes → first_bits bytes 8 ≡ get_or bytes 0 0
 prefix_start [] below = prefix_whole [] 8
@@ -105,6 +108,6 @@ prefix_start (x ∷ xs) below = prefix_of_first x xs below
 pub all_bytes : (xs : List ℕ) → ((i : ℕ) → get_or xs i 0 < 256) → AllBelowBase 256 xs
 all_bytes xs h = all_below xs (λ i d less. rw (get_or_default xs i d 0 less) (h i))
 
--- a byte of a slice of four
-pub byte_of_four : (bytes : List ℕ) (f n i j : ℕ) → n ≡ 4 → i < 4 → f + i ≡ j → get_or (take n (drop f bytes)) i 0 ≡ get_or bytes j 0
-byte_of_four bytes f n i j four less e = rw (four, ← e) (get_or-take 4 (drop f bytes) i 0 less ∙ get_or-drop f bytes i 0)
+-- a byte of a slice of eight
+pub byte_of_eight : (bytes : List ℕ) (f n i j : ℕ) → n ≡ 8 → i < 8 → f + i ≡ j → get_or (take n (drop f bytes)) i 0 ≡ get_or bytes j 0
+byte_of_eight bytes f n i j eight less e = rw (eight, ← e) (get_or-take 8 (drop f bytes) i 0 less ∙ get_or-drop f bytes i 0)

@@ -9,5 +9,7 @@ pub mod ReadBack
 pub mod BoolsTaken
 pub mod Whole
 pub mod DecoderWindow
+pub mod MarkedWord
 pub mod EncoderWord
+pub mod EncoderStep
 pub mod Beginnings

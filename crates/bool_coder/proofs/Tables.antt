@@ -2,7 +2,7 @@
 use Rattle.std.proofs.Common.{◌≡◌, ℕ, ◌+◌, ◌-◌, ◌*◌, ◌^◌, ◌<◌, ◌≤◌, Bool, true, get_or, refl, arith}
 use Rattle.std.specs.Prelude.{◌&&◌, ◌==◌, nat_le}
 use Rattle.std.proofs.lemmas.Bool.{agree_below_at, and_parts, leb-true, eqb-true}
-use Rattle.bool_coder.specs.declared.doublings.TheConstants.{SHIFTS, LESS}
+use Rattle.bool_coder.specs.declared.doublings.TheConstants.{SHIFTS, LESS, TIMES}
 use Rattle.bool_coder.proofs.Line.{Doublings}
 
 -- a range after a number of doublings is at least 128, and a byte; `less` is one less
@@ -34,3 +34,8 @@ pub tables_are : (range : ℕ) → 0 < range → range ≤ 255 → IsDoubled ran
 tables_are range some high =
     let e : range - 1 + 1 ≡ range = omega arith in
     rw e at (unpacked (range - 1 + 1) _ _ (entries_are (range - 1) (omega arith)))
+
+-- the entries of the third table are powers of two
+pub times_are : (range : ℕ) → range ≤ 255 → get_or TIMES range 0 ≡ 2 ^ get_or SHIFTS range 0
+times_are range high =
+    eqb-true _ _ (agree_below_at (λ k. get_or TIMES k 0 == 2 ^ get_or SHIFTS k 0) (λ _. true) 256 range refl (omega arith))

@@ -21,9 +21,9 @@ pub record IsWindow (bytes : List ℕ) (fetched value bits range : ℕ) : Type 0
   pub bytes_below : AllBelowBase 256 bytes
   pub wide : 128 ≤ range
   pub byte : range ≤ 255
-  pub short : bits < 40
+  pub short : bits < 55
   pub begun : 8 + bits ≤ 8 * fetched
-  pub within : fetched ≤ length bytes + 11
+  pub within : fetched ≤ length bytes + 13
   pub below : value < range * 2 ^ bits
   pub next : value % 2 ^ bits ≡ first_bits bytes (8 * fetched) % 2 ^ bits
 

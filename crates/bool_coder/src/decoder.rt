@@ -6,7 +6,7 @@
 //!
 //! A bool is a one if the offset is at least the split, and a one takes the split off. The word has the offset and
 //! the next bits as one number, so that nothing is shifted but the split: a bool that doubles the range moves the
-//! border. Four bytes are fetched if fewer next bits are left than a bool may need. Past the end of the bytes all bits
+//! border. Six bytes are fetched if fewer next bits are left than a bool may need. Past the end of the bytes all bits
 //! are zeros.
 ghost use Rattle.std.specs.Prelude.{◌≡◌, ◌↔◌, ◌⊎◌, ℕ, Bool, ◌+◌, ◌-◌, ◌*◌, ◌/◌, ◌%◌, ◌^◌, ◌<◌, ◌≤◌, List, [], ◌∷◌, ◌++◌, length, nat_le, slice_index, IsSome, IsNone, IfSome, IfNone, IsTrue};
 ghost use Rattle.std.specs.List.{AllByRecursion};
@@ -19,7 +19,7 @@ use crate::doublings::doublings;
 use crate::encoder::split_of;
 use std::marker::Model;
 
-/// The most that one bool shifts: if fewer bits are left, four bytes are fetched.
+/// The most that one bool shifts: if fewer bits are left, six bytes are fetched.
 const MOST: u32 = 7;
 
 /// A stream on its way back to bools. Clauses see the bytes and the decoder's place in them.
@@ -30,7 +30,7 @@ pub struct Decoder<'a> {
     fetched: usize,
     // The offset, and after it the next bits.
     value: u64,
-    // How many next bits there are.
+    // How many next bits there are: at most 54, which are six and the bits of six bytes.
     bits: u32,
     // The range less one, from which a split is worked out.
     less: u32,
@@ -154,10 +154,10 @@ impl<'a> Decoder<'a> {
     }
 }
 
-// Fetches four bytes if a bool may need more bits than there are.
+// Fetches six bytes if a bool may need more bits than there are.
 #[inline(always)]
 fn fill(bytes: &[u8], fetched: usize, value: u64, bits: u32) -> (usize, u64, u32)
-    requires within { fetched ≤ length bytes.now + 11 }
+    requires within { fetched ≤ length bytes.now + 13 }
     requires small { bits < 7 → value < 2 ^ 15 }
     ensures enough { 7 ≤ result.2 }
     ensures window { (range : ℕ) → IsWindow bytes.now fetched value bits range
@@ -167,39 +167,45 @@ fn fill(bytes: &[u8], fetched: usize, value: u64, bits: u32) -> (usize, u64, u32
         ≡ seen_in bytes.now fetched value bits range }
 {
     if bits < MOST {
-        let four = next_four(bytes, fetched);
-        let fetched = four_on(fetched, bytes.len());
-        (fetched, (value << 32) + u64::from(four), bits + 32)
+        let six = next_six(bytes, fetched);
+        let fetched = six_on(fetched, bytes.len());
+        (fetched, (value << 48) + six, bits + 48)
     } else {
         (fetched, value, bits)
     }
 }
 
-// The next four bytes as a number, with zero bytes past the end.
+// The next six bytes as a number, with zero bytes past the end. Eight are read at once, and the last two dropped.
 #[inline(always)]
-fn next_four(bytes: &[u8], fetched: usize) -> u32
-    requires within { fetched ≤ length bytes.now + 11 }
-    ensures { result ≡ first_bits bytes.now (8 * fetched + 32) % 2 ^ 32 }
+fn next_six(bytes: &[u8], fetched: usize) -> u64
+    requires within { fetched ≤ length bytes.now + 13 }
+    ensures { result ≡ first_bits bytes.now (8 * fetched + 48) % 2 ^ 48 }
 {
-    if fetched + 4 <= bytes.len() {
-        let four = &bytes[fetched..fetched + 4];
-        u32::from_be_bytes([four[0], four[1], four[2], four[3]])
+    if fetched + 8 <= bytes.len() {
+        let eight = &bytes[fetched..fetched + 8];
+        u64::from_be_bytes([
+            eight[0], eight[1], eight[2], eight[3], eight[4], eight[5], eight[6], eight[7],
+        ]) >> 16
     } else {
-        last_four(bytes, fetched)
+        last_six(bytes, fetched)
     }
 }
 
-// The next four bytes one by one, near the end and past it.
+// The next six bytes one by one, near the end and past it.
 #[inline(never)]
-fn last_four(bytes: &[u8], fetched: usize) -> u32
-    requires within { fetched ≤ length bytes.now + 11 }
-    ensures { result ≡ first_bits bytes.now (8 * fetched + 32) % 2 ^ 32 }
+fn last_six(bytes: &[u8], fetched: usize) -> u64
+    requires within { fetched ≤ length bytes.now + 13 }
+    ensures { result ≡ first_bits bytes.now (8 * fetched + 48) % 2 ^ 48 }
 {
-    u32::from_be_bytes([
+    u64::from_be_bytes([
+        0,
+        0,
         byte_or_zero(bytes, fetched),
         byte_or_zero(bytes, fetched + 1),
         byte_or_zero(bytes, fetched + 2),
         byte_or_zero(bytes, fetched + 3),
+        byte_or_zero(bytes, fetched + 4),
+        byte_or_zero(bytes, fetched + 5),
     ])
 }
 
@@ -210,15 +216,15 @@ fn byte_or_zero(bytes: &[u8], place: usize) -> u8
     if place < bytes.len() { bytes[place] } else { 0 }
 }
 
-// Four bytes more, up to some bytes past the end.
+// Six bytes more, up to some bytes past the end.
 #[inline(always)]
-fn four_on(fetched: usize, len: usize) -> usize
+fn six_on(fetched: usize, len: usize) -> usize
     requires len { len < 2 ^ 63 }
-    ensures moved { fetched < len + 8 → result ≡ fetched + 4 }
+    ensures moved { fetched < len + 8 → result ≡ fetched + 6 }
     ensures still { len + 8 ≤ fetched → result ≡ fetched }
 {
     if fetched < len + 8 {
-        fetched + 4
+        fetched + 6
     } else {
         fetched
     }
@@ -230,7 +236,7 @@ fn step(value: u64, bits: u32, range: u32, prob: u8) -> (bool, u64, u32, u32)
     requires wide { 128 ≤ range }
     requires byte { range ≤ 255 }
     requires enough { 7 ≤ bits }
-    requires short { bits < 40 }
+    requires short { bits < 55 }
     requires prob { 0 < prob }
     ensures bit { result.0 ≡ nat_le (split range prob) (value / 2 ^ bits) }
     ensures window { (bytes : List ℕ) (fetched : ℕ) → IsWindow bytes fetched value bits range
@@ -250,7 +256,7 @@ fn step(value: u64, bits: u32, range: u32, prob: u8) -> (bool, u64, u32, u32)
 fn choose(value: u64, bits: u32, range: u32, prob: u8) -> (bool, u64, u32)
     requires wide { 128 ≤ range }
     requires byte { range ≤ 255 }
-    requires short { bits < 40 }
+    requires short { bits < 55 }
     requires prob { 0 < prob }
     ensures bit { result.0 ≡ nat_le (split range prob) (value / 2 ^ bits) }
     ensures value { result.1
@@ -279,7 +285,7 @@ fn choose(value: u64, bits: u32, range: u32, prob: u8) -> (bool, u64, u32)
 fn is_one(value: u64, bits: u32, range: u32, prob: u8) -> bool
     requires wide { 128 ≤ range }
     requires byte { range ≤ 255 }
-    requires short { bits < 40 }
+    requires short { bits < 55 }
     requires prob { 0 < prob }
     ensures { result ≡ nat_le (split range prob) (value / 2 ^ bits) }
 {
@@ -292,7 +298,7 @@ fn step_known(value: u64, bits: u32, range: u32, prob: u8, bit: bool) -> (u64, u
     requires wide { 128 ≤ range }
     requires byte { range ≤ 255 }
     requires enough { 7 ≤ bits }
-    requires short { bits < 40 }
+    requires short { bits < 55 }
     requires prob { 0 < prob }
     requires bit { bit ≡ nat_le (split range prob) (value / 2 ^ bits) }
     ensures window { (bytes : List ℕ) (fetched : ℕ) → IsWindow bytes fetched value bits range
@@ -311,7 +317,7 @@ fn step_known(value: u64, bits: u32, range: u32, prob: u8, bit: bool) -> (u64, u
 fn choose_known(value: u64, bits: u32, range: u32, prob: u8, bit: bool) -> (u64, u32)
     requires wide { 128 ≤ range }
     requires byte { range ≤ 255 }
-    requires short { bits < 40 }
+    requires short { bits < 55 }
     requires prob { 0 < prob }
     requires bit { bit ≡ nat_le (split range prob) (value / 2 ^ bits) }
     ensures value { result.0

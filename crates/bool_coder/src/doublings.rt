@@ -1,6 +1,6 @@
-// How often a range is doubled, and what it is then, from two tables: a scan for its highest bit and a shift by a
-// variable take longer.
-ghost use Rattle.std.specs.Prelude.{◌≡◌, ◌+◌, ◌*◌, ◌^◌, ◌<◌, ◌≤◌};
+// How often a range is doubled, or what it is multiplied by, and what it is then, from tables: a scan for its highest
+// bit and a shift by a variable take longer.
+ghost use Rattle.std.specs.Prelude.{◌≡◌, ℕ, ◌+◌, ◌*◌, ◌^◌, ◌<◌, ◌≤◌};
 
 // How often each range is doubled until it is at least 128. Nothing reads the first entry.
 const SHIFTS: [u8; 256] = [
@@ -32,6 +32,19 @@ const LESS: [u8; 256] = [
     246, 247, 248, 249, 250, 251, 252, 253, 254,
 ];
 
+// What each range is multiplied by until it is at least 128. Nothing reads the first entry.
+const TIMES: [u8; 256] = [
+    1, 128, 64, 64, 32, 32, 32, 32, 16, 16, 16, 16, 16, 16, 16, 16, 8, 8, 8, 8, 8, 8, 8, 8, 8, 8,
+    8, 8, 8, 8, 8, 8, 4, 4, 4, 4, 4, 4, 4, 4, 4, 4, 4, 4, 4, 4, 4, 4, 4, 4, 4, 4, 4, 4, 4, 4, 4, 4,
+    4, 4, 4, 4, 4, 4, 2, 2, 2, 2, 2, 2, 2, 2, 2, 2, 2, 2, 2, 2, 2, 2, 2, 2, 2, 2, 2, 2, 2, 2, 2, 2,
+    2, 2, 2, 2, 2, 2, 2, 2, 2, 2, 2, 2, 2, 2, 2, 2, 2, 2, 2, 2, 2, 2, 2, 2, 2, 2, 2, 2, 2, 2, 2, 2,
+    2, 2, 2, 2, 2, 2, 1, 1, 1, 1, 1, 1, 1, 1, 1, 1, 1, 1, 1, 1, 1, 1, 1, 1, 1, 1, 1, 1, 1, 1, 1, 1,
+    1, 1, 1, 1, 1, 1, 1, 1, 1, 1, 1, 1, 1, 1, 1, 1, 1, 1, 1, 1, 1, 1, 1, 1, 1, 1, 1, 1, 1, 1, 1, 1,
+    1, 1, 1, 1, 1, 1, 1, 1, 1, 1, 1, 1, 1, 1, 1, 1, 1, 1, 1, 1, 1, 1, 1, 1, 1, 1, 1, 1, 1, 1, 1, 1,
+    1, 1, 1, 1, 1, 1, 1, 1, 1, 1, 1, 1, 1, 1, 1, 1, 1, 1, 1, 1, 1, 1, 1, 1, 1, 1, 1, 1, 1, 1, 1, 1,
+    1, 1, 1, 1, 1, 1,
+];
+
 /// How often a range is doubled until it is at least 128, and what it is then, less one.
 #[inline(always)]
 pub(crate) fn doublings(range: u32) -> (u32, u32)
@@ -44,6 +57,22 @@ pub(crate) fn doublings(range: u32) -> (u32, u32)
 {
     (
         u32::from(SHIFTS[range as usize]),
+        u32::from(LESS[range as usize]),
+    )
+}
+
+/// What a range is multiplied by until it is at least 128, and what it is then, less one.
+#[inline(always)]
+pub(crate) fn widening(range: u32) -> (u64, u32)
+    requires some { 0 < range }
+    requires high { range ≤ 255 }
+    ensures power { (k : ℕ) × (k ≤ 7) × (result.0 ≡ 2 ^ k) }
+    ensures enough { 128 ≤ range * result.0 }
+    ensures no_more { range * result.0 ≤ 255 }
+    ensures less { result.1 + 1 ≡ range * result.0 }
+{
+    (
+        u64::from(TIMES[range as usize]),
         u32::from(LESS[range as usize]),
     )
 }

@@ -2,17 +2,20 @@
 ghost use Rattle.std.specs.Prelude.{[], ◌≡◌, ℕ, ◌+◌, ◌-◌, ◌*◌, ◌^◌, ◌<◌, ◌≤◌, Some, None, List, length, take, drop, IsSome, IfSome, IfOk, OnOk, OnErr, option_map};
 ghost use Rattle.std.specs.Int.Digits.{number_from_digits, AllBelowBase};
 ghost use Rattle.bool_coder.specs.BoolStream.{opening, after, split, chosen, stream};
-ghost use Rattle.bool_coder.specs.EncoderInside.{kept};
+ghost use Rattle.bool_coder.specs.EncoderInside.{bits_of, kept, low_of};
 
-use crate::doublings::doublings;
+use crate::doublings::widening;
 use growth::{NoMemory, extend_from_slice};
 use std::alloc::Global;
 use std::marker::Model;
 use std::mem::replace;
 
-/// Where the first four bytes of the word are written. A bool adds seven bits at most, so the word has 46 bits and a
-/// carry at most.
-const FULL: u32 = 40;
+/// The least word of 40 bits, whose first four bytes are written. A bool adds seven bits at most, so a word has 46 bits
+/// at most, the carry, and the one above it.
+const FULL: u64 = 1 << 41;
+
+/// The word of a new encoder: eight bits and the carry, all zeros, and the one above them.
+const FIRST: u64 = 1 << 9;
 
 /// What a list of bools leaves of the line, on the way to its stream.
 ///
@@ -21,10 +24,9 @@ const FULL: u32 = 40;
 pub struct Encoder {
     // The bytes of the bottom that are whole, but for a carry.
     written: Vec<u8>,
-    // The bits of the bottom after them, and above those the carry.
+    // The bits of the bottom after them, above those the carry, and above that a one, which shows how many bits they
+    // are.
     low: u64,
-    // How many bits that is, without the carry.
-    bits: u32,
     // The range less one, from which a split is worked out.
     less: u32,
     // Why it is spent, if it is.
@@ -61,8 +63,7 @@ impl Encoder {
     {
         Encoder {
             written: list,
-            low: 0,
-            bits: 8,
+            low: FIRST,
             less: 254,
             spent: None,
         }
@@ -91,27 +92,25 @@ impl Encoder {
         if let Some(short) = self.spent {
             return Err(short);
         }
-        let (low, bits, less) = step(self.low, self.bits, self.less + 1, prob, bit);
-        if bits < FULL {
+        let (low, less) = step(self.low, self.less, prob, bit);
+        if low < FULL {
             self.low = low;
-            self.bits = bits;
         } else {
+            let (number, bits) = parts_of(low);
             let left = bits - 32;
             let alloc = *self.written.allocator();
             let whole = replace(&mut self.written, Vec::new(alloc));
-            match append_apart(whole, low >> left, 4) {
+            match append_apart(whole, number >> left, 4) {
                 Ok(written) => self.written = written,
                 // The bytes are gone: what is left is a new encoder's word.
                 Err(short) => {
-                    self.low = 0;
-                    self.bits = 8;
+                    self.low = FIRST;
                     self.less = 254;
                     self.spent = Some(short);
                     return Err(short);
                 }
             }
-            self.low = low & ((1 << left) - 1);
-            self.bits = left;
+            self.low = (number & ((1 << left) - 1)) + (2 << left);
         }
         self.less = less;
         Ok(())
@@ -127,58 +126,84 @@ impl Encoder {
         let Encoder {
             written,
             low,
-            bits,
             less: _,
             spent,
         } = self;
         if let Some(short) = spent {
             return Err(short);
         }
+        let (low, bits) = parts_of(low);
         let count = bits.div_ceil(8);
         let written = append(written, low << (8 * count - bits), count as usize)?;
         Ok(written)
     }
 }
 
-// What a bool makes of the word, and the range less one. It adds seven bits at most.
+// The bits of a word with the carry, and how many they are without it.
 #[inline(always)]
-fn step(low: u64, bits: u32, range: u32, prob: u8, bit: bool) -> (u64, u32, u32)
-    requires wide { 128 ≤ range }
-    requires byte { range ≤ 255 }
-    requires begun { 8 ≤ bits }
-    requires short { bits < 40 }
-    requires one_carry { low + range ≤ 2 ^ (bits + 1) }
+fn parts_of(word: u64) -> (u64, u32)
+    requires some { 2 ≤ word }
+    ensures low { result.0 ≡ low_of word }
+    ensures bits { result.1 ≡ bits_of word }
+    ensures few { result.1 ≤ 62 }
+    ensures short { word < 2 ^ 41 → result.1 < 40 }
+    ensures full { 2 ^ 41 ≤ word → 40 ≤ result.1 }
+{
+    let bits = 62 - word.leading_zeros();
+    (word - (2 << bits), bits)
+}
+
+// What a bool makes of the word, and of the range less one. It adds seven bits at most.
+#[inline(always)]
+fn step(low: u64, less: u32, prob: u8, bit: bool) -> (u64, u32)
+    requires wide { 127 ≤ less }
+    requires byte { less < 255 }
+    requires begun { 2 ^ 9 ≤ low }
+    requires short { low < 2 ^ 41 }
+    requires one_carry { low + (less + 1) ≤ 2 ^ (bits_of low + 2) }
     requires prob { 0 < prob }
     ensures coded { (written : List ℕ)
-        → kept written result.0 result.1 (result.2 + 1)
-        ≡ after (kept written low bits range) (prob, bit) }
-    ensures no_fewer { bits ≤ result.1 }
-    ensures few_more { result.1 ≤ bits + 7 }
-    ensures one_carry { result.0 + (result.2 + 1) ≤ 2 ^ (result.1 + 1) }
+        → kept written result.0 (result.1 + 1)
+        ≡ after (kept written low (less + 1)) (prob, bit) }
+    ensures no_less { low ≤ result.0 }
+    ensures few_more { result.0 < 2 ^ 48 }
+    ensures one_carry { result.0 + (result.1 + 1) ≤ 2 ^ (bits_of result.0 + 2) }
 {
-    let (low, range) = choose(low, range, prob, bit);
-    let (shift, less) = doublings(range);
-    (low << shift, bits + shift, less)
+    let (low, range) = choose(low, less, prob, bit);
+    let (times, less) = widening(range);
+    (low * times, less)
 }
 
 // The part of the word that a bool keeps, as an interval of its own.
 #[inline(always)]
-fn choose(low: u64, range: u32, prob: u8, bit: bool) -> (u64, u32)
-    requires wide { 128 ≤ range }
-    requires byte { range ≤ 255 }
+fn choose(low: u64, less: u32, prob: u8, bit: bool) -> (u64, u32)
+    requires wide { 127 ≤ less }
+    requires byte { less < 255 }
     requires prob { 0 < prob }
     requires room { low < 2 ^ 63 }
     ensures low { result.0 ≡ (chosen
-        (record { bottom = low; range = range; shifts = 0 }) prob bit).bottom }
+        (record { bottom = low; range = less + 1; shifts = 0 }) prob bit).bottom }
     ensures range { result.1
-        ≡ (chosen (record { bottom = low; range = range; shifts = 0 }) prob bit).range }
+        ≡ (chosen (record { bottom = low; range = less + 1; shifts = 0 }) prob bit).range }
 {
-    let split = split_of(range, prob);
+    let part = part_of(less, prob);
     if bit {
-        (low + u64::from(split), range - split)
+        (low + u64::from(part) + 1, less - part)
     } else {
-        (low, split)
+        (low, part + 1)
     }
+}
+
+// How much of a range stands for a zero, less one, from the range less one.
+#[inline(always)]
+fn part_of(less: u32, prob: u8) -> u32
+    requires low { 127 ≤ less }
+    requires high { less < 255 }
+    requires prob { 0 < prob }
+    ensures split { result + 1 ≡ split (less + 1) prob }
+    ensures part { result < less }
+{
+    (less * u32::from(prob)) >> 8
 }
 
 // How much of a range stands for a zero.
@@ -191,7 +216,7 @@ pub(crate) fn split_of(range: u32, prob: u8) -> u32
     ensures some { 0 < result }
     ensures part { result < range }
 {
-    1 + (((range - 1) * u32::from(prob)) >> 8)
+    1 + part_of(range - 1, prob)
 }
 
 // `append`, so placed that the room for its answer is cleared only if it is called, and not for each bool.

@@ -1,20 +1,19 @@
-use Rattle.std.proofs.Common.{◌≡◌, ◌≤◌, ◌<◌, ◌+◌, ◌*◌, ◌^◌, ◌%◌, arith}
-use Rattle.bool_coder.proofs.EncoderWord.{kept-after, chosen_word, word_fits, one_carry_more}
+use Rattle.std.proofs.Common.{◌+◌, ◌*◌, arith}
+use Rattle.bool_coder.proofs.EncoderStep.{Stepped, stepped}
 use Rattle.bool_coder.proofs.encoder.step.Goals as goal
 
-chosen : (c : goal.After-doublings-shift) → (0 < c.choose-low.result.1) × (c.choose-low.result.1 < 256) × (c.choose-low.result.0 + c.choose-low.result.1 ≤ 2 ^ (c.args.bits + 1))
-chosen c = chosen_word c.args.low c.args.bits c.args.range c.args.prob c.args.bit _ _ c.requires.wide c.requires.byte (omega arith) c.requires.one_carry c.choose-low.ensures.low c.choose-low.ensures.range
-
-low_fits : (c : goal.After-doublings-shift)
-    → c.choose-low.result.0 * 2 ^ c.doublings-shift.result.0 % 18446744073709551616 ≡ c.choose-low.result.0 * 2 ^ c.doublings-shift.result.0
-low_fits c = word_fits c.choose-low.result.0 c.args.bits c.choose-low.result.1 c.doublings-shift.result.0 c.requires.short c.doublings-shift.ensures.few (chosen c).0 (chosen c).2
+after_bool : (c : goal.After-widening-times) → Stepped c.args.low (c.args.less + 1) c.args.prob c.args.bit (c.choose-low.result.0 * c.widening-times.result.0) (c.widening-times.result.1 + 1)
+after_bool c =
+    let (k, few, power) = c.widening-times.ensures.power in
+    rw (c.widening-times.ensures.less, power) (
+    stepped c.args.low (c.args.less + 1) c.args.prob k c.args.bit _ _ c.requires.begun c.requires.short (omega arith) (omega arith) (omega arith) c.requires.one_carry
+    c.choose-low.ensures.low c.choose-low.ensures.range (record { few = few; enough = rw power at c.widening-times.ensures.enough; no_more = rw power at c.widening-times.ensures.no_more }))
 
 pub returns-clause-coded : goal.returns-clause-coded
-returns-clause-coded c =
-    λ written. rw (low_fits c, c.doublings-shift.ensures.less) (kept-after written c.args.low c.args.bits c.args.range c.args.prob c.doublings-shift.result.0 c.args.bit _ _ c.requires.begun
-    c.choose-low.ensures.low c.choose-low.ensures.range
-    (record { few = c.doublings-shift.ensures.few; enough = c.doublings-shift.ensures.enough; no_more = c.doublings-shift.ensures.no_more }))
+returns-clause-coded c = (after_bool c).coded
+
+pub returns-clause-few_more : goal.returns-clause-few_more
+returns-clause-few_more c = (after_bool c).few_more
 
 pub returns-clause-one_carry : goal.returns-clause-one_carry
-returns-clause-one_carry c =
-    rw (low_fits c, c.doublings-shift.ensures.less) (one_carry_more c.choose-low.result.0 c.args.bits c.choose-low.result.1 c.doublings-shift.result.0 (chosen c).2)
+returns-clause-one_carry c = (after_bool c).one_carry

@@ -1,8 +1,0 @@
-use Rattle.std.proofs.Common.{arith, rules}
-use Rattle.bool_coder.proofs.FirstBits.{prefix_four, all_bytes}
-use Rattle.bool_coder.proofs.decoder.last_four.Goals as goal
-
-pub returns : goal.returns
-returns c =
-    let four = prefix_four c.args.bytes.now c.args.fetched (all_bytes c.args.bytes.now (λ i. let h = c.type_inv.bytes i in search rules)) in
-    omega (arith, four)
