@@ -51,7 +51,7 @@ byte_of zero below = refl
 byte_of (suc zero) below = refl
 byte_of (suc (suc k)) below = absurd (omega arith)
 
-byte_is : (n : ℕ) (b : Bool) → b ≡ (n % 2 == 1) → bool_byte b ≡ n % 2
+pub byte_is : (n : ℕ) (b : Bool) → b ≡ (n % 2 == 1) → bool_byte b ≡ n % 2
 byte_is n b e = ap bool_byte e ∙ byte_of (n % 2) (omega arith)
 
 -- the bits above, where they are those of a number

@@ -1,6 +1,6 @@
 -- The ranges of a block's coefficients, and a coefficient put into a block.
 use Rattle.std.proofs.Common.{◌≡◌, ◌≢◌, ℕ, zero, suc, ◌<◌, ◌≤◌, ◌^◌, List, arith, refl, ap, ◌∙◌, sym, ℤ, pos, set, get_or, replicate, FitsSigned, w16, w32, true, false}
-use Rattle.std.specs.Prelude.{Some, slice_get, unsigned_abs, if◌then◌else◌, ◌==◌, ◌+ℤ◌, ◌-ℤ◌}
+use Rattle.std.specs.Prelude.{Some, slice_get, unsigned_abs, if◌then◌else◌, ◌==◌, ◌+ℤ◌, ◌-ℤ◌, negsuc}
 use Rattle.std.proofs.Math.Nat.{pow-le-pow_right}
 use Rattle.std.proofs.lemmas.Bool.Decides.{nat_tests}
 use Rattle.std.proofs.lemmas.Int.{fits_signed_from_abs, ints}
@@ -35,6 +35,11 @@ ten_of (suc p) x at is =
     let other : (suc p == 0) ≡ false = grind (arith, nat_tests) in
     let few : unsigned_abs x ≤ 1023 = rw other at is in
     category_at_most 10 (unsigned_abs x) (omega (arith, few))
+
+pub abs_some : (x : ℤ) → x ≢ pos 0 → 0 < unsigned_abs x
+abs_some (pos zero) some = absurd (some refl)
+abs_some (pos (suc n)) some = omega arith
+abs_some (negsuc n) some = omega arith
 
 -- a zero put where a zero is
 pub zero_again : (b : List ℤ) (p : ℕ) → value_at b p ≡ pos 0 → set b p (pos 0) ≡ b

@@ -10,19 +10,14 @@ ghost use Rattle.block_code.specs.NeighbourBlocks.{around_of};
 ghost use Rattle.block_code.specs.SumsAround.{AreSums};
 
 use crate::coefficients::edge_count;
-use crate::counts::code_count;
+use crate::counts::code_three_bits;
 use crate::neighbours::{Neighbours, bits_of};
-use crate::positions::INNER;
+use crate::positions::{INNER, edge_index, inner_index};
 use crate::sums::{Sums, edge_weight, inner_weight};
 use crate::values::{Band, code_values};
 use adapt_bins::Coder;
 use coef_block::Block;
 use coef_context::{BinBases, EDGE_VALUES, INNER_VALUES, edge_bases, edge_count_base, inner_bases};
-
-// How many bits an edge's count has, and 2 to them.
-const EDGE_COUNT_BITS: u32 = 3;
-
-const EDGE_COUNT_TOP: u32 = 8;
 
 // The inner coefficients of a block, in zigzag order.
 #[derive(Clone, Copy)]
@@ -68,6 +63,11 @@ impl Band for InnerBand<'_> {
     #[inline(always)]
     fn position(&self, place: usize) -> usize {
         inner_position(place)
+    }
+
+    #[inline(always)]
+    fn index(&self, place: usize) -> usize {
+        inner_index(place)
     }
 
     #[inline(always)]
@@ -160,6 +160,11 @@ impl Band for EdgeBand<'_> {
     }
 
     #[inline(always)]
+    fn index(&self, place: usize) -> usize {
+        edge_index(self.column, place)
+    }
+
+    #[inline(always)]
     fn bases(&self, place: usize, remain: u8) -> BinBases {
         let weight = edge_weight(
             self.neighbours,
@@ -205,13 +210,7 @@ pub(crate) fn code_edge<C: Coder>(
         ≡ values_in (edge_positions column) wanted.now) }
 {
     let base = edge_count_base(class, column, bits_of(u32::from(inner)));
-    let count = code_count(
-        coder,
-        base,
-        EDGE_COUNT_BITS,
-        EDGE_COUNT_TOP,
-        Some(edge_count(wanted, column)),
-    )?;
+    let count = code_three_bits(coder, base, Some(edge_count(wanted, column)))?;
     let band = EdgeBand {
         class,
         column,

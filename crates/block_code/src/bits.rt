@@ -24,9 +24,9 @@ pub(crate) trait BitBins {
         ensures below { result < bin_count };
 }
 
-// The bit with this index of a number that may be given.
+/// The bit with this index of a number that may be given.
 #[inline(always)]
-fn bit_of(number: Option<u32>, bit: u32) -> Option<bool>
+pub(crate) fn bit_of(number: Option<u32>, bit: u32) -> Option<bool>
     requires { bit < 32 }
     ensures { result ≡ option_map (λ n. n / 2 ^ bit % 2 == 1) number }
 {
@@ -36,9 +36,9 @@ fn bit_of(number: Option<u32>, bit: u32) -> Option<bool>
     }
 }
 
-// Whether a size that may be given is above a step.
+/// Whether a size that may be given is above a step.
 #[inline(always)]
-fn is_above(size: Option<u8>, step: u8) -> Option<bool>
+pub(crate) fn is_above(size: Option<u8>, step: u8) -> Option<bool>
     ensures { result ≡ option_map (λ s. nat_lt step s) size }
 {
     match size {

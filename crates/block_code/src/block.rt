@@ -12,6 +12,7 @@ ghost use Rattle.block_spec.specs.HeldRows.{kept_around};
 ghost use Rattle.block_spec.specs.ReadBlocks.{IsBlockCount, IsRead, residue_events};
 ghost use Rattle.coef_context.specs.Runs.{bin_count};
 ghost use Rattle.block_code.specs.NeighbourBlocks.{around_of, HasCorner};
+ghost use Rattle.block_code.specs.ReadInPlace.{read_as};
 ghost use Rattle.block_code.specs.ValueRanges.{IsResidue};
 
 use crate::coefficients::{residue_of, with_dc};
@@ -92,12 +93,39 @@ pub fn get_block(
         (kept_around rows.now component row column) result }
     ensures room { length coder.new.bins ≡ length coder.old.bins }
 {
+    let mut block = Block::zero();
+    match get_in_place(coder, class, rows, component, row, column, &mut block) {
+        Ok(()) => Ok(block),
+        Err(fault) => Err(fault),
+    }
+}
+
+/// `get_block`, with the block put where it is wanted, so that it isn't copied. After a fault it holds what was read of
+/// it.
+pub(crate) fn get_in_place(
+    coder: &mut Get,
+    class: u8,
+    rows: &Rows,
+    component: usize,
+    row: u32,
+    column: u32,
+    block: &mut Block,
+) -> Result<(), BlockFault>
+    requires class { class < 2 }
+    requires component { component < 4 }
+    requires row { row < height rows.now.extents component }
+    requires column { column < width rows.now.extents component }
+    requires room { bin_count ≤ length coder.old.bins }
+    ensures read { IsRead (λ es. GetsEvents coder.old es coder.new) class
+        (kept_around rows.now component row column) (read_as result block.new) }
+    ensures room { length coder.new.bins ≡ length coder.old.bins }
+{
     let neighbours = neighbours_in(rows, component, row, column);
     // A coder that gets the bits ignores what is wanted.
     let wanted = Block::zero();
-    let mut block = Block::zero();
+    *block = Block::zero();
     let mut local = coder.moved();
-    let coded = code_parts(&mut local, class, neighbours, 0, &wanted, &mut block);
+    let coded = code_parts(&mut local, class, neighbours, 0, &wanted, block);
     *coder = local;
     match coded {
         Ok(counted) => block_read(counted, block, prediction(neighbours)),
@@ -105,17 +133,18 @@ pub fn get_block(
     }
 }
 
-// The block with these AC coefficients, if a residue was coded after them, or why there is none.
+// Gives the block with these AC coefficients its DC, if a residue was coded after them; or why there is none.
 #[inline(always)]
-fn block_read(counted: Option<i32>, block: Block, predicted: i32) -> Result<Block, BlockFault>
+fn block_read(counted: Option<i32>, block: &mut Block, predicted: i32) -> Result<(), BlockFault>
     requires prediction { IsDc predicted }
     requires residue { IfSome counted IsResidue }
-    requires block { IfSome counted (λ _. IsBlock block) }
+    requires block { IfSome counted (λ _. IsBlock block.old) }
     ensures { (from to : Get) (class : ℕ) (around : Around) → predicted ≡ prediction around
         → IfSome counted (λ residue.
-        GetsEvents from (residue_events class around block residue) to)
+        GetsEvents from (residue_events class around block.old residue) to)
         → IfNone counted (IsBlockCount (λ events. GetsEvents from events to) class around)
-        → IsRead (λ events. GetsEvents from events to) class around result }
+        → IsRead (λ events. GetsEvents from events to) class around
+        (read_as result block.new) }
 {
     match counted {
         Some(residue) => with_dc(block, predicted, residue),

@@ -1,6 +1,7 @@
 // Coefficients of a block, by natural position.
-ghost use Rattle.std.specs.Prelude.{◌≡◌, ◌≤◌, ◌+ℤ◌, ◌-ℤ◌, pos, set, IfOk, IfErr};
+ghost use Rattle.std.specs.Prelude.{◌≡◌, ◌<◌, ◌≤◌, ◌+ℤ◌, ◌-ℤ◌, pos, set, slice_index, OnOk, IfErr};
 ghost use Rattle.coef_block.specs.Block.{IsBlock, IsDc};
+ghost use Rattle.coef_block.specs.Zigzag.{zigzag};
 ghost use Rattle.coef_context.specs.Runs.{inner_values, edge_values};
 ghost use Rattle.block_spec.specs.Around.{inner_count, value_at, values_in};
 ghost use Rattle.block_spec.specs.BlockEvents.{edge_positions};
@@ -23,16 +24,17 @@ pub(crate) fn coefficient(block: &Block, position: usize) -> i32
     i32::from(block.get(position))
 }
 
-/// Puts an AC coefficient at a natural position where a 0 is.
+/// Puts an AC coefficient at a zigzag index where a 0 is.
 #[inline(always)]
-pub(crate) fn put_coefficient(block: &mut Block, position: usize, value: i32)
-    requires position { IsAcPosition position }
-    requires zero { value_at block.old position ≡ pos 0 }
+pub(crate) fn put_coefficient(block: &mut Block, index: usize, value: i32)
+    requires index { index < 64 }
+    requires position { IsAcPosition (slice_index zigzag index) }
+    requires zero { value_at block.old (slice_index zigzag index) ≡ pos 0 }
     requires ac { IsAc value }
-    ensures { block.new ≡ set block.old position value }
+    ensures { block.new ≡ set block.old (slice_index zigzag index) value }
 {
     if value != 0 {
-        block.set(position, value as i16);
+        block.put_in_zigzag(index, value as i16);
     }
 }
 
@@ -65,14 +67,14 @@ pub(crate) fn residue_of(block: &Block, prediction: i32) -> i32
     i32::from(block.get(0)) - prediction
 }
 
-/// The block with the DC of a prediction and a residue, or `DcRange` if they make no DC.
+/// Gives a block the DC of a prediction and a residue, or fails with `DcRange` if they make no DC.
 #[inline(always)]
-pub(crate) fn with_dc(block: Block, prediction: i32, residue: i32) -> Result<Block, BlockFault>
-    requires block { IsBlock block }
+pub(crate) fn with_dc(block: &mut Block, prediction: i32, residue: i32) -> Result<(), BlockFault>
+    requires block { IsBlock block.old }
     requires prediction { IsDc prediction }
     requires residue { IsResidue residue }
-    ensures dc { IfOk result (λ full. full ≡ set block 0 (prediction +ℤ residue)) }
-    ensures block { IfOk result IsBlock }
+    ensures dc { OnOk result (block.new ≡ set block.old 0 (prediction +ℤ residue)) }
+    ensures block { OnOk result (IsBlock block.new) }
     ensures fault { IfErr result (λ fault. (fault ≡ DcRange)
         × (IsDc (prediction +ℤ residue) → ⊥)) }
 {
@@ -80,7 +82,6 @@ pub(crate) fn with_dc(block: Block, prediction: i32, residue: i32) -> Result<Blo
     if dc.unsigned_abs() > MOST_DC {
         return Err(BlockFault::DcRange);
     }
-    let mut full = block;
-    full.set(0, dc as i16);
-    Ok(full)
+    block.set(0, dc as i16);
+    Ok(())
 }

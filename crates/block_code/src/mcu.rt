@@ -9,7 +9,7 @@ ghost use Rattle.block_spec.specs.HeldRows.{HoldBlocks, FitsGrid};
 ghost use Rattle.coef_context.specs.Runs.{bin_count};
 ghost use Rattle.block_code.specs.SegmentUnderWay.{GetsFault, GetsMore, HoldsUpTo, PutsMore};
 
-use crate::block::{get_block, put_block};
+use crate::block::{get_in_place, put_block};
 use crate::mcu_grid::McuGrid;
 use adapt_bins::{Get, Put};
 use block_spec::BlockFault;
@@ -205,9 +205,17 @@ fn get_blocks(
 {
     for index in 0..out.len() {
         let (component, row, column) = grid.cell(before, index);
-        let block = get_block(coder, class_of(component), rows, component, row, column)?;
-        rows.store(component, row, column, &block);
-        out[index] = block;
+        let block = &mut out[index];
+        get_in_place(
+            coder,
+            class_of(component),
+            rows,
+            component,
+            row,
+            column,
+            block,
+        )?;
+        rows.store(component, row, column, block);
     }
     Ok(())
 }

@@ -12,7 +12,7 @@ ghost use Rattle.block_code.specs.ValueRanges.{IsResidue, IsSixBits};
 
 use crate::bands::{code_edge, code_inner};
 use crate::coefficients::inner_count;
-use crate::counts::code_count;
+use crate::counts::code_six_bits;
 use crate::neighbours::{Neighbours, bits_of, guess, spread};
 use crate::sums::sums_of;
 use crate::value::code_value;
@@ -22,11 +22,6 @@ use coef_context::{DC_SIZES, INNER_VALUES, dc_bases, inner_count_base};
 
 /// The largest inner count.
 const MOST_INNER: u8 = INNER_VALUES as u8;
-
-// How many bits an inner count has, and 2 to them.
-const INNER_COUNT_BITS: u32 = 6;
-
-const INNER_COUNT_TOP: u32 = 64;
 
 /// How many steps the size of a residue has.
 const DC_STEPS: u8 = DC_SIZES as u8;
@@ -80,7 +75,7 @@ fn code_inner_count<C: Coder>(coder: &mut C, class: u8, guess: u8, count: u8) ->
     ensures below { IfOk result IsSixBits }
 {
     let base = inner_count_base(class, bits_of(u32::from(guess)));
-    let n = code_count(coder, base, INNER_COUNT_BITS, INNER_COUNT_TOP, Some(count))?;
+    let n = code_six_bits(coder, base, Some(count))?;
     Ok(n)
 }
 

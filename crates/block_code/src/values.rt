@@ -1,6 +1,7 @@
 // The values of a band, place after place, while some that are not 0 remain.
 ghost use Rattle.std.specs.Prelude.{◌≡◌, ℕ, List, ◌+◌, ◌-◌, ◌<◌, ◌≤◌, ◌==◌, IfOk, OnErr, OnOk, IsTrue, unsigned_abs, pos, length, slice_index, if◌then◌else◌};
 ghost use Rattle.coef_block.specs.Block.{IsBlock};
+ghost use Rattle.coef_block.specs.Zigzag.{zigzag};
 ghost use Rattle.coef_context.specs.Runs.{inner_values, bin_count};
 ghost use Rattle.coef_context.specs.ValueBins.{ValueBins};
 ghost use Rattle.block_spec.specs.Around.{values_in};
@@ -43,6 +44,12 @@ pub(crate) trait Band {
         requires { place < count self.now }
         ensures value { result ≡ slice_index (positions self.now) place }
         ensures ac { IsAcPosition result };
+
+    /// The zigzag index at a place.
+    fn index(&self, place: usize) -> usize
+        requires { place < count self.now }
+        ensures position { slice_index zigzag result ≡ slice_index (positions self.now) place }
+        ensures within { result < 64 };
 
     /// Where the bins of a value begin.
     fn bases(&self, place: usize, remain: u8) -> BinBases
@@ -129,7 +136,7 @@ pub(crate) fn code_values<C: Coder, B: Band>(
     while remain > 0 {
         let position = band.position(place);
         let x = code_one(coder, band, place, remain, coefficient(wanted, position))?;
-        put_coefficient(out, position, x);
+        put_coefficient(out, band.index(place), x);
         remain = remain_after(remain, x);
         place += 1;
     }

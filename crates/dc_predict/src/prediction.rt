@@ -1,5 +1,6 @@
 // The predicted DC of a block.
-ghost use Rattle.std.specs.Prelude.{◌≡◌, ◌↔◌, ◌<◌, ◌≤◌, ◌^◌, ◌+ℤ◌, ◌-ℤ◌, ◌<ℤ◌, IfSome, IsSome, unsigned_abs};
+ghost use Rattle.std.specs.Prelude.{◌≡◌, ◌↔◌, ◌<◌, ◌≤◌, ◌^◌, ◌+ℤ◌, ◌-ℤ◌, ◌≤ℤ◌, IfSome, IsSome, unsigned_abs};
+ghost use Rattle.std.specs.Int.{int_max, int_min};
 ghost use Rattle.coef_block.specs.Block.{IsDc};
 ghost use Rattle.dc_predict.specs.DcPrediction.{gradient, greatest, least, predicted, spread_of};
 
@@ -52,13 +53,17 @@ fn gradient(above: i32, left: i32, diagonal: i32) -> i32
     ensures within { IsDc result }
 {
     let (least, greatest) = in_order(above, left);
-    if diagonal >= greatest {
-        least
-    } else if diagonal <= least {
-        greatest
-    } else {
-        plane(above, left, diagonal)
-    }
+    clamped(plane(above, left, diagonal), least, greatest)
+}
+
+// The number between two bounds that is nearest to another.
+#[inline]
+fn clamped(x: i32, least: i32, greatest: i32) -> i32
+    ensures value { result ≡ int_min (int_max least x) greatest }
+    ensures within { IsDc least → IsDc greatest → least ≤ℤ greatest → IsDc result }
+{
+    let high = if x < least { least } else { x };
+    if high > greatest { greatest } else { high }
 }
 
 // The lesser and the greater of two.
@@ -66,18 +71,19 @@ fn gradient(above: i32, left: i32, diagonal: i32) -> i32
 fn in_order(a: i32, b: i32) -> (i32, i32)
     ensures least { result.0 ≡ least a b }
     ensures greatest { result.1 ≡ greatest a b }
+    ensures order { result.0 ≤ℤ result.1 }
+    ensures within { IsDc a → IsDc b → IsDc result.0 × IsDc result.1 }
 {
     if a <= b { (a, b) } else { (b, a) }
 }
 
-// The plane through the three, which is within the range between the two.
+// The plane through the three.
 #[inline]
 fn plane(above: i32, left: i32, diagonal: i32) -> i32
     requires above { IsDc above }
     requires left { IsDc left }
     requires diagonal { IsDc diagonal }
     ensures value { result ≡ above +ℤ left -ℤ diagonal }
-    ensures within { least above left <ℤ diagonal → diagonal <ℤ greatest above left → IsDc result }
 {
     above + left - diagonal
 }

@@ -44,4 +44,4 @@ returns-clause-block c =
     let fs = sum_fits c.args.prediction c.args.residue c.requires.prediction few in
     let sum : c.unsigned_abs.result ≡ unsigned_abs dc = rw (to_z-of_z w32 c.args.prediction fp, to_z-of_z w32 c.args.residue fr, to_z-of_z w32 dc fs) at c.unsigned_abs.ensures.value in
     let small : IsDc dc = omega (arith, sum, c.if-unsigned_abs-gt-MOST_DC.false) in
-    rw (returns-clause-dc c) (set_dc c.args.block dc c.requires.block small)
+    rw (returns-clause-dc c) (set_dc c.args.block.now dc c.requires.block small)

@@ -11,4 +11,4 @@ pub returns-clause-coded : goal.returns-clause-coded
 unfolding inner_count_events
 returns-clause-coded g c =
     let sized = rw (c.bits_of.ensures, c.from.ensures) at c.inner_count_base-base.ensures.bins in
-    subst (λ (f : ℕ → ℕ). g.C.Coder.codes c.args.coder.now (count_events f 6 c.in_ok-n.n) c.code_count.new.coder) sized c.in_ok-n.ensures.coded
+    subst (λ (f : ℕ → ℕ). g.C.Coder.codes c.args.coder.now (count_events f 6 c.in_ok-n.n) c.code_six_bits.new.coder) sized c.in_ok-n.ensures.coded

@@ -1,5 +1,7 @@
 use Rattle.std.proofs.Common.{rules, refl, ◌≡◌, ℕ, ◌<◌, ◌≤◌, Bool, List, arith, ◌∙◌, subst, set, length, get_or, pos, FitsSigned, w32}
 use Rattle.std.proofs.lemmas.Int.{to_z-of_z}
+use Rattle.std.specs.Prelude.{slice_index}
+use Rattle.coef_block.specs.Zigzag.{zigzag}
 use Rattle.block_spec.specs.Around.{value_at, values_in}
 use Rattle.block_code.proofs.BandSteps.{Kept, after, all_left, zero_here, codes_more, sum_more, fits_more, same_more, none_after, all_counted, all_coded, all_same}
 use Rattle.block_code.proofs.BlockCoefficients.{set_coefficient}
@@ -21,6 +23,9 @@ code_one-requires-clause-value g c is =
       λ e. rw read (all_left n (values_in ps c.args.wanted.now) place c.loop-remain.remain (long_in ps c.args.wanted.now ∙ c.requires.positions.long) within some (c.loop-remain.invariant.same is).1 e),
     )
 
+pub put_coefficient-requires-clause-position : goal.put_coefficient-requires-clause-position
+put_coefficient-requires-clause-position g c = rw c.index.ensures.position (rw c.position-position.ensures.value at c.position-position.ensures.ac)
+
 pub put_coefficient-requires-clause-zero : goal.put_coefficient-requires-clause-zero
 put_coefficient-requires-clause-zero g c =
     let ps = g.B.Band.positions c.args.band.now in
@@ -29,7 +34,7 @@ put_coefficient-requires-clause-zero g c =
     let out = c.loop-remain.out in
     let within : place < n = omega (arith, c.loop-remain.invariant.fits, c.loop-remain-test.true) in
     let there : place < length ps = omega (arith, within, c.requires.positions.long) in
-    read_there ps out place c.position-position.result (value_at out c.position-position.result) there c.position-position.ensures.value refl
+    read_there ps out place (slice_index zigzag c.index.result) (value_at out (slice_index zigzag c.index.result)) there c.index.ensures.position refl
     ∙ zero_here n (values_in ps out) place (long_in ps out ∙ c.requires.positions.long) within c.loop-remain.invariant.rest
 
 pub loop-remain-preserved : goal.loop-remain-preserved
@@ -51,7 +56,7 @@ loop-remain-preserved g c =
     let at = c.position-position.ensures.value in
     let joined = g.met.C.Coder.joined _ _ _ _ _ c.loop-remain.invariant.codes c.in_ok-x.ensures.coded in
     let e : c.remain_after-remain.result ≡ after remain x = rw (to_z-of_z w32 c.in_ok-x.x fits) at c.remain_after-remain.ensures in
-    let put : c.put_coefficient.new.block ≡ set out (get_or ps place 0) x = rw (to_z-of_z w32 c.in_ok-x.x fits, at) at c.put_coefficient.ensures in
+    let put : c.put_coefficient.new.block ≡ set out (get_or ps place 0) x = rw (to_z-of_z w32 c.in_ok-x.x fits, c.index.ensures.position) at c.put_coefficient.ensures in
     let here = values_set ps out place x c.requires.positions.once there c.loop-remain.invariant.block.count in
     rw (put, e, here)
     record {
