@@ -1,5 +1,5 @@
 // Segments coded one after another.
-ghost use Rattle.std.specs.Prelude.{◌≡◌, ◌≤◌, ◌+◌, List, [], None, Err, IfOk, OnOk, IsErrOf};
+ghost use Rattle.std.specs.Prelude.{◌≡◌, ◌≤◌, ◌+◌, List, [], None, Err, IfOk, OnOk, IsErrOf, ◌<◌, ◌^◌};
 ghost use Rattle.std.specs.List.{AllByRecursion};
 ghost use Rattle.coef_block.specs.Block.{IsBlock};
 ghost use Rattle.scan_spec.specs.ScanLaws.{zigzag_of};
@@ -54,6 +54,14 @@ impl SegmentEncoder {
             segment: SegmentRows::new(alloc, grid_of(plan))?,
             bins: Bins::new(alloc, BINS)?,
         })
+    }
+
+    // How many bytes an encoder for a plan takes, about: four for each bin, and 128 for each block of two MCU rows.
+    pub(crate) fn room(plan: &Plan) -> usize
+        ensures { result < 2 ^ 41 }
+    {
+        let row = plan.blocks() / plan.down().max(1);
+        4 * BINS + 256 * row as usize
     }
 
     /// The stream of the reader's next `mcus` MCUs, as `code_segment`, in an empty list. After an error the encoder is

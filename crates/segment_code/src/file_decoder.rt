@@ -9,10 +9,10 @@ ghost use Rattle.scans_spec.specs.ScansMeanings.{lead_at, lead_of, led_output, o
 ghost use Rattle.segment_code.specs.declared.step.Step.TheVariants.{More};
 ghost use Rattle.segment_code.specs.FileDecoding.{FileOwes, FilePays, ScanOwes, ScanPays, is_running, mcus_left, plans_of, step_numbered, steps_left};
 
-use crate::bytes_put::{ROOM_FOR_BYTES, put_bytes};
+use crate::bytes_put::put_bytes;
 use crate::decoder::SegmentDecoder;
 use crate::step::Step;
-use bit_list::Piece;
+use bit_list::{Piece, ROOM};
 use box_format::BoxView;
 use growth::{NoMemory, push};
 use handover::StreamFault;
@@ -143,7 +143,7 @@ impl<'a> FileDecoder<'a> {
         ensures same { self.new ≡ record self.old { lead = self.new.lead } }
     {
         out.clear();
-        let count = self.lead.len().min(ROOM_FOR_BYTES);
+        let count = self.lead.len().min(ROOM);
         let (first, rest) = self.lead.split_at(count);
         put_bytes(first, out);
         self.lead = rest;

@@ -51,6 +51,7 @@ impl<'a> SegmentPart<'a> {
     {
         let codes = self.codes.copied(alloc)?;
         let mut reader = Reader::at(
+            alloc,
             self.plan,
             codes,
             self.bytes,

@@ -1,5 +1,5 @@
 // A pass over a file's scan, from segment to segment.
-ghost use Rattle.std.specs.Prelude.{◌≡◌, ◌<◌, ◌≤◌, ℕ, Bool, List, IfOk, OnOk, IsErrOf, length, None, Err};
+ghost use Rattle.std.specs.Prelude.{◌≡◌, ◌<◌, ◌≤◌, ℕ, Bool, List, IfOk, OnOk, IsErrOf, length, None, Err, ◌^◌};
 ghost use Rattle.std.specs.List.{AllByRecursion};
 ghost use Rattle.jpeg_marker.specs.AcceptedPlans.{CanScan};
 ghost use Rattle.huff_table.specs.ComponentTables.{codes_of};
@@ -12,11 +12,12 @@ ghost use Rattle.segment_code.specs.ScanPasses.{HasPassed, IsNextStream, IsNoPar
 ghost use Rattle.segment_code.specs.Starting.{AreStarts, IsFileAt};
 
 use crate::cuts::{mcus_in, row_of, segment_count};
+use crate::encoder::SegmentEncoder;
 use crate::error::ScanError;
 use crate::find::read_mcus;
 use crate::pads::PadsFound;
 use crate::part::SegmentPart;
-use crate::ready::ReadyPart;
+use crate::ready::{READY_ROOM, ReadyPart};
 use crate::segment_stream::code_segment;
 use crate::starts::Starts;
 use growth::NoMemory;
@@ -25,6 +26,9 @@ use jpeg_marker::Plan;
 use scan_decode::Reader;
 use std::alloc::Global;
 use std::marker::Model;
+
+// No more memory than that is named.
+const MOST_ROOM: usize = 1 << 38;
 
 /// A pass over a file's scan, which finds where its segments start and how its intervals are padded. There are at most
 /// the number of segments that is asked for, and at most as many as rows of MCUs.
@@ -78,7 +82,7 @@ impl<'a> ScanPass<'a> {
             codes,
             bytes,
             most,
-            reader: Reader::start(plan, copy, bytes, plan.header_length()),
+            reader: Reader::start(alloc, plan, copy, bytes, plan.header_length()),
             starts: Starts::none(alloc),
             pads: PadsFound::none(alloc),
         })
@@ -97,6 +101,23 @@ impl<'a> ScanPass<'a> {
         ensures { result ≡ segments_left self.now }
     {
         segment_count(self.plan, self.most) - self.starts.segments()
+    }
+
+    /// How many bytes may still be asked for, about, until the streams of the segments that are left are in a
+    /// container: for the reader and the lists of each segment, for an encoder for each `each` segments, and for that
+    /// container.
+    pub fn room(&self, each: u32) -> usize
+        requires pass { IsPass self.now }
+        requires each { 0 < each }
+        ensures { result ≤ 2 ^ 38 }
+    {
+        let left = self.left();
+        let encoders = left.div_ceil(each) as usize;
+        encoders
+            .saturating_mul(SegmentEncoder::room(self.plan))
+            .saturating_add(left as usize * READY_ROOM)
+            .saturating_add((self.bytes.len() / 4).saturating_mul(9))
+            .min(MOST_ROOM)
     }
 
     /// The segment that comes next. If it is encoded, its stream is that of the pass's `encode`.

@@ -17,6 +17,10 @@ use std::mem::replace;
 // A stream is about as long as the segment's bytes, and seldom an eighth longer. Of a short segment it may be more.
 const LEAST_ROOM: usize = 1 << 16;
 
+/// What a segment takes beside as many bytes as its stream has: the least room of its stream, a copy of the code tables
+/// and its reader, about.
+pub(crate) const READY_ROOM: usize = LEAST_ROOM + (1 << 15);
+
 // No more is taken beforehand, however long the segment is.
 const MOST_ROOM: usize = 1 << 30;
 
@@ -57,6 +61,7 @@ impl<'a> ReadyPart<'a> {
     {
         let codes = part.codes.copied(alloc)?;
         let reader = Reader::at(
+            alloc,
             part.plan,
             codes,
             part.bytes,
@@ -74,9 +79,9 @@ impl<'a> ReadyPart<'a> {
         })
     }
 
-    /// The segment's stream. Each MCU is read, coded and forgotten. Memory is asked for only if the stream is longer than
-    /// its list has room for. If the bytes are no file's, the segment may be refused, or give bytes that mean nothing.
-    /// After an error the encoder is of no worth.
+    /// The segment's stream. Each MCU is read, coded and forgotten. Memory is asked for only if the stream is longer
+    /// than its list has room for. If the bytes are no file's, the segment may be refused, or give bytes that mean
+    /// nothing. After an error the encoder is of no worth.
     pub fn encode(&mut self, encoder: &mut SegmentEncoder) -> Result<Vec<u8>, ScanError>
         requires ready { IsReady self.old }
         requires encoder { IsEncoderFor self.old.part.plan encoder.old }

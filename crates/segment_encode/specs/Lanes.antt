@@ -7,8 +7,8 @@ use Rattle.segment_code.specs.declared.error.ScanError.TheVariants.{Scan}
 use Rattle.segment_encode.specs.declared.lanes.Lane.{Lane}
 
 -- the most lanes
-abbrev pub most_at_once : ℕ
-most_at_once = 16
+abbrev pub most_lanes : ℕ
+most_lanes = 16
 
 -- a segment is ready for an encoder
 pub record CanCode (e : EncoderSeen) (r : ReadyFields) : Type 0 where

@@ -13,10 +13,10 @@ use segment_code::{ReadyPart, ScanError, SegmentEncoder};
 use std::alloc::Global;
 
 /// How many segments are coded at the same time at most: coding one may need 20 MiB beside its stream.
-pub(crate) const MOST_AT_ONCE: u32 = 16;
+pub(crate) const MOST_LANES: u32 = 16;
 
-/// Segments that are coded one after another, with all the memory that this needs, and their streams so far. It stops at
-/// the first error, which it keeps.
+/// Segments that are coded one after another, with all the memory that this needs, and their streams so far. It stops
+/// at the first error, which it keeps.
 #[derive(Drop)]
 pub(crate) struct Lane<'a> {
     parts: Vec<ReadyPart<'a>>,
@@ -58,6 +58,7 @@ impl<'a> Task for Lane<'a> {
 
 impl<'a> Lane<'a> {
     /// The lane of segments of a plan that are ready. The one error is out of memory.
+    #[inline(never)]
     pub(crate) fn prepare(
         alloc: Global,
         plan: &Plan,

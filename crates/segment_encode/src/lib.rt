@@ -3,10 +3,10 @@
 //!     encode_scan  pass --ReadyPart--> lane --thread--> streams     the pass goes on, and codes the last segments
 //!     encode_all   starts -ReadyPart-> lanes --threads--> streams
 //!
-//! A *lane* is segments in order that one thread codes, one after another, with the memory for all of them. There are at
-//! most 16 lanes, so at most 16 segments are coded at the same time. A lane's memory is allocated on the calling thread
-//! before the lane's thread starts; the thread asks for more only if a stream is longer than its list has room for. What a
-//! segment's stream is `segment_code` says.
+//! A *lane* is segments in order that one thread codes, one after another, with the memory for all of them. There are
+//! at most 16 lanes, so at most 16 segments are coded at the same time. A lane's memory is allocated on the calling
+//! thread before the lane's thread starts; the thread asks for more only if a stream is longer than its list has room
+//! for. What a segment's stream is `segment_code` says.
 #![tactic(auto)]
 
 mod lanes;

@@ -1,18 +1,22 @@
-// A pass that goes over some work lane by lane, while other threads do the lanes that it has passed. The traits have one
-// impl each (`lanes.rt`, `streams.rt`): a closure over a type that names a lifetime can't be proved, one over a type
-// parameter can.
+// A pass that goes over some work lane by lane, while other threads do the lanes that it has passed. The traits have
+// one impl each (`lanes.rt`, `streams.rt`): a closure over a type that names a lifetime can't be proved, one over a
+// type parameter can.
 ghost use Rattle.std.specs.Prelude.{◌≡◌, ◌+◌, ◌*◌, ◌<◌, ◌≤◌, ◌++◌, ℕ, List, [], ◌∷◌, map, IfOk, OnOk, IsErrOf};
 ghost use denote.Param.Send.{IsSend, IsSync};
 ghost use Rattle.scan_spec.specs.declared.refusal.ScanRefusal.{ScanRefusal};
 ghost use Rattle.segment_code.specs.declared.error.ScanError.TheVariants.{Scan};
-ghost use Rattle.segment_encode.specs.Lanes.{most_at_once};
+ghost use Rattle.growth.specs.Bounds.{most_at_once};
+ghost use Rattle.segment_encode.specs.Lanes.{most_lanes};
 
 use crate::tasks::Task;
-use growth::push;
+use growth::{push, with_capacity};
 use segment_code::ScanError;
 use std::alloc::Global;
 use std::thread;
 use std::thread::Threads;
+
+// The least bytes of a reserve. If a shorter one is given back, the C library keeps later lists for itself as well.
+const LEAST_RESERVE: usize = 33 << 20;
 
 // The pass, whose lanes are of one type. It does the last parts itself.
 pub(crate) trait Pass<N: Task> {
@@ -31,6 +35,12 @@ pub(crate) trait Pass<N: Task> {
     fn left(&self) -> u32
         requires { holds self.now }
         ensures { result ≡ left self.now };
+
+    // How many bytes may still be asked for, about, with lanes of `each` parts.
+    fn room(&self, each: u32) -> usize
+        requires holds { holds self.now }
+        requires each { 0 < each }
+        ensures { result ≤ most_at_once };
 
     // The lane of the next parts, which are passed over.
     fn lane(&mut self, alloc: Global, count: u32) -> Result<N, ScanError>
@@ -72,7 +82,7 @@ pub(crate) fn make_all<R: Threads + Sync, N: Task + Send + Drop, P: Pass<N>>(
     requires some { 0 < P.left pass.old }
     requires each { 0 < each }
     // So there are at most 16 lanes, with that which the pass does.
-    requires most { P.left pass.old ≤ most_at_once * each }
+    requires most { P.left pass.old ≤ most_lanes * each }
     ensures made { IfOk result
         (λ streams. P.gives_all pass.old pass.new (map (λ v. v.items) streams.items)) }
     ensures refused { (refusal : ScanRefusal) → IsErrOf result (Scan refusal)
@@ -82,7 +92,7 @@ pub(crate) fn make_all<R: Threads + Sync, N: Task + Send + Drop, P: Pass<N>>(
         return pass.rest(alloc);
     }
     let mut lane = pass.lane(alloc, each)?;
-    let others = beside(rt, alloc, &mut lane, pass, each)?;
+    let others = with_others(rt, alloc, &mut lane, pass, each)?;
     match lane.streams() {
         Ok(streams) => joined(streams, others),
         Err(ScanError::NoMemory(short)) => Err(ScanError::NoMemory(short)),
@@ -91,9 +101,11 @@ pub(crate) fn make_all<R: Threads + Sync, N: Task + Send + Drop, P: Pass<N>>(
     }
 }
 
-// A lane in a thread of its own if one can be had, and what comes of the parts after it beside it.
+// A lane, and what comes of the parts after it: beside it, if the memory that may still be asked for can be had now and
+// is kept as a reserve while a thread starts; else after it. So the stack of a thread takes no addresses that are
+// needed later. No byte of the reserve is touched.
 #[cycle(parts)]
-fn beside<R: Threads + Sync, N: Task + Send + Drop, P: Pass<N>>(
+fn with_others<R: Threads + Sync, N: Task + Send + Drop, P: Pass<N>>(
     rt: &R,
     alloc: Global,
     lane: &mut N,
@@ -104,7 +116,42 @@ fn beside<R: Threads + Sync, N: Task + Send + Drop, P: Pass<N>>(
     requires holds { P.holds pass.old }
     requires some { 0 < P.left pass.old }
     requires each { 0 < each }
-    requires most { P.left pass.old ≤ most_at_once * each }
+    requires most { P.left pass.old ≤ most_lanes * each }
+    ensures done { N.done lane.old lane.new }
+    ensures made { IfOk result
+        (λ streams. P.gives_all pass.old pass.new (map (λ v. v.items) streams.items)) }
+    ensures refused { (refusal : ScanRefusal) → IsErrOf result (Scan refusal)
+        → P.refuses pass.old refusal }
+{
+    let room = pass.room(each).max(LEAST_RESERVE);
+    match with_capacity(alloc, room) {
+        Ok(reserve) => {
+            let mut reserve = reserve;
+            beside(rt, alloc, lane, &mut reserve, pass, each)
+        }
+        Err(_) => {
+            lane.perform();
+            make_all(rt, alloc, pass, each)
+        }
+    }
+}
+
+// A lane in a thread of its own if one can be had, and what comes of the parts after it beside it. The reserve is given
+// back once the thread has started.
+#[cycle(parts)]
+fn beside<R: Threads + Sync, N: Task + Send + Drop, P: Pass<N>>(
+    rt: &R,
+    alloc: Global,
+    lane: &mut N,
+    reserve: &mut Vec<u8>,
+    pass: &mut P,
+    each: u32,
+) -> Result<Vec<Vec<u8>>, ScanError>
+    requires ready { N.ready lane.old }
+    requires holds { P.holds pass.old }
+    requires some { 0 < P.left pass.old }
+    requires each { 0 < each }
+    requires most { P.left pass.old ≤ most_lanes * each }
     ensures done { N.done lane.old lane.new }
     ensures made { IfOk result
         (λ streams. P.gives_all pass.old pass.new (map (λ v. v.items) streams.items)) }
@@ -119,12 +166,15 @@ fn beside<R: Threads + Sync, N: Task + Send + Drop, P: Pass<N>>(
         { lane.perform() },
         &mut ||
             requires { IsSync R.row × IsSend N.row × P.holds pass.now × (0 < P.left pass.now) × (0 < each)
-                × (P.left pass.now ≤ most_at_once * each) }
+                × (P.left pass.now ≤ most_lanes * each) }
             ensures made { IfOk result (λ streams.
                 P.gives_all pass.entry.now pass.exit.now (map (λ v. v.items) streams.items)) }
             ensures refused { (refusal : ScanRefusal) → IsErrOf result (Scan refusal)
                 → P.refuses pass.entry.now refusal }
-        { make_all(rt, alloc, pass, each) },
+        {
+            *reserve = Vec::new(alloc);
+            make_all(rt, alloc, pass, each)
+        },
     );
     others
 }

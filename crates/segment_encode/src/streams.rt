@@ -16,10 +16,10 @@ ghost use Rattle.container_spec.specs.ScanStream.{stream_of};
 ghost use Rattle.segment_code.specs.ScanPasses.{IsPass, segments_left};
 ghost use Rattle.segment_code.specs.Starting.{AreStarts, IsFileAt};
 ghost use Rattle.segment_code.specs.declared.error.ScanError.TheVariants.{Scan};
-ghost use Rattle.segment_encode.specs.Lanes.{AreCoded, AreMade, AreOfAFile, GiveEach, IsNewLane, most_at_once, parts_in};
+ghost use Rattle.segment_encode.specs.Lanes.{AreCoded, AreMade, AreOfAFile, GiveEach, IsNewLane, most_lanes, parts_in};
 ghost use Rattle.segment_encode.specs.StreamsFound.{ArePassed, AreStreams, HasPassedOn, PassRefuses};
 
-use crate::lanes::{Lane, MOST_AT_ONCE};
+use crate::lanes::{Lane, MOST_LANES};
 use crate::relay::{Pass, joined, make_all};
 use crate::tasks::{Task, perform_all};
 use box_format::Chunk;
@@ -54,7 +54,7 @@ pub fn encode_scan<R: Threads + Sync>(
 {
     let codes = PlanCodes::build(alloc, plan)?;
     let mut pass = ScanPass::start(alloc, plan, &codes, bytes, segments as u32)?;
-    let each = pass.left().div_ceil(MOST_AT_ONCE);
+    let each = pass.left().div_ceil(MOST_LANES);
     let streams = make_all(rt, alloc, &mut pass, each)?;
     let starts = pass.end()?;
     Ok((starts, streams))
@@ -76,6 +76,10 @@ impl<'a> Pass<Lane<'a>> for ScanPass<'a> {
         ScanPass::left(self)
     }
 
+    fn room(&self, each: u32) -> usize {
+        ScanPass::room(self, each)
+    }
+
     fn lane(&mut self, alloc: Global, count: u32) -> Result<Lane<'a>, ScanError> {
         next_lane(self, alloc, count)
     }
@@ -86,6 +90,7 @@ impl<'a> Pass<Lane<'a>> for ScanPass<'a> {
 }
 
 // The lane of the next segments, which are passed over.
+#[inline(never)]
 fn next_lane<'a>(pass: &mut ScanPass<'a>, alloc: Global, count: u32) -> Result<Lane<'a>, ScanError>
     requires pass { IsPass pass.old }
     requires fewer { count < segments_left pass.old }
@@ -105,6 +110,7 @@ fn next_lane<'a>(pass: &mut ScanPass<'a>, alloc: Global, count: u32) -> Result<L
 }
 
 // The streams of the segments that are left, which the pass codes itself.
+#[inline(never)]
 fn code_rest(pass: &mut ScanPass, alloc: Global) -> Result<Vec<Vec<u8>>, ScanError>
     requires pass { IsPass pass.old }
     ensures made { IfOk result (λ streams.
@@ -155,7 +161,8 @@ pub fn encode_all<R: Threads + Sync>(
     }
 }
 
-// All segments in at most `MOST_AT_ONCE` lanes.
+// All segments in at most `MOST_LANES` lanes.
+#[inline(never)]
 fn lanes_of<'a>(
     alloc: Global,
     plan: &'a Plan,
@@ -172,7 +179,7 @@ fn lanes_of<'a>(
     requires rows { count ≤ (box_rows plan.now chunk).to - (box_rows plan.now chunk).from }
     ensures new { IfOk result (λ lanes. All IsNewLane lanes.items) }
     ensures file { IfOk result (λ lanes. All (λ lane. AreOfAFile (parts_in lane)) lanes.items) }
-    ensures most { IfOk result (λ lanes. length lanes.items ≤ most_at_once) }
+    ensures most { IfOk result (λ lanes. length lanes.items ≤ most_lanes) }
     ensures count { IfOk result (λ lanes. length (flat_map parts_in lanes.items) ≡ count) }
     ensures streams { (mcus : List Mcu) (pads : List Bool)
         → IsFileAt bytes.now plan.now mcus pads starts.now.trailer
@@ -181,8 +188,8 @@ fn lanes_of<'a>(
         (mcus_between mcus (first_mcu (box_cut plan.now chunk count) i)
         (first_mcu (box_cut plan.now chunk count) (i + 1)))) 0 (flat_map parts_in lanes.items)) }
 {
-    let each = count.div_ceil(MOST_AT_ONCE);
-    let mut lanes = with_capacity(alloc, MOST_AT_ONCE as usize)?;
+    let each = count.div_ceil(MOST_LANES);
+    let mut lanes = with_capacity(alloc, MOST_LANES as usize)?;
     let mut first = 0;
     while first < count {
         let some = each.min(count - first);
@@ -194,6 +201,7 @@ fn lanes_of<'a>(
 }
 
 // The lane of `some` segments from number `first` on.
+#[inline(never)]
 fn lane_of<'a>(
     alloc: Global,
     plan: &'a Plan,
@@ -230,6 +238,7 @@ fn lane_of<'a>(
 }
 
 // The streams of all lanes, in order, or the first error.
+#[inline(never)]
 fn all_made(alloc: Global, lanes: Vec<Lane>) -> Result<Vec<Vec<u8>>, ScanError>
     ensures made { (olds : List Lane) → AreCoded olds lanes.entry.items → IfOk result (λ streams.
         AreMade (flat_map parts_in olds) (map (λ v. v.items) streams.items)) }
