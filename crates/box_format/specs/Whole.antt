@@ -1,5 +1,5 @@
 -- Steps: bytes that have every part that their fields name, and the checks on the parts in two groups (own).
-use Rattle.std.specs.Prelude.{ℕ, ◌≤◌, nat_lt, Bool, ◌||◌, not, List, [], ◌∷◌, length, take, drop, slice_index, map, Option, option_map}
+use Rattle.std.specs.Prelude.{ℕ, ◌≡◌, ◌≤◌, None, nat_lt, Bool, ◌||◌, not, List, [], ◌∷◌, length, take, drop, slice_index, map, Option, option_map}
 use Rattle.std.specs.List.{list_all}
 use Rattle.handover.specs.Handovers.{HandoverFields}
 use Rattle.jpeg_marker.specs.Plans.{PlanFields}
@@ -7,9 +7,9 @@ use Rattle.scan_spec.specs.FileParts.{is_last}
 use Rattle.scan_spec.specs.Slots.{Shape, shape_of}
 use Rattle.box_format.specs.Versions.{layout_of, version_in}
 use Rattle.cut_spec.specs.Cuts.{Cut}
-use Rattle.box_format.specs.Parts.{bad_start, box_cut, is_unused_zero}
-use Rattle.box_format.specs.Raws.{list_place, list_long, chunk_in, places_in, header_length, header_place, trailer_length, trailer_place, named_end, segments_in, handover_at, numbers}
-use Rattle.box_format.specs.BoxChecks.{or_else, where_failed, are_wrong, is_bad_chunk, is_bad_pad, are_bad_places}
+use Rattle.box_format.specs.Parts.{bad_start, box_cut, is_unused_zero, BoxSeen}
+use Rattle.box_format.specs.Raws.{list_place, list_long, chunk_in, places_in, header_length, header_place, trailer_length, trailer_place, named_end, segments_in, handover_at, numbers, parts_of, raw_of}
+use Rattle.box_format.specs.BoxChecks.{or_else, where_failed, are_wrong, is_bad_chunk, is_bad_pad, are_bad_places, late_fault}
 use Rattle.box_format.specs.declared.refusal.BoxRefusal.{BoxRefusal}
 use Rattle.box_format.specs.declared.refusal.BoxRefusal.TheVariants.{HeaderLong, BoxSegments, BoxChunk, BoxPad, HandoverBad, BoxPlaces, BoxLong}
 
@@ -62,3 +62,8 @@ record_fault plan bytes =
     or_else (option_map (λ i. HandoverBad i) (bad_segment plan bytes))
     (or_else (where_failed (are_bad_places (header_length bytes) (places_in bytes)) BoxPlaces)
     (where_failed (nat_lt (named_end bytes) (length bytes)) BoxLong))
+
+-- the parts of bytes with this plan, where no check after the header fails
+pub record IsPassed (plan : PlanFields) (bytes : List ℕ) (view : BoxSeen) : Type 0 where
+  pub late : late_fault plan (raw_of bytes) ≡ None
+  pub seen : view ≡ record { plan = plan; parts = parts_of (raw_of bytes) }

@@ -47,6 +47,7 @@ impl<'a> Model for ChunkCutter<'a> {
 impl<'a> ChunkCutter<'a> {
     /// Reads the header and the scan of a file of one scan. A refusal is the first one from left to right, or else that
     /// the file has several scans; `NoChunk` isn't among them.
+    #[inline(never)]
     pub fn prepare(alloc: Global, bytes: &'a [u8]) -> Result<ChunkCutter<'a>, CutError>
         requires length { length bytes.now < 2 ^ 32 }
         ensures bytes { IfOk result (λ cutter. cutter ≡ bytes.entry.now) }
@@ -70,6 +71,7 @@ impl<'a> ChunkCutter<'a> {
     /// The container, of version 3, of one of the file's chunks of `size` bytes, the one with number `index`, of which
     /// the first is 0; none if the file ends before it. It has at most `segments` segments, and at most as many as the
     /// chunk has rows. At most 16 are coded at the same time, in threads if these can be had.
+    #[inline(never)]
     pub fn cut<R: Threads + Sync>(
         &self,
         rt: &R,
@@ -135,6 +137,7 @@ impl<'a> ChunkCutter<'a> {
 
 /// The container, of version 3, of one of a file's chunks of `size` bytes, as `ChunkCutter::cut` gives it. A refusal is
 /// the first one from left to right, or else that the file has several scans, or else that it ends before the chunk.
+#[inline(never)]
 pub fn cut_chunk<R: Threads + Sync>(
     rt: &R,
     alloc: Global,
@@ -156,7 +159,10 @@ pub fn cut_chunk<R: Threads + Sync>(
     ensures none { IsErrOf result CutError.NoChunk
         → IsOneScanFile bytes.now × (length bytes.now ≤ index * size) }
 {
-    let cutter = ChunkCutter::prepare(alloc, bytes)?;
+    let cutter = match ChunkCutter::prepare(alloc, bytes) {
+        Ok(cutter) => cutter,
+        Err(error) => return Err(error),
+    };
     match cutter.cut(rt, alloc, segments, size, index)? {
         Some(made) => Ok(made),
         None => Err(CutError::NoChunk),

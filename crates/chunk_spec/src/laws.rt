@@ -3,7 +3,8 @@ ghost use Rattle.chunk_spec.specs.ChunkLaws.{ChunkIsSlice, ChunkIsLong, ChunksAr
 ghost use Rattle.chunk_spec.specs.ChunkRows.{one_byte_across_four_rows};
 
 /// A chunk's slice of a file is its part of the header, its window on the bytes of its rows, and its part of the
-/// trailer; the rows have enough bytes for it. Chunks one after another are the file, and segments of rows are the rows.
+/// trailer; the rows have enough bytes for it. Chunks one after another are the file, and segments of rows are the
+/// rows.
 pub fn chunks_are_slices()
     ensures slice { ChunkIsSlice }
     ensures long { ChunkIsLong }

@@ -51,6 +51,7 @@ impl From<NoMemory> for WordsError {
 }
 
 /// The command that the arguments mean. The first one is the program's name.
+#[inline(never)]
 pub fn command_of(alloc: Global, words: &[String]) -> Result<Command, WordsError>
     ensures taken { IfOk result (λ command. Means (map string_bytes words.now) command) }
     ensures refused { IsErrOf result WordsError.Refused

@@ -63,7 +63,7 @@ fn is_written<R: Threads + Wait + Abort + Sync>(
 #[test]
 fn stretches_are_written(rt: HostRuntime) -> Result<(), Fail> {
     let alloc = rt.alloc();
-    match read_container(THREE) {
+    match read_container(alloc, THREE) {
         Ok(view) => {
             for (first, count, skip, wanted) in STRETCHES {
                 for workers in 0..3 {

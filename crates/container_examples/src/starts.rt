@@ -17,8 +17,8 @@ use std::thread::Threads;
 // DC is 0.
 type Start = (u32, usize, u8, u8, u32);
 
-// The parts of a header, the bytes after it, how many segments are asked for; their starts, the trailer's place, and the
-// byte of pad bits with the list's only one, which is 0 where there is no list.
+// The parts of a header, the bytes after it, how many segments are asked for; their starts, the trailer's place, and
+// the byte of pad bits with the list's only one, which is 0 where there is no list.
 type Row<'a> = (&'a [&'a [u8]], &'a [u8], u8, &'a [Start], usize, (u8, u8));
 
 // What each header here begins and ends with.

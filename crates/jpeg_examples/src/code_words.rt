@@ -97,7 +97,7 @@ fn put_words(rt: &impl Abort, words: &[Word], out: &mut Piece) {
         assert!(rt; *size <= 16);
         assert!(rt; u32::from(*code) >> *size == 0);
         assert!(rt; out.len() < 1000);
-        bits.put(*code, *size, out);
+        bits.put(u32::from(*code), u32::from(*size), out);
     }
     assert!(rt; out.len() < 1000);
     bits.pad(true, out);

@@ -9,11 +9,10 @@ ghost use Rattle.lepton_decode.specs.Ends.{Ends, lone_meaning_in};
 
 use crate::error::DecodeError;
 use crate::file_parts::{put_before, put_rest, rows_window};
-use crate::ready::PrepareError;
 use bit_list::Piece;
 use box_format::BoxRefusal;
 use outside_core::{Gate, Sink};
-use scans_format::{FileView, read_container};
+use scans_format::{FileView, ReadError, read_container};
 use segment_code::FileDecoder;
 use segment_worker::emit_alone;
 use std::alloc::Global;
@@ -53,15 +52,15 @@ impl<'a> ReadyAlone<'a> {
 /// Reads a container's scans, and allocates all the memory that its decoding on one thread needs: for each scan the
 /// bins and two MCU rows of blocks, and a piece of bytes.
 #[inline(never)]
-pub fn prepare_alone(alloc: Global, bytes: &[u8]) -> Result<ReadyAlone<'_>, PrepareError>
+pub fn prepare_alone(alloc: Global, bytes: &[u8]) -> Result<ReadyAlone<'_>, ReadError>
     ensures ready { IfOk result (λ ready. IsContainer ready.scans bytes.now) }
     ensures fresh { IfOk result (λ ready. ready.used ≡ false) }
-    ensures refused { (refusal : BoxRefusal) → IsErrOf result (PrepareError.Box refusal)
+    ensures refused { (refusal : BoxRefusal) → IsErrOf result (ReadError.Box refusal)
         → IsRefusedContainer bytes.now refusal }
 {
-    let view = match read_container(bytes) {
+    let view = match read_container(alloc, bytes) {
         Ok(view) => view,
-        Err(refusal) => return Err(PrepareError::Box(refusal)),
+        Err(error) => return Err(error),
     };
     let decoder = FileDecoder::prepare(alloc, view.plans())?;
     let piece = Piece::new(alloc)?;

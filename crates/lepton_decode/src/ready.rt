@@ -9,11 +9,10 @@ ghost use Rattle.lepton_decode.specs.Ends.{team_in};
 
 use box_format::BoxRefusal;
 use growth::NoMemory;
-use scans_format::{FileView, read_container};
+use scans_format::{FileView, ReadError, read_container, segments_named};
 use segment_crew::Crew;
 use std::alloc::Global;
 use std::marker::Model;
-use thiserror::Error;
 
 /// A container that is ready to be decoded, once: its scans, and if it has a segment, its board with the seats, and all
 /// the memory that decoding needs.
@@ -46,38 +45,12 @@ impl<'a> Ready<'a> {
     }
 }
 
-/// Why a container can't be decoded.
-#[derive(Clone, Copy, Debug, PartialEq, Eq, Error)]
-pub enum PrepareError {
-    /// 30 to 39, 53: the bytes are no container.
-    #[error("Box")]
-    Box(BoxRefusal),
-    #[error("NoMemory")]
-    NoMemory(NoMemory),
-}
-
-impl From<NoMemory> for PrepareError {
-    ghost use Rattle.std.specs.Prelude.{◌≡◌};
-    ghost use Rattle.lepton_decode.specs.declared.ready.PrepareError.TheVariants.{NoMemory};
-
-    ghost from_gives = { λ short error. error ≡ NoMemory short };
-
-    fn from(short: NoMemory) -> Self {
-        PrepareError::NoMemory(short)
-    }
-}
-
 /// Reads a container's scans, and allocates all the memory that its decoding by `workers` workers needs: for the
 /// emitter and each worker a piece of bytes, and for each scan the bins and two MCU rows of blocks; and for each
 /// segment a ring of `ring` bytes. No more workers are made than the container has segments. With 0 workers the emitter
 /// decodes all. If the container has no segment, there is no board.
 #[inline(never)]
-pub fn prepare(
-    alloc: Global,
-    bytes: &[u8],
-    workers: u8,
-    ring: u32,
-) -> Result<Ready<'_>, PrepareError>
+pub fn prepare(alloc: Global, bytes: &[u8], workers: u8, ring: u32) -> Result<Ready<'_>, ReadError>
     requires { 1 ≤ ring }
     ensures ready { IfOk result (λ ready. IsContainer ready.scans bytes.now) }
     ensures fresh { IfOk result (λ ready. ready.used ≡ false) }
@@ -87,12 +60,12 @@ pub fn prepare(
         length (team_in ready.crew) ≡ min workers (segment_count ready.scans)) }
     ensures rings { IfOk result (λ ready.
         IfSome ready.crew (λ crew. crew.emitter.view.capacity ≡ ring)) }
-    ensures refused { (refusal : BoxRefusal) → IsErrOf result (PrepareError.Box refusal)
+    ensures refused { (refusal : BoxRefusal) → IsErrOf result (ReadError.Box refusal)
         → IsRefusedContainer bytes.now refusal }
 {
-    let view = match read_container(bytes) {
+    let view = match read_container(alloc, bytes) {
         Ok(view) => view,
-        Err(refusal) => return Err(PrepareError::Box(refusal)),
+        Err(error) => return Err(error),
     };
     let crew = crew_for(alloc, &view, workers, ring)?;
     Ok(Ready {
@@ -147,10 +120,7 @@ pub fn ample_ring(bytes: &[u8]) -> u32
     ensures share { (scans : List BoxSeen) → IsContainer scans bytes.now
         → min (length bytes.now / max (segment_count scans) 1 * 2) (2 ^ 26) ≤ result }
 {
-    match read_container(bytes) {
-        Ok(view) => ring_for(bytes.len(), usize::from(view.segments()).max(1)),
-        Err(_) => ring_for(bytes.len(), 1),
-    }
+    ring_for(bytes.len(), segments_named(bytes).max(1))
 }
 
 // The same, by how many bytes the container has and how many segments.

@@ -1,5 +1,5 @@
 // The headers of a file of several scans.
-ghost use Rattle.std.specs.Prelude.{◌≡◌, ◌≤◌, ◌<◌, ◌^◌, false, length, List, IfOk, IsErrOf, ℕ};
+ghost use Rattle.std.specs.Prelude.{◌≡◌, ◌≤◌, ◌<◌, ◌^◌, false, length, List, [], ◌∷◌, ◌++◌, IfOk, OnOk, IsErrOf, ℕ};
 ghost use Rattle.jpeg_marker.specs.FirstWalks.{opening_walk};
 ghost use Rattle.jpeg_marker.specs.HeaderPlan.{Begins, RefusesNext};
 ghost use Rattle.jpeg_marker.specs.Walks.{Walk};
@@ -12,13 +12,13 @@ ghost use Rattle.scans_spec.specs.ScansFiles.{FileIsRefused, Header, Scan};
 ghost use Rattle.lepton_encode.specs.FileHeads.{AreHeads, EndsAt, Follows, IsHead};
 
 use crate::error::EncodeError;
-use growth::{push, with_capacity};
+use growth::{NoMemory, push, with_capacity};
 use jpeg_marker::{Plan, read_next};
 use segment_code::find_starts;
 use std::alloc::Global;
 
 /// A header of a file of several scans: its place, and its plan with all bytes before its scan as its header.
-#[derive(Drop)]
+#[derive(Clone, Copy)]
 pub(crate) struct Head {
     pub(crate) place: usize,
     pub(crate) plan: Plan,
@@ -48,31 +48,41 @@ pub(crate) fn find_heads(
         plan: first.at(0),
     };
     'headers: while !head.plan.is_last() {
-        let next = next_head(alloc, bytes, &head)?;
-        push(&mut heads, head)?;
-        head = next;
+        keep(&mut heads, &head)?;
+        go_on(alloc, bytes, &mut head)?;
     }
-    push(&mut heads, head)?;
+    keep(&mut heads, &head)?;
     Ok(heads)
 }
 
-// The header after a header and its scan.
+// Appends a header.
 #[inline(never)]
-fn next_head(alloc: Global, bytes: &[u8], head: &Head) -> Result<Head, EncodeError>
-    requires head { (w : Walk) × IsHead w bytes.now head.now }
+fn keep(heads: &mut Vec<Head>, head: &Head) -> Result<(), NoMemory>
+    ensures { OnOk result (heads.new.items ≡ heads.old.items ++ head.now ∷ []) }
+{
+    push(heads, *head)
+}
+
+// From a header to the one after its scan.
+#[inline(never)]
+fn go_on(alloc: Global, bytes: &[u8], head: &mut Head) -> Result<(), EncodeError>
+    requires head { (w : Walk) × IsHead w bytes.now head.old }
     requires length { length bytes.now < 2 ^ 32 }
-    ensures next { IfOk result (λ next. Follows bytes.now head.now next) }
+    ensures next { OnOk result (Follows bytes.now head.old head.new) }
     ensures header { (refusal : HeaderRefusal) → IsErrOf result (EncodeError.Header refusal)
-        → (after : ℕ) × EndsAt bytes.now head.now after
-        × RefusesNext head.now.plan bytes.now after refusal }
+        → (after : ℕ) × EndsAt bytes.now head.old after
+        × RefusesNext head.old.plan bytes.now after refusal }
     ensures scan { (refusal : ScanRefusal) → IsErrOf result (EncodeError.Scan refusal)
-        → ScanRefuses (shape_of head.now.plan) bytes.now head.now.plan.header_length refusal }
+        → ScanRefuses (shape_of head.old.plan) bytes.now head.old.plan.header_length refusal }
 {
     let starts = find_starts(alloc, &head.plan, bytes, 1)?;
     let place = starts.trailer();
-    let plan = read_next(&head.plan, bytes, place)?;
-    Ok(Head {
-        place,
-        plan: plan.at(place),
-    })
+    match read_next(&head.plan, bytes, place) {
+        Ok(plan) => {
+            head.place = place;
+            head.plan = plan.at(place);
+            Ok(())
+        }
+        Err(refusal) => Err(EncodeError::Header(refusal)),
+    }
 }

@@ -8,9 +8,9 @@
 //! the segments, and once to code them.
 //!
 //! The segments are coded side by side from the file's bytes, at most 16 at the same time, each after a pass over the
-//! scan is through it. Beside the bytes, memory is for the streams, for two MCU rows of blocks and the bins of each that
-//! is coded, and for the container. What a segment's stream is is `container_spec`'s, how it is made `segment_code`'s, and in which thread
-//! `segment_encode`'s. What a file of several scans stands for is `scans_spec`'s.
+//! scan is through it. Beside the bytes, memory is for the streams, for two MCU rows of blocks and the bins of each
+//! that is coded, and for the container. What a segment's stream is is `container_spec`'s, how it is made
+//! `segment_code`'s, and in which thread `segment_encode`'s. What a file of several scans stands for is `scans_spec`'s.
 #![tactic(auto)]
 
 mod container;

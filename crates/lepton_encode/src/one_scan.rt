@@ -13,6 +13,7 @@ use std::alloc::Global;
 
 /// What the header of a file of one scan says; the scan isn't read. If the file has several scans, all are read, and
 /// the answer is the first refusal from left to right, or else `ManyScans`.
+#[inline(never)]
 pub fn read_one_scan(alloc: Global, bytes: &[u8]) -> Result<Plan, OneScanError>
     requires length { length bytes.now < 2 ^ 32 }
     ensures accepted { IfOk result (λ plan. Accepts bytes.now plan) }
@@ -22,7 +23,10 @@ pub fn read_one_scan(alloc: Global, bytes: &[u8]) -> Result<Plan, OneScanError>
         → FileIsRefused bytes.now (Scan refusal) }
     ensures many { IsErrOf result OneScanError.ManyScans → HasSeveralScans bytes.now }
 {
-    let plan = read_first(bytes)?;
+    let plan = match read_first(bytes) {
+        Ok(plan) => plan,
+        Err(refusal) => return Err(OneScanError::Header(refusal)),
+    };
     if plan.is_last() {
         return Ok(plan);
     }

@@ -56,7 +56,10 @@ pub fn encode<R: Threads + Sync>(
     ensures scan { (refusal : ScanRefusal) → IsErrOf result (EncodeError.Scan refusal)
         → FileIsRefused bytes.now (Scan refusal) }
 {
-    let plan = read_first(bytes)?;
+    let plan = match read_first(bytes) {
+        Ok(plan) => plan,
+        Err(refusal) => return Err(EncodeError::Header(refusal)),
+    };
     if plan.is_last() {
         encode_one(rt, alloc, bytes, &plan, segments)
     } else {

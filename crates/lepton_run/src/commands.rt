@@ -19,7 +19,7 @@ use crate::writing::write_made;
 use chunk_cut::{CutError, cut_chunk};
 use command_words::Command;
 use lepton_decode::{
-    DecodeError, PrepareError, Ready, ReadyAlone, ample_ring, prepare, prepare_alone, run_alone,
+    DecodeError, Ready, ReadyAlone, ample_ring, prepare, prepare_alone, run_alone,
 };
 use lepton_encode::EncodeError;
 use outside_core::{Gate, Sink};
@@ -27,6 +27,7 @@ use range_read::{
     IndexError, RangeError, Ranged, ReadyRange, ReadyRangeAlone, prepare_range,
     prepare_range_alone, run_range, run_range_alone,
 };
+use scans_format::ReadError;
 use segment_worker::EmitStop;
 use std::alloc::Global;
 use std::sync::Wait;
@@ -118,8 +119,8 @@ fn decode<R: Threads + Wait + Sync, K: Sink + Send, G: Gate + Sync>(
 {
     let mut ready = match prepare(alloc, bytes, workers, ample_ring(bytes)) {
         Ok(ready) => ready,
-        Err(PrepareError::Box(refusal)) => return Ending::Refused(Refusal::Box(refusal)),
-        Err(PrepareError::NoMemory(short)) => return Ending::NoMemory(short),
+        Err(ReadError::Box(refusal)) => return Ending::Refused(Refusal::Box(refusal)),
+        Err(ReadError::NoMemory(short)) => return Ending::NoMemory(short),
     };
     restore(rt, &mut ready, sink, gate)
 }
@@ -154,8 +155,8 @@ fn decode_alone<K: Sink, G: Gate>(alloc: Global, bytes: &[u8], sink: &mut K, gat
 {
     let mut ready = match prepare_alone(alloc, bytes) {
         Ok(ready) => ready,
-        Err(PrepareError::Box(refusal)) => return Ending::Refused(Refusal::Box(refusal)),
-        Err(PrepareError::NoMemory(short)) => return Ending::NoMemory(short),
+        Err(ReadError::Box(refusal)) => return Ending::Refused(Refusal::Box(refusal)),
+        Err(ReadError::NoMemory(short)) => return Ending::NoMemory(short),
     };
     restore_alone(&mut ready, sink, gate)
 }

@@ -14,10 +14,11 @@ use crate::ending::Ending;
 use crate::line::Line;
 use crate::writing::write_made;
 use growth::NoMemory;
-use lepton_decode::{PrepareError, ample_ring, prepare};
+use lepton_decode::{ample_ring, prepare};
 use lepton_encode::EncodeError;
 use outside_core::{Compare, Gate, Sink};
 use sample_jpeg::sample;
+use scans_format::ReadError;
 use std::alloc::Global;
 use std::sync::Wait;
 use std::thread::Threads;
@@ -53,6 +54,7 @@ pub(crate) fn show_sample<R: Threads + Wait + Sync, K: Sink + Send, G: Gate + Sy
 }
 
 // The summary of a sample that was encoded and decoded; the one error is want of memory.
+#[inline(never)]
 fn recoded<R: Threads + Wait + Sync, G: Gate + Sync>(
     rt: &R,
     alloc: Global,
@@ -72,6 +74,7 @@ fn recoded<R: Threads + Wait + Sync, G: Gate + Sync>(
 }
 
 // The container of a sample, which has one scan and which every header and scan check lets pass.
+#[inline(never)]
 fn encoded<R: Threads + Sync>(rt: &R, alloc: Global, file: &[u8]) -> Result<Vec<u8>, NoMemory>
     requires { IsSampleFile file.now }
     ensures { IfOk result (λ made. IsContainerOf Second sample_segments made.items file.now) }
@@ -86,6 +89,7 @@ fn encoded<R: Threads + Sync>(rt: &R, alloc: Global, file: &[u8]) -> Result<Vec<
 
 // How many bytes the decoder says that it restored: as many as the file has. The sink keeps none of them; what it
 // counts tells no clause anything, and isn't looked at.
+#[inline(never)]
 fn restored<R: Threads + Wait + Sync, G: Gate + Sync>(
     rt: &R,
     alloc: Global,
@@ -98,8 +102,8 @@ fn restored<R: Threads + Wait + Sync, G: Gate + Sync>(
 {
     let mut ready = match prepare(alloc, made, WORKERS, ample_ring(made)) {
         Ok(ready) => ready,
-        Err(PrepareError::NoMemory(short)) => return Err(short),
-        Err(PrepareError::Box(_)) => unreachable!(),
+        Err(ReadError::NoMemory(short)) => return Err(short),
+        Err(ReadError::Box(_)) => unreachable!(),
     };
     let mut sink = Compare::new(file);
     match lepton_decode::run(&mut ready, rt, &mut sink, gate) {
@@ -109,6 +113,7 @@ fn restored<R: Threads + Wait + Sync, G: Gate + Sync>(
 }
 
 // The lines of a summary.
+#[inline(never)]
 fn summary(file: usize, made: usize, segments: u16, restored: u64) -> Line
     ensures { result ≡ summary_of file made segments restored }
 {

@@ -1,13 +1,15 @@
 // A blob's file.
-ghost use Rattle.std.specs.Prelude.{◌≡◌, ◌++◌, ℕ, List, IfOk, OnOk, true};
+ghost use Rattle.std.specs.Prelude.{◌≡◌, ◌++◌, ◌<◌, ℕ, List, length, IfOk, OnOk, true};
 ghost use Rattle.handover.specs.declared.outcome.Outcome.{Outcome};
+ghost use Rattle.scans_format.specs.Scans.{all_parts, segment_count, trailer_of};
+ghost use Rattle.scans_spec.specs.ScansJoined.{first_header};
 ghost use Rattle.segment_code.specs.FileDecoding.{FileOwes};
 ghost use Rattle.photo_blob.specs.Blobs.{IsBlobOf};
-ghost use Rattle.photo_blob.specs.Showing.{StandsForFile};
+ghost use Rattle.photo_blob.specs.Showing.{StandsForFile, bytes_from};
 
 use bit_list::Piece;
 use growth::{NoMemory, extend_from_slice, from_slice};
-use scans_format::read_container;
+use scans_format::{FileView, ReadError, read_container};
 use segment_code::{FileDecoder, Step};
 use std::alloc::Global;
 
@@ -39,15 +41,25 @@ fn show_container(alloc: Global, bytes: &[u8]) -> Result<Vec<u8>, NoMemory>
     ensures shown { (file : List ℕ) → StandsForFile bytes.now file
         → IfOk result (λ shown. shown.items ≡ file) }
 {
-    let view = match read_container(bytes) {
+    let view = match read_container(alloc, bytes) {
         Ok(view) => view,
-        Err(_) => unreachable!(),
+        Err(ReadError::NoMemory(short)) => return Err(short),
+        Err(ReadError::Box(_)) => unreachable!(),
     };
+    show_view(alloc, &view)
+}
+
+// What the scans of a container give: the first header, the segments and the trailer.
+fn show_view(alloc: Global, view: &FileView) -> Result<Vec<u8>, NoMemory>
+    requires { 0 < length view.now }
+    ensures { IfOk result (λ shown. shown.items ≡ first_header view.now
+        ++ bytes_from view.now 0 (segment_count view.now) ++ trailer_of (all_parts view.now)) }
+{
     let mut decoder = FileDecoder::prepare(alloc, view.plans())?;
     let mut piece = Piece::new(alloc)?;
     let mut file = from_slice(alloc, view.scan(0).header())?;
     for segment in 0..view.segments() {
-        decoder.begin(&view, segment);
+        decoder.begin(view, segment);
         append_segment(&mut decoder, &mut piece, &mut file)?;
     }
     extend_from_slice(&mut file, view.trailer())?;

@@ -66,7 +66,7 @@ impl<'a> ReadyRangeAlone<'a> {
 
 /// Reads a container's parts, and allocates all the memory that reading the file's bytes from place `from` to before
 /// place `to` on one thread needs: the bins, two MCU rows of blocks and a piece of bytes. If no segment has a place
-/// there, it allocates nothing.
+/// there, it allocates only the plans.
 #[inline(never)]
 pub fn prepare_range_alone(
     alloc: Global,
@@ -88,7 +88,10 @@ pub fn prepare_range_alone(
     ensures bad { IsErrOf result RangeError.RangeBad → (plan : PlanFields) × (b : BoxParts)
         × IsBoxOf plan b bytes.now × IsRead ranged b.version × (is_bad_range b from to ≡ true) }
 {
-    let scan = read_ranged(bytes, from, to)?;
+    let scan = match read_ranged(alloc, bytes, from, to) {
+        Ok(scan) => scan,
+        Err(error) => return Err(error),
+    };
     let (first, past) = segments_within(scan.view(), from, to);
     let lone = lone_for(alloc, &scan, past - first)?;
     Ok(ReadyRangeAlone {

@@ -31,17 +31,6 @@ impl From<NoMemory> for IndexError {
     }
 }
 
-impl From<BoxRefusal> for IndexError {
-    ghost use Rattle.std.specs.Prelude.{◌≡◌};
-    ghost use Rattle.range_read.specs.declared.error.IndexError.TheVariants.{Box};
-
-    ghost from_gives = { λ refusal error. error ≡ Box refusal };
-
-    fn from(refusal: BoxRefusal) -> Self {
-        IndexError::Box(refusal)
-    }
-}
-
 /// Why a range can't be read.
 #[derive(Clone, Copy, Debug, PartialEq, Eq, Error)]
 pub enum RangeError {
@@ -63,16 +52,5 @@ impl From<NoMemory> for RangeError {
 
     fn from(short: NoMemory) -> Self {
         RangeError::NoMemory(short)
-    }
-}
-
-impl From<BoxRefusal> for RangeError {
-    ghost use Rattle.std.specs.Prelude.{◌≡◌};
-    ghost use Rattle.range_read.specs.declared.error.RangeError.TheVariants.{Box};
-
-    ghost from_gives = { λ refusal error. error ≡ Box refusal };
-
-    fn from(refusal: BoxRefusal) -> Self {
-        RangeError::Box(refusal)
     }
 }

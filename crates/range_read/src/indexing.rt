@@ -15,6 +15,7 @@ use crate::one_scan::OneScan;
 use box_format::{BoxView, Version, write_placed};
 use growth::{push, with_capacity};
 use handover::{Outcome, PadSum};
+use scans_format::ReadError;
 use std::alloc::Global;
 use std::thread::Threads;
 
@@ -22,9 +23,9 @@ use std::thread::Threads;
 const INDEXABLE: [Version; 3] = [Version::First, Version::Second, Version::Fifth];
 
 /// The same container in version 5, which keeps the place in the file of each segment's first byte: of a container of
-/// version 1, 2 or 5 that stands for a file. The segments are decoded in threads, if these can be had, at most 16 at the
-/// same time. The memory for that is allocated before the first thread starts. A refusal is that of the container, or else
-/// its first fault, or else that its pad bits are spelled in another way than a file's.
+/// version 1, 2 or 5 that stands for a file. The segments are decoded in threads, if these can be had, at most 16 at
+/// the same time. The memory for that is allocated before the first thread starts. A refusal is that of the container,
+/// or else its first fault, or else that its pad bits are spelled in another way than a file's.
 #[inline(never)]
 pub fn index<R: Threads + Sync>(rt: &R, alloc: Global, bytes: &[u8]) -> Result<Vec<u8>, IndexError>
     ensures made { IfOk result (λ made. IsIndexOf made.items bytes.now) }
@@ -34,7 +35,11 @@ pub fn index<R: Threads + Sync>(rt: &R, alloc: Global, bytes: &[u8]) -> Result<V
         → Ends bytes.now (Faulty fault) }
     ensures spelling { IsErrOf result IndexError.PadSpelling → Ends bytes.now PadSpelled }
 {
-    let scan = OneScan::read(bytes, &INDEXABLE)?;
+    let scan = match OneScan::read(alloc, bytes, &INDEXABLE) {
+        Ok(scan) => scan,
+        Err(ReadError::Box(refusal)) => return Err(IndexError::Box(refusal)),
+        Err(ReadError::NoMemory(short)) => return Err(IndexError::NoMemory(short)),
+    };
     let measures = measure_all(rt, alloc, &scan)?;
     let places = places_by(alloc, scan.view(), measures)?;
     let made = write_placed(alloc, scan.view(), places.as_slice())?;

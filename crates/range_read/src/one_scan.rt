@@ -1,11 +1,13 @@
 // A container of one scan, which alone is indexed and read by ranges.
-ghost use Rattle.std.specs.Prelude.{◌≡◌, [], ◌∷◌, IfOk, IfErr};
+ghost use Rattle.std.specs.Prelude.{◌≡◌, [], ◌∷◌, IfOk, IsErrOf};
 ghost use Rattle.box_format.specs.BoxChecks.{IsRefusedBy};
 ghost use Rattle.box_format.specs.Parts.{IsBoxOf};
 ghost use Rattle.box_format.specs.Versions.{IsRead};
+ghost use Rattle.box_format.specs.declared.refusal.BoxRefusal.{BoxRefusal};
 
-use box_format::{BoxRefusal, BoxView, Version};
-use scans_format::{FileView, read_container_of};
+use box_format::{BoxView, Version};
+use scans_format::{FileView, ReadError, read_container_of};
+use std::alloc::Global;
 use std::marker::Model;
 
 /// A container of one scan that was read. Clauses see the header's plan and the parts.
@@ -29,12 +31,20 @@ impl<'a> Model for OneScan<'a> {
 impl<'a> OneScan<'a> {
     /// Reads a container of one of these versions: 31 is the refusal of the others.
     #[inline(never)]
-    pub(crate) fn read(bytes: &'a [u8], versions: &[Version]) -> Result<OneScan<'a>, BoxRefusal>
+    pub(crate) fn read(
+        alloc: Global,
+        bytes: &'a [u8],
+        versions: &[Version],
+    ) -> Result<OneScan<'a>, ReadError>
         ensures taken { IfOk result (λ scan. IsBoxOf scan.plan scan.parts bytes.now) }
         ensures version { IfOk result (λ scan. IsRead versions.now scan.parts.version) }
-        ensures refused { IfErr result (λ refusal. IsRefusedBy versions.now bytes.now refusal) }
+        ensures refused { (refusal : BoxRefusal) → IsErrOf result (ReadError.Box refusal)
+            → IsRefusedBy versions.now bytes.now refusal }
     {
-        let file = read_container_of(bytes, versions)?;
+        let file = match read_container_of(alloc, bytes, versions) {
+            Ok(file) => file,
+            Err(error) => return Err(error),
+        };
         let view = file.scan(0);
         Ok(OneScan { file, view })
     }

@@ -14,6 +14,7 @@ use crate::error::RangeError;
 use crate::one_scan::OneScan;
 use box_format::Version;
 use growth::NoMemory;
+use scans_format::ReadError;
 use segment_crew::Crew;
 use std::alloc::Global;
 use std::marker::Model;
@@ -87,7 +88,10 @@ pub fn prepare_range(
     ensures bad { IsErrOf result RangeError.RangeBad → (plan : PlanFields) × (b : BoxParts)
         × IsBoxOf plan b bytes.now × IsRead ranged b.version × (is_bad_range b from to ≡ true) }
 {
-    let scan = read_ranged(bytes, from, to)?;
+    let scan = match read_ranged(alloc, bytes, from, to) {
+        Ok(scan) => scan,
+        Err(error) => return Err(error),
+    };
     let (first, past) = segments_within(scan.view(), from, to);
     let crew = crew_for(alloc, &scan, first, past - first, workers, ring)?;
     Ok(ReadyRange {
@@ -101,7 +105,12 @@ pub fn prepare_range(
 
 /// The parts of a container with ranges, if the range from one place to before another is one of its file.
 #[inline(never)]
-pub(crate) fn read_ranged(bytes: &[u8], from: u64, to: u64) -> Result<OneScan<'_>, RangeError>
+pub(crate) fn read_ranged(
+    alloc: Global,
+    bytes: &[u8],
+    from: u64,
+    to: u64,
+) -> Result<OneScan<'_>, RangeError>
     ensures parts { IfOk result (λ scan. IsBoxOf scan.plan scan.parts bytes.now) }
     ensures version { IfOk result (λ scan. IsRead ranged scan.parts.version) }
     ensures good { IfOk result (λ scan. is_bad_range scan.parts from to ≡ false) }
@@ -110,7 +119,11 @@ pub(crate) fn read_ranged(bytes: &[u8], from: u64, to: u64) -> Result<OneScan<'_
     ensures bad { IsErrOf result RangeError.RangeBad → (plan : PlanFields) × (b : BoxParts)
         × IsBoxOf plan b bytes.now × IsRead ranged b.version × (is_bad_range b from to ≡ true) }
 {
-    let scan = OneScan::read(bytes, &RANGED)?;
+    let scan = match OneScan::read(alloc, bytes, &RANGED) {
+        Ok(scan) => scan,
+        Err(ReadError::Box(refusal)) => return Err(RangeError::Box(refusal)),
+        Err(ReadError::NoMemory(short)) => return Err(RangeError::NoMemory(short)),
+    };
     if is_bad_range(scan.view(), from, to) {
         return Err(RangeError::RangeBad);
     }

@@ -20,6 +20,7 @@ const END_OF_IMAGE: [u8; 2] = [0xff, 0xd9];
 
 /// The file of a seed, with three components of `columns` by `rows` blocks each, both from 1 to 256: 8 times as many
 /// pixels across and down. Odd seeds give restart intervals of one row of MCUs. The one error is out of memory.
+#[inline(never)]
 pub fn sample(alloc: Global, seed: u32, columns: u16, rows: u16) -> Result<Vec<u8>, NoMemory>
     requires { IsExtent (extent_of seed columns rows) }
     ensures { IfOk result (λ file. file.items ≡ sample_file seed columns rows) }

@@ -47,6 +47,7 @@ pub(crate) fn put_header(file: &mut Vec<u8>, extent: &Extent) -> Result<(), NoMe
 }
 
 /// What the header says.
+#[inline(never)]
 pub(crate) fn plan_of(header: &[u8]) -> Plan
     requires { (e : Extent) × IsExtent e × (header.now ≡ sample_header e) }
     ensures { (e : Extent) → IsExtent e → header.now ≡ sample_header e → result ≡ sample_plan e }

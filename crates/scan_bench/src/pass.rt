@@ -23,7 +23,7 @@ pub(crate) fn pad_of(alloc: Global, plan: &Plan, codes: &PlanCodes, bytes: &[u8]
     requires { codes.now ≡ codes_of plan.now.components }
 {
     let codes = codes.copied(alloc).ok()?;
-    let mut reader = Reader::start(plan, codes, bytes, plan.header_length());
+    let mut reader = Reader::start(alloc, plan, codes, bytes, plan.header_length());
     let mut blocks = [Block::zero(); MOST_SLOTS];
     let mut pad = None;
     for _ in 0..plan.mcus() {
@@ -43,7 +43,7 @@ pub(crate) fn read(alloc: Global, plan: &Plan, codes: &PlanCodes, bytes: &[u8]) 
 {
     let start = plan.header_length();
     let codes = codes.copied(alloc).ok()?;
-    let mut reader = Reader::start(plan, codes, bytes, start);
+    let mut reader = Reader::start(alloc, plan, codes, bytes, start);
     let mut blocks = [Block::zero(); MOST_SLOTS];
     for _ in 0..plan.mcus() {
         if reader.at_end() {
@@ -69,7 +69,7 @@ pub(crate) fn both(
     requires { codes.now ≡ codes_of plan.now.components }
 {
     let start = plan.header_length();
-    let mut reader = Reader::start(plan, codes.copied(alloc).ok()?, bytes, start);
+    let mut reader = Reader::start(alloc, plan, codes.copied(alloc).ok()?, bytes, start);
     let mut writer = Writer::start(plan, codes.copied(alloc).ok()?, Pads::All(pad));
     let mut piece = Piece::new(alloc).ok()?;
     let mut blocks = [Block::zero(); MOST_SLOTS];

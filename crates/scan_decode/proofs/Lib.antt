@@ -8,3 +8,4 @@ pub mod Standings
 pub mod IntervalEnds
 pub mod DcThenAcs
 pub mod SkipReading
+pub mod KeptSkips

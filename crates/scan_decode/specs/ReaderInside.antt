@@ -1,5 +1,5 @@
 -- View: a reader's fields as a reader of the definitions, and what always holds of them (own).
-use Rattle.std.specs.Prelude.{◌≡◌, ◌^◌, ◌<◌, ◌≤◌, IfSome}
+use Rattle.std.specs.Prelude.{◌≡◌, ◌^◌, ◌<◌, ◌≤◌}
 use Rattle.std.specs.List.{All}
 use Rattle.coef_block.specs.Block.{IsDc}
 use Rattle.scan_spec.specs.ScanCalls.{ScanReader}
@@ -22,4 +22,4 @@ pub record IsReader (r : Inside) : Type 0 where
   pub count : r.count ≤ r.shape.mcus
   pub size : r.shape.mcus < 2 ^ 32
   pub bytes : r.input.bytes ≡ r.bytes.now
-  pub skips : IfSome r.skips (λ known. AreSkipSlots r.shape.slots known.words)
+  pub skips : All (λ known. AreSkipSlots r.shape.slots known.words) r.skips.items

@@ -24,9 +24,11 @@ use handover::Handover;
 use huff_table::PlanCodes;
 use jpeg_marker::Plan;
 use scan_spec::{ScanRefusal, ScanShape};
+use std::alloc::Global;
 use std::marker::Model;
 
-/// A scan that is read MCU by MCU (ITU-T T.81, F.2.2). It keeps the first refusal, and allocates nothing.
+/// A scan that is read MCU by MCU (ITU-T T.81, F.2.2). It keeps the first refusal. It asks for memory with the first
+/// MCU that it skips, and needs none.
 ///
 /// Clauses see the scan's shape, its bytes, where the reader is, and its refusal.
 #[derive(Drop)]
@@ -42,7 +44,7 @@ pub struct Reader<'a> {
     pad: Option<bool>,
     stop: Option<ScanRefusal>,
     // Made for the first MCU that is skipped.
-    skips: Option<SkipCodes>,
+    skips: Vec<SkipCodes>,
 }
 
 impl<'a> Model for Reader<'a> {
@@ -58,7 +60,13 @@ impl<'a> Model for Reader<'a> {
 
 impl<'a> Reader<'a> {
     /// Before the first MCU of the scan at a place of these bytes.
-    pub fn start(plan: &Plan, codes: PlanCodes, bytes: &'a [u8], place: usize) -> Self
+    pub fn start(
+        alloc: Global,
+        plan: &Plan,
+        codes: PlanCodes,
+        bytes: &'a [u8],
+        place: usize,
+    ) -> Self
         requires { codes ≡ codes_of plan.now.components }
         ensures { result ≡ reader_at (shape_of plan.now) bytes.now place }
     {
@@ -70,13 +78,14 @@ impl<'a> Reader<'a> {
             count: 0,
             pad: None,
             stop: None,
-            skips: None,
+            skips: Vec::new(alloc),
         }
     }
 
     /// Before the first MCU of a row of MCUs. `place` is that of the first byte that the MCUs before don't complete,
     /// and `handover` is what they hand over (own).
     pub fn at(
+        alloc: Global,
         plan: &Plan,
         codes: PlanCodes,
         bytes: &'a [u8],
@@ -99,7 +108,7 @@ impl<'a> Reader<'a> {
             count: mcus_before(plan, row),
             pad: None,
             stop: None,
-            skips: None,
+            skips: Vec::new(alloc),
         }
     }
 

@@ -15,6 +15,7 @@ use crate::dc::dc;
 use crate::skip_symbols::by_symbols_apart;
 use crate::skip_word::{NO_SKIP, SkipWord, skip_words};
 use bit_list::BitIn;
+use growth::push;
 use huff_table::{Codes, ComponentCodes};
 use scan_spec::ScanRefusal;
 
@@ -39,22 +40,23 @@ impl SkipCodes {
     }
 }
 
-/// The blocks of an MCU, by words that are made with the first one.
+/// The blocks of an MCU, by words that are made with the first one and kept in a list of one. Without memory for it
+/// they are made again for each MCU.
 #[inline]
 pub(crate) fn skip_blocks(
-    skips: &mut Option<SkipCodes>,
+    skips: &mut Vec<SkipCodes>,
     codes: &[ComponentCodes],
     slots: &[u8],
     before: &mut [i16; 4],
     input: &mut BitIn,
 ) -> Result<(), ScanRefusal>
-    requires skips { IfSome skips.old
-        (λ known. AreSkipSlots (map (slot_in codes.now) slots.now) known.words) }
+    requires skips { All (λ known. AreSkipSlots (map (slot_in codes.now) slots.now) known.words)
+        skips.old.items }
     requires few { length codes.now ≤ 4 }
     requires slots { All (λ slot. slot < length codes.now) slots.now }
     requires before { All IsDc before.old }
-    ensures skips { IfSome skips.new
-        (λ known. AreSkipSlots (map (slot_in codes.now) slots.now) known.words) }
+    ensures skips { All (λ known. AreSkipSlots (map (slot_in codes.now) slots.now) known.words)
+        skips.new.items }
     ensures is { (read : List (List ℤ))
         × (blocks_read result (map in_zigzag read) before.new input.new.cursor
         ≡ blocks_at (map
@@ -62,27 +64,28 @@ pub(crate) fn skip_blocks(
     ensures small { All IsDc before.new }
     ensures bytes { input.new.bytes ≡ input.old.bytes }
 {
-    if let Some(known) = skips {
-        return skip_blocks_by(known, codes, slots, before, input);
+    match skips.as_slice() {
+        [known, ..] => skip_blocks_by(known, codes, slots, before, input),
+        [] => first_blocks(skips, codes, slots, before, input),
     }
-    first_blocks(skips, codes, slots, before, input)
 }
 
 // The blocks of the first MCU. The words have room only in this frame, and not in each frame above it.
 #[cold]
 #[inline(never)]
 fn first_blocks(
-    skips: &mut Option<SkipCodes>,
+    skips: &mut Vec<SkipCodes>,
     codes: &[ComponentCodes],
     slots: &[u8],
     before: &mut [i16; 4],
     input: &mut BitIn,
 ) -> Result<(), ScanRefusal>
+    requires none { skips.old.items ≡ [] }
     requires few { length codes.now ≤ 4 }
     requires slots { All (λ slot. slot < length codes.now) slots.now }
     requires before { All IsDc before.old }
-    ensures skips { IfSome skips.new
-        (λ known. AreSkipSlots (map (slot_in codes.now) slots.now) known.words) }
+    ensures skips { All (λ known. AreSkipSlots (map (slot_in codes.now) slots.now) known.words)
+        skips.new.items }
     ensures is { (read : List (List ℤ))
         × (blocks_read result (map in_zigzag read) before.new input.new.cursor
         ≡ blocks_at (map
@@ -92,7 +95,8 @@ fn first_blocks(
 {
     let made = SkipCodes::build(codes);
     let result = skip_blocks_by(&made, codes, slots, before, input);
-    *skips = Some(made);
+    // Without memory for them the list stays empty.
+    let _ = push(skips, made);
     result
 }
 

@@ -8,8 +8,8 @@ use bit_list::BitIn;
 use huff_table::Codes;
 use scan_spec::ScanRefusal;
 
-/// The zigzag index after the next symbols, up to the first that isn't sixteen zeros. A function of its own: the room for
-/// the answer of the call below is cleared only if this is called, and not for each word of the table.
+/// The zigzag index after the next symbols, up to the first that isn't sixteen zeros. A function of its own: the room
+/// for the answer of the call below is cleared only if this is called, and not for each word of the table.
 #[inline(always)]
 pub(crate) fn by_symbols_apart(
     codes: &Codes,

@@ -121,7 +121,7 @@ fn is_written_on(
 ) -> bool {
     let codes = PlanCodes::build(alloc, plan).expect(rt, "memory");
     let same = codes.copied(alloc).expect(rt, "memory");
-    let mut reader = Reader::start(plan, codes, bytes, start);
+    let mut reader = Reader::start(alloc, plan, codes, bytes, start);
     for _ in 0..row {
         next_block(rt, &mut reader);
     }
@@ -175,11 +175,11 @@ fn goes_on(
     let codes = PlanCodes::build(alloc, plan).expect(rt, "memory");
     let same = codes.copied(alloc).expect(rt, "memory");
     let (row, place, fields) = seam;
-    let mut whole = Reader::start(plan, codes, bytes, start);
+    let mut whole = Reader::start(alloc, plan, codes, bytes, start);
     for _ in 0..row {
         next_block(rt, &mut whole);
     }
-    let mut reader = resumed(rt, plan, same, bytes, &whole, row);
+    let mut reader = resumed(rt, alloc, plan, same, bytes, &whole, row);
     is_at(&whole, start, place)
         && has_fields(&whole.handover(), fields)
         && has_fields(&reader.handover(), fields)
@@ -204,6 +204,7 @@ fn read_the_same(rt: &impl Abort, whole: &mut Reader, reader: &mut Reader, rows:
 // A reader from this row on, with what another hands over before it.
 fn resumed<'a>(
     rt: &impl Abort,
+    alloc: Global,
     plan: &Plan,
     codes: PlanCodes,
     bytes: &'a [u8],
@@ -215,7 +216,7 @@ fn resumed<'a>(
     let handover = whole.handover();
     assert!(rt; row < plan.down());
     assert!(rt; handover.restarts() == restarts_before(plan, row));
-    Reader::at(plan, codes, bytes, whole.place(), handover, row)
+    Reader::at(alloc, plan, codes, bytes, whole.place(), handover, row)
 }
 
 // Whether the reader has read all bytes, and hands over what the other does.

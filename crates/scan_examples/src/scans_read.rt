@@ -116,7 +116,7 @@ fn is_read(
     wanted: Read,
 ) -> bool {
     let codes = PlanCodes::build(alloc, plan).expect(rt, "memory");
-    let mut reader = Reader::start(plan, codes, bytes, place);
+    let mut reader = Reader::start(alloc, plan, codes, bytes, place);
     let (values, count, told, length) = wanted;
     if reader.place() != place {
         return false;
@@ -306,8 +306,8 @@ fn is_refused(
 ) -> bool {
     let codes = PlanCodes::build(alloc, plan).expect(rt, "memory");
     let same = codes.copied(alloc).expect(rt, "memory");
-    let mut reader = Reader::start(plan, codes, bytes, place);
-    let mut skipping = Reader::start(plan, same, bytes, place);
+    let mut reader = Reader::start(alloc, plan, codes, bytes, place);
+    let mut skipping = Reader::start(alloc, plan, same, bytes, place);
     for _ in 0..plan.mcus() {
         let answer = next_mcu(rt, &mut reader);
         if skip_mcu(rt, &mut skipping) != answer {

@@ -18,3 +18,4 @@ pub mod TwoScans
 pub mod ScansWritten
 pub mod FilesViewed
 pub mod FilesRead
+pub mod NamedSegments

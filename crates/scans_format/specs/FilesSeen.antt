@@ -16,7 +16,7 @@ raws_in bytes = if names_several bytes then raws_of bytes else raw_of bytes ∷ 
 
 -- the scans, by their plans and by the bytes
 abbrev pub scans_seen : Inside → List BoxSeen
-scans_seen v = boxes_of (take v.count v.plans) (raws_in v.bytes.now)
+scans_seen v = boxes_of (take v.count v.plans.items) (raws_in v.bytes.now)
 
 -- one scan's plan and the checks that passed, or those of several
 abbrev pub HavePassed : List PlanFields → List ℕ → Type 0
@@ -28,7 +28,7 @@ HavePassed plans bytes =
 -- the bytes are the container of the scans
 pub record IsFileView (v : Inside) : Type 0 where
   pub is : IsContainer (scans_seen v) v.bytes.now
-  pub passed : HavePassed (take v.count v.plans) v.bytes.now
-  pub room : length v.plans ≡ 4
+  pub passed : HavePassed (take v.count v.plans.items) v.bytes.now
+  pub room : length v.plans.items ≡ 4
   pub some : 1 ≤ v.count
   pub few : v.count ≤ 4

@@ -51,8 +51,9 @@ fn is_cut(bytes: &[u8]) -> bool
 
 /// The first check after the headers that fails, by the plans of the first four.
 #[inline(never)]
-pub(crate) fn late_fault(bytes: &[u8], plans: &[Plan; 4]) -> Option<BoxRefusal>
-    requires { IsWhole bytes.now }
+pub(crate) fn late_fault(bytes: &[u8], plans: &[Plan]) -> Option<BoxRefusal>
+    requires whole { IsWhole bytes.now }
+    requires four { length plans.now ≡ 4 }
     ensures { result ≡ late_fault (take (scans_in bytes.now) plans.now) bytes.now }
 {
     let scans = scans_in(bytes);
@@ -126,8 +127,8 @@ fn is_wrong(bytes: &[u8], plan: &Plan, scan: u8) -> bool
     are_wrong_segments(plan, None, Version::Second, segments)
 }
 
-// How many segments there are.
-fn segments_in(bytes: &[u8]) -> usize
+/// How many segments the fields of all scans name.
+pub(crate) fn segments_in(bytes: &[u8]) -> usize
     ensures { result ≡ segments_of (raws_of bytes.now) }
 {
     let mut count = 0;

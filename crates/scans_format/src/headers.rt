@@ -1,38 +1,43 @@
 // The headers of a container's scans, one after another.
-ghost use Rattle.std.specs.Prelude.{◌≡◌, ◌≤◌, nat_lt, if◌then◌else◌, slice_set, IfOk, IfErr};
+ghost use Rattle.std.specs.Prelude.{◌≡◌, ◌≤◌, nat_lt, if◌then◌else◌, length, slice_set, IfOk, IfErr, IsErrOf};
 ghost use Rattle.jpeg_marker.specs.KnownBefore.{AreKnown};
 ghost use Rattle.jpeg_marker.specs.FirstWalks.{opening_walk};
 ghost use Rattle.jpeg_marker.specs.Walks.{next_walk};
+ghost use Rattle.box_format.specs.declared.refusal.BoxRefusal.{BoxRefusal};
 ghost use Rattle.scans_format.specs.ScansRaw.{scans_in, raws_of};
 ghost use Rattle.scans_format.specs.ScansChecks.{HeadersFail};
 ghost use Rattle.scans_format.specs.ScansWhole.{IsWhole, IsWholeHeader, IsNoHeader, HavePlans};
 
+use crate::error::ReadError;
 use crate::fields::scans_in;
 use crate::slices::header_at;
 use box_format::BoxRefusal;
+use growth::from_elem;
 use jpeg_marker::{Plan, read_first, read_next};
+use std::alloc::Global;
 
 /// The plans of the first four headers if all headers pass, else the refusal of the first one that fails. If there are
-/// fewer than four, the first plan fills the places after them.
+/// fewer than four, copies of the first plan follow.
 #[inline(never)]
-pub(crate) fn read_plans(bytes: &[u8]) -> Result<[Plan; 4], BoxRefusal>
+pub(crate) fn read_plans(alloc: Global, bytes: &[u8]) -> Result<Vec<Plan>, ReadError>
     requires whole { IsWhole bytes.now }
     requires some { 1 ≤ scans_in bytes.now }
-    ensures passed { IfOk result (λ plans. HavePlans bytes.now plans) }
-    ensures failed { IfErr result
-        (λ refusal. HeadersFail opening_walk (raws_of bytes.now) refusal) }
+    ensures four { IfOk result (λ plans. length plans.items ≡ 4) }
+    ensures passed { IfOk result (λ plans. HavePlans bytes.now plans.items) }
+    ensures failed { (refusal : BoxRefusal) → IsErrOf result (ReadError.Box refusal)
+        → HeadersFail opening_walk (raws_of bytes.now) refusal }
 {
     let mut plan = match first_plan(header_at(bytes, 0)) {
         Ok(plan) => plan,
-        Err(refusal) => return Err(refusal),
+        Err(refusal) => return Err(ReadError::Box(refusal)),
     };
-    let mut plans = [plan; 4];
+    let mut plans = from_elem(alloc, plan, 4)?;
     for scan in 1..scans_in(bytes) {
         plan = match next_plan(&plan, header_at(bytes, scan)) {
             Ok(plan) => plan,
-            Err(refusal) => return Err(refusal),
+            Err(refusal) => return Err(ReadError::Box(refusal)),
         };
-        plans = with_plan(plans, scan, &plan);
+        put_plan(&mut plans, scan, &plan);
     }
     Ok(plans)
 }
@@ -73,13 +78,13 @@ fn next_plan(before: &Plan, header: &[u8]) -> Result<Plan, BoxRefusal>
     Ok(plan)
 }
 
-// The plans with that of one scan more, which is left out if it is the fifth one or a later one.
-fn with_plan(plans: [Plan; 4], scan: u8, plan: &Plan) -> [Plan; 4]
-    ensures { result ≡ (if nat_lt scan 4 then slice_set plans scan plan.now else plans) }
+// Keeps the plan of one scan more, unless it is the fifth one or a later one.
+fn put_plan(plans: &mut Vec<Plan>, scan: u8, plan: &Plan)
+    requires { length plans.old.items ≡ 4 }
+    ensures { plans.new.items
+        ≡ (if nat_lt scan 4 then slice_set plans.old.items scan plan.now else plans.old.items) }
 {
-    let mut plans = plans;
     if scan < 4 {
         plans[usize::from(scan)] = *plan;
     }
-    plans
 }

@@ -8,6 +8,7 @@
 #![tactic(auto)]
 
 mod checks;
+mod error;
 mod fields;
 mod headers;
 mod laws;
@@ -16,7 +17,8 @@ mod slices;
 mod view;
 mod writing;
 
+pub use error::ReadError;
 pub use laws::{rows_of_scans_containers, scans_have_one_spelling};
-pub use reading::{read_container, read_container_of};
+pub use reading::{read_container, read_container_of, segments_named};
 pub use view::FileView;
 pub use writing::write_scans;

@@ -1,5 +1,5 @@
 // A container that was read.
-ghost use Rattle.std.specs.Prelude.{ℕ, ◌≡◌, ◌≤◌, ◌<◌, ◌^◌, List, [], ◌∷◌, true, false, Some, length, take, slice_get};
+ghost use Rattle.std.specs.Prelude.{ℕ, ◌≡◌, ◌≤◌, ◌<◌, ◌^◌, List, [], ◌∷◌, true, false, Some, length, take, slice_get, IfOk};
 ghost use Rattle.box_format.specs.BoxChecks.{PassesChecks};
 ghost use Rattle.box_format.specs.Raws.{parts_of, raw_of};
 ghost use Rattle.box_format.specs.Versions.{decoded, most_segments};
@@ -11,15 +11,17 @@ ghost use Rattle.scans_format.specs.ScansChecks.{PassesScans, boxes_of};
 use crate::fields::{names_several, scans_in};
 use crate::slices::scan_view;
 use box_format::BoxView;
+use growth::{NoMemory, from_elem};
 use jpeg_marker::Plan;
+use std::alloc::Global;
 use std::marker::Model;
 
 /// A container that was read, of one scan or of several. Clauses see its scans.
 #[derive(Drop)]
 pub struct FileView<'a> {
     bytes: &'a [u8],
-    // The plans of the scans. The first plan fills the places after them.
-    plans: [Plan; 4],
+    // Four plans: those of the scans, and copies of the first one after them.
+    plans: Vec<Plan>,
     count: u8,
 }
 
@@ -36,26 +38,33 @@ impl<'a> Model for FileView<'a> {
 }
 
 impl<'a> FileView<'a> {
-    /// The view of a container of one scan, whose checks pass.
-    #[inline(always)]
-    pub(crate) fn of_one(bytes: &'a [u8], plan: &Plan) -> FileView<'a>
+    /// The view of a container of one scan, whose checks pass. The one error is out of memory.
+    #[inline(never)]
+    pub(crate) fn of_one(
+        alloc: Global,
+        bytes: &'a [u8],
+        plan: &Plan,
+    ) -> Result<FileView<'a>, NoMemory>
         requires one { names_several bytes.now ≡ false }
         requires passes { PassesChecks decoded plan.now bytes.now }
-        ensures { result ≡ record { plan = plan.now; parts = parts_of (raw_of bytes.now) } ∷ [] }
+        ensures { IfOk result (λ scans. scans
+            ≡ record { plan = plan.now; parts = parts_of (raw_of bytes.now) } ∷ []) }
     {
-        FileView {
+        let plans = from_elem(alloc, *plan, 4)?;
+        Ok(FileView {
             bytes,
-            plans: [*plan; 4],
+            plans,
             count: 1,
-        }
+        })
     }
 
     /// The view of a container of several scans, whose checks pass.
     #[inline(always)]
-    pub(crate) fn of_several(bytes: &'a [u8], plans: [Plan; 4]) -> FileView<'a>
+    pub(crate) fn of_several(bytes: &'a [u8], plans: Vec<Plan>) -> FileView<'a>
         requires several { names_several bytes.now ≡ true }
-        requires passes { PassesScans (take (scans_in bytes.now) plans) bytes.now }
-        ensures { result ≡ boxes_of (take (scans_in bytes.now) plans) (raws_of bytes.now) }
+        requires four { length plans.items ≡ 4 }
+        requires passes { PassesScans (take (scans_in bytes.now) plans.items) bytes.now }
+        ensures { result ≡ boxes_of (take (scans_in bytes.now) plans.items) (raws_of bytes.now) }
     {
         let count = scans_in(bytes);
         FileView {

@@ -9,9 +9,9 @@ const PROGRAM: &str = "lepton";
 /// The most bytes of an argument that is read as it is. An option with a number has fewer, unless it begins with zeros.
 const LONGEST: usize = 64;
 
-/// The arguments, after a name for the program. One that is no text gets U+FFFD in place of each byte that isn't. One of
-/// more than 64 bytes is empty, so that it means nothing, even if clap would read it: `--workers=` and 54 zeros before
-/// a 4.
+/// The arguments, after a name for the program. One that is no text gets U+FFFD in place of each byte that isn't. One
+/// of more than 64 bytes is empty, so that it means nothing, even if clap would read it: `--workers=` and 54 zeros
+/// before a 4.
 pub fn given_arguments<R: Env>(rt: &R, alloc: Global) -> Result<Vec<String>, NoMemory> {
     let mut arguments = Vec::new(alloc);
     push(&mut arguments, string_from_str(alloc, PROGRAM)?)?;

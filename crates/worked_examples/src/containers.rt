@@ -3,8 +3,8 @@ use crate::files::{append, bytes_of};
 use std::alloc::Global;
 use std::process::Abort;
 
-/// A segment: what it starts from, and its stream. It starts from the byte that isn't full, the number of its bits, four
-/// predictors, and the number of restart markers before it.
+/// A segment: what it starts from, and its stream. It starts from the byte that isn't full, the number of its bits,
+/// four predictors, and the number of restart markers before it.
 #[derive(Clone, Copy)]
 pub(crate) struct Segment<'a> {
     pub(crate) start: [u8; 14],

@@ -89,8 +89,8 @@ fn raise(rt: &impl Abort, container: &mut [u8], place: usize) {
     container[place] = container[place].wrapping_add(1);
 }
 
-// Whether a container is of a file: then in version 2 it is exactly the one of the file that it gives, in this number of
-// segments. If not, it is refused. No threads are started, as there are many containers.
+// Whether a container is of a file: then in version 2 it is exactly the one of the file that it gives, in this number
+// of segments. If not, it is refused. No threads are started, as there are many containers.
 fn is_of_a_file<R: Threads + Wait + Sync + Abort>(
     rt: &R,
     alloc: Global,

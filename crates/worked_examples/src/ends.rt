@@ -158,9 +158,9 @@ fn is_cut(tried: &Trial, whole: &[u8], status: u8, length: u64) -> bool {
         && (status != 4 || tried.noted.as_slice() == WRITE_FAILED)
 }
 
-// The number of the call that fails, the status, and the number of bytes that are written. A decode writes while it goes
-// on: nine pieces of 7 bytes and one of 6 for the header, then a byte of the scan, and then the trailer. Before a call
-// that fails there are the bytes of the calls before it, and one that isn't reached changes nothing.
+// The number of the call that fails, the status, and the number of bytes that are written. A decode writes while it
+// goes on: nine pieces of 7 bytes and one of 6 for the header, then a byte of the scan, and then the trailer. Before a
+// call that fails there are the bytes of the calls before it, and one that isn't reached changes nothing.
 const CUT: &[[u8; 3]] = &[
     [1, 4, 0],
     [2, 4, 7],

@@ -6,8 +6,8 @@ use std::process::Abort;
 use std::sync::Wait;
 use std::thread::Threads;
 
-/// One end of the program: its status and line, the word, which input is given, how many bytes of it, and the numbers of
-/// the read and the write that fail.
+/// One end of the program: its status and line, the word, which input is given, how many bytes of it, and the numbers
+/// of the read and the write that fail.
 struct Said<'a> {
     status: u8,
     line: &'a str,

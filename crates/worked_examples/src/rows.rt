@@ -6,8 +6,8 @@ use crate::files::{END, LEVEL, RESTARTS, START, STEPS, append, bytes_of};
 use std::alloc::Global;
 use std::process::Abort;
 
-/// A file by its height and width, what comes after them, its scan, its pad bits and its trailer; and its stream, all of
-/// it in one segment.
+/// A file by its height and width, what comes after them, its scan, its pad bits and its trailer; and its stream, all
+/// of it in one segment.
 #[derive(Clone, Copy)]
 pub(crate) struct Row<'a> {
     pub(crate) size: [u8; 4],

@@ -244,7 +244,8 @@ const LEAST: &[&str] = &["sample", "--seed", "0", "--columns", "1", "--rows", "1
 
 const LEAST_SUMMARY: &[u8] = b"file 277\nbox 323\nsegments 1\nworkers 4\nrestored 277\n";
 
-// The sink accepts seven bytes a call, so there are eight calls: each fails in turn, after the bytes of those before it.
+// The sink accepts seven bytes a call, so there are eight calls: each fails in turn, after the bytes of those before
+// it.
 #[test]
 fn a_write_of_a_summary_that_fails(rt: HostRuntime) {
     assert!(rt; LEAST_SUMMARY.len() == 51);

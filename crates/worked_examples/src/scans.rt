@@ -243,7 +243,7 @@ fn two_scans_are_decoded(rt: HostRuntime) {
 // The file of a container, segment by segment; no bytes of none.
 fn restored(alloc: Global, bytes: &[u8]) -> Result<Vec<u8>, AllocError> {
     let mut file = Vec::new(alloc);
-    let Ok(view) = read_container(bytes) else {
+    let Ok(view) = read_container(alloc, bytes) else {
         return Ok(file);
     };
     let mut decoder = FileDecoder::prepare(alloc, view.plans())?;

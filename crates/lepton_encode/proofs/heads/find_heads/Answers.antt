@@ -25,28 +25,28 @@ headers-init c =
     none_before c.args.bytes.now c.args.first.now c.in_ok-heads.heads.items _
     c.in_ok-heads.ensures.items c.requires.opens c.requires.more refl c.at.ensures
 
-pub returns-in_err-next-clause-header : goal.returns-in_err-next-clause-header
-returns-in_err-next-clause-header c =
+pub returns-in_err-go_on-clause-header : goal.returns-in_err-go_on-clause-header
+returns-in_err-go_on-clause-header c =
     let all : AllByRecursion IsByte c.args.bytes.now =
     are_bytes c.args.bytes.now (λ i. let h = c.type_inv.bytes i in search rules) in
     let more = sym c.is_last.ensures ∙ c.headers-test.true in
-    let p = err_from_is_err_and c.from_residual-in_err-next.result
-    c.from_residual-in_err-next.ensures.1 in
+    let p = err_from_is_err_and c.from_residual-in_err-go_on.result
+    c.from_residual-in_err-go_on.ensures.1 in
     rw (p.1, p.2) (λ refusal is.
-    let cause : c.in_err-next.field-0.0 ≡ Header refusal = cc in
+    let cause : c.in_err-go_on.field-0.0 ≡ Header refusal = cc in
     header_refused c.args.bytes.now c.headers.heads.items c.headers.head all c.headers.invariant
-    refusal more (c.in_err-next.ensures.header refusal (ap (λ error. Err error) cause)))
+    refusal more (c.in_err-go_on.ensures.header refusal (ap (λ error. Err error) cause)))
 
-pub returns-in_err-next-clause-scan : goal.returns-in_err-next-clause-scan
-returns-in_err-next-clause-scan c =
+pub returns-in_err-go_on-clause-scan : goal.returns-in_err-go_on-clause-scan
+returns-in_err-go_on-clause-scan c =
     let all : AllByRecursion IsByte c.args.bytes.now =
     are_bytes c.args.bytes.now (λ i. let h = c.type_inv.bytes i in search rules) in
-    let p = err_from_is_err_and c.from_residual-in_err-next.result
-    c.from_residual-in_err-next.ensures.1 in
+    let p = err_from_is_err_and c.from_residual-in_err-go_on.result
+    c.from_residual-in_err-go_on.ensures.1 in
     rw (p.1, p.2) (λ refusal is.
-    let cause : c.in_err-next.field-0.0 ≡ Scan refusal = cc in
+    let cause : c.in_err-go_on.field-0.0 ≡ Scan refusal = cc in
     scan_refused c.args.bytes.now c.headers.heads.items c.headers.head all c.headers.invariant
-    refusal (c.in_err-next.ensures.scan refusal (ap (λ error. Err error) cause)))
+    refusal (c.in_err-go_on.ensures.scan refusal (ap (λ error. Err error) cause)))
 
 pub headers-smaller : goal.headers-smaller
 headers-smaller c =
@@ -54,7 +54,7 @@ headers-smaller c =
     are_bytes c.args.bytes.now (λ i. let h = c.type_inv.bytes i in search rules) in
     let few = few_before c.args.bytes.now c.headers.heads.items c.headers.head all
     c.headers.invariant in
-    let long = ap (λ (l : List Head). length l) c.in_ok-push.ensures.items
+    let long = ap (λ (l : List Head). length l) c.in_ok-keep.ensures
     ∙ one_longer c.headers.heads.items c.headers.head in
     omega (arith, few, long)
 
@@ -63,10 +63,10 @@ headers-preserved c =
     let all : AllByRecursion IsByte c.args.bytes.now =
     are_bytes c.args.bytes.now (λ i. let h = c.type_inv.bytes i in search rules) in
     let more = sym c.is_last.ensures ∙ c.headers-test.true in
-    subst (λ (l : List Head). AreBefore c.args.bytes.now l c.in_ok-next.next)
-    (sym c.in_ok-push.ensures.items)
+    subst (λ (l : List Head). AreBefore c.args.bytes.now l c.go_on.new.head)
+    (sym c.in_ok-keep.ensures)
     (before_next c.args.bytes.now c.headers.heads.items c.headers.head all c.headers.invariant
-    c.in_ok-next.next more c.in_ok-next.ensures.next)
+    c.go_on.new.head more c.in_ok-go_on.ensures.next)
 
 pub returns-clause-heads : goal.returns-clause-heads
 returns-clause-heads c =
@@ -74,5 +74,5 @@ returns-clause-heads c =
     are_bytes c.args.bytes.now (λ i. let h = c.type_inv.bytes i in search rules) in
     let last : is_last c.headers.head.plan ≡ true =
     sym c.is_last.ensures ∙ c.headers-test.false in
-    subst (AreHeads opening_walk c.args.bytes.now) (sym c.in_ok-push-2.ensures.items)
+    subst (AreHeads opening_walk c.args.bytes.now) (sym c.in_ok-keep-2.ensures)
     (heads_are c.args.bytes.now c.headers.heads.items c.headers.head all c.headers.invariant last)

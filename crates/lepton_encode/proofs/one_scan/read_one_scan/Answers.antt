@@ -17,13 +17,13 @@ returns-then-is_last-clause-accepted c =
     let bytes = c.args.bytes.now in
     let all : AllByRecursion IsByte bytes =
     are_bytes bytes (λ i. let h = c.type_inv.bytes i in search rules) in
-    several_is_one bytes c.in_ok-plan.plan all c.in_ok-plan.ensures.accepted
+    several_is_one bytes c.in-Ok.plan all c.in-Ok.ensures.accepted
     (sym c.is_last.ensures ∙ c.if-is_last.true)
 
 pub returns-in_err-heads-clause-header : goal.returns-in_err-heads-clause-header
 returns-in_err-heads-clause-header c =
-    let p = err_from_is_err_and c.from_residual-in_err-heads.result
-    c.from_residual-in_err-heads.ensures.1 in
+    let p = err_from_is_err_and c.from_residual.result
+    c.from_residual.ensures.1 in
     rw (p.1, p.2) (λ refusal is.
     let header : as_one_scan_error c.in_err-heads.field-0.0 ≡ Header refusal = cc in
     c.in_err-heads.ensures.header refusal
@@ -31,8 +31,8 @@ returns-in_err-heads-clause-header c =
 
 pub returns-in_err-heads-clause-scan : goal.returns-in_err-heads-clause-scan
 returns-in_err-heads-clause-scan c =
-    let p = err_from_is_err_and c.from_residual-in_err-heads.result
-    c.from_residual-in_err-heads.ensures.1 in
+    let p = err_from_is_err_and c.from_residual.result
+    c.from_residual.ensures.1 in
     rw (p.1, p.2) (λ refusal is.
     let scan : as_one_scan_error c.in_err-heads.field-0.0 ≡ Scan refusal = cc in
     c.in_err-heads.ensures.scan refusal

@@ -12,17 +12,17 @@ encode_one-requires-clause-accepted g c κs within =
     let bytes = c.args.bytes.now in
     let all : AllByRecursion IsByte bytes =
     are_bytes bytes (λ i. let h = c.type_inv.bytes i in search rules) in
-    several_is_one bytes c.in_ok-plan.plan all c.in_ok-plan.ensures.accepted
+    several_is_one bytes c.in-Ok.plan all c.in-Ok.ensures.accepted
     (sym c.is_last.ensures ∙ c.if-is_last.true)
 
 pub returns-then-is_last-clause-scan : goal.returns-then-is_last-clause-scan
 returns-then-is_last-clause-scan g c =
-    let plan = c.in_ok-plan.plan in
+    let plan = c.in-Ok.plan in
     λ refusal is. record {
       before = [];
       stops = (
         plan,
-        c.in_ok-plan.ensures.accepted,
+        c.in-Ok.ensures.accepted,
         subst (λ n. Refuses (shape_of plan) c.args.bytes.now n refusal)
             (sym (zero-add plan.header_length)) (c.encode_one.ensures.scan refusal is),
       );

@@ -1,6 +1,6 @@
 use Rattle.std.proofs.Common.{rules, ap, sym, subst, Err}
 use Rattle.bool_coder.proofs.FirstBits.{all_bytes}
-use Rattle.lepton_decode.specs.declared.ready.PrepareError.{PrepareError}
+use Rattle.scans_format.specs.declared.error.ReadError.{ReadError}
 use Rattle.command_words.specs.declared.command.Command.TheVariants.{Decode}
 use Rattle.lepton_run.specs.CommandEnds.{CarriedOut}
 use Rattle.lepton_run.specs.declared.ending.Ending.{Ending}
@@ -13,7 +13,7 @@ returns-in-Err-Box-clause-ending g c =
     c.args.bytes.now (all_bytes c.args.bytes.now (λ i. search rules)) c.args.workers
     c.in-Err-Box.refusal c.requires.short
     (c.in-Err-Box.ensures.refused c.in-Err-Box.refusal
-    (ap (λ (error : PrepareError). Err error) c.in-Err-Box.field-0-is))
+    (ap (λ (error : ReadError). Err error) c.in-Err-Box.field-0-is))
 
 pub returns-clause-ending : goal.returns-clause-ending
 returns-clause-ending g c =

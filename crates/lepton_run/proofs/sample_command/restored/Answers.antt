@@ -1,5 +1,5 @@
 use Rattle.std.proofs.Common.{ap, Err}
-use Rattle.lepton_decode.specs.declared.ready.PrepareError.{PrepareError}
+use Rattle.scans_format.specs.declared.error.ReadError.{ReadError}
 use Rattle.lepton_run.proofs.SamplesCoded.{box_is_taken, decoded_whole, never_fails}
 use Rattle.lepton_run.proofs.sample_command.restored.Goals as goal
 
@@ -7,7 +7,7 @@ pub unreachable-requires : goal.unreachable-requires
 unreachable-requires g c =
     box_is_taken c.args.made.now c.args.file.now c.in-Err-Box.field-0-0 c.requires.container
     (c.in-Err-Box.ensures.refused c.in-Err-Box.field-0-0
-    (ap (λ (error : PrepareError). Err error) c.in-Err-Box.field-0-is))
+    (ap (λ (error : ReadError). Err error) c.in-Err-Box.field-0-is))
 
 pub unreachable-requires-in-Err : goal.unreachable-requires-in-Err
 unreachable-requires-in-Err g c =

@@ -16,12 +16,12 @@ of_one-requires-clause-passes c =
     (sym c.plan.ensures.value)
     (box_passed c.in-Ok.view.plan c.in-Ok.view.parts c.args.bytes.now c.in-Ok.ensures.taken)
 
-pub returns-in-Ok-clause-taken : goal.returns-in-Ok-clause-taken
-returns-in-Ok-clause-taken c =
+pub returns-in_ok-file-in-Ok-clause-taken : goal.returns-in_ok-file-in-Ok-clause-taken
+returns-in_ok-file-in-Ok-clause-taken c =
     let view = c.in-Ok.view in
     let taken = c.in-Ok.ensures.taken in (
       view,
-      c.of_one.ensures
+      c.in_ok-file-in-Ok.ensures
           ∙ one_viewed_is view.plan c.plan.result.now view.parts c.args.bytes.now taken
           c.plan.ensures.value,
       taken,

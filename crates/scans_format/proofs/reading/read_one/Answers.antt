@@ -14,10 +14,10 @@ of_one-requires-clause-passes c =
     (sym c.plan.ensures.value)
     (box_passed c.in-Ok.view.plan c.in-Ok.view.parts c.args.bytes.now c.in-Ok.ensures.taken)
 
-pub returns-in-Ok-clause-taken : goal.returns-in-Ok-clause-taken
-returns-in-Ok-clause-taken c =
+pub returns-in_ok-file-in-Ok-clause-taken : goal.returns-in_ok-file-in-Ok-clause-taken
+returns-in_ok-file-in-Ok-clause-taken c =
     let bytes = c.args.bytes.now in
-    subst (λ (scans : List BoxSeen). IsContainer scans bytes) (sym c.of_one.ensures)
+    subst (λ (scans : List BoxSeen). IsContainer scans bytes) (sym c.in_ok-file-in-Ok.ensures)
     (one_taken c.plan.result.now bytes
     (all_of bytes (λ i. let h = c.type_inv.bytes i in search rules)) c.requires
     (subst (λ (plan : PlanFields). PassesChecks decoded plan bytes) (sym c.plan.ensures.value)

@@ -10,7 +10,7 @@ use Rattle.scans_format.proofs.view.FileView.of_several.Goals as goal
 pub invariant_of-result : goal.invariant_of-result
 invariant_of-result c =
     let bytes = c.args.bytes.now in
-    let plans = c.args.plans in
+    let plans = c.args.plans.items in
     let are = all_of bytes (λ i. let h = c.type_inv.bytes i in search rules) in
     let viewed = several_viewed (take (scans_in bytes) plans) bytes are c.requires.several
     c.requires.passes in
@@ -22,7 +22,7 @@ invariant_of-result c =
       is = subst (λ (n : ℕ). IsContainer (boxes_of (take n plans) (raws_in bytes)) bytes) (sym count)
           viewed.0;
       passed = subst (λ (n : ℕ). HavePassed (take n plans) bytes) (sym count) viewed.1;
-      room = search rules;
+      room = c.requires.four;
       some = omega (arith, count, low);
       few = omega (arith, count, high);
     }

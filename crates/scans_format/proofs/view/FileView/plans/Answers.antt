@@ -1,4 +1,5 @@
 use Rattle.std.proofs.Common.{ℕ, List, map, take, sym, ap, ◌∙◌}
+use Rattle.jpeg_marker.specs.Plans.{PlanFields}
 use Rattle.box_format.specs.Parts.{BoxSeen}
 use Rattle.scans_format.proofs.FilesViewed.{plans_back}
 use Rattle.scans_format.proofs.view.FileView.plans.Goals as goal
@@ -6,6 +7,7 @@ use Rattle.scans_format.proofs.view.FileView.plans.Goals as goal
 pub returns : goal.returns
 returns c =
     let i = c.self.inside in
-    ap (λ (n : ℕ). take n i.plans) c.from.ensures
-    ∙ sym (plans_back (take i.count i.plans) i.bytes.now c.self.invariant.passed)
+    ap (λ (l : List PlanFields). take c.from.result l) c.deref.ensures.value
+    ∙ ap (λ (n : ℕ). take n i.plans.items) c.from.ensures
+    ∙ sym (plans_back (take i.count i.plans.items) i.bytes.now c.self.invariant.passed)
     ∙ ap (λ (l : List BoxSeen). map (λ (s : BoxSeen). s.plan) l) c.self.view_is

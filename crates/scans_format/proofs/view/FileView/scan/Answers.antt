@@ -7,7 +7,7 @@ use Rattle.scans_format.proofs.view.FileView.scan.Goals as goal
 pub scan_view-requires-clause-whole : goal.scan_view-requires-clause-whole
 scan_view-requires-clause-whole c =
     let i = c.self.inside in
-    let plans = take i.count i.plans in
+    let plans = take i.count i.plans.items in
     (scan_at plans i.bytes.now c.args.scan c.index-plans-from.result
     (sym c.names_several.ensures ∙ c.if-names_several.true) c.self.invariant.passed
     c.self.invariant.is (plan_got plans i.bytes.now c.args.self.now c.plans.result.now c.args.scan
@@ -17,7 +17,7 @@ scan_view-requires-clause-whole c =
 pub scan_view-requires-clause-scan : goal.scan_view-requires-clause-scan
 scan_view-requires-clause-scan c =
     let i = c.self.inside in
-    let plans = take i.count i.plans in
+    let plans = take i.count i.plans.items in
     (scan_at plans i.bytes.now c.args.scan c.index-plans-from.result
     (sym c.names_several.ensures ∙ c.if-names_several.true) c.self.invariant.passed
     c.self.invariant.is (plan_got plans i.bytes.now c.args.self.now c.plans.result.now c.args.scan
@@ -27,7 +27,7 @@ scan_view-requires-clause-scan c =
 pub scan_view-requires-clause-is : goal.scan_view-requires-clause-is
 scan_view-requires-clause-is c =
     let i = c.self.inside in
-    let plans = take i.count i.plans in
+    let plans = take i.count i.plans.items in
     (scan_at plans i.bytes.now c.args.scan c.index-plans-from.result
     (sym c.names_several.ensures ∙ c.if-names_several.true) c.self.invariant.passed
     c.self.invariant.is (plan_got plans i.bytes.now c.args.self.now c.plans.result.now c.args.scan
@@ -37,7 +37,7 @@ scan_view-requires-clause-is c =
 pub returns-then-names_several : goal.returns-then-names_several
 returns-then-names_several c =
     let i = c.self.inside in
-    let plans = take i.count i.plans in
+    let plans = take i.count i.plans.items in
     ap (λ (l : List BoxSeen). slice_get l c.args.scan) (sym c.self.view_is)
     ∙ (scan_at plans i.bytes.now c.args.scan c.index-plans-from.result
     (sym c.names_several.ensures ∙ c.if-names_several.true) c.self.invariant.passed
@@ -49,7 +49,7 @@ returns-then-names_several c =
 pub of_bytes-requires : goal.of_bytes-requires
 of_bytes-requires c =
     let i = c.self.inside in
-    let plans = take i.count i.plans in
+    let plans = take i.count i.plans.items in
     (one_at plans i.bytes.now c.args.scan c.index-plans-from.result
     (sym c.names_several.ensures ∙ c.if-names_several.false) c.self.invariant.passed
     (plan_got plans i.bytes.now c.args.self.now c.plans.result.now c.args.scan
@@ -59,7 +59,7 @@ of_bytes-requires c =
 pub returns-else-names_several : goal.returns-else-names_several
 returns-else-names_several c =
     let i = c.self.inside in
-    let plans = take i.count i.plans in
+    let plans = take i.count i.plans.items in
     ap (λ (l : List BoxSeen). slice_get l c.args.scan) (sym c.self.view_is)
     ∙ (one_at plans i.bytes.now c.args.scan c.index-plans-from.result
     (sym c.names_several.ensures ∙ c.if-names_several.false) c.self.invariant.passed

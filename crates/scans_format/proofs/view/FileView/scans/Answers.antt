@@ -9,7 +9,7 @@ returns-clause-count c =
     let i = c.self.inside in
     let few = c.self.invariant.few in
     let room = c.self.invariant.room in
-    count_is i.plans i.bytes.now c.args.self.now i.count c.self.invariant.passed c.self.view_is
+    count_is i.plans.items i.bytes.now c.args.self.now i.count c.self.invariant.passed c.self.view_is
     (omega (arith, few, room))
 
 pub returns-clause-sound : goal.returns-clause-sound

@@ -7,7 +7,7 @@ scan-requires c =
     let i = c.self.inside in
     let few = c.self.invariant.few in
     let room = c.self.invariant.room in
-    let count = count_is i.plans i.bytes.now c.args.self.now i.count c.self.invariant.passed
+    let count = count_is i.plans.items i.bytes.now c.args.self.now i.count c.self.invariant.passed
     c.self.view_is (omega (arith, few, room)) in
     omega (arith, count)
 
@@ -23,7 +23,7 @@ returns-clause-count c =
     let i = c.self.inside in
     let few = c.self.invariant.few in
     let room = c.self.invariant.room in
-    let count = count_is i.plans i.bytes.now c.args.self.now i.count c.self.invariant.passed
+    let count = count_is i.plans.items i.bytes.now c.args.self.now i.count c.self.invariant.passed
     c.self.view_is (omega (arith, few, room)) in
     let past = c.loop-scan-test.false in
     let end = segments_end c.args.self.now c.loop-scan.scan (omega (arith, count, past)) in

@@ -10,7 +10,7 @@ scan-last-requires c =
     let few = c.self.invariant.few in
     let some = c.self.invariant.some in
     let room = c.self.invariant.room in
-    let count = count_is i.plans i.bytes.now c.args.self.now i.count c.self.invariant.passed
+    let count = count_is i.plans.items i.bytes.now c.args.self.now i.count c.self.invariant.passed
     c.self.view_is (omega (arith, few, room)) in
     omega (arith, count, some)
 
@@ -20,7 +20,7 @@ returns-clause-bytes c =
     let few = c.self.invariant.few in
     let some = c.self.invariant.some in
     let room = c.self.invariant.room in
-    let count = count_is i.plans i.bytes.now c.args.self.now i.count c.self.invariant.passed
+    let count = count_is i.plans.items i.bytes.now c.args.self.now i.count c.self.invariant.passed
     c.self.view_is (omega (arith, few, room)) in
     c.trailer.ensures.bytes
     ∙ trailer_is c.args.self.now i.bytes.now (i.count - 1) c.scan-last.result

@@ -8,7 +8,7 @@ use Rattle.lepton_encode.specs.Errors.{error_of}
 use Rattle.lepton_encode.proofs.FaultsFound.{scan_found}
 use Rattle.lepton_encode.proofs.FilesAt.{are_bytes}
 use Rattle.lepton_encode.proofs.HeadsFound.{can, can_next, follows}
-use Rattle.lepton_encode.proofs.heads.next_head.Goals as goal
+use Rattle.lepton_encode.proofs.heads.go_on.Goals as goal
 
 pub find_starts-requires-clause-plan : goal.find_starts-requires-clause-plan
 find_starts-requires-clause-plan c =
@@ -24,20 +24,20 @@ returns-in_err-starts-clause-scan c =
     let cause = ap (λ error. Err error) (scan_found c.in_err-starts.field-0.0 refusal scan) in
     c.in_err-starts.ensures.refused refusal cause)
 
-pub at-requires : goal.at-requires
-at-requires c =
+pub at-head-requires : goal.at-head-requires
+at-head-requires c =
     let all : AllByRecursion IsByte c.args.bytes.now =
     are_bytes c.args.bytes.now (λ i. let h = c.type_inv.bytes i in search rules) in
     let within = (can_next c.requires.head.0 c.args.bytes.now c.args.head.now all c.requires.head.1 1
     c.in_ok-starts.starts c.in_ok-starts.ensures.starts c.trailer-place.result
-    c.trailer-place.ensures c.in_ok-plan.plan c.in_ok-plan.ensures.accepted).within in
+    c.trailer-place.ensures c.in-Ok.plan c.in-Ok.ensures.accepted).within in
     let short = c.requires.length in
     omega (arith, within, short)
 
-pub returns-clause-next : goal.returns-clause-next
-returns-clause-next c =
+pub returns-in-Ok-clause-next : goal.returns-in-Ok-clause-next
+returns-in-Ok-clause-next c =
     let all : AllByRecursion IsByte c.args.bytes.now =
     are_bytes c.args.bytes.now (λ i. let h = c.type_inv.bytes i in search rules) in
     follows c.requires.head.0 c.args.bytes.now c.args.head.now all c.requires.head.1 1
     c.in_ok-starts.starts c.in_ok-starts.ensures.starts c.trailer-place.result
-    c.trailer-place.ensures c.in_ok-plan.plan c.in_ok-plan.ensures.accepted c.at.result c.at.ensures
+    c.trailer-place.ensures c.in-Ok.plan c.in-Ok.ensures.accepted c.at-head.result c.at-head.ensures

@@ -2,7 +2,7 @@ use Rattle.std.proofs.Common.{◌≡◌, ◌-◌, ◌++◌}
 use Rattle.scans_format.specs.Scans.{all_plans, segment_count}
 use Rattle.scans_spec.specs.ScansJoined.{first_header}
 use Rattle.photo_blob.specs.Showing.{bytes_from}
-use Rattle.photo_blob.proofs.show.show_container.Given as goal
+use Rattle.photo_blob.proofs.show.show_view.Given as goal
 
 abbrev pub invariant-loop-segment : goal.invariant-loop-segment
 invariant-loop-segment l = record {
