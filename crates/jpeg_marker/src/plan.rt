@@ -4,6 +4,7 @@ use crate::definitions::Definitions;
 use crate::frame::Frame;
 use crate::grid::{across, blocks_in_mcu, down};
 use crate::parameters::FrameComponent;
+use crate::refusal::HeaderRefusal;
 use std::marker::Model;
 
 // The most blocks of all scans of a file (own).
@@ -41,13 +42,14 @@ impl Model for Plan {
 }
 
 impl Plan {
-    ghost use Rattle.std.specs.Prelude.{◌≡◌, ◌↔◌, ◌<◌, ◌≤◌, ◌^◌, ◌+◌, ◌-◌, ◌*◌, ◌++◌, length, take, map, replicate, IsSome, IfSome};
+    ghost use Rattle.std.specs.Prelude.{◌≡◌, ◌↔◌, ◌<◌, ◌≤◌, ◌^◌, ◌+◌, ◌-◌, ◌*◌, ◌++◌, length, take, map, replicate, IfOk, IfSome, Some};
     ghost use Rattle.jpeg_marker.specs.Frames.{IsFrame};
-    ghost use Rattle.jpeg_marker.specs.Plans.{IsPlan, IsChoice, parts_at, part_of, plan_at, plan_with, most_blocks, blocks_of, are_all_coded};
+    ghost use Rattle.jpeg_marker.specs.Plans.{IsPlan, IsChoice, parts_at, part_of, plan_at, plan_fault, plan_with, most_blocks, blocks_of, are_all_coded};
     ghost use Rattle.jpeg_marker.specs.Components.{no_component};
+    ghost use Rattle.jpeg_marker.specs.HeaderRefusals.{fault_in};
 
-    /// The plan of a scan of these components of the frame, after what is known, unless it has too many blocks with
-    /// those of the scans before.
+    /// The plan of a scan of these components of the frame, after what is known. It is refused if it has too many blocks
+    /// with those of the scans before.
     #[inline(never)]
     pub(crate) fn new(
         known: &Definitions,
@@ -56,7 +58,7 @@ impl Plan {
         parts: &[FrameComponent],
         components: [Component; 4],
         header_length: usize,
-    ) -> Option<Plan>
+    ) -> Result<Plan, HeaderRefusal>
         requires frame { IsFrame frame.now }
         requires choice { IsChoice frame.now.parts indexes.now }
         requires chosen { parts.now ≡ parts_at frame.now.parts indexes.now }
@@ -65,9 +67,9 @@ impl Plan {
         requires blank { components
             ≡ take (length parts.now) components
             ++ replicate (4 - length parts.now) no_component }
-        ensures some { IsSome result
-            ↔ (known.now.blocks + blocks_of frame.now parts.now ≤ most_blocks) }
-        ensures value { IfSome result (λ plan. plan
+        ensures fault { fault_in result
+            ≡ plan_fault known.now.blocks frame.now (Some (take (length parts.now) components)) }
+        ensures value { IfOk result (λ plan. plan
             ≡ plan_with known.now frame.now header_length (take (length parts.now) components)) }
     {
         let count = parts.len();
@@ -75,12 +77,12 @@ impl Plan {
         let down = down(frame, parts);
         let blocks = across * down * blocks_in_mcu(parts);
         if blocks > MOST_BLOCKS || known.blocks > MOST_BLOCKS - blocks {
-            return None;
+            return Err(HeaderRefusal::TooManyBlocks);
         }
         let mut after = *known;
         after.coded = coded_after(&known.coded, indexes);
         after.blocks += blocks;
-        Some(Plan {
+        Ok(Plan {
             components,
             count,
             across,

@@ -44,17 +44,14 @@ pub(crate) fn read_scan(
     ) else {
         return Err(HeaderRefusal::NoTable);
     };
-    match Plan::new(
+    Plan::new(
         known,
         frame,
         &indexes[..count],
         &parts[..count],
         components,
         header_length,
-    ) {
-        Some(plan) => Ok(plan),
-        None => Err(HeaderRefusal::TooManyBlocks),
-    }
+    )
 }
 
 // Checks that the scan has some of the frame's components in the frame's order, and none that a scan before had. Gives
