@@ -1,4 +1,5 @@
 mod CodedParts
+mod FewLanes
 mod LanesMade
 mod NewLanes
 mod PartsKept

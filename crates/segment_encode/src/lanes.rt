@@ -1,10 +1,11 @@
 // Segments in lanes, each of which one thread codes.
-ghost use Rattle.std.specs.Prelude.{◌≡◌, ◌+◌, ◌^◌, ◌<◌, ◌≤◌, ◌++◌, ◌∷◌, [], List, ℕ, All, IfOk, OnOk, IsErrOf, Some, None, length, map, take, vec_capacity, vec_len};
+ghost use Rattle.std.specs.Prelude.{◌≡◌, ◌+◌, ◌*◌, ◌^◌, ◌<◌, ◌≤◌, ◌++◌, ◌∷◌, [], List, ℕ, All, IfOk, OnOk, IsErrOf, Some, None, length, map, take, vec_capacity, vec_len};
+ghost use Rattle.std.specs.Mem.{type_size};
 ghost use Rattle.scan_spec.specs.declared.refusal.ScanRefusal.{ScanRefusal};
 ghost use Rattle.segment_code.specs.declared.error.ScanError.TheVariants.{Scan};
 ghost use Rattle.segment_code.specs.ReadyParts.{IsEncoderFor, IsReady, ReadyFields};
 ghost use Rattle.segment_code.specs.ScanPasses.{IsNoPart};
-ghost use Rattle.segment_encode.specs.Lanes.{AreMade, AreOfAFile, CanCode, IsNewLane};
+ghost use Rattle.segment_encode.specs.Lanes.{AreMade, AreOfAFile, CanCode, IsNewLane, most_lanes};
 
 use crate::tasks::Task;
 use growth::{NoMemory, push, with_capacity};
@@ -14,6 +15,19 @@ use std::alloc::Global;
 
 /// How many segments are coded at the same time at most: coding one may need 20 MiB beside its stream.
 pub(crate) const MOST_LANES: u32 = 16;
+
+// How many blocks are worth a thread: a photograph of 64 KiB has about as many.
+const WORTH_A_THREAD: u32 = 8_192;
+
+/// How many segments each lane has, of these segments of a scan of `blocks` blocks: so many that there are at most
+/// `MOST_LANES` lanes, and one lane for each `WORTH_A_THREAD` blocks.
+pub(crate) fn in_a_lane(segments: u32, blocks: u32) -> u32
+    ensures some { 0 < segments → 0 < result }
+    ensures most { segments ≤ most_lanes * result }
+{
+    let lanes = (blocks / WORTH_A_THREAD).max(1).min(MOST_LANES);
+    segments.div_ceil(lanes)
+}
 
 /// Segments that are coded one after another, with all the memory that this needs, and their streams so far. It stops
 /// at the first error, which it keeps.
@@ -103,7 +117,8 @@ fn code_parts<'a>(
 
 // Appends an item. There is room for it, so no memory is asked for.
 fn keep<T: Drop>(list: &mut Vec<T>, item: T) -> Result<(), NoMemory>
-    requires { vec_len list.old < vec_capacity list.old }
+    requires sized { 0 < type_size T.row }
+    requires room { vec_len list.old < vec_capacity list.old }
     ensures items { list.new.items ≡ list.old.items ++ item ∷ [] }
     ensures len { vec_len list.new ≡ vec_len list.old + 1 }
     ensures capacity { vec_capacity list.old ≤ vec_capacity list.new }

@@ -7,11 +7,15 @@
 //! at most 16 lanes, so at most 16 segments are coded at the same time. A lane's memory is allocated on the calling
 //! thread before the lane's thread starts; the thread asks for more only if a stream is longer than its list has room
 //! for. What a segment's stream is `segment_code` says.
+//!
+//! `encode_scan_alone` and `encode_all_alone` give the same on the calling thread: they are given no `Threads`.
 #![tactic(auto)]
 
+mod alone;
 mod lanes;
 mod relay;
 mod streams;
 mod tasks;
 
+pub use alone::{encode_all_alone, encode_scan_alone};
 pub use streams::{encode_all, encode_scan};

@@ -19,7 +19,7 @@ ghost use Rattle.segment_code.specs.declared.error.ScanError.TheVariants.{Scan};
 ghost use Rattle.segment_encode.specs.Lanes.{AreCoded, AreMade, AreOfAFile, GiveEach, IsNewLane, most_lanes, parts_in};
 ghost use Rattle.segment_encode.specs.StreamsFound.{ArePassed, AreStreams, HasPassedOn, PassRefuses};
 
-use crate::lanes::{Lane, MOST_LANES};
+use crate::lanes::{Lane, MOST_LANES, in_a_lane};
 use crate::relay::{Pass, joined, make_all};
 use crate::tasks::{Task, perform_all};
 use box_format::Chunk;
@@ -32,8 +32,9 @@ use std::thread::Threads;
 
 /// Where the segments of the scan of a plan start, which follows the bytes that the plan has as its header, and the
 /// stream of each, in order: at most `segments`, and at most as many as rows of MCUs. One pass over the scan finds the
-/// starts. The segments are coded in at most 16 lanes, one after another in each. Once the pass is through a lane, that
-/// is coded in a thread of its own, if one can be had; its memory is allocated before. The pass codes the last lane.
+/// starts. The segments are coded in lanes, one after another in each: at most 16, and one alone of a small scan. Once
+/// the pass is through a lane, that is coded in a thread of its own, if one can be had; its memory is allocated before.
+/// The pass codes the last lane.
 pub fn encode_scan<R: Threads + Sync>(
     rt: &R,
     alloc: Global,
@@ -54,7 +55,7 @@ pub fn encode_scan<R: Threads + Sync>(
 {
     let codes = PlanCodes::build(alloc, plan)?;
     let mut pass = ScanPass::start(alloc, plan, &codes, bytes, segments as u32)?;
-    let each = pass.left().div_ceil(MOST_LANES);
+    let each = in_a_lane(pass.left(), plan.blocks());
     let streams = make_all(rt, alloc, &mut pass, each)?;
     let starts = pass.end()?;
     Ok((starts, streams))
@@ -111,7 +112,7 @@ fn next_lane<'a>(pass: &mut ScanPass<'a>, alloc: Global, count: u32) -> Result<L
 
 // The streams of the segments that are left, which the pass codes itself.
 #[inline(never)]
-fn code_rest(pass: &mut ScanPass, alloc: Global) -> Result<Vec<Vec<u8>>, ScanError>
+pub(crate) fn code_rest(pass: &mut ScanPass, alloc: Global) -> Result<Vec<Vec<u8>>, ScanError>
     requires pass { IsPass pass.old }
     ensures made { IfOk result (λ streams.
         AreStreams pass.old pass.new (map (λ v. v.items) streams.items)) }
@@ -128,8 +129,9 @@ fn code_rest(pass: &mut ScanPass, alloc: Global) -> Result<Vec<Vec<u8>>, ScanErr
 }
 
 /// The stream of each of `count` segments of a file, or of a chunk's rows of it, in order, by the starts of all the
-/// file's rows. They are coded in at most 16 lanes, one after another in each, and each lane in a thread of its own if
-/// one can be had. The memory of all lanes is allocated before the first thread starts. The one error is out of memory.
+/// file's rows. They are coded in lanes, at most 16, and one alone of a small scan: one after another in each, and each
+/// lane in a thread of its own if one can be had. The memory of all lanes is allocated before the first thread starts.
+/// The one error is out of memory.
 pub fn encode_all<R: Threads + Sync>(
     rt: &R,
     alloc: Global,
@@ -161,7 +163,7 @@ pub fn encode_all<R: Threads + Sync>(
     }
 }
 
-// All segments in at most `MOST_LANES` lanes.
+// All segments in lanes.
 #[inline(never)]
 fn lanes_of<'a>(
     alloc: Global,
@@ -188,7 +190,7 @@ fn lanes_of<'a>(
         (mcus_between mcus (first_mcu (box_cut plan.now chunk count) i)
         (first_mcu (box_cut plan.now chunk count) (i + 1)))) 0 (flat_map parts_in lanes.items)) }
 {
-    let each = count.div_ceil(MOST_LANES);
+    let each = in_a_lane(count, plan.blocks());
     let mut lanes = with_capacity(alloc, MOST_LANES as usize)?;
     let mut first = 0;
     while first < count {
@@ -202,7 +204,7 @@ fn lanes_of<'a>(
 
 // The lane of `some` segments from number `first` on.
 #[inline(never)]
-fn lane_of<'a>(
+pub(crate) fn lane_of<'a>(
     alloc: Global,
     plan: &'a Plan,
     codes: &'a PlanCodes,

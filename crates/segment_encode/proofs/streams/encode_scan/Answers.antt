@@ -1,5 +1,4 @@
 use Rattle.std.proofs.Common.{arith}
-use Rattle.std.proofs.lemmas.Grind.{div_ceil_times}
 use Rattle.segment_encode.proofs.StreamsPassed.{all_passed}
 use Rattle.segment_encode.proofs.streams.encode_scan.Goals as goal
 
@@ -11,7 +10,6 @@ returns-clause-streams g c =
 
 pub make_all-requires-clause-most : goal.make_all-requires-clause-most
 make_all-requires-clause-most g c =
-    let each = c.div_ceil-each.ensures in
+    let each = c.in_a_lane-each.ensures.most in
     let left = c.left.ensures in
-    let room = (div_ceil_times c.left.result 16 (omega arith)).0 in
-    omega (arith, each, left, room)
+    omega (arith, each, left)

@@ -1,5 +1,4 @@
 use Rattle.std.proofs.Common.{◌+◌, arith}
-use Rattle.std.proofs.lemmas.Grind.{div_ceil_times}
 use Rattle.cut_spec.specs.Cuts.{first_mcu}
 use Rattle.cut_spec.specs.RowHandovers.{mcus_between}
 use Rattle.box_format.specs.Parts.{box_cut}
@@ -9,11 +8,10 @@ use Rattle.segment_encode.proofs.streams.lanes_of.Goals as goal
 
 pub loop-first-init : goal.loop-first-init
 loop-first-init c =
-    let each = c.div_ceil-each.ensures in
-    let room = (div_ceil_times c.args.count 16 (omega arith)).0 in
+    let room = c.in_a_lane-each.ensures.most in
     record {
-      so_far = no_lanes c.args.count c.div_ceil-each.result c.in_ok-lanes.lanes.items
-          c.in_ok-lanes.ensures.items (omega (arith, each, room));
+      so_far = no_lanes c.args.count c.in_a_lane-each.result c.in_ok-lanes.lanes.items
+          c.in_ok-lanes.ensures.items (omega (arith, room));
       streams = λ mcus pads file are. rw (c.in_ok-lanes.ensures.items) tt;
     }
 
@@ -24,7 +22,7 @@ loop-first-preserved c =
     let lane = c.in_ok-lane.lane in
     let so_far = c.loop-first.invariant.so_far in
     record {
-      so_far = more_lanes c.args.count c.div_ceil-each.result c.loop-first.first c.min-some.result
+      so_far = more_lanes c.args.count c.in_a_lane-each.result c.loop-first.first c.min-some.result
           lanes next lane so_far c.loop-first-test.true c.min-some.ensures c.in_ok-lane.ensures.new
           c.in_ok-lane.ensures.file c.in_ok-lane.ensures.count c.in_ok-push.ensures.items;
       streams = λ mcus pads file are.

@@ -1,0 +1,9 @@
+use Rattle.std.proofs.Common.{arith}
+use Rattle.segment_encode.proofs.FewLanes.{are_all_in}
+use Rattle.segment_encode.proofs.lanes.in_a_lane.Goals as goal
+
+pub returns-clause-most : goal.returns-clause-most
+returns-clause-most c =
+    let most = are_all_in c.args.segments c.min-lanes.result (omega arith) (omega arith) in
+    let each = c.div_ceil.ensures in
+    omega (arith, most, each)
