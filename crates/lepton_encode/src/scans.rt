@@ -17,6 +17,7 @@ ghost use Rattle.scans_spec.specs.ScansFiles.{FileIsRefused, Header, IsContainer
 ghost use Rattle.lepton_encode.specs.FileHeads.{AreHeads};
 ghost use Rattle.lepton_encode.specs.ScansMade.{AreCoded, AreWithin, HasParts, scan_made, scans_made};
 
+use crate::coders::{Alone, InThreads, ScanCoder};
 use crate::container::write_parts;
 use crate::error::EncodeError;
 use crate::heads::{Head, find_heads};
@@ -25,7 +26,6 @@ use growth::{NoMemory, push};
 use jpeg_marker::{Plan, read_first};
 use scans_format::write_scans;
 use segment_code::Starts;
-use segment_encode::encode_scan;
 use std::alloc::Global;
 use std::thread::Threads;
 
@@ -56,26 +56,63 @@ pub fn encode<R: Threads + Sync>(
     ensures scan { (refusal : ScanRefusal) → IsErrOf result (EncodeError.Scan refusal)
         → FileIsRefused bytes.now (Scan refusal) }
 {
+    encode_by(&InThreads { rt }, alloc, bytes, segments)
+}
+
+/// What `encode` gives, on the calling thread: the segments are coded one after another.
+#[inline(never)]
+pub fn encode_alone(alloc: Global, bytes: &[u8], segments: u8) -> Result<Vec<u8>, EncodeError>
+    requires length { length bytes.now < 2 ^ 32 }
+    requires some { 0 < segments }
+    requires few { segments ≤ most_segments }
+    ensures made { IfOk result (λ made. IsContainerOfFile segments made.items bytes.now) }
+    ensures header { (refusal : HeaderRefusal) → IsErrOf result (EncodeError.Header refusal)
+        → FileIsRefused bytes.now (Header refusal) }
+    ensures scan { (refusal : ScanRefusal) → IsErrOf result (EncodeError.Scan refusal)
+        → FileIsRefused bytes.now (Scan refusal) }
+{
+    encode_by(&Alone, alloc, bytes, segments)
+}
+
+// The container of a file, whose scans are coded so.
+#[inline(never)]
+fn encode_by<C: ScanCoder>(
+    coder: &C,
+    alloc: Global,
+    bytes: &[u8],
+    segments: u8,
+) -> Result<Vec<u8>, EncodeError>
+    requires coder { C.ready coder.now }
+    requires length { length bytes.now < 2 ^ 32 }
+    requires some { 0 < segments }
+    requires few { segments ≤ most_segments }
+    ensures made { IfOk result (λ made. IsContainerOfFile segments made.items bytes.now) }
+    ensures header { (refusal : HeaderRefusal) → IsErrOf result (EncodeError.Header refusal)
+        → FileIsRefused bytes.now (Header refusal) }
+    ensures scan { (refusal : ScanRefusal) → IsErrOf result (EncodeError.Scan refusal)
+        → FileIsRefused bytes.now (Scan refusal) }
+{
     let plan = match read_first(bytes) {
         Ok(plan) => plan,
         Err(refusal) => return Err(EncodeError::Header(refusal)),
     };
     if plan.is_last() {
-        encode_one(rt, alloc, bytes, &plan, segments)
+        encode_one(coder, alloc, bytes, &plan, segments)
     } else {
-        encode_several(rt, alloc, bytes, &plan, segments)
+        encode_several(coder, alloc, bytes, &plan, segments)
     }
 }
 
 // The container of a file of one scan, whose header has this plan.
 #[inline(never)]
-fn encode_one<R: Threads + Sync>(
-    rt: &R,
+fn encode_one<C: ScanCoder>(
+    coder: &C,
     alloc: Global,
     bytes: &[u8],
     plan: &Plan,
     segments: u8,
 ) -> Result<Vec<u8>, EncodeError>
+    requires coder { C.ready coder.now }
     requires accepted { Accepts bytes.now plan.now }
     requires length { length bytes.now < 2 ^ 32 }
     requires some { 0 < segments }
@@ -85,7 +122,7 @@ fn encode_one<R: Threads + Sync>(
     ensures scan { (refusal : ScanRefusal) → IsErrOf result (EncodeError.Scan refusal)
         → ScanRefuses (shape_of plan.now) bytes.now plan.now.header_length refusal }
 {
-    let (starts, streams) = encode_scan(rt, alloc, plan, bytes, segments)?;
+    let (starts, streams) = coder.code_scan(alloc, plan, bytes, segments)?;
     let streams = streams.as_slice();
     let made = write_parts(alloc, bytes, plan, &starts, None, streams)?;
     Ok(made)
@@ -93,13 +130,14 @@ fn encode_one<R: Threads + Sync>(
 
 // The container of a file of several scans, whose first header has this plan.
 #[inline(never)]
-fn encode_several<R: Threads + Sync>(
-    rt: &R,
+fn encode_several<C: ScanCoder>(
+    coder: &C,
     alloc: Global,
     bytes: &[u8],
     plan: &Plan,
     segments: u8,
 ) -> Result<Vec<u8>, EncodeError>
+    requires coder { C.ready coder.now }
     requires opens { Begins opening_walk bytes.now plan.now }
     requires more { is_last plan.now ≡ false }
     requires length { length bytes.now < 2 ^ 32 }
@@ -114,7 +152,7 @@ fn encode_several<R: Threads + Sync>(
     let heads = find_heads(alloc, bytes, plan)?;
     let heads = heads.as_slice();
     let share = share_of(segments, heads.len());
-    let coded = code_scans(rt, alloc, bytes, heads, share)?;
+    let coded = code_scans(coder, alloc, bytes, heads, share)?;
     let coded = coded.as_slice();
     let made = write_heads(alloc, bytes, heads, coded)?;
     Ok(made)
@@ -132,13 +170,14 @@ fn share_of(segments: u8, scans: usize) -> u8
 // Where the segments of each scan start, and their streams, at most `share` of them. The one refusal is a scan's, after
 // scans that are accepted.
 #[inline(never)]
-fn code_scans<R: Threads + Sync>(
-    rt: &R,
+fn code_scans<C: ScanCoder>(
+    coder: &C,
     alloc: Global,
     bytes: &[u8],
     heads: &[Head],
     share: u8,
 ) -> Result<Vec<CodedScan>, EncodeError>
+    requires coder { C.ready coder.now }
     requires heads { AreHeads opening_walk bytes.now heads.now }
     requires some { 0 < share }
     ensures coded { IfOk result (λ coded. AreCoded share bytes.now heads.now coded.items) }
@@ -148,7 +187,7 @@ fn code_scans<R: Threads + Sync>(
 {
     let mut coded = Vec::new(alloc);
     for head in heads {
-        let (starts, streams) = encode_scan(rt, alloc, &head.plan, bytes, share)?;
+        let (starts, streams) = coder.code_scan(alloc, &head.plan, bytes, share)?;
         push(&mut coded, CodedScan { starts, streams })?;
     }
     Ok(coded)

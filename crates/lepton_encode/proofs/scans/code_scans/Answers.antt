@@ -11,8 +11,8 @@ use Rattle.lepton_encode.proofs.HeadsFound.{AreLeft, can, head_of, left_next, le
 use Rattle.lepton_encode.proofs.ScansContained.{coded_all, coded_more, item_first}
 use Rattle.lepton_encode.proofs.scans.code_scans.Goals as goal
 
-pub encode_scan-requires-clause-plan : goal.encode_scan-requires-clause-plan
-encode_scan-requires-clause-plan g c κs within =
+pub code_scan-requires-clause-plan : goal.code_scan-requires-clause-plan
+code_scan-requires-clause-plan g c =
     let bytes = c.args.bytes.now in
     let i = c.loop-head.head-index in
     let h = c.head-item.result in

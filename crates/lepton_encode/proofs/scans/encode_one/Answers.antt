@@ -14,8 +14,8 @@ use Rattle.lepton_encode.proofs.FaultsFound.{scan_found}
 use Rattle.lepton_encode.proofs.FilesAt.{are_bytes, found, has_container, is_box}
 use Rattle.lepton_encode.proofs.scans.encode_one.Goals as goal
 
-pub encode_scan-requires-clause-plan : goal.encode_scan-requires-clause-plan
-encode_scan-requires-clause-plan g c κs within =
+pub code_scan-requires-clause-plan : goal.code_scan-requires-clause-plan
+code_scan-requires-clause-plan g c =
     can_scan only_walk c.args.bytes.now c.args.plan.now
     (are_bytes c.args.bytes.now (λ i. let h = c.type_inv.bytes i in search rules)) none_known
     c.requires.accepted

@@ -5,10 +5,10 @@ use Rattle.jpeg_marker.proofs.OneScans.{several_is_one}
 use Rattle.scan_spec.specs.Items.{Refuses}
 use Rattle.scan_spec.specs.Slots.{shape_of}
 use Rattle.lepton_encode.proofs.FilesAt.{are_bytes}
-use Rattle.lepton_encode.proofs.scans.encode.Goals as goal
+use Rattle.lepton_encode.proofs.scans.encode_by.Goals as goal
 
 pub encode_one-requires-clause-accepted : goal.encode_one-requires-clause-accepted
-encode_one-requires-clause-accepted g c κs within =
+encode_one-requires-clause-accepted g c =
     let bytes = c.args.bytes.now in
     let all : AllByRecursion IsByte bytes =
     are_bytes bytes (λ i. let h = c.type_inv.bytes i in search rules) in
