@@ -16,7 +16,7 @@ use growth::NoMemory;
 use jpeg_marker::Plan;
 use lepton_encode::read_one_scan;
 use segment_code::{Starts, find_rows};
-use segment_encode::encode_all;
+use segment_encode::{encode_all, encode_all_alone};
 use std::alloc::Global;
 use std::marker::Model;
 use std::thread::Threads;
@@ -119,6 +119,53 @@ impl<'a> ChunkCutter<'a> {
         Ok(Some(made))
     }
 
+    /// What `cut` gives, on the calling thread: the segments are coded one after another.
+    #[inline(never)]
+    pub fn cut_alone(
+        &self,
+        alloc: Global,
+        segments: u8,
+        size: u64,
+        index: u64,
+    ) -> Result<Option<Vec<u8>>, NoMemory>
+        requires some { 0 < segments }
+        requires few { segments ≤ (layout_of Third).most }
+        requires size { 0 < size }
+        ensures made { IfOk result (λ cut. IfSome cut
+            (λ made. IsChunkOf segments size index made.items self.now)) }
+        ensures none { IfOk result (λ cut. IfNone cut (length self.now ≤ index * size)) }
+    {
+        let Some((from, to)) = span_of(self.bytes.len(), size, index) else {
+            return Ok(None);
+        };
+        let chunk = chunk_between(&self.starts, from, to);
+        let count = u32::from(segments).min(chunk.to - chunk.from);
+        let handovers = handovers_of(alloc, &self.plan, &self.starts, chunk, count)?;
+        let streams = encode_all_alone(
+            alloc,
+            &self.plan,
+            self.bytes,
+            &self.starts,
+            Some(chunk),
+            count,
+        )?;
+        let (header, _) = self.bytes.split_at(self.plan.header_length());
+        let trailer = trailer_between(self.bytes, self.starts.trailer(), from, to);
+        let made = write_box(
+            alloc,
+            &Parts {
+                chunk: Some(chunk),
+                places: None,
+                pad: self.starts.pad(),
+                header,
+                trailer,
+                handovers: handovers.as_slice(),
+                streams: streams.as_slice(),
+            },
+        )?;
+        Ok(Some(made))
+    }
+
     /// How many chunks of `size` bytes the file has; the last one may have fewer bytes.
     pub fn chunks(&self, size: u64) -> u64
         requires { 0 < size }
@@ -164,6 +211,38 @@ pub fn cut_chunk<R: Threads + Sync>(
         Err(error) => return Err(error),
     };
     match cutter.cut(rt, alloc, segments, size, index)? {
+        Some(made) => Ok(made),
+        None => Err(CutError::NoChunk),
+    }
+}
+
+/// What `cut_chunk` gives, on the calling thread.
+#[inline(never)]
+pub fn cut_chunk_alone(
+    alloc: Global,
+    bytes: &[u8],
+    segments: u8,
+    size: u64,
+    index: u64,
+) -> Result<Vec<u8>, CutError>
+    requires length { length bytes.now < 2 ^ 32 }
+    requires some { 0 < segments }
+    requires few { segments ≤ (layout_of Third).most }
+    requires size { 0 < size }
+    ensures made { IfOk result (λ made. IsChunkOf segments size index made.items bytes.now) }
+    ensures header { (refusal : HeaderRefusal) → IsErrOf result (CutError.Header refusal)
+        → FileIsRefused bytes.now (Header refusal) }
+    ensures scan { (refusal : ScanRefusal) → IsErrOf result (CutError.Scan refusal)
+        → FileIsRefused bytes.now (Scan refusal) }
+    ensures many { IsErrOf result CutError.ManyScans → HasSeveralScans bytes.now }
+    ensures none { IsErrOf result CutError.NoChunk
+        → IsOneScanFile bytes.now × (length bytes.now ≤ index * size) }
+{
+    let cutter = match ChunkCutter::prepare(alloc, bytes) {
+        Ok(cutter) => cutter,
+        Err(error) => return Err(error),
+    };
+    match cutter.cut_alone(alloc, segments, size, index)? {
         Some(made) => Ok(made),
         None => Err(CutError::NoChunk),
     }

@@ -12,6 +12,6 @@ mod error;
 mod laws;
 mod rows;
 
-pub use cutter::{ChunkCutter, cut_chunk};
+pub use cutter::{ChunkCutter, cut_chunk, cut_chunk_alone};
 pub use error::CutError;
 pub use laws::{chunks_are_restored, rows_of_chunks};
