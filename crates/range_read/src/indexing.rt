@@ -10,7 +10,7 @@ ghost use Rattle.range_read.specs.IndexEnds.{Ends, IsIndexOf};
 ghost use Rattle.range_read.specs.Measures.{AreMeasures};
 
 use crate::error::IndexError;
-use crate::measure::{Measure, measure_all};
+use crate::measure::{Measure, measure_all, measure_in_turn};
 use crate::one_scan::OneScan;
 use box_format::{BoxView, Version, write_placed};
 use growth::{push, with_capacity};
@@ -41,6 +41,27 @@ pub fn index<R: Threads + Sync>(rt: &R, alloc: Global, bytes: &[u8]) -> Result<V
         Err(ReadError::NoMemory(short)) => return Err(IndexError::NoMemory(short)),
     };
     let measures = measure_all(rt, alloc, &scan)?;
+    let places = places_by(alloc, scan.view(), measures)?;
+    let made = write_placed(alloc, scan.view(), places.as_slice())?;
+    Ok(made)
+}
+
+/// What `index` gives, on the calling thread: the segments are decoded one after another, with the memory for one.
+#[inline(never)]
+pub fn index_alone(alloc: Global, bytes: &[u8]) -> Result<Vec<u8>, IndexError>
+    ensures made { IfOk result (λ made. IsIndexOf made.items bytes.now) }
+    ensures refused { (refusal : BoxRefusal) → IsErrOf result (IndexError.Box refusal)
+        → IsRefusedBy indexable bytes.now refusal }
+    ensures fault { (fault : StreamFault) → IsErrOf result (IndexError.Fault fault)
+        → Ends bytes.now (Faulty fault) }
+    ensures spelling { IsErrOf result IndexError.PadSpelling → Ends bytes.now PadSpelled }
+{
+    let scan = match OneScan::read(alloc, bytes, &INDEXABLE) {
+        Ok(scan) => scan,
+        Err(ReadError::Box(refusal)) => return Err(IndexError::Box(refusal)),
+        Err(ReadError::NoMemory(short)) => return Err(IndexError::NoMemory(short)),
+    };
+    let measures = measure_in_turn(alloc, &scan)?;
     let places = places_by(alloc, scan.view(), measures)?;
     let made = write_placed(alloc, scan.view(), places.as_slice())?;
     Ok(made)

@@ -83,8 +83,8 @@ fn lane_of<'a>(alloc: Global, scan: &OneScan<'a>) -> Result<Lane<'a>, NoMemory>
     })
 }
 
-// The measure of one segment.
-fn measure_one<'a>(
+/// The measure of one segment.
+pub(crate) fn measure_one<'a>(
     decoder: &mut FileDecoder<'a>,
     piece: &mut Piece,
     scan: &OneScan<'a>,

@@ -6,7 +6,7 @@
 //!     range   from .. to --places--> the segments with a place in it --a crew for these alone--> window --> sink
 //!             before them the header's part, and after them the trailer's
 //!
-//!     alone   the same, each of these segments decoded on the calling thread: nothing waits
+//!     alone   both on the calling thread, segment after segment: nothing waits
 //!
 //! Which segments a range needs, and what of them goes into it, is `range_spec`'s. What a crew does is
 //! `segment_crew`'s.
@@ -27,7 +27,7 @@ mod tasks;
 
 pub use alone::{ReadyRangeAlone, prepare_range_alone, run_range_alone};
 pub use error::{IndexError, RangeError};
-pub use indexing::index;
+pub use indexing::{index, index_alone};
 pub use laws::{ranges_of_containers_are_slices, rows_of_ranges_of_containers};
 pub use reading::{Ranged, run_range};
 pub use ready::{ReadyRange, prepare_range};

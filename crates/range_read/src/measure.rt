@@ -1,15 +1,16 @@
 // How many bytes each segment of a container has, and how it ends.
-ghost use Rattle.std.specs.Prelude.{◌≡◌, ◌<◌, ◌^◌, IfOk, true};
+ghost use Rattle.std.specs.Prelude.{◌≡◌, ◌<◌, ◌^◌, ◌∷◌, ◌++◌, [], IfOk, OnOk, true};
+ghost use Rattle.std.specs.Mem.{type_size};
 ghost use Rattle.container_spec.specs.Meanings.{outputs_of};
 ghost use Rattle.container_spec.specs.Segments.{Output};
 ghost use Rattle.segment_code.specs.FileDecoding.{FileOwes, steps_left};
 ghost use Rattle.range_read.specs.Measures.{AreMeasures, IsMeasure};
 
-use crate::lanes::{MOST_AT_ONCE, Wave, lanes_of, put_wave};
+use crate::lanes::{MOST_AT_ONCE, Wave, lanes_of, measure_one, put_wave};
 use crate::one_scan::OneScan;
 use crate::tasks::perform_all;
 use bit_list::Piece;
-use growth::{NoMemory, with_capacity};
+use growth::{NoMemory, push, with_capacity};
 use handover::Outcome;
 use segment_code::{FileDecoder, Step};
 use std::alloc::Global;
@@ -46,6 +47,36 @@ pub(crate) fn measure_all<R: Threads + Sync>(
         first = first.saturating_add(MOST_AT_ONCE);
     }
     Ok(measures)
+}
+
+/// What `measure_all` gives, on the calling thread, with the memory for one segment: the first segment that ends badly
+/// is the last one that is decoded.
+pub(crate) fn measure_in_turn(alloc: Global, scan: &OneScan) -> Result<Vec<Measure>, NoMemory>
+    ensures { IfOk result (λ measures.
+        AreMeasures (outputs_of scan.now.plan scan.now.parts) measures.items) }
+{
+    let segments = scan.view().segments();
+    let mut measures = with_capacity(alloc, usize::from(segments))?;
+    let mut decoder = FileDecoder::prepare(alloc, scan.file().plans())?;
+    let mut piece = Piece::new(alloc)?;
+    for segment in 0..segments {
+        let measure = measure_one(&mut decoder, &mut piece, scan, segment);
+        let outcome = measure.outcome;
+        keep(&mut measures, &measure)?;
+        match outcome {
+            Outcome::Good { .. } => {}
+            Outcome::Bad(_) => return Ok(measures),
+        }
+    }
+    Ok(measures)
+}
+
+// Appends a copy of an item.
+fn keep<T: Copy + Drop>(list: &mut Vec<T>, item: &T) -> Result<(), NoMemory>
+    requires { 0 < type_size T.row }
+    ensures items { OnOk result (list.new.items ≡ list.old.items ++ item.now ∷ []) }
+{
+    push(list, *item)
 }
 
 // The measure of the segment that was begun: it is decoded, and its bytes are counted.
