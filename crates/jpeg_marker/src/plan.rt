@@ -48,8 +48,8 @@ impl Plan {
     ghost use Rattle.jpeg_marker.specs.Components.{no_component};
     ghost use Rattle.jpeg_marker.specs.HeaderRefusals.{fault_in};
 
-    /// The plan of a scan of these components of the frame, after what is known. It is refused if it has too many blocks
-    /// with those of the scans before.
+    /// The plan of a scan of these components of the frame, after what is known. It is refused if it has too many
+    /// blocks with those of the scans before.
     #[inline(never)]
     pub(crate) fn new(
         known: &Definitions,
