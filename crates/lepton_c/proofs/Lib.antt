@@ -1,0 +1,6 @@
+mod BackAgain
+mod Copied
+mod Made
+mod RangesAgain
+mod Told
+mod Written

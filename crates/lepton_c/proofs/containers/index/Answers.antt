@@ -1,0 +1,12 @@
+use Rattle.std.proofs.Common.{List, ℕ, subst, sym}
+use Rattle.range_read.specs.IndexEnds.{IsIndexOf}
+use Rattle.lepton_c.specs.Gives.{IndexRefuses}
+use Rattle.lepton_c.proofs.Made.{gives_made}
+use Rattle.lepton_c.proofs.containers.index.Goals as goal
+
+pub returns-in-Ok : goal.returns-in-Ok
+returns-in-Ok c =
+    let Makes : List ℕ → Type 0 = λ made. IsIndexOf made c.args.bytes.now in
+    gives_made Makes (IndexRefuses c.args.bytes.now) c.args.out.now c.put_made.new.out
+    c.as_slice.result.now c.put_made.result
+    (subst Makes (sym c.as_slice.ensures.value) c.in-Ok.ensures.made) c.put_made.ensures
