@@ -1,6 +1,6 @@
 /* Each status of each call, and what is written with it:  statuses FILE
  *
- * FILE is accepted by lepton_encode, has one scan, and is larger than its container. `statuses --old` is for an older
+ * FILE is accepted by lepton_encode and has one scan. `statuses --old` is for an older
  * processor, on which each call must return 6. The last line is 'N passed, M failed'. Statuses 5 are of no_memory.c.
  */
 #include "trial.h"
