@@ -1,8 +1,8 @@
 /* Many calls of many threads at once:  soak THREADS CALLS FILE..
  *
  * Each thread goes over the files: each call, what comes back compared, with too little room too; and a container with one bit
- * turned, which is refused or decoded to other bytes. Memory after all calls must be about that after a tenth of them. The last line
- * is 'N passed, M failed'.
+ * turned, which is refused or decoded to other bytes. The most memory after all calls must be about that after a tenth of them, but for
+ * what the largest file may take in each thread. The last line is 'N passed, M failed'.
  *
  *     cc -O2 -pthread -I include -I c/tests c/tests/soak.c liblepton.a
  */
@@ -109,7 +109,9 @@ int main(int count, char **words) {
     long early = peak_kib();
     run(threads, limit);
     long late = peak_kib();
-    int is_bounded = late <= early + early / 2 + 8192;
+    size_t largest = 0;
+    for (int i = 0; i < photo_count; i++) largest = photos[i].length > largest ? photos[i].length : largest;
+    int is_bounded = late <= early + early / 2 + 8192 + (long)(10 * largest / 1024) * threads;
     long bad = atomic_load(&wrong) + !is_bounded;
     printf("soak: %d threads, %ld calls, %ld files refused, damaged: %ld done, %ld not; at most %ld KiB after a tenth, %ld after all\n",
            threads, atomic_load(&calls), atomic_load(&refused), atomic_load(&damaged_done), atomic_load(&damaged_refused), early, late);
