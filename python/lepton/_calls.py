@@ -6,7 +6,7 @@ import operator
 from typing import Sequence, Union
 
 from ._errors import NoMemory, OldProcessor, TooLong, refusal
-from ._library import Ending, loaded
+from ._library import Ending, library
 
 Bytes = Union[bytes, bytearray, memoryview]
 
@@ -17,8 +17,6 @@ MOST_SEGMENTS = 64
 _DONE, _REFUSED, _BAD_CALL, _NO_ROOM, _NO_MEMORY, _OLD_PROCESSOR = 0, 1, 2, 4, 5, 6
 # Refusals of these numbers are the caller's, also of the calls that read a container.
 _WRONG_VERSION, _RANGE_BAD = 31, 54
-
-_library = loaded()
 
 
 def _bytes(data: Bytes) -> bytes:
@@ -56,7 +54,7 @@ def _call(name: str, first: Sequence[int], data: bytes, room: int, most: int) ->
         except MemoryError as why:
             raise NoMemory(f"{name}: {room} bytes") from why
         ending = Ending()
-        getattr(_library, name)(*first, data, len(data), out, room, ctypes.byref(ending))
+        getattr(library(), name)(*first, data, len(data), out, room, ctypes.byref(ending))
         if ending.status != _NO_ROOM:
             break
         # The room that is needed, if the call knows it.
@@ -139,7 +137,7 @@ def length(container: Bytes) -> int:
     """How many bytes `decode` gives of this container. It takes as long as `decode`, but no room. Raises Damaged."""
     data = _bytes(container)
     ending = Ending()
-    _library.lepton_length(data, len(data), ctypes.byref(ending))
+    library().lepton_length(data, len(data), ctypes.byref(ending))
     if ending.status != _DONE:
         _raise("lepton_length", ending, b"")
     return int(ending.wanted)

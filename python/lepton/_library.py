@@ -2,6 +2,7 @@
 from __future__ import annotations
 
 import ctypes
+import functools
 import os
 from pathlib import Path
 
@@ -35,17 +36,19 @@ PARAMETERS = {
 }
 
 
-def loaded() -> ctypes.CDLL:
-    """The library: the file that LEPTON_LIBRARY names, or the one beside this package, or else the one that the loader finds."""
+@functools.lru_cache(maxsize=None)
+def library() -> ctypes.CDLL:
+    """The library, loaded by the first call: the file that LEPTON_LIBRARY names, or the one beside this package, or else the one
+    that the loader finds."""
     named = os.environ.get("LEPTON_LIBRARY")
     beside = Path(__file__).with_name(NAME)
     path = named or (str(beside) if beside.exists() else NAME)
     try:
-        library = ctypes.CDLL(path)
+        found = ctypes.CDLL(path)
         for name, parameters in PARAMETERS.items():
-            function = getattr(library, name)
+            function = getattr(found, name)
             function.argtypes = parameters
             function.restype = ctypes.c_uint8
     except (OSError, AttributeError) as why:
         raise ImportError(f"lepton: {path} can't be loaded: {why}. LEPTON_LIBRARY names its file.") from why
-    return library
+    return found

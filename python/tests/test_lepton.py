@@ -184,7 +184,7 @@ def test_many_threads() -> None:
 
 
 def test_a_library_that_is_not_there() -> None:
-    command = [sys.executable, "-c", "import lepton"]
+    command = [sys.executable, "-c", "import lepton; lepton.encode(b'')"]
     for path in ("/nowhere/liblepton.so.1", "libc.so.6"):
         ran = subprocess.run(command, env={**os.environ, "LEPTON_LIBRARY": path}, stderr=subprocess.PIPE, check=False)
         assert ran.returncode == 1 and b"ImportError: lepton: " in ran.stderr and path.encode() in ran.stderr
