@@ -88,7 +88,7 @@ static void starve(struct request r, size_t room) {
                            call_names[r.call], r.length, room, r.segments, nth - 1, most - start, without);
                 break;
             }
-            int is_same = status == LEPTON_DONE && !memcmp(&ending, &ample, sizeof ending) && !memcmp(out, wanted, room);
+            int is_same = status == LEPTON_DONE && is_same_ending(ending, ample) && !memcmp(out, wanted, room);
             int is_kept = 1;
             for (size_t i = 0; i < room; i++) is_kept &= out[i] == 0x5a;
             without += is_same;

@@ -19,9 +19,7 @@ static void check(const char *what, struct request r, size_t room, struct lepton
     int rest = 1;
     for (size_t i = 0; i < 64; i++) rest &= memory_around[i] == 0x5a && out[room + i] == 0x5a;
     for (size_t i = ending.length < room ? ending.length : room; i < room; i++) rest &= out[i] == 0x5a;
-    if (status == ending.status && status == wanted.status && ending.number == wanted.number
-        && ending.inner == wanted.inner && ending.detail == wanted.detail && ending.length == wanted.length
-        && ending.wanted == wanted.wanted && rest && (!wanted.length || !memcmp(out, bytes, wanted.length))) {
+    if (status == ending.status && is_same_ending(ending, wanted) && rest && (!wanted.length || !memcmp(out, bytes, wanted.length))) {
         passed++;
     } else {
         failed++;

@@ -33,6 +33,12 @@ static inline uint8_t answer(const struct request *r, uint8_t *out, size_t room,
     }
 }
 
+/* Field by field: what is between the fields has no meaning. */
+static inline int is_same_ending(struct lepton_ending a, struct lepton_ending b) {
+    return a.status == b.status && a.number == b.number && a.inner == b.inner && a.detail == b.detail
+        && a.length == b.length && a.wanted == b.wanted;
+}
+
 static inline void *memory(size_t length) {
     void *made = malloc(length ? length : 1);
     if (!made) { fprintf(stderr, "out of memory\n"); exit(2); }
