@@ -19,8 +19,8 @@ pub(crate) const MOST_LANES: u32 = 16;
 // How many blocks are worth a thread: a photograph of 64 KiB has about as many.
 const WORTH_A_THREAD: u32 = 8_192;
 
-/// How many segments each lane has, of these segments of a scan of `blocks` blocks: so many that there are at most
-/// `MOST_LANES` lanes, and one lane for each `WORTH_A_THREAD` blocks.
+/// How many of these segments of a scan of `blocks` blocks a lane has, if there is a lane for each `WORTH_A_THREAD`
+/// blocks, but one at least and `MOST_LANES` at most.
 pub(crate) fn in_a_lane(segments: u32, blocks: u32) -> u32
     ensures some { 0 < segments → 0 < result }
     ensures most { segments ≤ most_lanes * result }
