@@ -7,8 +7,9 @@
  * Memory       The caller owns all three memories: `bytes` (read), `out` (written) and `*ending`. `out` and `*ending`
  *              overlap nothing else. `bytes` and `out` may be NULL if their length is 0, `ending` never. No length is above
  *              PTRDIFF_MAX. No pointer is kept. What a call allocates, by malloc, it frees before it returns.
- * Result       Each call fills `*ending` and returns `ending->status`. It writes the first `ending->length` bytes of
- *              `out`, with any status; the rest of `out` stays as it was.
+ * Result       Each call fills the fields of `*ending` and returns `ending->status`. It writes the first `ending->length`
+ *              bytes of `out`, with any status; the rest of `out` stays as it was. What is between the fields of an
+ *              ending has any value: compare them one by one.
  * Threads      A call works on its thread alone, and keeps no state: any number may run at once, on the same `bytes`
  *              too. Until it returns, no other thread changes `bytes`, or touches `out` or `*ending`.
  * Not allowed  in a signal handler, and in the child of a fork of a process with several threads (malloc is called).
