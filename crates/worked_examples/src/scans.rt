@@ -1,5 +1,5 @@
 // A file of two scans, encoded, read, and decoded segment by segment (docs/FORMAT.md, Version 4).
-ghost use Rattle.std.specs.Prelude.{◌≡◌, ℕ, List, true};
+ghost use Rattle.std.specs.Prelude.{◌≡◌, ◌<◌, ℕ, List, length, true};
 ghost use Rattle.handover.specs.declared.outcome.Outcome.{Outcome};
 ghost use Rattle.segment_code.specs.FileDecoding.{FileOwes};
 
@@ -9,7 +9,7 @@ use jpeg_marker::HeaderRefusal;
 use lepton_encode::{EncodeError, encode};
 use outside_core::OpenGate;
 use scan_spec::ScanRefusal;
-use scans_format::read_container;
+use scans_format::{FileView, read_container};
 use segment_code::{FileDecoder, Step};
 use std::alloc::{AllocError, Global};
 use std::process::Abort;
@@ -240,16 +240,23 @@ fn two_scans_are_decoded(rt: HostRuntime) {
     assert!(rt; found.as_slice() == file.as_slice());
 }
 
-// The file of a container, segment by segment; no bytes of none.
+// The file of a container; no bytes of none.
 fn restored(alloc: Global, bytes: &[u8]) -> Result<Vec<u8>, AllocError> {
+    match read_container(alloc, bytes) {
+        Ok(view) => file_of(alloc, &view),
+        Err(_) => Ok(Vec::new(alloc)),
+    }
+}
+
+// The file of a container's scans, segment by segment.
+fn file_of(alloc: Global, view: &FileView) -> Result<Vec<u8>, AllocError>
+    requires { 0 < length view.now }
+{
     let mut file = Vec::new(alloc);
-    let Ok(view) = read_container(alloc, bytes) else {
-        return Ok(file);
-    };
     let mut decoder = FileDecoder::prepare(alloc, view.plans())?;
     file.extend_from_slice(view.scan(0).header())?;
     for segment in 0..view.segments() {
-        decoder.begin(&view, segment);
+        decoder.begin(view, segment);
         put_segment(alloc, &mut decoder, &mut file)?;
     }
     file.extend_from_slice(view.trailer())?;

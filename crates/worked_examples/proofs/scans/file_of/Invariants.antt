@@ -1,6 +1,6 @@
 use Rattle.std.proofs.Common.{◌≡◌}
 use Rattle.scans_format.specs.Scans.{all_plans}
-use Rattle.worked_examples.proofs.scans.restored.Given as goal
+use Rattle.worked_examples.proofs.scans.file_of.Given as goal
 
 abbrev pub invariant-loop-segment : goal.invariant-loop-segment
 invariant-loop-segment l = record {
