@@ -20,7 +20,7 @@ _WRONG_VERSION, _RANGE_BAD = 31, 54
 
 
 def _bytes(data: Bytes) -> bytes:
-    return data if isinstance(data, bytes) else memoryview(data).tobytes()
+    return data if type(data) is bytes else memoryview(data).tobytes()
 
 
 def _number(value: int, first: int, last: int, what: str) -> int:
