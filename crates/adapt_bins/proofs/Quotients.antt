@@ -58,25 +58,32 @@ quotient_is n s m p pos some low high small =
 abbrev is_rounded_up : ℕ → Bool
 is_rounded_up s = nat_le unit (reciprocal s * s) && nat_le (reciprocal s * s + 1) (unit + s)
 
--- each sum of two counts has such a reciprocal
-rounded_up : (k : ℕ) → k < 509 → is_rounded_up (k + 2) ≡ true
-rounded_up k below = agree_below_at (λ k. is_rounded_up (k + 2)) (λ _. true) 509 k refl below
+-- each sum of two counts, of which one isn't 0, has such a reciprocal
+rounded_up : (k : ℕ) → k < 510 → is_rounded_up (k + 1) ≡ true
+rounded_up k below = agree_below_at (λ k. is_rounded_up (k + 1)) (λ _. true) 510 k refl below
 
 small_product : (z s : ℕ) → z * s ≤ 255 * s → s ≤ 510 → 256 * z * s ≤ unit
 small_product z s a b = grind arith
 
--- the product by the reciprocal of the sum of two counts from 1 to 255 is the quotient by the sum
-pub share_is : (zeros ones : ℕ) → 1 ≤ zeros → 1 ≤ ones → zeros ≤ 255 → ones ≤ 255
+-- the product by the reciprocal of the sum of two counts is the quotient by the sum, unless both are 0
+some_share : (zeros ones : ℕ) → 1 ≤ zeros + ones → zeros ≤ 255 → ones ≤ 255
     → 256 * zeros * reciprocal (zeros + ones) / unit ≡ 256 * zeros / (zeros + ones)
-share_is zeros ones z o zm om =
+some_share zeros ones some zm om =
     let s = zeros + ones in
-    let k : zeros + ones - 2 + 2 ≡ zeros + ones = omega arith in
-    let both : is_rounded_up (zeros + ones) ≡ true = rw k at (rounded_up (zeros + ones - 2) (omega arith)) in
+    let k : zeros + ones - 1 + 1 ≡ zeros + ones = omega arith in
+    let both : is_rounded_up (zeros + ones) ≡ true = rw k at (rounded_up (zeros + ones - 1) (omega arith)) in
     let parts = and_parts (nat_le unit (reciprocal s * s)) (nat_le (reciprocal s * s + 1) (unit + s)) both in
     let sum : zeros + ones ≤ 510 = omega arith in
     let small : 256 * zeros * s ≤ unit = small_product zeros s (mul-le-mul_right s zm) sum in
     quotient_is (256 * zeros) s (reciprocal s) unit (omega arith) (omega arith)
     (leb-true _ _ parts.0) (leb-true _ _ parts.1) small
+
+-- the product by the reciprocal of the sum of two counts is the quotient by the sum
+pub share_is : (zeros ones : ℕ) → zeros ≤ 255 → ones ≤ 255
+    → 256 * zeros * reciprocal (zeros + ones) / unit ≡ 256 * zeros / (zeros + ones)
+share_is zero zero zm om = refl
+share_is zero (suc ones) zm om = some_share zero (suc ones) (omega arith) zm om
+share_is (suc zeros) ones zm om = some_share (suc zeros) ones (omega arith) zm om
 
 -- a reciprocal is at most one
 pub reciprocal_small : (s : ℕ) → s ≤ 510 → reciprocal s ≤ unit

@@ -1,5 +1,7 @@
 pub mod Counts
+pub mod Shares
 pub mod BinInside
+pub mod BinsInside
 pub mod Reciprocals
 pub mod Events
 pub mod CountedBins

@@ -1,8 +1,10 @@
 // A bin's two counts, and tables of bins.
-ghost use Rattle.std.specs.Prelude.{◌≡◌, [], ◌+◌, ◌/◌, ◌^◌, ◌<◌, ◌≤◌, ℕ, IfOk, length, slice_set, replicate, get_or};
+ghost use Rattle.std.specs.Prelude.{◌≡◌, [], ◌+◌, ◌/◌, ◌%◌, ◌^◌, ◌<◌, ◌≤◌, ℕ, if◌then◌else◌, IfOk, length, slice_set, replicate, get_or};
 ghost use Rattle.adapt_bins.specs.Counts.{unseen, counts, seen, most_count, halved, with_room, raised, counted, prob_of};
+ghost use Rattle.adapt_bins.specs.Shares.{AreShares};
 
 use crate::reciprocals::share;
+use crate::shares::all_shares;
 use growth::{NoMemory, from_elem};
 use std::alloc::Global;
 use std::marker::Model;
@@ -15,8 +17,8 @@ const MOST_COUNT: u8 = 255;
 /// bit is 255, both are halved first, so that later bits weigh more.
 #[derive(Clone, Copy)]
 pub struct Bin {
-    zeros: u8,
-    ones: u8,
+    // The count of zeros, and 256 times that of ones.
+    both: u16,
     // The probability of a zero, kept so that it is at hand for the next bit.
     prob: u8,
 }
@@ -34,7 +36,7 @@ impl Model for Bin {
 
     ghost inverse = { inside_of };
 
-    ghost inverse_ok = { λ b h. let e = h.prob in Prim.rw e refl };
+    ghost inverse_ok = { λ b h. let k = h.both in let e = h.prob in Prim.rw k (Prim.rw e refl) };
 }
 
 impl Bin {
@@ -43,8 +45,7 @@ impl Bin {
         ensures { result ≡ unseen }
     {
         Bin {
-            zeros: 1,
-            ones: 1,
+            both: 0x101,
             prob: 128,
         }
     }
@@ -59,17 +60,53 @@ impl Bin {
     }
 
     /// Counts a bit.
-    #[inline(always)]
+    #[cold]
+    #[inline(never)]
     pub fn count(&mut self, bit: bool)
         ensures { self.new ≡ counted self.old bit }
     {
-        let (zeros, ones) = room_for(self.zeros, self.ones, bit);
+        let (zeros, ones) = parted(self.both);
+        let (zeros, ones) = room_for(zeros, ones, bit);
         let (zeros, ones) = raised(zeros, ones, bit);
         let prob = share(zeros, ones);
-        self.zeros = zeros;
-        self.ones = ones;
+        self.both = u16::from(zeros) + 256 * u16::from(ones);
         self.prob = prob;
     }
+
+    // `count`, by the shares of all counts. A share of 0 says that a count would be above 255, which is seldom; so
+    // nothing but one sum depends on the bit.
+    #[inline(always)]
+    fn count_by(&mut self, shares: &[u8], bit: bool)
+        requires { AreShares shares.now }
+        ensures { self.new ≡ counted self.old bit }
+    {
+        let both = one_more(self.both, bit);
+        let prob = shares[usize::from(both)];
+        if prob == 0 {
+            self.count(bit);
+        } else {
+            self.both = both;
+            self.prob = prob;
+        }
+    }
+}
+
+// The count of zeros, and that of ones.
+#[inline(always)]
+fn parted(both: u16) -> (u8, u8)
+    ensures zeros { result.0 ≡ both % 256 }
+    ensures ones { result.1 ≡ both / 256 }
+{
+    ((both % 256) as u8, (both / 256) as u8)
+}
+
+// Both counts after one more of a bit. A count that would be 256 is 0, and if that is the zeros' the other isn't right.
+#[inline(always)]
+fn one_more(both: u16, bit: bool) -> u16
+    ensures { result ≡ (both + (if bit then 256 else 1)) % 65536 }
+{
+    let one = if bit { 256 } else { 1 };
+    both.wrapping_add(one)
 }
 
 // Both counts, halved if that of the bit can't rise.
@@ -140,15 +177,20 @@ fn half(count: u8) -> u8
 #[derive(Drop)]
 pub struct Bins {
     table: Vec<Bin>,
+    // The shares of all counts; none if there are no bins.
+    shares: Vec<u8>,
 }
 
 impl Model for Bins {
     ghost use Rattle.std.specs.Prelude.{List};
     ghost use Rattle.adapt_bins.specs.Counts.{Counts};
+    ghost use Rattle.adapt_bins.specs.BinsInside.{HasShares};
 
     ghost Value = { List Counts };
 
     ghost view = { λ b. b.table.items };
+
+    ghost invariant = { HasShares };
 }
 
 impl Bins {
@@ -158,7 +200,8 @@ impl Bins {
         ensures { IfOk result (λ b. b ≡ replicate n unseen) }
     {
         let table = from_elem(alloc, Bin::new(), n)?;
-        Ok(Bins { table })
+        let shares = all_shares(alloc)?;
+        Ok(Bins { table, shares })
     }
 
     /// Moves the table out, and leaves one with no bins.
@@ -170,6 +213,7 @@ impl Bins {
         let alloc = *self.table.allocator();
         Bins {
             table: replace(&mut self.table, Vec::new(alloc)),
+            shares: replace(&mut self.shares, Vec::new(alloc)),
         }
     }
 
@@ -197,6 +241,6 @@ impl Bins {
         ensures { self.new
             ≡ slice_set self.old bin (counted (get_or self.old bin unseen) bit) }
     {
-        self.table[bin].count(bit);
+        self.table[bin].count_by(&self.shares, bit);
     }
 }

@@ -19,6 +19,7 @@ mod get;
 mod put;
 mod put_local;
 mod reciprocals;
+mod shares;
 
 pub use bins::{Bin, Bins};
 pub use coder::Coder;

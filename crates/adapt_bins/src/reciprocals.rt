@@ -65,15 +65,23 @@ fn reciprocal(sum: usize) -> u32
 }
 
 /// The share of the zeros in both counts, as parts of 256, rounded down: by the reciprocal of the sum, since a division
-/// takes longer.
+/// takes longer. It is 0 if both are 0.
 #[inline(always)]
 #[tactic(auto, using(crate::proofs::Quotients::share_is))]
+pub(crate) fn parts(zeros: u8, ones: u8) -> u64
+    ensures { result ≡ 256 * zeros / (zeros + ones) }
+{
+    let reciprocal = reciprocal(usize::from(zeros) + usize::from(ones));
+    (256 * u64::from(zeros) * u64::from(reciprocal)) >> UNIT_BITS
+}
+
+/// The same where neither count is 0, from 1 to 255.
+#[inline(always)]
 pub(crate) fn share(zeros: u8, ones: u8) -> u8
     requires zeros { 1 ≤ zeros }
     requires ones { 1 ≤ ones }
     ensures value { result ≡ 256 * zeros / (zeros + ones) }
     ensures some { 1 ≤ result }
 {
-    let reciprocal = reciprocal(usize::from(zeros) + usize::from(ones));
-    ((256 * u64::from(zeros) * u64::from(reciprocal)) >> UNIT_BITS) as u8
+    parts(zeros, ones) as u8
 }

@@ -1,0 +1,115 @@
+-- A bin after one bit more, by the share of its counts.
+use Rattle.std.specs.Prelude.{◌≡◌, ℕ, zero, suc, ◌+◌, ◌*◌, ◌/◌, ◌%◌, ◌<◌, ◌≤◌, ◌==◌, Bool, true, false, if◌then◌else◌, List, length, get_or, set, refl}
+use Rattle.std.proofs.Common.{inl, inr, ◌∙◌, ap, arith}
+use Rattle.std.proofs.lemmas.Bool.{cases_lt}
+use Rattle.std.proofs.lemmas.Bool.Decides.{nat_tests}
+use Rattle.std.proofs.lemmas.List.{get_or-set_same, get_or-set_other}
+use Rattle.std.proofs.lemmas.Nat.{le-div, div_below}
+use Rattle.adapt_bins.specs.Counts.{Counts, counts, halved, raised, counted, prob_of}
+use Rattle.adapt_bins.specs.Shares.{share_at}
+use Rattle.adapt_bins.specs.BinInside.{IsBin}
+use Rattle.adapt_bins.specs.declared.bins.Bin.TheInside.{Inside}
+
+-- no zeros have no share
+of_no_zeros : (ones : ℕ) → 256 * 0 / (0 + ones) % 256 ≡ 0
+of_no_zeros zero = refl
+of_no_zeros (suc ones) =
+    let none = div_below (256 * 0) (0 + suc ones) 1 (omega arith) (omega arith) in
+    omega (arith, none)
+
+-- zeros alone have all, which is 0 in a byte
+of_no_ones : (zeros : ℕ) → 1 ≤ zeros → 256 * zeros / (zeros + 0) % 256 ≡ 0
+of_no_ones zeros some =
+    let most = div_below (256 * zeros) (zeros + 0) 257 (omega arith) (omega arith) in
+    let least = le-div 256 (256 * zeros) (zeros + 0) (omega arith) (omega arith) in
+    omega (arith, most, least)
+
+-- a share that isn't 0 is of zeros
+has_zeros : (both : ℕ) → (share_at both ≡ 0 → ⊥) → 1 ≤ both % 256
+has_zeros both some = elim (cases_lt 0 (both % 256)) [
+  | inl h ↦ h
+  | inr h ↦
+      let none : both % 256 ≡ 0 = omega (arith, h) in
+      absurd (some (rw none (of_no_zeros (both / 256))))
+]
+
+-- and of ones
+has_ones : (both : ℕ) → (share_at both ≡ 0 → ⊥) → 1 ≤ both / 256
+has_ones both some = elim (cases_lt 0 (both / 256)) [
+  | inl h ↦ h
+  | inr h ↦
+      let none : both / 256 ≡ 0 = omega (arith, h) in
+      absurd (some (rw none (of_no_ones (both % 256) (has_zeros both some))))
+]
+
+-- the share of two counts of which that of ones isn't 0 is below 256
+is_share : (zeros ones : ℕ) → 1 ≤ ones → 256 * zeros / (zeros + ones) % 256 ≡ 256 * zeros / (zeros + ones)
+is_share zeros ones some =
+    let most = div_below (256 * zeros) (zeros + ones) 256 (omega arith) (omega arith) in
+    omega (arith, most)
+
+-- what isn't 0 is from 1 on
+above_zero : (n : ℕ) → (n ≡ 0 → ⊥) → 1 ≤ n
+above_zero zero some = absurd (some refl)
+above_zero (suc n) some = omega arith
+
+-- what is kept of counts whose share isn't 0
+pub is_bin : (both prob : ℕ) → prob ≡ share_at both → (prob ≡ 0 → ⊥) → IsBin (record { both = both; prob = prob })
+is_bin both prob is some =
+    let least : 1 ≤ prob = above_zero prob some in
+    let share : share_at both ≡ 0 → ⊥ = λ none. some (is ∙ none) in
+    record {
+      zeros = has_zeros both share;
+      ones = has_ones both share;
+      both = omega arith;
+      prob = is ∙ is_share (both % 256) (both / 256) (has_ones both share);
+      some = least;
+    }
+
+-- a zero more, where there is room for it
+zero_more : (zeros ones : ℕ) → (zeros == 255) ≡ false → counted (counts zeros ones) false ≡ counts (zeros + 1) ones
+zero_more zeros ones room =
+    ap (λ t. raised (if t then halved (counts zeros ones) else counts zeros ones) false) room
+
+-- a one more
+one_more : (zeros ones : ℕ) → (ones == 255) ≡ false → counted (counts zeros ones) true ≡ counts zeros (ones + 1)
+one_more zeros ones room =
+    ap (λ t. raised (if t then halved (counts zeros ones) else counts zeros ones) true) room
+
+-- the counts after a bit, if both are from 1 on in one sum
+after_bit : (old new : ℕ) (bit : Bool) → 1 ≤ old % 256 → old < 65536 → new ≡ (old + (if bit then 256 else 1)) % 65536
+    → 1 ≤ new % 256 → 1 ≤ new / 256
+    → counts (new % 256) (new / 256) ≡ counted (counts (old % 256) (old / 256)) bit
+after_bit old new true some most is zeros ones =
+    let room : old / 256 < 255 = omega (arith, some, most, is, zeros, ones) in
+    let test : (old / 256 == 255) ≡ false = grind (arith, nat_tests) in
+    let e : new % 256 ≡ old % 256 = omega (arith, some, most, is, room) in
+    let f : new / 256 ≡ old / 256 + 1 = omega (arith, some, most, is, room) in
+    rw (one_more (old % 256) (old / 256) test, e, f) refl
+after_bit old new false some most is zeros ones =
+    let room : old % 256 < 255 = omega (arith, some, most, is, zeros, ones) in
+    let test : (old % 256 == 255) ≡ false = grind (arith, nat_tests) in
+    let e : new % 256 ≡ old % 256 + 1 = omega (arith, some, most, is, room) in
+    let f : new / 256 ≡ old / 256 = omega (arith, some, most, is, room) in
+    rw (zero_more (old % 256) (old / 256) test, e, f) refl
+
+-- a bin after a bit, by a share that isn't 0
+pub counts_bit : (old new prob : ℕ) (bit : Bool) → 1 ≤ old % 256 → old < 65536
+    → new ≡ (old + (if bit then 256 else 1)) % 65536 → prob ≡ share_at new → (prob ≡ 0 → ⊥)
+    → counts (new % 256) (new / 256) ≡ counted (counts (old % 256) (old / 256)) bit
+counts_bit old new prob bit zeros most is share some =
+    let bin = is_bin new prob share some in
+    after_bit old new bit zeros most is bin.zeros bin.ones
+
+-- one entry more of a table
+pub entry_more : (table : List ℕ) (entry : ℕ → ℕ) (i x : ℕ) → i < length table → x ≡ entry i
+    → ((k : ℕ) → k < i → get_or table k 0 ≡ entry k)
+    → (k : ℕ) → k < i + 1 → get_or (set table i x) k 0 ≡ entry k
+entry_more table entry i x within is before k below = elim (cases_lt k i) [
+  | inl h ↦
+      let other : k ≡ i → ⊥ = λ same. absurd (omega (arith, same, h)) in
+      get_or-set_other table i k x 0 other ∙ before k h
+  | inr h ↦
+      let same : k ≡ i = omega (arith, h, below) in
+      rw same (get_or-set_same table i x 0 within ∙ is)
+]
