@@ -11,7 +11,7 @@ ghost use Rattle.block_code.specs.SumsAround.{AreSums};
 
 use crate::coefficients::edge_count;
 use crate::counts::code_three_bits;
-use crate::neighbours::{Neighbours, bits_of};
+use crate::neighbours::{Neighbours, bits_of, bits_of_count};
 use crate::positions::{INNER, edge_index, inner_index};
 use crate::sums::{Sums, edge_weight, inner_weight};
 use crate::values::{Band, code_values};
@@ -73,7 +73,7 @@ impl Band for InnerBand<'_> {
     #[inline(always)]
     fn bases(&self, place: usize, remain: u8) -> BinBases {
         let weight = inner_weight(self.neighbours, self.sums, inner_position(place));
-        inner_bases(self.class, place, weight, bits_of(u32::from(remain)))
+        inner_bases(self.class, place, weight, bits_of_count(remain))
     }
 }
 
@@ -176,7 +176,7 @@ impl Band for EdgeBand<'_> {
             self.column,
             place,
             weight,
-            bits_of(u32::from(remain)),
+            bits_of_count(remain),
         )
     }
 }

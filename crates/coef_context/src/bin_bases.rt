@@ -1,7 +1,7 @@
 // Where the bins of a value and of a count begin.
-ghost use Rattle.std.specs.Prelude.{◌≡◌, ℕ, ◌<◌, ◌≤◌, ◌+◌, ◌-◌};
+ghost use Rattle.std.specs.Prelude.{◌≡◌, ℕ, ◌<◌, ◌≤◌, ◌+◌, ◌-◌, ◌*◌};
 ghost use Rattle.coef_context.specs.BinNumbers.{bin_number, rows_from};
-ghost use Rattle.coef_context.specs.Runs.{bin_count, count_sizes, dc_low_bits, dc_sizes, edge_nodes, edge_remain_sizes, edge_values, inner_nodes, inner_remain_sizes, inner_values, spreads, weights};
+ghost use Rattle.coef_context.specs.Runs.{ac_sizes, bin_count, count_sizes, dc_low_bits, dc_sizes, edge_nodes, edge_remain_sizes, edge_values, inner_nodes, inner_remain_sizes, inner_values, spreads, weights};
 ghost use Rattle.coef_context.specs.declared.context.Context.TheVariants.{DcStep, EdgeCount, EdgeStep, InnerCount, InnerStep};
 ghost use Rattle.coef_context.specs.declared.context.Kind.TheVariants.{Dc, Inner};
 ghost use Rattle.coef_context.specs.ValueBins.{kind_of, value_bins};
@@ -76,6 +76,15 @@ fn low_bits_before(size: u8) -> usize
     }
 }
 
+// How many steps come before those of values of which a number with so many bits remains.
+#[inline(always)]
+fn steps_before(remain_bits: u8) -> usize
+    requires { 1 ≤ remain_bits }
+    ensures { result ≡ (remain_bits - 1) * ac_sizes }
+{
+    (remain_bits as usize - 1) * AC_SIZES
+}
+
 /// Where the bins of an inner coefficient begin, by its place from 0 to 48, its weight, and how many bits the number of
 /// those that remain has. The class is 0 for the frame's first component and 1 for the others.
 #[inline(always)]
@@ -90,10 +99,11 @@ pub fn inner_bases(class: u8, place: usize, weight: u8, remain_bits: u8) -> BinB
     ensures bases { AreBases result }
 {
     let value = class as usize * INNER_VALUES + place;
-    let remain = (value * WEIGHTS + weight as usize) * INNER_REMAIN_SIZES
-        + (remain_bits as usize - 1);
     BinBases {
-        steps: INNER_STEPS + remain * AC_SIZES,
+        steps: INNER_STEPS
+            + value * (WEIGHTS * INNER_REMAIN_SIZES * AC_SIZES)
+            + weight as usize * (INNER_REMAIN_SIZES * AC_SIZES)
+            + steps_before(remain_bits),
         signs: INNER_SIGNS + value * AC_SIZES,
         lows: INNER_LOW_BITS + value * AC_LOW_BITS,
     }
@@ -113,10 +123,11 @@ pub fn edge_bases(class: u8, column: bool, place: usize, weight: u8, remain_bits
     ensures bases { AreBases result }
 {
     let value = (class as usize * EDGES + column as usize) * EDGE_VALUES + place;
-    let remain = (value * WEIGHTS + weight as usize) * EDGE_REMAIN_SIZES
-        + (remain_bits as usize - 1);
     BinBases {
-        steps: EDGE_STEPS + remain * AC_SIZES,
+        steps: EDGE_STEPS
+            + value * (WEIGHTS * EDGE_REMAIN_SIZES * AC_SIZES)
+            + weight as usize * (EDGE_REMAIN_SIZES * AC_SIZES)
+            + steps_before(remain_bits),
         signs: EDGE_SIGNS + value * AC_SIZES,
         lows: EDGE_LOW_BITS + value * AC_LOW_BITS,
     }
