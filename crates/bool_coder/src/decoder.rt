@@ -176,7 +176,8 @@ fn fill(bytes: &[u8], fetched: usize, value: u64, bits: u32) -> (usize, u64, u32
 }
 
 // The next six bytes as a number, with zero bytes past the end. Eight are read at once, and the last two dropped.
-#[inline(always)]
+#[cold]
+#[inline(never)]
 fn next_six(bytes: &[u8], fetched: usize) -> u64
     requires within { fetched ≤ length bytes.now + 13 }
     ensures { result ≡ first_bits bytes.now (8 * fetched + 48) % 2 ^ 48 }
@@ -192,6 +193,7 @@ fn next_six(bytes: &[u8], fetched: usize) -> u64
 }
 
 // The next six bytes one by one, near the end and past it.
+#[cold]
 #[inline(never)]
 fn last_six(bytes: &[u8], fetched: usize) -> u64
     requires within { fetched ≤ length bytes.now + 13 }
