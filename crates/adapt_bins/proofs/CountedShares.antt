@@ -1,14 +1,12 @@
 -- A bin after one bit more, by the share of its counts.
-use Rattle.std.specs.Prelude.{◌≡◌, ℕ, zero, suc, ◌+◌, ◌*◌, ◌/◌, ◌%◌, ◌<◌, ◌≤◌, ◌==◌, Bool, true, false, if◌then◌else◌, List, length, get_or, set, refl}
+use Rattle.std.specs.Prelude.{◌≡◌, ℕ, zero, suc, ◌+◌, ◌*◌, ◌/◌, ◌%◌, ◌<◌, ◌≤◌, ◌==◌, Bool, true, false, if◌then◌else◌, refl}
 use Rattle.std.proofs.Common.{inl, inr, ◌∙◌, ap, arith}
 use Rattle.std.proofs.lemmas.Bool.{cases_lt}
 use Rattle.std.proofs.lemmas.Bool.Decides.{nat_tests}
-use Rattle.std.proofs.lemmas.List.{get_or-set_same, get_or-set_other}
 use Rattle.std.proofs.lemmas.Nat.{le-div, div_below}
-use Rattle.adapt_bins.specs.Counts.{Counts, counts, halved, raised, counted, prob_of}
+use Rattle.adapt_bins.specs.Counts.{counts, halved, raised, counted}
 use Rattle.adapt_bins.specs.Shares.{share_at}
 use Rattle.adapt_bins.specs.BinInside.{IsBin}
-use Rattle.adapt_bins.specs.declared.bins.Bin.TheInside.{Inside}
 
 -- no zeros have no share
 of_no_zeros : (ones : ℕ) → 256 * 0 / (0 + ones) % 256 ≡ 0
@@ -100,16 +98,3 @@ pub counts_bit : (old new prob : ℕ) (bit : Bool) → 1 ≤ old % 256 → old <
 counts_bit old new prob bit zeros most is share some =
     let bin = is_bin new prob share some in
     after_bit old new bit zeros most is bin.zeros bin.ones
-
--- one entry more of a table
-pub entry_more : (table : List ℕ) (entry : ℕ → ℕ) (i x : ℕ) → i < length table → x ≡ entry i
-    → ((k : ℕ) → k < i → get_or table k 0 ≡ entry k)
-    → (k : ℕ) → k < i + 1 → get_or (set table i x) k 0 ≡ entry k
-entry_more table entry i x within is before k below = elim (cases_lt k i) [
-  | inl h ↦
-      let other : k ≡ i → ⊥ = λ same. absurd (omega (arith, same, h)) in
-      get_or-set_other table i k x 0 other ∙ before k h
-  | inr h ↦
-      let same : k ≡ i = omega (arith, h, below) in
-      rw same (get_or-set_same table i x 0 within ∙ is)
-]
