@@ -19,13 +19,14 @@ RESTARTS = bytes.fromhex("ffdd00040001")
 SCAN = bytes.fromhex("ffda0008010100003f00")
 END = bytes.fromhex("ffd9")
 
-# One block of zeros; three, one below another, with a restart after each; the same, padded with ones, zeros and ones; and
-# seventeen, each with a DC of one more.
+# One block of zeros; three, one below another, with a restart after each; the same, padded with ones, zeros and ones;
+# seventeen, each with a DC of one more; and 24,576 of zeros, which are worth three workers.
 LEAST = START + bytes.fromhex("00080008") + LEVEL + SCAN + bytes.fromhex("3f") + END
 THREE_HEADER = START + bytes.fromhex("00180008") + LEVEL + RESTARTS + SCAN
 THREE = THREE_HEADER + bytes.fromhex("3fffd03fffd13f") + END
 PADS = THREE_HEADER + bytes.fromhex("3fffd000ffd13f") + END
 SEVENTEEN = START + bytes.fromhex("00880008") + STEPS + SCAN + bytes.fromhex("db6db6db6db6df") + END
+LARGE = START + bytes.fromhex("06000400") + LEVEL + SCAN + bytes(24_576 // 4) + END
 
 
 def built(crate="lepton", words=("encode",)):

@@ -20,4 +20,4 @@ mod ready;
 pub use alone::{ReadyAlone, prepare_alone, run_alone};
 pub use decode::run;
 pub use error::DecodeError;
-pub use ready::{Ready, ample_ring, prepare};
+pub use ready::{Ready, ample_ring, prepare, prepare_worth};

@@ -4,13 +4,14 @@ ghost use Rattle.box_format.specs.Parts.{BoxSeen};
 ghost use Rattle.box_format.specs.declared.refusal.BoxRefusal.{BoxRefusal};
 ghost use Rattle.scans_format.specs.Containers.{IsContainer, IsRefusedContainer};
 ghost use Rattle.scans_format.specs.Scans.{segment_count};
+ghost use Rattle.segment_crew.specs.Worth.{workers_worth};
 ghost use Rattle.lepton_decode.specs.Chunked.{whole};
 ghost use Rattle.lepton_decode.specs.Ends.{team_in};
 
 use box_format::BoxRefusal;
 use growth::NoMemory;
 use scans_format::{FileView, ReadError, read_container, segments_named};
-use segment_crew::Crew;
+use segment_crew::{Crew, workers_worth};
 use std::alloc::Global;
 use std::marker::Model;
 
@@ -67,6 +68,40 @@ pub fn prepare(alloc: Global, bytes: &[u8], workers: u8, ring: u32) -> Result<Re
         Ok(view) => view,
         Err(error) => return Err(error),
     };
+    let crew = crew_for(alloc, &view, workers, ring)?;
+    Ok(Ready {
+        view,
+        crew,
+        used: false,
+    })
+}
+
+/// The same, by as many workers as the container is worth, `most` at most: one for each 8,192 of its blocks, rounded
+/// down. So a small container has none.
+#[inline(never)]
+pub fn prepare_worth(
+    alloc: Global,
+    bytes: &[u8],
+    most: u8,
+    ring: u32,
+) -> Result<Ready<'_>, ReadError>
+    requires { 1 ≤ ring }
+    ensures ready { IfOk result (λ ready. IsContainer ready.scans bytes.now) }
+    ensures fresh { IfOk result (λ ready. ready.used ≡ false) }
+    ensures crew { IfOk result (λ ready.
+        is_some ready.crew ≡ nat_lt 0 (segment_count ready.scans)) }
+    ensures team { IfOk result (λ ready. length (team_in ready.crew)
+        ≡ min (workers_worth ready.scans (segment_count ready.scans) most) (segment_count ready.scans)) }
+    ensures rings { IfOk result (λ ready.
+        IfSome ready.crew (λ crew. crew.emitter.view.capacity ≡ ring)) }
+    ensures refused { (refusal : BoxRefusal) → IsErrOf result (ReadError.Box refusal)
+        → IsRefusedContainer bytes.now refusal }
+{
+    let view = match read_container(alloc, bytes) {
+        Ok(view) => view,
+        Err(why) => return Err(why),
+    };
+    let workers = workers_worth(&view, view.segments(), most);
     let crew = crew_for(alloc, &view, workers, ring)?;
     Ok(Ready {
         view,

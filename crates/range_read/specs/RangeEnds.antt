@@ -5,6 +5,7 @@ use Rattle.box_format.specs.Parts.{BoxParts, BoxSeen}
 use Rattle.output_board.specs.declared.view.WorkerView.{WorkerView}
 use Rattle.range_spec.specs.Ranges.{begun_within, segments_within}
 use Rattle.segment_crew.specs.Crews.{CrewSeen, Member}
+use Rattle.segment_crew.specs.Worth.{workers_worth}
 use Rattle.segment_worker.specs.Contents.{Stretch, stretch}
 use Rattle.segment_worker.specs.Written.{HasWritten, HasFailed}
 use Rattle.segment_worker.specs.declared.emitted.EmitStop.{EmitStop}
@@ -55,6 +56,11 @@ stretch_in ready =
 abbrev pub lone_stretch_in : LoneRangeSeen → Stretch
 lone_stretch_in ready =
     stretch_between (record { plan = ready.plan; parts = ready.parts }) ready.from ready.to
+
+-- how many workers these are worth, if there may be so many at most
+abbrev pub workers_in : RangeSeen → ℕ → ℕ
+workers_in ready most =
+    workers_worth (record { plan = ready.plan; parts = ready.parts } ∷ []) (stretch_in ready).count most
 
 -- what is seen of each worker; nothing if there is no crew
 abbrev pub team_in : Option CrewSeen → List (Member WorkerView)

@@ -30,4 +30,4 @@ pub use error::{IndexError, RangeError};
 pub use indexing::{index, index_alone};
 pub use laws::{ranges_of_containers_are_slices, rows_of_ranges_of_containers};
 pub use reading::{Ranged, run_range};
-pub use ready::{ReadyRange, prepare_range};
+pub use ready::{ReadyRange, prepare_range, prepare_range_worth};

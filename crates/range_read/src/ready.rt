@@ -6,7 +6,7 @@ ghost use Rattle.box_format.specs.Parts.{BoxParts, IsBoxOf};
 ghost use Rattle.box_format.specs.Versions.{IsRead, ranged};
 ghost use Rattle.box_format.specs.declared.refusal.BoxRefusal.{BoxRefusal};
 ghost use Rattle.segment_worker.specs.Contents.{stretch};
-ghost use Rattle.range_read.specs.RangeEnds.{stretch_in, team_in};
+ghost use Rattle.range_read.specs.RangeEnds.{stretch_in, team_in, workers_in};
 ghost use Rattle.range_read.specs.RangeMeanings.{is_bad_range};
 
 use crate::bounds::{is_bad_range, segments_within};
@@ -15,7 +15,7 @@ use crate::one_scan::OneScan;
 use box_format::Version;
 use growth::NoMemory;
 use scans_format::ReadError;
-use segment_crew::Crew;
+use segment_crew::{Crew, workers_worth};
 use std::alloc::Global;
 use std::marker::Model;
 
@@ -93,6 +93,52 @@ pub fn prepare_range(
         Err(error) => return Err(error),
     };
     let (first, past) = segments_within(scan.view(), from, to);
+    let crew = crew_for(alloc, &scan, first, past - first, workers, ring)?;
+    Ok(ReadyRange {
+        scan,
+        from,
+        to,
+        crew,
+        used: false,
+    })
+}
+
+/// The same, by as many workers as the segments with a place in the range are worth, `most` at most: one for each 8,192
+/// of their blocks, rounded down. So a small range has none.
+#[inline(never)]
+pub fn prepare_range_worth(
+    alloc: Global,
+    bytes: &[u8],
+    from: u64,
+    to: u64,
+    most: u8,
+    ring: u32,
+) -> Result<ReadyRange<'_>, RangeError>
+    requires { 1 ≤ ring }
+    ensures ready { IfOk result (λ ready. IsBoxOf ready.plan ready.parts bytes.now) }
+    ensures version { IfOk result (λ ready. IsRead ranged ready.parts.version) }
+    ensures from { IfOk result (λ ready. ready.from ≡ from) }
+    ensures to { IfOk result (λ ready. ready.to ≡ to) }
+    ensures good { IfOk result (λ ready. is_bad_range ready.parts from to ≡ false) }
+    ensures fresh { IfOk result (λ ready. ready.used ≡ false) }
+    ensures crew { IfOk result (λ ready. is_some ready.crew ≡ nat_lt 0 (stretch_in ready).count) }
+    ensures segments { IfOk result (λ ready.
+        IfSome ready.crew (λ crew. crew.segments ≡ stretch_in ready)) }
+    ensures team { IfOk result (λ ready. length (team_in ready.crew)
+        ≡ min (workers_in ready most) (stretch_in ready).count) }
+    ensures rings { IfOk result (λ ready.
+        IfSome ready.crew (λ crew. crew.emitter.view.capacity ≡ ring)) }
+    ensures refused { (refusal : BoxRefusal) → IsErrOf result (RangeError.Box refusal)
+        → IsRefusedBy ranged bytes.now refusal }
+    ensures bad { IsErrOf result RangeError.RangeBad → (plan : PlanFields) × (b : BoxParts)
+        × IsBoxOf plan b bytes.now × IsRead ranged b.version × (is_bad_range b from to ≡ true) }
+{
+    let scan = match read_ranged(alloc, bytes, from, to) {
+        Ok(scan) => scan,
+        Err(error) => return Err(error),
+    };
+    let (first, past) = segments_within(scan.view(), from, to);
+    let workers = workers_worth(scan.file(), past - first, most);
     let crew = crew_for(alloc, &scan, first, past - first, workers, ring)?;
     Ok(ReadyRange {
         scan,

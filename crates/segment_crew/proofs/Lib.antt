@@ -1,1 +1,2 @@
 mod NewTeams
+mod BlocksCounted

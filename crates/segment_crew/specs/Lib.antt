@@ -1,3 +1,4 @@
 pub mod Crews
 pub mod Teams
 pub mod CrewInside
+pub mod Worth

@@ -14,5 +14,7 @@
 mod crew;
 mod team;
 mod threads;
+mod worth;
 
 pub use crew::Crew;
+pub use worth::workers_worth;

@@ -1,8 +1,9 @@
 // A decode in which two workers must decode at the same time.
 use crate::containers::{LEVEL_SEGMENT, PADDED_WITH_ONES, Segment, container_of};
-use crate::files::{END, RESTARTS, START, joined};
+use crate::files::{END, LEVEL, RESTARTS, START, joined};
 use crate::segments::AFTER_A_MARKER;
-use crate::trial::{NONE, comes_back, run_past};
+use crate::trial::{NONE, comes_back, run_over, run_past};
+use growth::from_elem;
 use outside_core::Gate;
 use std::alloc::Global;
 use std::hint;
@@ -13,6 +14,9 @@ use std::thread::Threads;
 
 // Three blocks of zeros, one below another, each with a restart interval of its own: 84 bytes.
 const SIZE: [u8; 4] = [0, 24, 0, 8];
+
+// 1,536 by 1,024 pixels.
+const LARGE: [u8; 4] = [6, 0, 4, 0];
 
 const SCAN: [u8; 7] = [0x3f, 0xff, 0xd0, 0x3f, 0xff, 0xd1, 0x3f];
 
@@ -72,6 +76,13 @@ impl Meeting {
 
     fn ran_out(&self) -> bool {
         self.ran_out.load(Ordering::SeqCst)
+    }
+
+    // Whether a put of any segment was asked for.
+    fn any_came(&self) -> bool {
+        self.asked_first.load(Ordering::SeqCst)
+            || self.asked_second.load(Ordering::SeqCst)
+            || self.asked_third.load(Ordering::SeqCst)
     }
 
     // Whether a put of each segment was asked for, and one of segment 2 answered.
@@ -155,7 +166,7 @@ fn workers_give<R: Threads + Wait + Sync + Abort>(
     )
 }
 
-// And through the top call.
+// And through the top call, which starts a worker for each 8,192 blocks: 24,576 in three segments.
 #[test]
 fn workers_of_a_command_decode_at_the_same_time(rt: HostRuntime) {
     let meeting = Meeting::new(MANY_LOOKS);
@@ -170,9 +181,40 @@ fn command_gives<R: Threads + Wait + Sync + Abort>(
     workers: &str,
     meeting: &Meeting,
 ) -> bool {
+    let file = large_file(rt, alloc);
+    let encoded = run_over(
+        rt,
+        alloc,
+        &["encode", "--segments", "3"],
+        file.as_slice(),
+        NONE,
+    );
+    let words = ["decode", "--workers", workers];
+    run_past(rt, alloc, &words, encoded.written.as_slice(), NONE, meeting).is_done(file.as_slice())
+}
+
+// 128 by 192 blocks of zeros.
+fn large_file(rt: &impl Abort, alloc: Global) -> Vec<u8> {
+    let scan = from_elem(alloc, 0, 128 * 192 / 4).ok().expect(rt, "memory");
+    joined(rt, alloc, &[&START, &LARGE, &LEVEL, scan.as_slice(), &END])
+}
+
+// A small container has no worker through the top call.
+#[test]
+fn command_starts_no_thread_for_three_blocks(rt: HostRuntime) {
+    let meeting = Meeting::new(FEW_LOOKS);
+    assert!(rt; small_one_comes_back(&rt, rt.alloc(), &meeting));
+    assert!(rt; !meeting.any_came());
+}
+
+fn small_one_comes_back<R: Threads + Wait + Sync + Abort>(
+    rt: &R,
+    alloc: Global,
+    meeting: &Meeting,
+) -> bool {
     let file = file(rt, alloc);
     let container = container(rt, alloc);
-    let words = ["decode", "--workers", workers];
+    let words = ["decode", "--workers", "16"];
     run_past(rt, alloc, &words, container.as_slice(), NONE, meeting).is_done(file.as_slice())
 }
 

@@ -1,0 +1,45 @@
+// How many workers a container's segments are worth.
+ghost use Rattle.std.specs.Prelude.{◌≡◌, ◌≤◌, ◌^◌, ◌*◌};
+ghost use Rattle.scans_format.specs.Scans.{segment_count};
+ghost use Rattle.segment_crew.specs.Worth.{blocks_had, blocks_in, workers_worth};
+
+use box_format::{BoxView, rows_of};
+use scans_format::FileView;
+
+// How many blocks are worth a worker, as many as `segment_encode` has for each lane: a photograph of 64 KiB has about
+// as many. A thread for fewer costs more processor time than the command saves by the clock.
+const WORTH_A_WORKER: u64 = 8_192;
+
+/// How many workers are worth their threads for `count` of a container's segments, if there may be `most`: one for each
+/// 8,192 blocks, rounded down. Segments count as equally long.
+pub fn workers_worth(view: &FileView, count: u8, most: u8) -> u8
+    requires { count ≤ segment_count view.now }
+    ensures { result ≡ workers_worth view.now count most }
+{
+    let segments = u64::from(view.segments().max(1));
+    let blocks = blocks_in(view) / segments * u64::from(count);
+    (blocks / WORTH_A_WORKER).min(u64::from(most)) as u8
+}
+
+// How many blocks a container has.
+#[inline(never)]
+fn blocks_in(view: &FileView) -> u64
+    ensures value { result ≡ blocks_in view.now }
+    ensures few { result ≤ 4 * 2 ^ 56 }
+{
+    let mut blocks = 0;
+    for scan in 0..view.scans() {
+        blocks += blocks_had(&view.scan(scan));
+    }
+    blocks
+}
+
+// How many blocks it has of a scan: those of all rows of MCUs, or of the chunk's.
+fn blocks_had(scan: &BoxView) -> u64
+    ensures value { result ≡ blocks_had scan.now }
+    ensures few { result ≤ 2 ^ 56 }
+{
+    let plan = scan.plan();
+    let (from, to) = rows_of(plan, scan.chunk());
+    u64::from(plan.blocks() / plan.down()) * u64::from(to.saturating_sub(from))
+}
