@@ -3,7 +3,7 @@ use Rattle.std.proofs.Common.{◌*◌, ◌++◌, ℕ, List, [], ◌∷◌, repli
 use Rattle.jpeg_marker.specs.FirstWalks.{opening_walk}
 use Rattle.jpeg_marker.specs.HeaderPlan.{Begins}
 use Rattle.jpeg_marker.specs.MarkerSegments.{Segment}
-use Rattle.box_format.specs.BoxRows.{partial_header, partial_plan}
+use Rattle.box_format.specs.Rows.{partial_header, partial_plan}
 
 -- segments
 abbrev segment : ℕ → List ℕ → Segment

@@ -5,10 +5,10 @@ use Rattle.std.proofs.lemmas.List.{drop_more, drop_all}
 use Rattle.byteorder.specs.Endian.{big_bytes}
 use Rattle.handover.specs.Handovers.{HandoverFields, start}
 use Rattle.handover.specs.HandoverBytes.{handover_bytes}
-use Rattle.box_format.specs.Parts.{BoxParts, box_bytes, list_bytes, magic, pad_byte, place_bytes, records, with_places}
-use Rattle.box_format.specs.Versions.{version_byte}
-use Rattle.box_format.specs.declared.version.Version.TheVariants.{Fifth}
+use Rattle.box_format.specs.Parts.{BoxParts, list_bytes, magic, pad_byte, place_bytes, records, with_places}
+use Rattle.box_format.specs.Single.{box_bytes}
 use Rattle.box_format.proofs.Lists.{sum_first}
+use Rattle.box_format.proofs.SingleBytes.{nested_is}
 
 -- ---- the records
 
@@ -74,17 +74,26 @@ room_all streams i room whole past small is =
 
 -- what was written one after another
 pub placed_written : (b : BoxParts) (places list header trailer : List ℕ) (pad count k : ℕ)
-    (b0 b1 b2 b3 b4 b5 b6 b7 b8 : List ℕ) → b.chunk ≡ None → list ≡ list_bytes b.pads
+    (b0 b1 b2 b3 b4 b5 b6 b7 b8 b9 b10 : List ℕ) → b.chunk ≡ None → list ≡ list_bytes b.pads
     → header ≡ b.header → trailer ≡ b.trailer → pad ≡ pad_byte b.pads
-    → count ≡ length b.handovers → k ≡ count → b0 ≡ []
-    → b1 ≡ b0 ++ (magic ++ version_byte Fifth ∷ pad ∷ count ∷ [])
-    → b2 ≡ b1 ++ (big_bytes 4 (length header) ++ (big_bytes 4 (length trailer)
-    ++ big_bytes 4 (length list)))
-    → b3 ≡ b2 ++ place_bytes (Some places) k
-    → b4 ≡ b3 ++ records (Some places) 0 b.handovers b.streams → b5 ≡ b4 ++ list
-    → b6 ≡ b5 ++ header → b7 ≡ b6 ++ trailer → b8 ≡ b7 ++ flat_map (λ stream. stream) b.streams
-    → b8 ≡ box_bytes (with_places b places)
-unfolding box_bytes
-placed_written b places list header trailer pad count k b0 b1 b2 b3 b4 b5 b6 b7 b8 none l h t p n m
-    e0 e1 e2 e3 e4 e5 e6 e7 e8 =
-    rw (e8, e7, e6, e5, e4, e3, e2, e1, e0, m, l, h, t, p, n, none) refl
+    → count ≡ length b.handovers → k ≡ count → b0 ≡ [] → b1 ≡ b0 ++ (magic ++ 5 ∷ [])
+    → b2 ≡ b1 ++ pad ∷ [] → b3 ≡ b2 ++ count ∷ []
+    → b4 ≡ b3 ++ (big_bytes 4 (length header) ++ big_bytes 4 (length trailer)
+    ++ big_bytes 4 (length list))
+    → b5 ≡ b4 ++ place_bytes (Some places) k
+    → b6 ≡ b5 ++ records (Some places) 0 b.handovers b.streams → b7 ≡ b6 ++ list
+    → b8 ≡ b7 ++ header → b9 ≡ b8 ++ trailer → b10 ≡ b9 ++ flat_map (λ stream. stream) b.streams
+    → b10 ≡ box_bytes (with_places b places)
+placed_written b places list header trailer pad count k b0 b1 b2 b3 b4 b5 b6 b7 b8 b9 b10 none l h t
+    p n m e0 e1 e2 e3 e4 e5 e6 e7 e8 e9 e10 =
+    rw (e10, e9, e8, e7, e6, e5, e4, e3, e2, e1, e0, m, l, h, t, p, n)
+    (joined (big_bytes 4 (length b.header)) (big_bytes 4 (length b.trailer))
+    (big_bytes 4 (length (list_bytes b.pads))) (place_bytes (Some places) (length b.handovers))
+    (records (Some places) 0 b.handovers b.streams) (list_bytes b.pads) b.header b.trailer
+    (flat_map (λ stream. stream) b.streams) (pad_byte b.pads) (length b.handovers)
+    ∙ sym (nested_is (with_places b places) refl ∙ rw none refl)) where
+      joined : (h t l e r ls hd tr ss : List ℕ) (pad n : ℕ)
+          → [] ++ (magic ++ 5 ∷ []) ++ pad ∷ [] ++ n ∷ [] ++ (h ++ t ++ l) ++ e ++ r ++ ls ++ hd ++ tr
+          ++ ss
+          ≡ magic ++ 5 ∷ pad ∷ n ∷ (h ++ (t ++ (l ++ ([] ++ (e ++ (r ++ (ls ++ (hd ++ (tr ++ ss)))))))))
+      joined h t l e r ls hd tr ss pad n = simp append_assoc

@@ -1,23 +1,32 @@
--- A scan's parts in slices, each by its number; and in the slices of a container of one scan.
-use Rattle.std.proofs.Common.{◌≡◌, ◌<◌, ◌≤◌, ◌+◌, ◌-◌, ◌*◌, ◌++◌, if◌then◌else◌, ℕ, zero, suc, List, [], ◌∷◌, length, take, drop, map, get_or, refl, ap, ap₂, ◌∙◌, arith, true, nat_lt, subst, length-drop}
-use Rattle.std.specs.Prelude.{sum, Option, Some, option_map, slice_index}
+-- A scan's parts in slices, each by its number.
+use Rattle.std.proofs.Common.{get_or, take, nat_lt, ◌∙◌, ◌≤◌, Bool, ap₂, ℕ, length, arith, map, [], ap, ◌∷◌, ◌≡◌, drop, List, false, refl, true, ◌<◌, zero, ◌+◌, ◌++◌, suc, subst, ◌-◌, if◌then◌else◌}
+use Rattle.std.specs.Prelude.{sum, Some, None, option_map, slice_index}
 use Rattle.std.proofs.Math.Nat.{mul-le-mul_right}
-use Rattle.std.proofs.lemmas.List.{drop-drop, drop-take, length-take-le}
+use Rattle.std.proofs.lemmas.List.{drop-drop, drop-take}
 use Rattle.byteorder.specs.Endian.{big_number}
 use Rattle.byteorder.specs.Numbers.{big_from-take}
 use Rattle.handover.specs.Handovers.{HandoverFields}
 use Rattle.handover.specs.HandoverBytes.{handover_in}
-use Rattle.box_format.specs.Parts.{BoxParts}
-use Rattle.box_format.specs.Raws.{raw_of, parts_of, numbers, handover_from, length_from, place_from, parted, pads_in, chunk_in, scan_end, front_room, record_room, segments_in, streams_place}
-use Rattle.box_format.specs.Slices.{HasSegments, handovers_in, lengths_in, place_among, places_with}
-use Rattle.box_format.specs.Versions.{layout_of, version_in}
-use Rattle.box_format.specs.Whole.{IsWhole, header_in, list_in, trailer_in}
-use Rattle.box_format.specs.declared.chunk.Chunk.{Chunk}
+use Rattle.box_format.specs.Raws.{parted, handover_from, numbers, place_from, length_from}
+use Rattle.box_format.specs.Fields.{segments_at, place_at, end_at, places_at}
+use Rattle.box_format.specs.Slices.{places_with, lengths_in, handovers_in, place_among, HasSegments}
+use Rattle.box_format.specs.Versions.{layout_of}
 use Rattle.box_format.specs.declared.version.Version.{Version}
-use Rattle.box_format.specs.declared.version.Version.TheVariants.{First, Second, Third, Fifth}
-use Rattle.box_format.proofs.Fronts.{room_low}
+use Rattle.box_format.specs.declared.version.Version.TheVariants.{First, Second, Third, Fourth, Fifth}
 use Rattle.box_format.proofs.Lists.{length_values, value_at, part_at, sum_more, sum_part}
-use Rattle.box_format.proofs.Places.{ended, ended_any, kept, places_at}
+use Rattle.box_format.proofs.PlaceLists.{ended, ended_any}
+
+pub room_low : (v : Version) → 22 ≤ (layout_of v).room
+room_low First = omega arith
+room_low Second = omega arith
+room_low Third = omega arith
+room_low Fourth = omega arith
+room_low Fifth = omega arith
+
+pub kept : (placed : Bool) (ps : List ℕ) → placed ≡ true
+    → (if placed then Some ps else None) ≡ Some ps
+kept true ps e = refl
+kept false ps e = cc
 
 -- ---- one of them
 
@@ -170,73 +179,41 @@ lengths_same v n start bytes =
     number_from (place + 14) (place_among v n) start bytes (omega (arith, room, low))
     ∙ ap (λ (k : ℕ). big_number 8 (drop k bytes)) e)
 
-places_same : (v : Version) (n end : ℕ) (bytes : List ℕ)
-    → end ≡ (if (layout_of v).placed then scan_end bytes else 0)
-    → n ≡ segments_in bytes
-    → places_with v n (records_at v n (layout_of v).front bytes) end ≡ places_at v bytes
-places_same First n end bytes e f = refl
-places_same Second n end bytes e f = refl
-places_same Third n end bytes e f = refl
-places_same Fifth n end bytes e f =
-    rw (e, f) (ap (λ (l : List ℕ). Some (l ++ scan_end bytes ∷ []))
-    (same_values (λ i. place_from (records_at Fifth (segments_in bytes) 27 bytes) (30 * i))
-    (λ i. place_from bytes (27 + 30 * i)) 0 (segments_in bytes)
+-- the places, in a version that has them or in another
+places_sliced : (placed : Bool) (bytes : List ℕ) (f g : ℕ → ℕ) (n end at : ℕ)
+    → (placed ≡ true → map f (numbers 0 n) ≡ map g (numbers 0 n))
+    → end ≡ (if placed then at else 0)
+    → (if placed then Some (map f (numbers 0 n) ++ end ∷ []) else None)
+    ≡ (if placed then Some (map g (numbers 0 n) ++ at ∷ []) else None)
+places_sliced true bytes f g n end at same e =
+    ap₂ (λ (l : List ℕ) (k : ℕ). Some (l ++ k ∷ [])) (same refl) e
+places_sliced false bytes f g n end at same e = refl
+
+placed_low : (v : Version) → (layout_of v).placed ≡ true → 30 ≤ (layout_of v).room
+placed_low First e = cc
+placed_low Second e = cc
+placed_low Third e = cc
+placed_low Fourth e = cc
+placed_low Fifth e = omega arith
+
+pub places_same : (v : Version) (n place end : ℕ) (bytes : List ℕ)
+    → end ≡ (if (layout_of v).placed then end_at bytes place else 0)
+    → n ≡ segments_at bytes place
+    → places_with v n (records_at v n (place + (layout_of v).fields) bytes) end
+    ≡ places_at (layout_of v) bytes place
+places_same v n place end bytes e m =
+    let start = place + (layout_of v).fields in
+    places_sliced (layout_of v).placed bytes
+    (λ i. place_from (records_at v n start bytes) (place_among v i))
+    (place_at (layout_of v) bytes place) n end (end_at bytes place)
+    (λ placed. same_values (λ i. place_from (records_at v n start bytes) (place_among v i))
+    (place_at (layout_of v) bytes place) 0 n
     (λ i below.
-    let room = record_among Fifth (0 + i) (segments_in bytes) (omega arith) in
-    let e : 27 + (30 * (0 + i) + 22) ≡ 27 + 30 * (0 + i) + 22 = omega arith in
-    number_from (30 * (0 + i) + 22) (30 * segments_in bytes) 27 bytes (omega (arith, room))
-    ∙ ap (λ (k : ℕ). big_number 8 (drop k bytes)) e)))
-
--- the parts of the slices are those of the bytes
-pub parts_sliced : (bytes : List ℕ) (v : Version) (c : Option Chunk) (pad : ℕ)
-    (list header trailer : List ℕ) (n : ℕ) (records : List ℕ) (end : ℕ) (streams : List ℕ)
-    → v ≡ version_in bytes → c ≡ chunk_in bytes → pad ≡ slice_index bytes 5
-    → list ≡ list_in bytes → header ≡ header_in bytes → trailer ≡ trailer_in bytes
-    → n ≡ segments_in bytes
-    → records ≡ take (record_room bytes * segments_in bytes) (drop (front_room bytes) bytes)
-    → end ≡ (if (layout_of (version_in bytes)).placed then scan_end bytes else 0)
-    → streams ≡ drop (streams_place bytes) bytes
-    → ◌≡◌ {A = BoxParts} (record {
-      version = v;
-      chunk = c;
-      places = places_with v n records end;
-      pads = pads_in pad list;
-      header = header;
-      trailer = trailer;
-      handovers = handovers_in v n records;
-      streams = parted (lengths_in v n records) streams;
-    }) (parts_of (raw_of bytes))
-unfolding raw_of
-parts_sliced bytes v c pad list header trailer n records end streams d e f g h i j k l m =
-    let lengths = lengths_same (version_in bytes) (segments_in bytes) (front_room bytes) bytes in
-    rw (
-      d,
-      e,
-      f,
-      g,
-      h,
-      i,
-      j,
-      k,
-      m,
-      places_same (version_in bytes) (segments_in bytes) end bytes l refl,
-      handovers_same (version_in bytes) (segments_in bytes) (front_room bytes) bytes,
-      lengths,
-    ) refl
-
--- and the slices have them
-pub has_sliced : (bytes : List ℕ) (v : Version) (n : ℕ) (records streams : List ℕ)
-    → IsWhole bytes → v ≡ version_in bytes → n ≡ segments_in bytes
-    → records ≡ take (record_room bytes * segments_in bytes) (drop (front_room bytes) bytes)
-    → streams ≡ drop (streams_place bytes) bytes
-    → HasSegments v n records streams
-has_sliced bytes v n records streams whole d e f g =
-    let fields = whole.fields in
-    let ends = whole.ends in
-    let lengths = lengths_same (version_in bytes) (segments_in bytes) (front_room bytes) bytes in
-    let long = length-take-le (record_room bytes * segments_in bytes) (drop (front_room bytes) bytes)
-    (omega (arith, fields, length-drop (front_room bytes) bytes)) in
-    rw (d, e, f, g) (record {
-      each = omega (arith, long);
-      all = rw lengths (omega (arith, ends, length-drop (streams_place bytes) bytes));
-    })
+    let room = record_among v (0 + i) n (omega arith) in
+    let low = placed_low v placed in
+    let p = place_among v (0 + i) in
+    let k : start + (p + 22) ≡ start + p + 22 = omega arith in
+    number_from (p + 22) (place_among v n) start bytes (omega (arith, room, low))
+    ∙ ap (λ (k : ℕ). big_number 8 (drop k bytes)) k)) e
+    ∙ ap (λ (k : ℕ). if (layout_of v).placed then Some (map (place_at (layout_of v) bytes place)
+    (numbers 0 k) ++ end_at bytes place ∷ []) else None) m

@@ -1,12 +1,11 @@
 -- Statement: a container by its parts, and its bytes by offset (docs/FORMAT.md, The container).
-use Rattle.std.specs.Prelude.{ℕ, ◌<◌, ◌≤◌, ◌≡◌, ◌^◌, Bool, ◌&&◌, ◌||◌, not, ◌==◌, true, if◌then◌else◌, List, [], ◌∷◌, ◌++◌, length, take, drop, flat_map, ◌+◌, ◌-◌, unsigned_abs, nat_lt, slice_index, slice_index_or, pos, Option, Some, None, IfSome, is_some}
+use Rattle.std.specs.Prelude.{ℕ, ◌<◌, ◌≤◌, ◌≡◌, ◌^◌, Bool, ◌&&◌, ◌||◌, not, ◌==◌, true, if◌then◌else◌, List, [], ◌∷◌, ◌++◌, length, drop, ◌+◌, ◌-◌, unsigned_abs, nat_lt, slice_index, slice_index_or, pos, Option, Some, None, IfSome, is_some}
 use Rattle.std.specs.List.{list_all, list_any, AllByRecursion}
 use Rattle.byteorder.specs.Endian.{big_bytes}
 use Rattle.byte_window.specs.Slices.{Cover, slice}
 use Rattle.bit_list.specs.Bits.{IsByte, bits_of}
 use Rattle.jpeg_marker.specs.Plans.{PlanFields}
 use Rattle.jpeg_marker.specs.KnownBefore.{AreKnown}
-use Rattle.jpeg_marker.specs.FirstWalks.{only_walk}
 use Rattle.jpeg_marker.specs.HeaderPlan.{Begins}
 use Rattle.jpeg_marker.specs.Walks.{Walk}
 use Rattle.scan_spec.specs.Pads.{PadBits, Same, Listed, interval_count, list_room}
@@ -15,7 +14,7 @@ use Rattle.handover.specs.Handovers.{HandoverFields, IsHandover}
 use Rattle.handover.specs.HandoverBytes.{handover_bytes, is_handover}
 use Rattle.cut_spec.specs.Cuts.{Cut, first_mcu}
 use Rattle.cut_spec.specs.RowHandovers.{markers_before}
-use Rattle.box_format.specs.Versions.{layout_of, version_byte}
+use Rattle.box_format.specs.Versions.{layout_of}
 use Rattle.box_format.specs.declared.chunk.Chunk.{Chunk}
 use Rattle.box_format.specs.declared.version.Version.{Version}
 use Rattle.box_format.specs.declared.version.Version.TheVariants.{Second, Fifth}
@@ -79,16 +78,6 @@ records places i (h ∷ handovers) [] = []
 records places i (h ∷ handovers) (stream ∷ streams) =
     handover_bytes h ++ (big_bytes 8 (length stream) ++ place_bytes places i)
     ++ records places (i + 1) handovers streams
-
--- the container: fields with the place of the scan's end, records, pad list, header, trailer, streams
-unfoldable pub box_bytes : BoxParts → List ℕ
-box_bytes b =
-    magic ++ version_byte b.version ∷ pad_byte b.pads ∷ length b.handovers
-    ∷ big_bytes 4 (length b.header) ++ big_bytes 4 (length b.trailer)
-    ++ list_length (layout_of b.version).listed (list_bytes b.pads) ++ chunk_bytes b.chunk
-    ++ place_bytes b.places (length b.handovers)
-    ++ records b.places 0 b.handovers b.streams ++ list_bytes b.pads
-    ++ b.header ++ b.trailer ++ flat_map (λ stream. stream) b.streams
 
 -- whether a component has blocks in the scan
 abbrev pub has_blocks : Shape → ℕ → Bool
@@ -208,18 +197,9 @@ pub record IsBoxIn (w : Walk) (plan : PlanFields) (b : BoxParts) : Type 0 where
   pub trailer_bytes : AllByRecursion IsByte b.trailer
   pub stream_bytes : AllByRecursion (AllByRecursion IsByte) b.streams
 
--- the parts of a container of one scan
-abbrev pub IsBox : PlanFields → BoxParts → Type 0
-IsBox plan b = IsBoxIn only_walk plan b
-
 -- the parts of a scan in a container, whatever comes before its header
 abbrev pub IsScanBox : PlanFields → BoxParts → Type 0
 IsScanBox plan b = (w : Walk) × IsBoxIn w plan b
-
--- the bytes are the container of these parts
-pub record IsBoxOf (plan : PlanFields) (b : BoxParts) (bytes : List ℕ) : Type 0 where
-  pub box : IsBox plan b
-  pub text : bytes ≡ box_bytes b
 
 -- the same parts in the second version, which keeps no places
 abbrev pub migrated : BoxParts → BoxParts
@@ -232,10 +212,3 @@ with_places b places = record b { version = Fifth; places = Some places }
 -- how many bytes the file has, in a container with these places: the scan's end, and the trailer
 abbrev pub file_end : BoxParts → List ℕ → ℕ
 file_end b places = slice_index places (length b.handovers) + length b.trailer
-
--- the bytes of a container of the first version as those of one of the second: the version's byte is changed, and a
--- length of 0 for the pad list follows the trailer's length
-abbrev pub relaid : List ℕ → List ℕ
-relaid bytes =
-    take 4 bytes ++ version_byte Second ∷ [] ++ take 10 (drop 5 bytes) ++ 0 ∷ 0 ∷ 0 ∷ 0 ∷ []
-    ++ drop 15 bytes

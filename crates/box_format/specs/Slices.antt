@@ -4,8 +4,8 @@ use Rattle.handover.specs.Handovers.{HandoverFields}
 use Rattle.box_format.specs.Versions.{layout_of}
 use Rattle.box_format.specs.Parts.{BoxParts}
 use Rattle.box_format.specs.Raws.{numbers, handover_from, length_from, place_from, parted, pads_in}
+use Rattle.box_format.specs.declared.chunk.Chunk.{Chunk}
 use Rattle.box_format.specs.declared.version.Version.{Version}
-use Rattle.box_format.specs.declared.version.Version.TheVariants.{Second}
 
 -- where the record of segment i starts among those of its scan
 abbrev pub place_among : Version → ℕ → ℕ
@@ -34,16 +34,17 @@ pub record HasSegments (version : Version) (segments : ℕ) (records streams : L
   pub each : place_among version segments ≤ length records
   pub all : sum (lengths_in version segments records) ≤ length streams
 
--- the parts of a scan of several in one container: its pad byte, pad list, header, trailer, count of segments, records
--- and streams
-abbrev pub scan_parts : ℕ → List ℕ → List ℕ → List ℕ → ℕ → List ℕ → List ℕ → BoxParts
-scan_parts pad list header trailer segments records streams = record {
-  version = Second;
-  chunk = None;
-  places = None;
+-- the parts of a scan by its slices: its version, its chunk, its pad byte and pad list, header, trailer, count of
+-- segments, records, the place of the scan's end, and streams
+abbrev pub scan_parts : Version → Option Chunk → ℕ → List ℕ → List ℕ → List ℕ → ℕ → List ℕ → ℕ
+    → List ℕ → BoxParts
+scan_parts version chunk pad list header trailer segments records end streams = record {
+  version = version;
+  chunk = chunk;
+  places = places_with version segments records end;
   pads = pads_in pad list;
   header = header;
   trailer = trailer;
-  handovers = handovers_in Second segments records;
-  streams = parted (lengths_in Second segments records) streams;
+  handovers = handovers_in version segments records;
+  streams = parted (lengths_in version segments records) streams;
 }

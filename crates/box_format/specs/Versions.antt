@@ -1,53 +1,64 @@
--- Statement: the versions of a container, and what each of them may say (docs/FORMAT.md, The container).
-use Rattle.std.specs.Prelude.{ℕ, ◌≡◌, Bool, true, false, ◌==◌, if◌then◌else◌, List, [], ◌∷◌, slice_index}
-use Rattle.std.specs.List.{list_any}
+-- Statement: the versions of a container, and how each of them is laid out (docs/FORMAT.md, The container).
+use Rattle.std.specs.Prelude.{ℕ, ◌≡◌, Bool, true, false, ◌==◌, if◌then◌else◌, List, [], ◌∷◌, slice_index, not}
+use Rattle.std.specs.List.{list_any, list_all}
+use Rattle.box_format.specs.declared.version.Layout.{Layout}
 use Rattle.box_format.specs.declared.version.Version.{Version}
-use Rattle.box_format.specs.declared.version.Version.TheVariants.{First, Second, Third, Fifth}
+use Rattle.box_format.specs.declared.version.Version.TheVariants.{First, Second, Third, Fourth, Fifth}
 
--- the layout of a version: how many bytes its fields have before the records, and each record; whether the length of a
--- pad list, the fields of a chunk, and the places of the segments and of the scan's end are among them; and how many
--- segments there are at most
-pub record Layout : Type 0 where
-  pub front : ℕ
-  pub room : ℕ
-  pub listed : Bool
-  pub chunked : Bool
-  pub placed : Bool
-  pub most : ℕ
+-- a row of the table of versions. Places are from the start of the container (first, trailer) or of a scan's fields
+-- (list)
+abbrev pub row : ℕ → Bool → ℕ → ℕ → Bool → ℕ → Bool → Bool → ℕ → ℕ → ℕ → Layout
+row byte several first trailer listed list chunked placed fields room most = record {
+  byte = byte;
+  several = several;
+  first = first;
+  trailer = trailer;
+  listed = listed;
+  list = list;
+  chunked = chunked;
+  placed = placed;
+  fields = fields;
+  room = room;
+  most = most;
+}
 
 -- the layouts of all versions
 abbrev pub layout_of : Version → Layout
-layout_of First =
-    record { front = 15; room = 22; listed = false; chunked = false; placed = false; most = 16 }
-layout_of Second =
-    record { front = 19; room = 22; listed = true; chunked = false; placed = false; most = 64 }
-layout_of Third =
-    record { front = 51; room = 22; listed = true; chunked = true; placed = false; most = 64 }
-layout_of Fifth =
-    record { front = 27; room = 30; listed = true; chunked = false; placed = true; most = 64 }
+layout_of First = row 1 false 5 11 false 0 false false 10 22 16
+layout_of Second = row 2 false 5 11 true 10 false false 14 22 64
+layout_of Third = row 3 false 5 11 true 10 true false 46 22 64
+layout_of Fourth = row 4 true 10 6 true 6 false false 10 22 64
+layout_of Fifth = row 5 false 5 11 true 10 false true 22 30 64
+
+-- how many scans there are, at least and at most
+abbrev pub fewest_scans : Layout → ℕ
+fewest_scans l = if l.several then 2 else 1
+
+abbrev pub most_scans : Layout → ℕ
+most_scans l = if l.several then 4 else 1
 
 -- the most segments of any version
 abbrev pub most_segments : ℕ
-most_segments = (layout_of Second).most
-
--- the byte that says a version
-abbrev pub version_byte : Version → ℕ
-version_byte First = 1
-version_byte Second = 2
-version_byte Third = 3
-version_byte Fifth = 5
+most_segments = 64
 
 -- whether a byte says one of these
 abbrev pub is_version : List Version → ℕ → Bool
-is_version versions byte = list_any (λ version. version_byte version == byte) versions
+is_version versions byte = list_any (λ version. (layout_of version).byte == byte) versions
 
 -- a version is one of these
 abbrev pub IsRead : List Version → Version → Type 0
-IsRead versions version = is_version versions (version_byte version) ≡ true
+IsRead versions version = is_version versions (layout_of version).byte ≡ true
 
--- the versions that are decoded, and those that are migrated
+-- whether all of these have one scan
+abbrev pub are_single : List Version → Bool
+are_single versions = list_all (λ version. not (layout_of version).several) versions
+
+-- the versions that are decoded, those of them that have one scan, and those that are migrated
 abbrev pub decoded : List Version
-decoded = First ∷ Second ∷ Third ∷ Fifth ∷ []
+decoded = First ∷ Second ∷ Third ∷ Fourth ∷ Fifth ∷ []
+
+abbrev pub one_scan : List Version
+one_scan = First ∷ Second ∷ Third ∷ Fifth ∷ []
 
 abbrev pub migratable : List Version
 migratable = First ∷ Second ∷ []
@@ -62,7 +73,8 @@ ranged = Fifth ∷ []
 -- the version of a byte, whatever it is
 abbrev pub version_of : ℕ → Version
 version_of byte =
-    if byte == 2 then Second else if byte == 3 then Third else if byte == 5 then Fifth else First
+    if byte == 2 then Second else if byte == 3 then Third else if byte == 4 then Fourth
+    else if byte == 5 then Fifth else First
 
 -- and of bytes
 abbrev pub version_in : List ℕ → Version

@@ -1,69 +1,92 @@
--- Steps: bytes that have every part that their fields name, and the checks on the parts in two groups (own).
-use Rattle.std.specs.Prelude.{ℕ, ◌≡◌, ◌≤◌, None, nat_lt, Bool, ◌||◌, not, List, [], ◌∷◌, length, take, drop, slice_index, map, Option, option_map}
+-- Steps: the parts of bytes that have every part that their fields name, and headers read one by one (own).
+use Rattle.std.specs.Prelude.{Option, option_map, ℕ, ◌+◌, ◌*◌, ◌-◌, ◌≤◌, ◌≡◌, ◌⊎◌, ◌||◌, Bool, true, not, nat_lt, List, [], ◌∷◌, ◌++◌, length, take, drop, map}
+use Rattle.jpeg_marker.specs.KnownBefore.{AreKnown}
+use Rattle.jpeg_marker.specs.Plans.{PlanFields}
+use Rattle.jpeg_marker.specs.Walks.{Walk}
+use Rattle.jpeg_marker.specs.FirstWalks.{opening_walk}
+use Rattle.jpeg_marker.specs.HeaderPlan.{Begins, BeginsNot}
+use Rattle.jpeg_marker.specs.declared.refusal.HeaderRefusal.{HeaderRefusal}
 use Rattle.std.specs.List.{list_all}
 use Rattle.handover.specs.Handovers.{HandoverFields}
-use Rattle.jpeg_marker.specs.Plans.{PlanFields}
-use Rattle.scan_spec.specs.FileParts.{is_last}
 use Rattle.scan_spec.specs.Slots.{Shape, shape_of}
-use Rattle.box_format.specs.Versions.{layout_of, version_in}
-use Rattle.cut_spec.specs.Cuts.{Cut}
-use Rattle.box_format.specs.Parts.{bad_start, box_cut, is_unused_zero, BoxSeen}
-use Rattle.box_format.specs.Raws.{list_place, list_long, chunk_in, places_in, header_length, header_place, trailer_length, trailer_place, named_end, segments_in, handover_at, numbers, parts_of, raw_of}
-use Rattle.box_format.specs.BoxChecks.{or_else, where_failed, are_wrong, is_bad_chunk, is_bad_pad, are_bad_places, late_fault}
+use Rattle.box_format.specs.Parts.{is_unused_zero, bad_start, box_cut}
+use Rattle.box_format.specs.Raws.{Raw, numbers}
+use Rattle.box_format.specs.Versions.{layout_of}
+use Rattle.box_format.specs.declared.version.Layout.{Layout}
+use Rattle.box_format.specs.declared.version.Version.{Version}
 use Rattle.box_format.specs.declared.refusal.BoxRefusal.{BoxRefusal}
-use Rattle.box_format.specs.declared.refusal.BoxRefusal.TheVariants.{HeaderLong, BoxSegments, BoxChunk, BoxPad, HandoverBad, BoxPlaces, BoxLong}
+use Rattle.box_format.specs.declared.refusal.BoxRefusal.TheVariants.{BoxHeader, HeaderLong, HandoverBad, BoxPlaces}
+use Rattle.box_format.specs.Fields.{place_at, end_at, scans_in, segments_at, header_length, list_length, fields_place, list_place, header_place, streams_place, named_end, scan_raw, raws_as}
+use Rattle.box_format.specs.Checks.{HeadersPass, or_else, where_failed, are_bad_places, are_complete, some_are_wrong, segments_of}
 
 -- no part ends after the bytes
-pub record IsWhole (bytes : List ℕ) : Type 0 where
-  pub fields : list_place bytes ≤ length bytes
-  pub ends : named_end bytes ≤ length bytes
+pub record IsWhole (l : Layout) (bytes : List ℕ) : Type 0 where
+  pub fields : fields_place l bytes (scans_in l bytes) ≤ length bytes
+  pub ends : named_end l bytes ≤ length bytes
+
+-- the pad list of a scan
+abbrev pub list_at : Layout → List ℕ → ℕ → List ℕ
+list_at l bytes j = take (list_length l bytes (fields_place l bytes j)) (drop (list_place l bytes j) bytes)
+
+-- its header
+abbrev pub header_at : Layout → List ℕ → ℕ → List ℕ
+header_at l bytes j =
+    take (header_length bytes (fields_place l bytes j)) (drop (header_place l bytes j) bytes)
+
+-- its records
+abbrev pub records_at : Layout → List ℕ → ℕ → List ℕ
+records_at l bytes j =
+    let place = fields_place l bytes j in
+    take (l.room * segments_at bytes place) (drop (place + l.fields) bytes)
+
+-- its streams, and those after them
+abbrev pub streams_at : Layout → List ℕ → ℕ → List ℕ
+streams_at l bytes j = drop (streams_place l bytes j) bytes
+
+-- the fields of the scans from one on
+abbrev pub raws_from : Version → List ℕ → ℕ → List Raw
+raws_from v bytes j =
+    map (scan_raw v bytes) (numbers j (scans_in (layout_of v) bytes - j))
+
+-- a header is read by a walk, ends where its bytes end, and has this plan
+pub record IsWholeHeader (w : Walk) (header : List ℕ) (plan : PlanFields) : Type 0 where
+  pub begins : Begins w header plan
+  pub whole : plan.header_length ≡ length header
+  pub known : AreKnown plan.known
+
+-- it is none, or ends before its bytes end
+abbrev pub IsNoHeader : Walk → List ℕ → BoxRefusal → Type 0
+IsNoHeader w header refusal =
+    ((inner : HeaderRefusal) × BeginsNot w header inner × (refusal ≡ BoxHeader inner))
+    ⊎ ((plan : PlanFields) × Begins w header plan
+    × (nat_lt plan.header_length (length header) ≡ true)
+    × (refusal ≡ HeaderLong plan.header_length))
+
+-- all headers pass, and these are the plans of the first four
+pub record HavePlans (v : Version) (bytes : List ℕ) (plans : List PlanFields) : Type 0 where
+  pub more : List PlanFields
+  pub none : scans_in (layout_of v) bytes ≤ 4 → more ≡ []
+  pub pass : HeadersPass opening_walk (raws_as v bytes)
+      (take (scans_in (layout_of v) bytes) plans ++ more)
+
+-- whether scans of this number aren't those of a file, or can't have their numbers of segments
+abbrev pub are_not_all : ℕ → List PlanFields → List Raw → Bool
+are_not_all most plans raws =
+    not (are_complete plans)
+    || (some_are_wrong most plans raws || nat_lt most (segments_of raws))
 
 -- whether the last DC of each component without blocks is 0
 abbrev pub are_unused_zeros : Shape → HandoverFields → Bool
 are_unused_zeros shape h = list_all (is_unused_zero shape h) (0 ∷ 1 ∷ 2 ∷ 3 ∷ [])
 
--- the pad list
-abbrev pub list_in : List ℕ → List ℕ
-list_in bytes = take (list_long bytes) (drop (list_place bytes) bytes)
+-- the checks on what is in the records of a scan
+abbrev pub record_fault : ℕ → PlanFields → Raw → Option BoxRefusal
+record_fault first plan raw =
+    or_else (option_map (λ i. HandoverBad (first + i))
+    (bad_start (shape_of plan) (box_cut plan raw.chunk (length raw.handovers)) 0 raw.handovers))
+    (where_failed (are_bad_places (length raw.header) raw.places) BoxPlaces)
 
--- the header
-abbrev pub header_in : List ℕ → List ℕ
-header_in bytes = take (header_length bytes) (drop (header_place bytes) bytes)
-
--- the trailer
-abbrev pub trailer_in : List ℕ → List ℕ
-trailer_in bytes = take (trailer_length bytes) (drop (trailer_place bytes) bytes)
-
--- the rows in segments
-abbrev pub rows_cut : PlanFields → List ℕ → Cut
-rows_cut plan bytes = box_cut plan (chunk_in bytes) (segments_in bytes)
-
--- the checks on single fields, in their order
-abbrev pub field_fault : PlanFields → List ℕ → Option BoxRefusal
-field_fault plan bytes =
-    or_else (where_failed (nat_lt plan.header_length (header_length bytes))
-    (HeaderLong plan.header_length))
-    (or_else (where_failed (not (is_last plan)
-    || are_wrong (layout_of (version_in bytes)).most (rows_cut plan bytes)) BoxSegments)
-    (or_else (where_failed (is_bad_chunk plan.down (header_in bytes) (trailer_in bytes)
-    (chunk_in bytes)) BoxChunk)
-    (where_failed (is_bad_pad (layout_of (version_in bytes)).listed (shape_of plan)
-    (slice_index bytes 5) (list_in bytes)) BoxPad)))
-
--- the first segment that can't start from its record
-abbrev pub bad_segment : PlanFields → List ℕ → Option ℕ
-bad_segment plan bytes =
-    bad_start (shape_of plan) (rows_cut plan bytes) 0
-    (map (handover_at bytes) (numbers 0 (segments_in bytes)))
-
--- the checks on what is in the records, and on the end
-abbrev pub record_fault : PlanFields → List ℕ → Option BoxRefusal
-record_fault plan bytes =
-    or_else (option_map (λ i. HandoverBad i) (bad_segment plan bytes))
-    (or_else (where_failed (are_bad_places (header_length bytes) (places_in bytes)) BoxPlaces)
-    (where_failed (nat_lt (named_end bytes) (length bytes)) BoxLong))
-
--- the parts of bytes with this plan, where no check after the header fails
-pub record IsPassed (plan : PlanFields) (bytes : List ℕ) (view : BoxSeen) : Type 0 where
-  pub late : late_fault plan (raw_of bytes) ≡ None
-  pub seen : view ≡ record { plan = plan; parts = parts_of (raw_of bytes) }
+-- the places of a scan's segments and of its end, whether the version keeps them or not
+abbrev pub listed_at : Layout → List ℕ → ℕ → List ℕ
+listed_at l bytes place =
+    map (place_at l bytes place) (numbers 0 (segments_at bytes place)) ++ end_at bytes place ∷ []

@@ -1,18 +1,27 @@
 //! The container of a file: its fields, and its parts (this project's own; docs/FORMAT.md has it by offset).
 //!
-//!     LPSG | 1 | pad | K | lengths of header and trailer | K records | header | trailer | K streams
-//!     LPSG | 2 | pad | K | these, and of a pad list | K records | pad list | header | trailer | K streams
-//!     LPSG | 3 | pad | K | these | chunk | K records | pad list | header | trailer's part | K streams
-//!     LPSG | 5 | pad | K | these | the scan's end | K records with places | pad list | header | trailer | K streams
+//!     LPSG | version | front | each scan's fields | each scan's pad list and header | trailer | all streams
 //!
-//! A record has what a segment starts from and the length of its stream. A container of version 1, 2 or 5 has one
-//! spelling: what can be said in one way only is checked. Every check that fails has a refusal of its own. Not handled
-//! here: what a stream stands for (see `container_spec`).
+//! | version | front | a scan's fields |
+//! |---|---|---|
+//! | 1 | | pad, K, lengths of header and trailer, K records |
+//! | 2 | | these, and the length of the pad list before the records |
+//! | 3 | | as 2, and the chunk before the records |
+//! | 4 | n, the trailer's length | pad, K, lengths of header and pad list, K records |
+//! | 5 | | as 2, and the place of the scan's end before the records, which have places |
+//!
+//! A container of version 4 has n scans, 2 to 4, the others one. A record has what a segment starts from and the length
+//! of its stream. `Version::layout` has the table. A container has one spelling, but for versions 1 and 2 of one file:
+//! what can be said in one way only is checked. Every check that fails has a refusal of its own. Not handled here: what
+//! a stream stands for (see `container_spec`).
 #![tactic(auto)]
 
 mod checks;
 mod chunk;
+mod error;
 mod fields;
+mod files;
+mod headers;
 mod laws;
 mod migrating;
 mod pad_lists;
@@ -21,23 +30,24 @@ mod placing;
 mod reading;
 mod records;
 mod refusal;
+mod slices;
 mod starts;
 mod version;
 mod view;
 mod writing;
 
-pub use checks::{MAGIC, are_wrong as are_wrong_segments, has_magic};
 pub use chunk::{Chunk, rows_of};
-pub use fields::byte_in;
-pub use laws::{containers_have_one_spelling, rows_of_containers};
+pub use error::ReadError;
+pub use files::FileView;
+pub use laws::{
+    containers_have_one_scan_or_several, containers_have_one_spelling, rows_of_containers,
+    rows_of_scans_containers,
+};
 pub use migrating::migrate;
-pub use pad_lists::is_bad_pad;
 pub use parts::Parts;
 pub use placing::write_placed;
-pub use reading::{read_box, read_box_of};
-pub use records::length_at as stream_length_at;
+pub use reading::{read_box, read_container, read_container_of, segments_named};
 pub use refusal::{BoxRefusal, Migrate};
-pub use starts::first_bad_segment;
-pub use version::Version;
+pub use version::{Layout, Version};
 pub use view::BoxView;
-pub use writing::{list_of, pad_byte, put_records, put_streams, write_box};
+pub use writing::{write_container, write_front};

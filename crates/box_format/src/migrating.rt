@@ -1,11 +1,13 @@
 // From a container to the same one in version 2.
 ghost use Rattle.std.specs.Prelude.{◌≡◌, ◌≤◌, IfOk, IsErrOf, length};
 ghost use Rattle.jpeg_marker.specs.Plans.{PlanFields};
-ghost use Rattle.box_format.specs.BoxChecks.{IsRefusedBy};
-ghost use Rattle.box_format.specs.Parts.{BoxParts, IsBoxOf, box_bytes, migrated, relaid};
+ghost use Rattle.box_format.specs.Checks.{IsRefusedBy};
+ghost use Rattle.box_format.specs.Parts.{BoxParts, migrated};
+ghost use Rattle.box_format.specs.Single.{IsBoxOf, box_bytes, relaid};
 ghost use Rattle.box_format.specs.Versions.{IsRead, migratable};
 ghost use Rattle.box_format.specs.declared.refusal.BoxRefusal.{BoxRefusal};
 
+use crate::error::ReadError;
 use crate::reading::read_box_of;
 use crate::refusal::Migrate;
 use crate::version::{MIGRATABLE, Version};
@@ -24,7 +26,11 @@ pub fn migrate(alloc: Global, bytes: &[u8]) -> Result<Vec<u8>, Migrate>
     ensures refused { (refusal : BoxRefusal) → IsErrOf result (Migrate.Box refusal)
         → IsRefusedBy migratable bytes.now refusal }
 {
-    let view = read_box_of(bytes, &MIGRATABLE)?;
+    let view = match read_box_of(alloc, bytes, &MIGRATABLE) {
+        Ok(view) => view,
+        Err(ReadError::Box(refusal)) => return Err(Migrate::Box(refusal)),
+        Err(ReadError::NoMemory(short)) => return Err(Migrate::NoMemory(short)),
+    };
     Ok(migrated(alloc, &view, bytes)?)
 }
 
@@ -38,7 +44,7 @@ fn migrated(alloc: Global, view: &BoxView, bytes: &[u8]) -> Result<Vec<u8>, NoMe
     match view.version() {
         Version::First => relaid(alloc, bytes),
         Version::Second => from_slice(alloc, bytes),
-        Version::Third | Version::Fifth => unreachable!(),
+        Version::Third | Version::Fourth | Version::Fifth => unreachable!(),
     }
 }
 
@@ -49,7 +55,7 @@ fn relaid(alloc: Global, bytes: &[u8]) -> Result<Vec<u8>, NoMemory>
 {
     let mut made = with_capacity(alloc, bytes.len().saturating_add(4).min(MOST_ROOM))?;
     extend_from_slice(&mut made, &bytes[..4])?;
-    push(&mut made, Version::Second.byte())?;
+    push(&mut made, Version::Second.layout().byte)?;
     extend_from_slice(&mut made, &bytes[5..15])?;
     extend_from_slice(&mut made, &[0; 4])?;
     extend_from_slice(&mut made, &bytes[15..])?;

@@ -4,13 +4,13 @@ ghost use Rattle.std.specs.List.{list_all};
 ghost use Rattle.bit_list.specs.Bits.{bits_of};
 ghost use Rattle.scan_spec.specs.Pads.{interval_count, list_room};
 ghost use Rattle.scan_spec.specs.Slots.{shape_of};
-ghost use Rattle.box_format.specs.BoxChecks.{is_bad_pad};
+ghost use Rattle.box_format.specs.Checks.{is_bad_pad};
 ghost use Rattle.box_format.specs.Parts.{is_list};
 
 use jpeg_marker::Plan;
 
 /// Whether a version that has lists, or none, can't say a pad byte with this list.
-pub fn is_bad_pad(listed: bool, plan: &Plan, pad: u8, list: &[u8]) -> bool
+pub(crate) fn is_bad_pad(listed: bool, plan: &Plan, pad: u8, list: &[u8]) -> bool
     ensures { result ≡ is_bad_pad listed (shape_of plan.now) pad list.now }
 {
     if listed && pad == 2 {

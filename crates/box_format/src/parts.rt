@@ -1,11 +1,14 @@
 // What a container is written from.
 use crate::chunk::Chunk;
+use crate::version::Version;
 use handover::Handover;
 use scan_spec::Pads;
 
-/// What a container is written from. Clauses see `BoxParts`.
+/// What a scan of a container is written from. Clauses see `BoxParts`.
 #[derive(Clone, Copy)]
 pub struct Parts<'a> {
+    /// The version of the container.
+    pub version: Version,
     /// The chunk, if it has a chunk of a file.
     pub chunk: Option<Chunk>,
     /// The places in the file, if they are kept: of each segment's first byte, and after them of the scan's end. A

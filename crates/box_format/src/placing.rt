@@ -1,14 +1,16 @@
 // From a container to the same one in version 5, with places.
-ghost use Rattle.std.specs.Prelude.{None, ℕ, List, ◌≡◌, ◌+◌, ◌-◌, ◌^◌, ◌++◌, length, min, flat_map, IfOk, OnOk, Some};
-ghost use Rattle.box_format.specs.Parts.{box_bytes, records, with_places};
-ghost use Rattle.box_format.specs.Seen.{room_of};
+ghost use Rattle.std.specs.Prelude.{None, ℕ, List, ◌≡◌, ◌+◌, ◌-◌, ◌^◌, [], ◌∷◌, ◌++◌, length, min, flat_map, IfOk, OnOk, Some};
+ghost use Rattle.box_format.specs.Parts.{records, with_places};
+ghost use Rattle.box_format.specs.Given.{scans_room};
+ghost use Rattle.box_format.specs.Single.{box_bytes};
+ghost use Rattle.box_format.specs.declared.version.Version.TheVariants.{Fifth};
 
 use crate::version::Version;
 use crate::view::BoxView;
 use crate::writing::{
-    MOST_ROOM, list_of, pad_byte, put_front, put_lengths, put_place_field, put_record,
+    MOST_ROOM, list_of, pad_byte, put_lengths, put_place_field, put_record, put_start,
 };
-use growth::{NoMemory, extend_from_slice, with_capacity};
+use growth::{NoMemory, extend_from_slice, push, with_capacity};
 use std::alloc::Global;
 
 /// The same container in version 5, with these places: of each segment's first byte in the file, and after them of the
@@ -24,9 +26,12 @@ pub fn write_placed(alloc: Global, view: &BoxView, places: &[u64]) -> Result<Vec
     let header = view.header();
     let trailer = view.trailer();
     let segments = view.segments();
-    put_front(&mut made, Version::Fifth, pad_byte(&pads), segments)?;
+    put_start(&mut made, Version::Fifth, 1, trailer.len() as u32)?;
+    push(&mut made, pad_byte(&pads))?;
+    push(&mut made, segments)?;
     put_lengths(
         &mut made,
+        Version::Fifth,
         header.len() as u32,
         trailer.len() as u32,
         list.len() as u32,
@@ -43,16 +48,15 @@ pub fn write_placed(alloc: Global, view: &BoxView, places: &[u64]) -> Result<Vec
 // How many bytes the container has, whatever its places, or the most that is counted.
 fn room(view: &BoxView) -> usize
     ensures { (places : List ℕ)
-        → result ≡ min (2 ^ 64 - 1) (room_of (with_places view.now.parts places)) }
+        → result ≡ min (2 ^ 64 - 1) (scans_room Fifth (with_places view.now.parts places ∷ [])) }
 {
-    let version = Version::Fifth;
-    let mut room = version
-        .front()
+    let layout = Version::Fifth.layout();
+    let mut room = (layout.first + layout.fields)
         .saturating_add(list_of(&view.pad()).len())
         .saturating_add(view.header().len())
         .saturating_add(view.trailer().len());
     for i in 0..view.segments() {
-        room = room.saturating_add(version.record_room().saturating_add(view.stream(i).len()));
+        room = room.saturating_add(layout.room.saturating_add(view.stream(i).len()));
     }
     room
 }

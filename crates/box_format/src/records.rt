@@ -1,10 +1,10 @@
-// The records of a scan's segments, wherever they are, and the streams whose lengths they have.
+// The records of a scan's segments, wherever they are.
 ghost use Rattle.std.specs.Prelude.{◌≡◌, ◌+◌, ◌*◌, ◌^◌, ◌<◌, ◌≤◌, length, take, drop, sum};
-ghost use Rattle.box_format.specs.Raws.{length_from, place_from};
+ghost use Rattle.box_format.specs.Raws.{length_from};
 ghost use Rattle.box_format.specs.Slices.{HasSegments, lengths_in, place_among};
 
+use crate::fields::length_at;
 use crate::version::Version;
-use byteorder::{BigEndian, ByteOrder};
 
 /// The record at a place without the length of its stream and the segment's place.
 pub(crate) fn record_at(bytes: &[u8], place: usize) -> [u8; 14]
@@ -18,28 +18,12 @@ pub(crate) fn record_at(bytes: &[u8], place: usize) -> [u8; 14]
     record
 }
 
-/// The length of the stream, in the record at a place.
-pub fn length_at(bytes: &[u8], place: usize) -> u64
-    requires { place + 22 ≤ length bytes.now }
-    ensures { result ≡ length_from bytes.now place }
-{
-    BigEndian::read_u64(&bytes[place + 14..])
-}
-
-/// The place of the segment's first byte, in the record at a place, in a version that has places.
-pub(crate) fn place_at(bytes: &[u8], place: usize) -> u64
-    requires { place + 30 ≤ length bytes.now }
-    ensures { result ≡ place_from bytes.now place }
-{
-    BigEndian::read_u64(&bytes[place + 22..])
-}
-
 /// Where the record of a segment starts among those of its scan.
 pub(crate) fn place_among(version: Version, segment: u8) -> usize
     ensures value { result ≡ place_among version segment }
     ensures few { result ≤ 30 * segment }
 {
-    version.record_room() * usize::from(segment)
+    version.layout().room * usize::from(segment)
 }
 
 /// The length of a segment's stream, from the records of its scan.

@@ -7,16 +7,16 @@ use jpeg_marker::HeaderRefusal;
 pub enum BoxRefusal {
     /// 30: the bytes don't begin with `LPSG`.
     BoxMagic,
-    /// 31: the version is none that is read: `decode` reads versions 1, 2, 3 and 5, `migrate` versions 1 and 2.
+    /// 31: the version is none that is read: `decode` reads versions 1 to 5, `migrate` versions 1 and 2.
     BoxVersion,
     /// 32: the bytes end within the fields, or before the end that these name.
     BoxCut,
-    /// 33: the header's bytes are refused as the first header of a file of one scan or of several.
+    /// 33: a header's bytes are refused as the header of a file's scan after those before it.
     BoxHeader(HeaderRefusal),
-    /// 38: the header ends before its length, at this place in it.
+    /// 38: a header ends before its length, at this place in it.
     HeaderLong { place: usize },
-    /// 34: the header's scan leaves components of the frame out, as in a file of several scans; or there is no segment
-    /// for MCU rows, or there are more than the version can have or than the rows.
+    /// 34: the version can't have this number of scans; or their headers aren't those of all scans of a file; or a scan
+    /// has no segment for its MCU rows, or more than the rows; or there are more than the version can have.
     BoxSegments,
     /// 39: the chunk's rows are in the wrong order or none of the header's; or its length has no room for its parts of
     /// header and trailer; or it has other bytes and no row.
@@ -38,17 +38,6 @@ pub enum Migrate {
     /// 30 to 38: the bytes are no container of version 1 or 2.
     Box(BoxRefusal),
     NoMemory(NoMemory),
-}
-
-impl From<BoxRefusal> for Migrate {
-    ghost use Rattle.std.specs.Prelude.{◌≡◌};
-    ghost use Rattle.box_format.specs.declared.refusal.Migrate.TheVariants.{Box};
-
-    ghost from_gives = { λ refusal error. error ≡ Box refusal };
-
-    fn from(refusal: BoxRefusal) -> Self {
-        Migrate::Box(refusal)
-    }
 }
 
 impl From<NoMemory> for Migrate {

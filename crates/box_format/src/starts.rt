@@ -6,33 +6,18 @@ ghost use Rattle.scan_spec.specs.Slots.{shape_of};
 ghost use Rattle.cut_spec.specs.Cuts.{first_mcu};
 ghost use Rattle.cut_spec.specs.RowHandovers.{markers_before};
 ghost use Rattle.box_format.specs.Parts.{bad_start, box_cut, can_start, is_start};
-ghost use Rattle.box_format.specs.Raws.{handover_from, list_place};
+ghost use Rattle.box_format.specs.Raws.{handover_from};
 ghost use Rattle.box_format.specs.Slices.{handovers_in, place_among};
-ghost use Rattle.box_format.specs.Whole.{bad_segment, are_unused_zeros};
+ghost use Rattle.box_format.specs.Whole.{are_unused_zeros};
 
 use crate::chunk::{Chunk, rows_of};
-use crate::fields::{chunk_in, records_in, segments_in, version_in};
 use crate::records::{place_among, record_at};
 use crate::version::Version;
 use handover::Handover;
 use jpeg_marker::Plan;
 
-/// The first segment of a container that can't start from its record.
-pub(crate) fn bad_segment(bytes: &[u8], plan: &Plan) -> Option<u8>
-    requires { list_place bytes.now ≤ length bytes.now }
-    ensures { result ≡ bad_segment plan.now bytes.now }
-{
-    first_bad_segment(
-        plan,
-        chunk_in(bytes),
-        version_in(bytes),
-        segments_in(bytes),
-        records_in(bytes),
-    )
-}
-
 /// The first segment of a scan that can't start from its record, by the records of its segments.
-pub fn first_bad_segment(
+pub(crate) fn first_bad_segment(
     plan: &Plan,
     chunk: Option<Chunk>,
     version: Version,

@@ -1,6 +1,6 @@
-// The versions of a container, and what their fields have.
-ghost use Rattle.std.specs.Prelude.{◌≡◌, ◌≤◌};
-ghost use Rattle.box_format.specs.Versions.{layout_of, version_byte};
+// The versions of a container, and how each of them is laid out.
+ghost use Rattle.std.specs.Prelude.{◌≡◌, ◌+◌, ◌≤◌, true};
+ghost use Rattle.box_format.specs.Versions.{layout_of, fewest_scans, most_scans};
 
 /// A version of the container.
 #[derive(Clone, Copy, Debug, PartialEq, Eq)]
@@ -11,12 +11,23 @@ pub enum Version {
     Second,
     /// 3: a chunk of a file, with the pad bits of the whole file, as version 2 has them.
     Third,
+    /// 4: a file of several scans, each as in version 2.
+    Fourth,
     /// 5: as version 2, with the place in the file of each segment's first byte.
     Fifth,
 }
 
 /// The versions that `decode` reads.
-pub(crate) const DECODED: [Version; 4] = [
+pub(crate) const DECODED: [Version; 5] = [
+    Version::First,
+    Version::Second,
+    Version::Third,
+    Version::Fourth,
+    Version::Fifth,
+];
+
+/// Those of them that have one scan.
+pub(crate) const ONE_SCAN: [Version; 4] = [
     Version::First,
     Version::Second,
     Version::Third,
@@ -26,90 +37,131 @@ pub(crate) const DECODED: [Version; 4] = [
 /// The versions that `migrate` reads.
 pub(crate) const MIGRATABLE: [Version; 2] = [Version::First, Version::Second];
 
+/// How a version is laid out. Places are from the start of the container, or of a scan's fields.
+#[derive(Clone, Copy, Debug, PartialEq, Eq)]
+pub struct Layout {
+    /// The byte that says the version.
+    pub byte: u8,
+    /// Whether the number of scans, 2 to 4, and then the trailer's length come before the fields of the first scan.
+    /// Else there is one scan, and the trailer's length is among its fields, after the header's.
+    pub several: bool,
+    /// Where the fields of the first scan start.
+    pub first: usize,
+    /// Where the length of the trailer is.
+    pub trailer: usize,
+    /// Whether the length of a pad list is among a scan's fields.
+    pub listed: bool,
+    /// Where it is among these, if it is.
+    pub list: usize,
+    /// Whether the fields of a chunk are among them, from 14 on.
+    pub chunked: bool,
+    /// Whether the place of the scan's end is, at 14, and each record ends with its segment's place.
+    pub placed: bool,
+    /// How many bytes the fields of a scan have before its records.
+    pub fields: usize,
+    /// How many bytes a record has.
+    pub room: usize,
+    /// The most segments of all scans.
+    pub most: u8,
+}
+
 impl Version {
-    /// The byte that says it.
-    pub(crate) fn byte(self) -> u8
-        ensures value { result ≡ version_byte self }
-        ensures few { result ≤ 5 }
+    /// How it is laid out.
+    pub fn layout(self) -> Layout
+        ensures value { result ≡ layout_of self }
+        ensures first { result.first ≤ 10 }
+        ensures low { 10 ≤ result.fields }
+        ensures fields { result.fields ≤ 46 }
+        ensures room { result.room ≤ 30 }
+        ensures record { 22 ≤ result.room }
+        ensures trailer { result.trailer + 4 ≤ result.first + result.fields }
+        ensures list { result.list + 4 ≤ result.fields }
+        ensures chunk { result.chunked ≡ true → 46 ≤ result.fields }
+        ensures end { result.placed ≡ true → 22 ≤ result.fields }
+        ensures place { result.placed ≡ true → 30 ≤ result.room }
     {
         match self {
-            Version::First => 1,
-            Version::Second => 2,
-            Version::Third => 3,
-            Version::Fifth => 5,
+            Version::First => Layout {
+                byte: 1,
+                several: false,
+                first: 5,
+                trailer: 11,
+                listed: false,
+                list: 0,
+                chunked: false,
+                placed: false,
+                fields: 10,
+                room: 22,
+                most: 16,
+            },
+            Version::Second => Layout {
+                byte: 2,
+                several: false,
+                first: 5,
+                trailer: 11,
+                listed: true,
+                list: 10,
+                chunked: false,
+                placed: false,
+                fields: 14,
+                room: 22,
+                most: 64,
+            },
+            Version::Third => Layout {
+                byte: 3,
+                several: false,
+                first: 5,
+                trailer: 11,
+                listed: true,
+                list: 10,
+                chunked: true,
+                placed: false,
+                fields: 46,
+                room: 22,
+                most: 64,
+            },
+            Version::Fourth => Layout {
+                byte: 4,
+                several: true,
+                first: 10,
+                trailer: 6,
+                listed: true,
+                list: 6,
+                chunked: false,
+                placed: false,
+                fields: 10,
+                room: 22,
+                most: 64,
+            },
+            Version::Fifth => Layout {
+                byte: 5,
+                several: false,
+                first: 5,
+                trailer: 11,
+                listed: true,
+                list: 10,
+                chunked: false,
+                placed: true,
+                fields: 22,
+                room: 30,
+                most: 64,
+            },
         }
     }
 
-    /// The bytes of the fields before the records.
-    pub(crate) fn front(self) -> usize
-        ensures { result ≡ (layout_of self).front }
+    /// The fewest scans.
+    pub(crate) fn fewest_scans(self) -> u8
+        ensures value { result ≡ fewest_scans (layout_of self) }
+        ensures some { 1 ≤ result }
     {
-        match self {
-            Version::First => 15,
-            Version::Second => 19,
-            Version::Third => 51,
-            Version::Fifth => 27,
-        }
+        if self.layout().several { 2 } else { 1 }
     }
 
-    /// The bytes of a record.
-    pub(crate) fn record_room(self) -> usize
-        ensures value { result ≡ (layout_of self).room }
-        ensures few { result ≤ 30 }
+    /// The most scans.
+    pub(crate) fn most_scans(self) -> u8
+        ensures value { result ≡ most_scans (layout_of self) }
+        ensures few { result ≤ 4 }
     {
-        match self {
-            Version::First => 22,
-            Version::Second => 22,
-            Version::Third => 22,
-            Version::Fifth => 30,
-        }
-    }
-
-    /// Whether the length of a pad list is among these fields.
-    pub(crate) fn is_listed(self) -> bool
-        ensures { result ≡ (layout_of self).listed }
-    {
-        match self {
-            Version::First => false,
-            Version::Second => true,
-            Version::Third => true,
-            Version::Fifth => true,
-        }
-    }
-
-    /// Whether the fields of a chunk are among them.
-    pub(crate) fn is_chunked(self) -> bool
-        ensures { result ≡ (layout_of self).chunked }
-    {
-        match self {
-            Version::First => false,
-            Version::Second => false,
-            Version::Third => true,
-            Version::Fifth => false,
-        }
-    }
-
-    /// Whether the places of the segments and of the scan's end are kept.
-    pub(crate) fn is_placed(self) -> bool
-        ensures { result ≡ (layout_of self).placed }
-    {
-        match self {
-            Version::First => false,
-            Version::Second => false,
-            Version::Third => false,
-            Version::Fifth => true,
-        }
-    }
-
-    /// The most segments.
-    pub(crate) fn most_segments(self) -> u8
-        ensures { result ≡ (layout_of self).most }
-    {
-        match self {
-            Version::First => 16,
-            Version::Second => 64,
-            Version::Third => 64,
-            Version::Fifth => 64,
-        }
+        if self.layout().several { 4 } else { 1 }
     }
 }

@@ -3,19 +3,13 @@ ghost use Rattle.std.specs.Prelude.{◌≡◌, ◌≤◌, ◌<◌, ◌^◌, leng
 ghost use Rattle.handover.specs.Handovers.{start};
 ghost use Rattle.scan_spec.specs.Pads.{is_long_for, pads_given};
 ghost use Rattle.scan_spec.specs.Slots.{shape_of};
-ghost use Rattle.box_format.specs.BoxChecks.{PassesChecks};
 ghost use Rattle.box_format.specs.Parts.{IsScanBox, file_end, list_bytes};
-ghost use Rattle.box_format.specs.Raws.{parts_of, raw_of};
 ghost use Rattle.box_format.specs.Slices.{HasSegments, scan_parts};
-ghost use Rattle.box_format.specs.Versions.{decoded, layout_of, most_segments};
-ghost use Rattle.box_format.specs.declared.version.Version.TheVariants.{Second};
+ghost use Rattle.box_format.specs.Versions.{layout_of, most_segments};
 
 use crate::chunk::Chunk;
-use crate::fields::{
-    byte_in, chunk_in, end_in, header_in, list_in, records_in, segments_in, streams_in, trailer_in,
-    version_in,
-};
-use crate::records::{place_among, place_at, record_at, stream_among};
+use crate::fields::place_at;
+use crate::records::{place_among, record_at, stream_among};
 use crate::version::Version;
 use handover::Handover;
 use jpeg_marker::Plan;
@@ -57,61 +51,42 @@ impl<'a> Model for BoxView<'a> {
 }
 
 impl<'a> BoxView<'a> {
-    /// The view of a container of one scan, whose checks pass.
+    /// The view of a scan by its slices: the pad byte and the pad list, the header, the trailer, a record for each
+    /// segment, the place of the scan's end, and the streams, one after another.
     #[inline(never)]
-    pub fn of_bytes(bytes: &'a [u8], plan: &Plan) -> BoxView<'a>
-        requires { PassesChecks decoded plan.now bytes.now }
-        ensures { result ≡ record { plan = plan.now; parts = parts_of (raw_of bytes.now) } }
-    {
-        let version = version_in(bytes);
-        BoxView {
-            plan: *plan,
-            version,
-            chunk: chunk_in(bytes),
-            pad: byte_in(bytes, 5),
-            list: list_in(bytes),
-            header: header_in(bytes),
-            trailer: trailer_in(bytes),
-            segments: segments_in(bytes),
-            records: records_in(bytes),
-            end: end_in(bytes),
-            streams: streams_in(bytes),
-        }
-    }
-
-    /// A scan's part of a container of several, by its slices: the pad byte and the pad list, the header, the trailer,
-    /// a record of 22 bytes for each segment, and the streams, one after another. It has the parts of a container of
-    /// version 2.
-    #[inline(never)]
-    pub fn of_scan(
+    pub(crate) fn of_scan(
+        version: Version,
         plan: &Plan,
+        chunk: Option<Chunk>,
         pad: u8,
         list: &'a [u8],
         header: &'a [u8],
         trailer: &'a [u8],
         segments: u8,
         records: &'a [u8],
+        end: u64,
         streams: &'a [u8],
     ) -> BoxView<'a>
-        requires scan { IsScanBox plan.now
-            (scan_parts pad list.now header.now trailer.now segments records.now streams.now) }
-        requires whole { HasSegments Second segments records.now streams.now }
+        requires scan { IsScanBox plan.now (scan_parts version chunk pad list.now header.now trailer.now
+            segments records.now end streams.now) }
+        requires whole { HasSegments version segments records.now streams.now }
         ensures { result ≡ record {
           plan = plan.now;
-          parts = scan_parts pad list.now header.now trailer.now segments records.now streams.now;
+          parts = scan_parts version chunk pad list.now header.now trailer.now segments records.now end
+              streams.now;
         } }
     {
         BoxView {
             plan: *plan,
-            version: Version::Second,
-            chunk: None,
+            version,
+            chunk,
             pad,
             list,
             header,
             trailer,
             segments,
             records,
-            end: 0,
+            end,
             streams,
         }
     }
@@ -156,7 +131,7 @@ impl<'a> BoxView<'a> {
         requires { segment ≤ length self.now.parts.handovers }
         ensures { result ≡ option_map (λ places. slice_index places segment) self.now.parts.places }
     {
-        if !self.version.is_placed() {
+        if !self.version.layout().placed {
             None
         } else if segment < self.segments {
             Some(place_at(self.records, place_among(self.version, segment)))

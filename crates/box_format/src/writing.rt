@@ -1,12 +1,14 @@
-// From parts to the bytes of a container.
-ghost use Rattle.std.specs.Prelude.{◌≡◌, ◌-◌, ◌^◌, ◌<◌, ◌≤◌, min, ◌∷◌, [], ◌++◌, length, map, flat_map, IfOk, IfSome, OnOk, Some};
+// From the parts of scans to the bytes of their container.
+ghost use Rattle.std.specs.Prelude.{◌≡◌, ◌-◌, ◌^◌, ◌<◌, ◌≤◌, min, ◌∷◌, [], ◌++◌, length, map, flat_map, IfOk, IfSome, OnOk, Some, if◌then◌else◌};
+ghost use Rattle.std.specs.List.{AllByRecursion};
 ghost use Rattle.byteorder.specs.Endian.{big_bytes};
 ghost use Rattle.handover.specs.HandoverBytes.{handover_bytes};
-ghost use Rattle.jpeg_marker.specs.Plans.{PlanFields};
 ghost use Rattle.scan_spec.specs.Pads.{pads_given};
-ghost use Rattle.box_format.specs.Parts.{IsBox, box_bytes, chunk_bytes, list_bytes, magic, pad_byte, place_bytes, records};
-ghost use Rattle.box_format.specs.Versions.{version_byte};
-ghost use Rattle.box_format.specs.Seen.{parts_given, room_of};
+ghost use Rattle.box_format.specs.Versions.{layout_of};
+ghost use Rattle.box_format.specs.Parts.{chunk_bytes, list_bytes, list_length, magic, pad_byte, place_bytes, records};
+ghost use Rattle.box_format.specs.Containers.{container_bytes, scan_fields, scan_header, scan_streams, scans_said, trailer_length, trailer_of};
+ghost use Rattle.box_format.specs.Given.{AreGiven, CanGive, all_given, parts_given, scan_room, scans_room};
+ghost use Rattle.box_format.specs.declared.parts.Parts.{Parts as PartsSeen};
 
 use crate::checks::MAGIC;
 use crate::chunk::Chunk;
@@ -20,84 +22,167 @@ use std::alloc::Global;
 /// The most room, in bytes, that a container is given before its first byte: 64 GiB. A longer one grows.
 pub(crate) const MOST_ROOM: usize = 1 << 36;
 
-/// Writes the container of these parts: of a chunk in version 3, with places in version 5, else in version 2. They must
-/// be those of a container: their checks pass. The one error is out of memory.
-pub fn write_box(alloc: Global, parts: &Parts) -> Result<Vec<u8>, NoMemory>
-    requires { (plan : PlanFields) × IsBox plan (parts_given parts.now) }
-    ensures { IfOk result (λ bytes. bytes.items ≡ box_bytes (parts_given parts.now)) }
+/// Writes the container of these scans in a version. They must be those of a container: their checks pass. The one
+/// error is out of memory.
+#[inline(never)]
+pub fn write_container(
+    alloc: Global,
+    version: Version,
+    scans: &[Parts],
+) -> Result<Vec<u8>, NoMemory>
+    requires { AreGiven version scans.now }
+    ensures { IfOk result (λ made. made.items ≡ container_bytes version (all_given scans.now)) }
 {
-    let mut bytes = with_capacity(alloc, room(parts).min(MOST_ROOM))?;
-    let list = list_of(&parts.pad);
-    put_front(
-        &mut bytes,
-        version_for(parts),
-        pad_byte(&parts.pad),
-        parts.handovers.len() as u8,
-    )?;
-    put_lengths(
-        &mut bytes,
-        parts.header.len() as u32,
-        parts.trailer.len() as u32,
-        list.len() as u32,
-    )?;
-    put_chunk(&mut bytes, parts.chunk)?;
-    put_place(&mut bytes, parts, parts.handovers.len())?;
-    put_records(&mut bytes, parts)?;
-    extend_from_slice(&mut bytes, list)?;
-    extend_from_slice(&mut bytes, parts.header)?;
-    extend_from_slice(&mut bytes, parts.trailer)?;
-    put_streams(&mut bytes, parts.streams)?;
+    let mut bytes = write_front(alloc, version, scans)?;
+    put_all_streams(&mut bytes, scans)?;
+    Ok(bytes)
+}
+
+/// Writes all of the container but the streams, with room for these: whoever has them appends them in their order.
+#[inline(never)]
+pub fn write_front(alloc: Global, version: Version, scans: &[Parts]) -> Result<Vec<u8>, NoMemory>
+    requires { AreGiven version scans.now }
+    ensures { IfOk result (λ front. front.items ++ flat_map scan_streams (all_given scans.now)
+        ≡ container_bytes version (all_given scans.now)) }
+{
+    let mut bytes = with_capacity(alloc, room(version, scans).min(MOST_ROOM))?;
+    let trailer = last_trailer(version, scans);
+    put_start(&mut bytes, version, scans.len() as u8, trailer.len() as u32)?;
+    put_all_fields(&mut bytes, scans)?;
+    put_headers(&mut bytes, scans)?;
+    extend_from_slice(&mut bytes, trailer)?;
     Ok(bytes)
 }
 
 // How many bytes the container has, or the most that is counted.
-fn room(parts: &Parts) -> usize
-    ensures { result ≡ min (2 ^ 64 - 1) (room_of (parts_given parts.now)) }
+fn room(version: Version, scans: &[Parts]) -> usize
+    ensures { result ≡ min (2 ^ 64 - 1) (scans_room version (all_given scans.now)) }
 {
-    let version = version_for(parts);
-    let mut room = version
-        .front()
-        .saturating_add(list_of(&parts.pad).len())
-        .saturating_add(parts.header.len())
-        .saturating_add(parts.trailer.len());
-    for stream in parts.streams {
-        room = room.saturating_add(version.record_room().saturating_add(stream.len()));
+    let mut room = version.layout().first;
+    for scan in scans {
+        room = room.saturating_add(scan_room(scan));
     }
     room
 }
 
-// The version that is written.
-fn version_for(parts: &Parts) -> Version
-    ensures { result ≡ (parts_given parts.now).version }
+// How many bytes of it are a scan's, or the most that is counted.
+fn scan_room(scan: &Parts) -> usize
+    ensures { result ≡ min (2 ^ 64 - 1) (scan_room (parts_given scan.now)) }
 {
-    if parts.chunk.is_some() {
-        Version::Third
-    } else if parts.places.is_some() {
-        Version::Fifth
-    } else {
-        Version::Second
+    let layout = scan.version.layout();
+    let mut room = layout
+        .fields
+        .saturating_add(list_of(&scan.pad).len())
+        .saturating_add(scan.header.len())
+        .saturating_add(scan.trailer.len());
+    for stream in scan.streams {
+        room = room.saturating_add(layout.room.saturating_add(stream.len()));
+    }
+    room
+}
+
+// The trailer, which is the last scan's.
+fn last_trailer<'a>(version: Version, scans: &[Parts<'a>]) -> &'a [u8]
+    requires { AreGiven version scans.now }
+    ensures { result.now ≡ trailer_of (all_given scans.now) }
+{
+    match scans.last() {
+        Some(scan) => scan.trailer,
+        None => &[],
     }
 }
 
-/// The fields up to the lengths.
-pub(crate) fn put_front(
+/// What comes before the fields of the first scan.
+pub(crate) fn put_start(
     bytes: &mut Vec<u8>,
     version: Version,
-    pad: u8,
-    segments: u8,
+    scans: u8,
+    trailer: u32,
 ) -> Result<(), NoMemory>
-    ensures { OnOk result (bytes.new.items
-        ≡ bytes.old.items ++ (magic ++ version_byte version ∷ pad ∷ segments ∷ [])) }
+    ensures { OnOk result (bytes.new.items ≡ bytes.old.items ++ (magic ++ (layout_of version).byte
+        ∷ (if (layout_of version).several then scans ∷ big_bytes 4 trailer else []))) }
 {
     extend_from_slice(bytes, &MAGIC)?;
-    push(bytes, version.byte())?;
-    push(bytes, pad)?;
-    push(bytes, segments)?;
+    push(bytes, version.layout().byte)?;
+    if version.layout().several {
+        put_scans(bytes, scans, trailer)
+    } else {
+        Ok(())
+    }
+}
+
+// How many scans there are, and the length of the trailer.
+fn put_scans(bytes: &mut Vec<u8>, scans: u8, trailer: u32) -> Result<(), NoMemory>
+    ensures { OnOk result (bytes.new.items ≡ bytes.old.items ++ (scans ∷ big_bytes 4 trailer)) }
+{
+    push(bytes, scans)?;
+    extend_from_slice(bytes, &trailer.to_be_bytes())
+}
+
+// The fields of each scan.
+fn put_all_fields(bytes: &mut Vec<u8>, scans: &[Parts]) -> Result<(), NoMemory>
+    requires { AllByRecursion (λ (p : PartsSeen). CanGive (parts_given p)) scans.now }
+    ensures { OnOk result (bytes.new.items
+        ≡ bytes.old.items ++ flat_map scan_fields (all_given scans.now)) }
+{
+    for scan in scans {
+        put_fields(bytes, scan)?;
+    }
     Ok(())
 }
 
+// A scan's fields.
+fn put_fields(bytes: &mut Vec<u8>, scan: &Parts) -> Result<(), NoMemory>
+    requires { CanGive (parts_given scan.now) }
+    ensures { OnOk result (bytes.new.items
+        ≡ bytes.old.items ++ scan_fields (parts_given scan.now)) }
+{
+    let list = list_of(&scan.pad);
+    push(bytes, pad_byte(&scan.pad))?;
+    push(bytes, scan.handovers.len() as u8)?;
+    put_lengths(
+        bytes,
+        scan.version,
+        scan.header.len() as u32,
+        scan.trailer.len() as u32,
+        list.len() as u32,
+    )?;
+    put_chunk(bytes, scan.chunk)?;
+    put_place(bytes, scan, scan.handovers.len())?;
+    put_records(bytes, scan)
+}
+
+/// The lengths of header, trailer and pad list, as far as a scan's fields have them.
+pub(crate) fn put_lengths(
+    bytes: &mut Vec<u8>,
+    version: Version,
+    header: u32,
+    trailer: u32,
+    list: u32,
+) -> Result<(), NoMemory>
+    ensures { OnOk result (bytes.new.items ≡ bytes.old.items ++ (big_bytes 4 header
+        ++ (if (layout_of version).several then [] else big_bytes 4 trailer)
+        ++ (if (layout_of version).listed then big_bytes 4 list else []))) }
+{
+    extend_from_slice(bytes, &header.to_be_bytes())?;
+    put_length_if(bytes, !version.layout().several, trailer)?;
+    put_length_if(bytes, version.layout().listed, list)
+}
+
+// A length, if it has a field.
+fn put_length_if(bytes: &mut Vec<u8>, there: bool, length: u32) -> Result<(), NoMemory>
+    ensures { OnOk result (bytes.new.items
+        ≡ bytes.old.items ++ (if there then big_bytes 4 length else [])) }
+{
+    if there {
+        extend_from_slice(bytes, &length.to_be_bytes())
+    } else {
+        Ok(())
+    }
+}
+
 /// The byte of pad bits.
-pub fn pad_byte(pads: &Pads) -> u8
+pub(crate) fn pad_byte(pads: &Pads) -> u8
     ensures { result ≡ pad_byte (pads_given pads.now) }
 {
     match *pads {
@@ -108,29 +193,13 @@ pub fn pad_byte(pads: &Pads) -> u8
 }
 
 /// The pad list, if there is one.
-pub fn list_of<'a>(pads: &Pads<'a>) -> &'a [u8]
+pub(crate) fn list_of<'a>(pads: &Pads<'a>) -> &'a [u8]
     ensures { result.now ≡ list_bytes (pads_given pads.now) }
 {
     match *pads {
         Pads::All(_) => &[],
         Pads::Each(list) => list,
     }
-}
-
-/// The lengths of header, trailer and pad list.
-pub(crate) fn put_lengths(
-    bytes: &mut Vec<u8>,
-    header: u32,
-    trailer: u32,
-    list: u32,
-) -> Result<(), NoMemory>
-    ensures { OnOk result (bytes.new.items
-        ≡ bytes.old.items ++ (big_bytes 4 header ++ (big_bytes 4 trailer ++ big_bytes 4 list))) }
-{
-    extend_from_slice(bytes, &header.to_be_bytes())?;
-    extend_from_slice(bytes, &trailer.to_be_bytes())?;
-    extend_from_slice(bytes, &list.to_be_bytes())?;
-    Ok(())
 }
 
 // The fields of a chunk, if there is one.
@@ -176,8 +245,8 @@ pub(crate) fn put_place_field(bytes: &mut Vec<u8>, places: &[u64], i: usize) -> 
     extend_from_slice(bytes, &places[i].to_be_bytes())
 }
 
-/// Appends a record for each segment.
-pub fn put_records(bytes: &mut Vec<u8>, parts: &Parts) -> Result<(), NoMemory>
+// A record for each segment.
+fn put_records(bytes: &mut Vec<u8>, parts: &Parts) -> Result<(), NoMemory>
     requires streams { length parts.now.handovers.now ≡ length parts.now.streams.now }
     requires places { IfSome (parts_given parts.now).places
         (λ places. length parts.now.handovers.now ≤ length places) }
@@ -206,8 +275,39 @@ pub(crate) fn put_record(
     Ok(())
 }
 
-/// Appends the streams, one after another.
-pub fn put_streams(bytes: &mut Vec<u8>, streams: &[Vec<u8>]) -> Result<(), NoMemory>
+// The pad list and the header of each scan.
+fn put_headers(bytes: &mut Vec<u8>, scans: &[Parts]) -> Result<(), NoMemory>
+    ensures { OnOk result (bytes.new.items
+        ≡ bytes.old.items ++ flat_map scan_header (all_given scans.now)) }
+{
+    for scan in scans {
+        put_header(bytes, scan)?;
+    }
+    Ok(())
+}
+
+// A scan's pad list and its header.
+fn put_header(bytes: &mut Vec<u8>, scan: &Parts) -> Result<(), NoMemory>
+    ensures { OnOk result (bytes.new.items
+        ≡ bytes.old.items ++ scan_header (parts_given scan.now)) }
+{
+    extend_from_slice(bytes, list_of(&scan.pad))?;
+    extend_from_slice(bytes, scan.header)
+}
+
+// The streams of each scan.
+fn put_all_streams(bytes: &mut Vec<u8>, scans: &[Parts]) -> Result<(), NoMemory>
+    ensures { OnOk result (bytes.new.items
+        ≡ bytes.old.items ++ flat_map scan_streams (all_given scans.now)) }
+{
+    for scan in scans {
+        put_streams(bytes, scan.streams)?;
+    }
+    Ok(())
+}
+
+// The streams of a scan, one after another.
+fn put_streams(bytes: &mut Vec<u8>, streams: &[Vec<u8>]) -> Result<(), NoMemory>
     ensures { OnOk result (bytes.new.items
         ≡ bytes.old.items ++ flat_map (λ stream. stream) (map (λ v. v.items) streams.now)) }
 {

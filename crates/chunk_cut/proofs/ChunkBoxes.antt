@@ -16,13 +16,15 @@ use Rattle.handover.specs.Handovers.{HandoverFields, IsHandover}
 use Rattle.cut_spec.specs.Cuts.{Cut, first_mcu}
 use Rattle.cut_spec.specs.RowHandovers.{mcus_between}
 use Rattle.chunk_spec.specs.Chunks.{FileParts, IsParted, file_bytes, row_place, rows_within, header_part, trailer_part, skip_within, most_within, rows_cut, chunk_from, chunk_to}
-use Rattle.box_format.specs.Parts.{BoxParts, IsBox, IsChunkIn, box_cut, bad_start, box_bytes, list_bytes, rows_most}
+use Rattle.box_format.specs.Parts.{BoxParts, IsChunkIn, box_cut, bad_start, list_bytes, rows_most}
+use Rattle.box_format.specs.Single.{IsBox, box_bytes}
 use Rattle.box_format.specs.Raws.{numbers}
 use Rattle.box_format.specs.Versions.{layout_of}
 use Rattle.box_format.specs.declared.chunk.Chunk.{Chunk}
 use Rattle.box_format.specs.declared.version.Version.TheVariants.{Second, Third}
 use Rattle.box_format.proofs.PartedLists.{all_values}
-use Rattle.container_spec.specs.Files.{IsContainerOf, parts_of_file, told_pads}
+use Rattle.container_spec.specs.ScanContainers.{IsContainerOfOne}
+use Rattle.container_spec.specs.Files.{parts_of_file, told_pads}
 use Rattle.container_spec.specs.ScanStream.{grid_of, blocks_of}
 use Rattle.container_spec.specs.SegmentLaws.{Suits}
 use Rattle.container_spec.proofs.CutsOfPlans.{mcus_within, each_has_mcus}
@@ -168,7 +170,7 @@ module _ (most size i : ℕ) (made file : List ℕ) (some : 0 < most)
       let short = is.few in
       omega (arith, text, rest, both, short)
 
-  abbrev whole_is : IsContainerOf Second most whole_box file
+  abbrev whole_is : IsContainerOfOne Second most whole_box file
   whole_is = record {
     known = none_known;
     whole = refl;

@@ -1,7 +1,7 @@
 -- A file that has a chunk isn't refused, and has one scan.
 use Rattle.std.proofs.Common.{[], ◌∷◌}
 use Rattle.scan_spec.proofs.FilesOnce.{one_is_all}
-use Rattle.scans_spec.proofs.OneContainers.{accepted_is_not_refused, several_is_not_one}
+use Rattle.container_spec.proofs.OneContainers.{accepted_is_not_refused, several_is_not_one}
 use Rattle.chunk_cut.specs.ChunkLaws.{ChunkedIsNotRefused, ChunkedIsOne}
 
 pub chunked_is_not_refused : ChunkedIsNotRefused

@@ -22,7 +22,8 @@ use Rattle.cut_spec.specs.Cuts.{Cut, first_mcu, row_of}
 use Rattle.cut_spec.specs.RowHandovers.{handover_at, mcus_between}
 use Rattle.chunk_spec.specs.Chunks.{FileParts, IsParted, row_place, rows_within, rows_cut, trailer_part, chunk_from, chunk_to}
 use Rattle.chunk_spec.proofs.ChunkParts.{all_done, rows_are_in_grid}
-use Rattle.box_format.specs.Parts.{BoxParts, IsBox, box_bytes, box_cut}
+use Rattle.box_format.specs.Parts.{BoxParts, box_cut}
+use Rattle.box_format.specs.Single.{IsBox, box_bytes}
 use Rattle.box_format.specs.Raws.{numbers}
 use Rattle.box_format.specs.Versions.{layout_of}
 use Rattle.box_format.specs.declared.chunk.Chunk.{Chunk}

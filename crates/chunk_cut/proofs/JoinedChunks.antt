@@ -1,29 +1,21 @@
 -- What the containers of all chunks of a file stand for, one after another, is the file.
-use Rattle.std.proofs.Common.{◌≡◌, ℕ, zero, suc, ◌+◌, ◌<◌, ◌≤◌, inl, inr, List, ◌++◌, refl, sym, ap, ap₂, ◌∙◌, arith}
+use Rattle.std.proofs.Common.{◌≡◌, ℕ, zero, suc, ◌+◌, ◌<◌, ◌≤◌, List, ◌++◌, refl, ap, ap₂, ◌∙◌, arith}
 use Rattle.std.specs.Prelude.{flat_map}
-use Rattle.jpeg_marker.specs.Plans.{PlanFields}
 use Rattle.chunk_spec.specs.ChunkLaws.{chunks_of}
 use Rattle.chunk_spec.proofs.ChunkJoins.{chunks_are_the_file}
-use Rattle.box_format.specs.Parts.{BoxParts}
 use Rattle.box_format.specs.Raws.{numbers}
-use Rattle.box_format.proofs.BoxLawsProved.{one_box}
-use Rattle.container_spec.specs.Meanings.{Meaning, Restored, NoBox, IsMeaning, meaning_of}
+use Rattle.container_spec.specs.Meanings.{Meaning, Restored}
+use Rattle.container_spec.specs.Portions.{StandsFor}
+use Rattle.container_spec.proofs.BoxesOnce.{stands_for_one}
 use Rattle.chunk_cut.specs.ChunkLaws.{ChunksAreRestored}
 use Rattle.chunk_cut.specs.ChunksOfFiles.{chunk_of}
 use Rattle.chunk_cut.proofs.RestoredChunks.{chunk_is_restored}
 
 -- bytes stand for one file or chunk
-one_restored : (bytes a b : List ℕ) → IsMeaning bytes (record { bytes = a; verdict = Restored })
-    → IsMeaning bytes (record { bytes = b; verdict = Restored }) → a ≡ b
-one_restored bytes a b (inl x) y =
-    let bad : Restored ≡ NoBox x.0 = ap (λ (m : Meaning). m.verdict) x.2 in absurd cc
-one_restored bytes a b (inr x) (inl y) =
-    let bad : Restored ≡ NoBox y.0 = ap (λ (m : Meaning). m.verdict) y.2 in absurd cc
-one_restored bytes a b (inr x) (inr y) =
-    let same = one_box x.0 y.0 x.1 y.1 bytes x.2 y.2 in
-    ap (λ (m : Meaning). m.bytes)
-    (x.3 ∙ ap₂ (λ (plan : PlanFields) (parts : BoxParts). meaning_of plan parts) same.0 same.1
-    ∙ sym y.3)
+one_restored : (bytes a b : List ℕ) → StandsFor bytes (record { bytes = a; verdict = Restored })
+    → StandsFor bytes (record { bytes = b; verdict = Restored }) → a ≡ b
+one_restored bytes a b x y =
+    ap (λ (m : Meaning). m.bytes) (stands_for_one bytes _ _ x y)
 
 -- chunks from number i on
 chunks_joined : (file : List ℕ) (size : ℕ) (decoded : ℕ → List ℕ) (count i : ℕ)

@@ -6,3 +6,4 @@ pub mod JoinedChunks
 pub mod ChunkSizes
 mod ChunksFound
 mod FaultsFound
+mod FrontsWritten

@@ -7,7 +7,7 @@ use Rattle.scan_spec.specs.Scans.{Mcu, pad_at, scan_bytes}
 use Rattle.scan_spec.specs.Slots.{shape_of}
 use Rattle.scan_spec.proofs.FilesOnce.{one_scan_of}
 use Rattle.chunk_spec.specs.Chunks.{chunk_from, chunk_to}
-use Rattle.box_format.specs.Parts.{box_bytes}
+use Rattle.box_format.specs.Single.{box_bytes}
 use Rattle.container_spec.specs.Files.{told_pads}
 use Rattle.chunk_cut.specs.ChunkLaws.{OneChunk}
 use Rattle.chunk_cut.specs.ChunksOfFiles.{parted, parts_of_chunk}

@@ -1,5 +1,5 @@
 -- A chunk's container stands for the chunk.
-use Rattle.std.proofs.Common.{◌≡◌, ℕ, ◌+◌, ◌-◌, ◌<◌, ◌≤◌, Bool, true, false, if◌then◌else◌, List, [], ◌++◌, length, take, drop, map, get_or, Ok, Some, None, inl, inr, refl, sym, ap, ap₂, subst, ◌∙◌, arith, append_assoc, zero-add}
+use Rattle.std.proofs.Common.{◌≡◌, ℕ, ◌+◌, ◌-◌, ◌<◌, ◌≤◌, Bool, true, false, if◌then◌else◌, List, [], ◌∷◌, ◌++◌, length, take, drop, map, get_or, Ok, Some, None, inl, inr, refl, sym, ap, ap₂, subst, ◌∙◌, arith, append_assoc, zero-add}
 use Rattle.std.specs.Prelude.{slice_get, nat_lt, flat_map}
 use Rattle.std.proofs.lemmas.Bool.{cases_lt}
 use Rattle.std.proofs.lemmas.Bool.Decides.{nat_tests}
@@ -19,15 +19,19 @@ use Rattle.cut_spec.specs.Cuts.{first_mcu}
 use Rattle.cut_spec.specs.RowHandovers.{segment_bytes, handover_at}
 use Rattle.cut_spec.specs.Seams.{slices}
 use Rattle.chunk_spec.specs.Chunks.{FileParts, window_within, skip_within, header_part, rows_bytes}
-use Rattle.box_format.specs.Parts.{BoxParts, box_cut, rows_most}
+use Rattle.box_format.specs.Parts.{BoxParts, BoxSeen, box_cut, rows_most}
 use Rattle.box_format.specs.Raws.{numbers}
+use Rattle.box_format.specs.declared.version.Version.TheVariants.{Third}
+use Rattle.box_format.proofs.Singles.{one_is_container}
 use Rattle.container_spec.specs.ScanStream.{grid_of}
 use Rattle.container_spec.specs.Segments.{SegmentFields, Output, segment_output}
 use Rattle.container_spec.specs.SegmentLaws.{IsNextStart, segment_between}
 use Rattle.container_spec.specs.Files.{told_pads}
-use Rattle.container_spec.specs.Meanings.{Meaning, Restored, outputs_of, joined, meaning_by, meaning_of}
+use Rattle.container_spec.specs.Meanings.{Meaning, Restored}
+use Rattle.container_spec.specs.AloneMeanings.{outputs_of, joined, meaning_by, meaning_of}
 use Rattle.container_spec.proofs.JoinedSegments.{all_sum, good_join, joined_good}
 use Rattle.container_spec.proofs.Numbered.{mapped_long, mapped_at, mapped_same, got_at, got_none}
+use Rattle.container_spec.proofs.PortionsMeant.{one_stands_for_itself}
 use Rattle.container_spec.proofs.PutsAlike.{segment_alike}
 use Rattle.container_spec.proofs.SlicesMeant.{slice_output, slice_sum}
 use Rattle.container_spec.proofs.SpotsAlike.{handovers_alike}
@@ -241,9 +245,15 @@ module _ (most size i : ℕ) (made file : List ℕ) (some : 0 < most)
       ∙ ap (λ (bytes : List ℕ). record { bytes = bytes; verdict = Restored }) bytes_are
 
 pub chunk_is_restored : ChunkIsRestored
-chunk_is_restored most size i made file some allowed is = inr (
-  is.plan,
-  boxes.box most size i made file some is,
-  record { box = boxes.box_is most size i made file some is allowed; text = is.spelled },
-  sym (meaning_is most size i made file some is),
-)
+chunk_is_restored most size i made file some allowed is =
+    let s : BoxSeen =
+    record { plan = is.plan; parts = boxes.box most size i made file some is } in
+    inr (
+      s ∷ [],
+      (
+        Third,
+        one_is_container s made
+            (record { box = boxes.box_is most size i made file some is allowed; one = refl; text = is.spelled }),
+      ),
+      sym (one_stands_for_itself s ∙ meaning_is most size i made file some is),
+    )

@@ -4,8 +4,9 @@ use Rattle.box_format.specs.Raws.{numbers}
 use Rattle.box_format.specs.Versions.{layout_of}
 use Rattle.box_format.specs.declared.version.Version.TheVariants.{Third}
 use Rattle.container_spec.specs.Limits.{most_of_a_container, most_of_a_file}
-use Rattle.container_spec.specs.Meanings.{Restored, IsMeaning}
-use Rattle.scans_spec.specs.ScansFiles.{FileRefusal, FileIsRefused, HasSeveralScans}
+use Rattle.container_spec.specs.Meanings.{Restored}
+use Rattle.container_spec.specs.Portions.{StandsFor}
+use Rattle.container_spec.specs.ScansFiles.{FileRefusal, FileIsRefused, HasSeveralScans}
 use Rattle.chunk_cut.specs.ChunksOfFiles.{IsChunkOf, chunk_of}
 
 -- a chunk's container stands for the chunk
@@ -13,7 +14,7 @@ abbrev pub ChunkIsRestored : Type 0
 ChunkIsRestored =
     (most size i : ℕ) (made file : List ℕ) → 0 < most → most ≤ (layout_of Third).most
     → IsChunkOf most size i made file
-    → IsMeaning made (record { bytes = chunk_of file size i; verdict = Restored })
+    → StandsFor made (record { bytes = chunk_of file size i; verdict = Restored })
 
 -- what the containers of all chunks of a file stand for, one after another, is the file
 abbrev pub ChunksAreRestored : Type 0
@@ -22,7 +23,7 @@ ChunksAreRestored =
     → most ≤ (layout_of Third).most → length file ≤ count * size
     → ((i : ℕ) → i < count → IsChunkOf most size i (made i) file)
     → ((i : ℕ) → i < count
-    → IsMeaning (made i) (record { bytes = decoded i; verdict = Restored }))
+    → StandsFor (made i) (record { bytes = decoded i; verdict = Restored }))
     → flat_map decoded (numbers 0 count) ≡ file
 
 -- a chunk has one container of each number of segments

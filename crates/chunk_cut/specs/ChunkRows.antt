@@ -2,8 +2,9 @@
 use Rattle.std.specs.Prelude.{ℕ, ◌≡◌, true, [], ◌∷◌, replicate, length, Some}
 use Rattle.scan_spec.specs.ScanRows.{blank}
 use Rattle.chunk_spec.specs.Chunks.{FileParts, chunk_from, chunk_to}
-use Rattle.box_format.specs.BoxRows.{chunk_parts, image_end, ones_header, ones_plan}
-use Rattle.box_format.specs.Parts.{BoxParts, box_bytes}
+use Rattle.box_format.specs.Rows.{chunk_parts, image_end, ones_header, ones_plan}
+use Rattle.box_format.specs.Parts.{BoxParts}
+use Rattle.box_format.specs.Single.{box_bytes}
 use Rattle.container_spec.specs.Files.{told_pads}
 use Rattle.chunk_cut.specs.ChunksOfFiles.{parted, parts_of_chunk}
 

@@ -1,5 +1,5 @@
 -- Statement: the container of a chunk of a file (docs/FORMAT.md, Chunks).
-use Rattle.std.specs.Prelude.{ℕ, ◌≡◌, ◌+◌, ◌-◌, ◌<◌, ◌^◌, Bool, List, length, take, map, Some, None}
+use Rattle.std.specs.Prelude.{ℕ, ◌≡◌, ◌+◌, ◌-◌, ◌<◌, ◌^◌, Bool, List, [], ◌∷◌, length, take, map, Some, None}
 use Rattle.std.specs.List.{AllByRecursion}
 use Rattle.byte_window.specs.Slices.{slice}
 use Rattle.bit_list.specs.Bits.{IsByte}
@@ -12,7 +12,8 @@ use Rattle.handover.specs.Handovers.{HandoverFields}
 use Rattle.cut_spec.specs.Cuts.{Cut, first_mcu}
 use Rattle.cut_spec.specs.RowHandovers.{handover_at, mcus_between}
 use Rattle.chunk_spec.specs.Chunks.{FileParts, rows_within, trailer_part, skip_within, rows_cut, chunk_from, chunk_to}
-use Rattle.box_format.specs.Parts.{BoxParts, box_bytes}
+use Rattle.box_format.specs.Containers.{container_bytes}
+use Rattle.box_format.specs.Parts.{BoxParts}
 use Rattle.box_format.specs.Raws.{numbers}
 use Rattle.box_format.specs.declared.version.Version.TheVariants.{Third}
 use Rattle.container_spec.specs.Files.{told_pads}
@@ -86,6 +87,6 @@ pub record IsChunkOf (most size i : ℕ) (made file : List ℕ) : Type 0 where
   pub is : IsFileOf file plan mcus pads trailer
   pub there : chunk_from size i < length file
   pub spelled : made
-      ≡ box_bytes (parts_of_chunk plan (told_pads plan mcus pads)
+      ≡ container_bytes Third (parts_of_chunk plan (told_pads plan mcus pads)
       (parted plan mcus pads (take plan.header_length file) is.scan trailer) (chunk_from size i)
-      (chunk_to (length file) size i) most)
+      (chunk_to (length file) size i) most ∷ [])

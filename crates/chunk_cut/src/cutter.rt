@@ -1,24 +1,28 @@
 // A file whose chunks are cut, each into a container of its own.
-ghost use Rattle.std.specs.Prelude.{◌≡◌, ◌-◌, ◌*◌, ◌<◌, ◌≤◌, ◌^◌, drop, length, IfNone, IfOk, IfSome, IsErrOf};
+ghost use Rattle.std.specs.Prelude.{◌≡◌, ◌-◌, ◌*◌, ◌++◌, ◌<◌, ◌≤◌, ◌^◌, drop, length, IfNone, IfOk, IfSome, IsErrOf};
 ghost use Rattle.byte_window.specs.Slices.{slice};
+ghost use Rattle.jpeg_marker.specs.Plans.{PlanFields};
 ghost use Rattle.jpeg_marker.specs.declared.refusal.HeaderRefusal.{HeaderRefusal};
 ghost use Rattle.scan_spec.specs.declared.refusal.ScanRefusal.{ScanRefusal};
 ghost use Rattle.chunk_spec.specs.Chunks.{chunk_from, chunk_to};
+ghost use Rattle.box_format.specs.Containers.{scan_streams};
+ghost use Rattle.box_format.specs.Given.{parts_given};
+ghost use Rattle.box_format.specs.Single.{IsBox, box_bytes};
 ghost use Rattle.box_format.specs.Versions.{layout_of};
 ghost use Rattle.box_format.specs.declared.version.Version.TheVariants.{Third};
-ghost use Rattle.scans_spec.specs.ScansFiles.{FileIsRefused, HasSeveralScans, Header, Scan};
+ghost use Rattle.container_spec.specs.ScansFiles.{FileIsRefused, HasSeveralScans, Header, Scan};
 ghost use Rattle.chunk_cut.specs.ChunksOfFiles.{IsChunkOf, IsOneScanFile};
 
 use crate::error::CutError;
 use crate::rows::{chunk_between, handovers_of};
-use box_format::{Parts, write_box};
+use box_format::{Parts, Version, write_front};
 use growth::NoMemory;
 use jpeg_marker::Plan;
-use lepton_encode::read_one_scan;
+use lepton_encode::{Alone, InThreads, ScanCoder, put_streams, read_one_scan};
 use segment_code::{Starts, find_rows};
-use segment_encode::{encode_all, encode_all_alone};
 use std::alloc::Global;
 use std::marker::Model;
+use std::slice;
 use std::thread::Threads;
 
 /// A file whose chunks are cut, one after another or in any order: its header's plan, and where each row of MCUs of its
@@ -34,7 +38,7 @@ pub struct ChunkCutter<'a> {
 
 impl<'a> Model for ChunkCutter<'a> {
     ghost use Rattle.std.specs.Prelude.{List, ℕ};
-    ghost use Rattle.scans_spec.specs.ScansFiles.{FileIsRefused, HasSeveralScans, Header, Scan};
+    ghost use Rattle.container_spec.specs.ScansFiles.{FileIsRefused, HasSeveralScans, Header, Scan};
     ghost use Rattle.chunk_cut.specs.Found.{IsCutter};
 
     ghost Value = { List ℕ };
@@ -87,36 +91,7 @@ impl<'a> ChunkCutter<'a> {
             (λ made. IsChunkOf segments size index made.items self.now)) }
         ensures none { IfOk result (λ cut. IfNone cut (length self.now ≤ index * size)) }
     {
-        let Some((from, to)) = span_of(self.bytes.len(), size, index) else {
-            return Ok(None);
-        };
-        let chunk = chunk_between(&self.starts, from, to);
-        let count = u32::from(segments).min(chunk.to - chunk.from);
-        let handovers = handovers_of(alloc, &self.plan, &self.starts, chunk, count)?;
-        let streams = encode_all(
-            rt,
-            alloc,
-            &self.plan,
-            self.bytes,
-            &self.starts,
-            Some(chunk),
-            count,
-        )?;
-        let (header, _) = self.bytes.split_at(self.plan.header_length());
-        let trailer = trailer_between(self.bytes, self.starts.trailer(), from, to);
-        let made = write_box(
-            alloc,
-            &Parts {
-                chunk: Some(chunk),
-                places: None,
-                pad: self.starts.pad(),
-                header,
-                trailer,
-                handovers: handovers.as_slice(),
-                streams: streams.as_slice(),
-            },
-        )?;
-        Ok(Some(made))
+        self.cut_by(&InThreads { rt }, alloc, segments, size, index)
     }
 
     /// What `cut` gives, on the calling thread: the segments are coded one after another.
@@ -135,13 +110,34 @@ impl<'a> ChunkCutter<'a> {
             (λ made. IsChunkOf segments size index made.items self.now)) }
         ensures none { IfOk result (λ cut. IfNone cut (length self.now ≤ index * size)) }
     {
+        self.cut_by(&Alone, alloc, segments, size, index)
+    }
+
+    // The container of a chunk, whose segments are coded so.
+    #[inline(never)]
+    fn cut_by<C: ScanCoder>(
+        &self,
+        coder: &C,
+        alloc: Global,
+        segments: u8,
+        size: u64,
+        index: u64,
+    ) -> Result<Option<Vec<u8>>, NoMemory>
+        requires coder { C.ready coder.now }
+        requires some { 0 < segments }
+        requires few { segments ≤ (layout_of Third).most }
+        requires size { 0 < size }
+        ensures made { IfOk result (λ cut. IfSome cut
+            (λ made. IsChunkOf segments size index made.items self.now)) }
+        ensures none { IfOk result (λ cut. IfNone cut (length self.now ≤ index * size)) }
+    {
         let Some((from, to)) = span_of(self.bytes.len(), size, index) else {
             return Ok(None);
         };
         let chunk = chunk_between(&self.starts, from, to);
         let count = u32::from(segments).min(chunk.to - chunk.from);
         let handovers = handovers_of(alloc, &self.plan, &self.starts, chunk, count)?;
-        let streams = encode_all_alone(
+        let streams = coder.code_rows(
             alloc,
             &self.plan,
             self.bytes,
@@ -151,9 +147,10 @@ impl<'a> ChunkCutter<'a> {
         )?;
         let (header, _) = self.bytes.split_at(self.plan.header_length());
         let trailer = trailer_between(self.bytes, self.starts.trailer(), from, to);
-        let made = write_box(
+        let mut made = front_of(
             alloc,
             &Parts {
+                version: Version::Third,
                 chunk: Some(chunk),
                 places: None,
                 pad: self.starts.pad(),
@@ -163,6 +160,7 @@ impl<'a> ChunkCutter<'a> {
                 streams: streams.as_slice(),
             },
         )?;
+        put_streams(&mut made, streams)?;
         Ok(Some(made))
     }
 
@@ -246,6 +244,18 @@ pub fn cut_chunk_alone(
         Some(made) => Ok(made),
         None => Err(CutError::NoChunk),
     }
+}
+
+// All of a chunk's container but the streams, with room for these.
+fn front_of(alloc: Global, parts: &Parts) -> Result<Vec<u8>, NoMemory>
+    requires { (plan : PlanFields) × IsBox plan (parts_given parts.now)
+        × ((parts_given parts.now).version ≡ Third) }
+    ensures { IfOk result (λ front. front.items ++ scan_streams (parts_given parts.now)
+        ≡ box_bytes (parts_given parts.now)) }
+{
+    let parts = slice::from_ref(parts);
+    let front = write_front(alloc, Version::Third, parts)?;
+    Ok(front)
 }
 
 // From which place to before which one chunk `index` of `size` bytes is, in a file of this length.

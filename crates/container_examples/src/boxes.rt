@@ -1,16 +1,18 @@
 // Worked containers. Bytes that are none are in `tests/rows`.
-ghost use Rattle.std.specs.Prelude.{◌≡◌, map, option_map, IfOk, IfSome};
-ghost use Rattle.box_format.specs.Parts.{IsBox, box_bytes};
-ghost use Rattle.box_format.specs.Seen.{version_for};
+ghost use Rattle.std.specs.Prelude.{◌≡◌, false, map, option_map, IfOk, IfSome};
+ghost use Rattle.box_format.specs.Single.{IsBox, box_bytes};
+ghost use Rattle.box_format.specs.Versions.{layout_of};
 
 use crate::pads::are_told;
 use box_format::{
-    BoxRefusal, BoxView, Chunk, Migrate, Parts, Version, migrate, read_box, write_box,
+    BoxRefusal, BoxView, Chunk, Migrate, Parts, ReadError, Version, migrate, read_box,
+    write_container,
 };
 use handover::Handover;
 use jpeg_marker::HeaderRefusal;
 use std::alloc::{AllocError, Global};
 use std::process::Abort;
+use std::slice;
 
 // The fields of a container in version 1, if it can say it, and in version 2, and what follows them; the byte of pad
 // bits with the list's only one, how many segments it has, how many bytes its header has, and its last stream.
@@ -124,17 +126,28 @@ fn containers_are_read(rt: HostRuntime) {
     for (first, second, rest, pads, segments, header, stream) in TAKEN {
         let said = (*pads, *segments, *header, *stream);
         let bytes = joined(&rt, rt.alloc(), second, rest);
-        assert!(rt; is_read(&bytes, Version::Second, said), "{bytes:?}");
+        assert!(rt;
+            is_read(rt.alloc(), &bytes, Version::Second, said),
+            "{bytes:?}"
+        );
         if !first.is_empty() {
             let bytes = joined(&rt, rt.alloc(), first, rest);
-            assert!(rt; is_read(&bytes, Version::First, said), "{bytes:?}");
+            assert!(rt;
+                is_read(rt.alloc(), &bytes, Version::First, said),
+                "{bytes:?}"
+            );
         }
     }
 }
 
-fn is_read(bytes: &[u8], version: Version, said: ((u8, u8), u8, usize, &[u8])) -> bool {
+fn is_read(
+    alloc: Global,
+    bytes: &[u8],
+    version: Version,
+    said: ((u8, u8), u8, usize, &[u8]),
+) -> bool {
     let (pads, segments, header, stream) = said;
-    let Ok(view) = read_box(bytes) else {
+    let Ok(view) = read_box(alloc, bytes) else {
         return false;
     };
     if segments == 0 || view.segments() != segments {
@@ -150,23 +163,24 @@ fn is_read(bytes: &[u8], version: Version, said: ((u8, u8), u8, usize, &[u8])) -
 
 #[test]
 fn containers_are_written(rt: HostRuntime) {
-    for (_, second, rest, _, _, _, _) in TAKEN {
+    for (first, second, rest, _, _, _, _) in TAKEN {
         let bytes = joined(&rt, rt.alloc(), second, rest);
         assert!(rt; is_written(&rt, rt.alloc(), &bytes), "{bytes:?}");
+        if !first.is_empty() {
+            let bytes = joined(&rt, rt.alloc(), first, rest);
+            assert!(rt; is_written(&rt, rt.alloc(), &bytes), "{bytes:?}");
+        }
     }
 }
 
 // Whether the container of what is read from the bytes has these bytes.
 fn is_written(rt: &impl Abort, alloc: Global, bytes: &[u8]) -> bool {
-    let Ok(view) = read_box(bytes) else {
-        return false;
-    };
-    let _ = view.plan();
-    match view.version() {
-        Version::First => false,
-        Version::Second => again(alloc, &view).expect(rt, "memory").as_slice() == bytes,
-        Version::Third => again(alloc, &view).expect(rt, "memory").as_slice() == bytes,
-        Version::Fifth => again(alloc, &view).expect(rt, "memory").as_slice() == bytes,
+    match read_box(alloc, bytes) {
+        Ok(view) => {
+            let _ = view.plan();
+            again(alloc, &view).expect(rt, "memory").as_slice() == bytes
+        }
+        Err(_) => false,
     }
 }
 
@@ -188,15 +202,15 @@ fn a_chunk_is_read_and_written(rt: HostRuntime) {
         from: 3,
         to: 4,
     };
-    assert!(rt; has_chunk(CHUNK, chunk));
+    assert!(rt; has_chunk(rt.alloc(), CHUNK, chunk));
     assert!(rt; is_written(&rt, rt.alloc(), CHUNK));
     let refusal = BoxRefusal::BoxVersion;
     assert!(rt; is_refused(rt.alloc(), CHUNK, refusal));
 }
 
 // Whether the bytes are a container of this chunk.
-fn has_chunk(bytes: &[u8], chunk: Chunk) -> bool {
-    match read_box(bytes) {
+fn has_chunk(alloc: Global, bytes: &[u8], chunk: Chunk) -> bool {
+    match read_box(alloc, bytes) {
         Ok(view) => view.version() == Version::Third && view.chunk() == Some(chunk),
         Err(_) => false,
     }
@@ -213,16 +227,16 @@ const PLACED: &[u8] = b"LPSG\x05\x01\x02\0\0\0\x45\0\0\0\x02\0\0\0\0\0\0\0\0\0\0
 
 #[test]
 fn places_are_read_and_written(rt: HostRuntime) {
-    assert!(rt; PLACED.len() == 164 && has_places(PLACED, 69, 69, 70));
-    assert!(rt; has_length(PLACED, 72));
+    assert!(rt; PLACED.len() == 164 && has_places(rt.alloc(), PLACED, 69, 69, 70));
+    assert!(rt; has_length(rt.alloc(), PLACED, 72));
     assert!(rt; is_written(&rt, rt.alloc(), PLACED));
     let refusal = BoxRefusal::BoxVersion;
     assert!(rt; is_refused(rt.alloc(), PLACED, refusal));
 }
 
 // Whether the bytes are a container of two segments with these places, whose scan ends at this place.
-fn has_places(bytes: &[u8], first: u64, second: u64, end: u64) -> bool {
-    let Ok(view) = read_box(bytes) else {
+fn has_places(alloc: Global, bytes: &[u8], first: u64, second: u64, end: u64) -> bool {
+    let Ok(view) = read_box(alloc, bytes) else {
         return false;
     };
     view.segments() == 2
@@ -232,8 +246,8 @@ fn has_places(bytes: &[u8], first: u64, second: u64, end: u64) -> bool {
         && view.place(2) == Some(end)
 }
 
-fn has_length(bytes: &[u8], wanted: u64) -> bool {
-    match read_box(bytes) {
+fn has_length(alloc: Global, bytes: &[u8], wanted: u64) -> bool {
+    match read_box(alloc, bytes) {
         Ok(view) => file_length(&view) == Some(wanted),
         Err(_) => false,
     }
@@ -277,9 +291,10 @@ fn refusal_with(rt: &impl Abort, alloc: Global, at: usize, byte: u8) -> Option<B
     if at < bytes.len() {
         bytes[at] = byte;
     }
-    match read_box(&bytes) {
+    match read_box(alloc, &bytes) {
         Ok(_) => None,
-        Err(refusal) => Some(refusal),
+        Err(ReadError::Box(refusal)) => Some(refusal),
+        Err(ReadError::NoMemory(_)) => None,
     }
 }
 
@@ -339,14 +354,15 @@ fn joined(rt: &impl Abort, alloc: Global, front: &[u8], rest: &[&[u8]]) -> Vec<u
 // The container of what was read.
 fn again(alloc: Global, view: &BoxView) -> Result<Vec<u8>, AllocError>
     requires parts { IsBox view.now.plan view.now.parts }
-    requires version { view.now.parts.version
-        ≡ version_for view.now.parts.chunk view.now.parts.places }
+    requires one { (layout_of view.now.parts.version).several ≡ false }
     ensures { IfOk result (λ bytes. bytes.items ≡ box_bytes view.now.parts) }
 {
     let places = places_of(alloc, view)?;
     let handovers = handovers_of(alloc, view)?;
     let streams = streams_of(alloc, view)?;
-    let parts = Parts {
+    let version = view.version();
+    let scan = Parts {
+        version,
         chunk: view.chunk(),
         places: kept_in(view, places.as_slice()),
         pad: view.pad(),
@@ -355,7 +371,7 @@ fn again(alloc: Global, view: &BoxView) -> Result<Vec<u8>, AllocError>
         handovers: handovers.as_slice(),
         streams: streams.as_slice(),
     };
-    Ok(write_box(alloc, &parts)?)
+    Ok(write_container(alloc, version, slice::from_ref(&scan))?)
 }
 
 // The places that are kept; zeros if none are.

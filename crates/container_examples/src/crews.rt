@@ -1,8 +1,8 @@
 // Stretches of a container's segments, each written by a crew of its own (docs/FORMAT.md).
 
+use box_format::{FileView, read_container};
 use byte_window::Window;
 use outside_core::{MemSink, OpenGate};
-use scans_format::{FileView, read_container};
 use segment_crew::Crew;
 use std::alloc::{AllocError, Global};
 use std::process::Abort;

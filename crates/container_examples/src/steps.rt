@@ -412,7 +412,7 @@ fn are_decoded(
     second: &Segment,
     steps: u8,
 ) -> Result<bool, AllocError> {
-    let Ok(view) = read_box(bytes) else {
+    let Ok(view) = read_box(alloc, bytes) else {
         return Ok(false);
     };
     let mut decoder = SegmentDecoder::prepare(alloc, view.plan())?;

@@ -1,22 +1,17 @@
 -- How long the container of a file can be.
-use Rattle.std.proofs.Common.{◌≡◌, ℕ, ◌+◌, ◌*◌, ◌≤◌, Bool, true, false, List, [], ◌∷◌, ◌++◌, length, take, ap, ◌∙◌, arith, length-append, zero-add}
+use Rattle.std.proofs.Common.{ℕ, ◌+◌, ◌*◌, ◌≤◌, Bool, true, false, List, [], ◌∷◌, ◌++◌, length, arith, length-append}
 use Rattle.std.specs.Prelude.{flat_map, Option, Some, None}
 use Rattle.std.specs.List.{AllByRecursion}
 use Rattle.byteorder.specs.Endian.{big_bytes}
-use Rattle.scan_spec.specs.Slots.{shape_of}
 use Rattle.handover.specs.Handovers.{HandoverFields, IsHandover}
 use Rattle.handover.specs.HandoverBytes.{handover_bytes}
 use Rattle.handover.proofs.FieldBytes.{fields_again}
 use Rattle.box_format.specs.declared.chunk.Chunk.{Chunk}
-use Rattle.box_format.specs.Parts.{BoxParts, box_bytes, chunk_bytes, place_bytes, records, list_bytes, list_length}
+use Rattle.box_format.specs.Parts.{BoxParts, chunk_bytes, place_bytes, records, list_bytes, list_length}
+use Rattle.box_format.specs.Single.{box_bytes}
+use Rattle.box_format.specs.Containers.{container_bytes, scan_fields, scan_header, scan_streams, scans_said, trailer_length, trailer_of}
+use Rattle.box_format.specs.declared.version.Version.{Version}
 use Rattle.box_format.specs.Versions.{layout_of}
-use Rattle.box_format.proofs.Fronts.{most_few}
-use Rattle.container_spec.specs.ScanStream.{stream_of}
-use Rattle.container_spec.specs.Files.{segment_mcus, parts_of_file}
-use Rattle.container_spec.specs.MeaningLaws.{ContainerIsShort}
-use Rattle.container_spec.proofs.FileParts.{segments, cut, cuts, file_long, stream_long, all_blocks, list_long, mcus_few, box_is}
-use Rattle.container_spec.proofs.Numbered.{mapped_long}
-use Rattle.container_spec.proofs.StreamSizes.{streams_short}
 
 -- a place has eight bytes
 place_long : (places : Option (List ℕ)) (i : ℕ) → length (place_bytes places i) ≤ 8
@@ -48,41 +43,45 @@ chunk_long : (c : Option Chunk) → length (chunk_bytes c) ≤ 32
 chunk_long None = omega arith
 chunk_long (Some c) = omega arith
 
-pub box_long : (b : BoxParts) → AllByRecursion IsHandover b.handovers
-    → length (box_bytes b)
-    ≤ 59 + length (list_bytes b.pads) + 30 * length b.handovers + length b.header
-    + length b.trailer + length (flat_map (λ stream. stream) b.streams)
-unfolding box_bytes
-box_long b each =
+trailer_named : (several : Bool) (trailer : List ℕ) → length (trailer_length several trailer) ≤ 4
+trailer_named true trailer = omega arith
+trailer_named false trailer = omega arith
+
+-- a scan's fields
+pub fields_long : (b : BoxParts) → AllByRecursion IsHandover b.handovers
+    → length (scan_fields b) ≤ 54 + 30 * length b.handovers
+fields_long b each =
     let few = records_long b.places 0 b.handovers b.streams each in
     let end = place_long b.places (length b.handovers) in
     let named = named_long (layout_of b.version).listed (list_bytes b.pads) in
+    let trailer = trailer_named (layout_of b.version).several b.trailer in
     let chunk = chunk_long b.chunk in
-    simp length-append (omega (arith, few, end, named, chunk))
+    simp length-append (omega (arith, few, end, named, trailer, chunk))
 
-pub container_is_short : ContainerIsShort
-container_is_short version most made file some allowed is short =
-    let b : BoxParts =
-    parts_of_file version is.plan is.mcus is.pads (take is.plan.header_length file) is.trailer
-    most in
-    let box = box_is version most made file some is allowed in
-    let count : ℕ = segments version most made file some is in
-    let d : ℕ → ℕ = cut version most made file some is in
-    let rise = cuts version most made file some is in
-    let n : ℕ = length (shape_of is.plan).slots in
-    let stream : ℕ → List ℕ = λ j. stream_of is.plan (segment_mcus is.plan is.mcus most j) in
-    let all = streams_short stream d n count 0
-    (λ j after within. rise.order j (omega (arith, within)))
-    (λ j after within. stream_long version most made file some is j (omega (arith, within))) in
-    let whole : d (0 + count) * n ≡ is.plan.across * is.plan.down * n =
-    ap (λ m. d m * n) (zero-add count) ∙ ap (λ m. m * n) rise.whole in
-    let long = box_long b box.each in
-    let text = ap length is.spelled in
-    let blocks = all_blocks version most made file some is in
-    let within = file_long version most made file some is in
-    let few = box.few in
-    let list = list_long version most made file some is in
-    let mcus = mcus_few version most made file some is in
-    let least = most_few version in
-    let many = mapped_long stream 0 count in
-    omega (arith, all, whole, long, text, blocks, within, few, short, allowed, list, mcus, least)
+said_long : (several : Bool) (n : ℕ) (trailer : List ℕ) → length (scans_said several n trailer) ≤ 5
+said_long true n trailer = omega arith
+said_long false n trailer = omega arith
+
+-- a container
+pub scans_long : (v : Version) (scans : List BoxParts)
+    → length (container_bytes v scans)
+    ≤ 10 + length (flat_map scan_fields scans) + length (flat_map scan_header scans)
+    + length (trailer_of scans) + length (flat_map scan_streams scans)
+unfolding container_bytes
+scans_long v scans =
+    let said = said_long (layout_of v).several (length scans) (trailer_of scans) in
+    simp length-append (omega (arith, said))
+
+pub box_long : (b : BoxParts) → AllByRecursion IsHandover b.handovers
+    → length (box_bytes b)
+    ≤ 64 + length (list_bytes b.pads) + 30 * length b.handovers + length b.header
+    + length b.trailer + length (flat_map (λ stream. stream) b.streams)
+box_long b each =
+    let fields = fields_long b each in
+    let all = scans_long b.version (b ∷ []) in
+    let a = length-append (scan_fields b) [] in
+    let h = length-append (scan_header b) [] in
+    let l = length-append (list_bytes b.pads) b.header in
+    let t = length-append b.trailer [] in
+    let s = length-append (scan_streams b) [] in
+    omega (arith, fields, all, a, h, l, t, s)

@@ -25,7 +25,8 @@ use Rattle.box_format.specs.declared.version.Version.{Version}
 use Rattle.box_format.specs.Raws.{numbers}
 use Rattle.box_format.proofs.PartedLists.{all_values}
 use Rattle.container_spec.specs.ScanStream.{grid_of, blocks_of, stream_of}
-use Rattle.container_spec.specs.Files.{IsContainerIn, segment_mcus, segment_start, segment_place, parts_of_file, told_pads}
+use Rattle.container_spec.specs.Files.{segment_mcus, segment_start, segment_place, parts_of_file, told_pads}
+use Rattle.container_spec.specs.ScanContainers.{IsScanContainer}
 use Rattle.container_spec.specs.SegmentLaws.{Suits}
 use Rattle.container_spec.proofs.CutsOfPlans.{AreCuts, starts_at, plan_cuts, cut_within}
 use Rattle.container_spec.proofs.McuSizes.{IsSmall}
@@ -56,7 +57,7 @@ number_few true n k = omega arith
 number_few false n k = div-le_self n k
 
 module _ {w : Walk} (version : Version) (most : ℕ) (made file : List ℕ) (some : 0 < most)
-    (is : IsContainerIn w version most made file) where
+    (is : IsScanContainer w version most made file) where
   has_plan : HasBegun w file is.plan
   has_plan = begun_has_plan w file is.plan is.bytes is.known is.is.header
 

@@ -1,5 +1,5 @@
 -- What stands for a file is its container.
-use Rattle.std.proofs.Common.{◌≡◌, ℕ, ◌+◌, ◌-◌, ◌^◌, ◌≤◌, ◌<◌, Bool, true, false, if◌then◌else◌, Option, Some, None, not, ◌==◌, ◌/◌, List, [], ◌∷◌, ◌++◌, length, take, drop, map, inl, inr, refl, sym, ap, subst, ◌∙◌, arith, append_assoc, zero-add}
+use Rattle.std.proofs.Common.{◌≡◌, ℕ, ◌+◌, ◌-◌, ◌^◌, ◌≤◌, ◌<◌, Bool, true, false, if◌then◌else◌, Option, Some, None, not, ◌==◌, ◌/◌, List, [], ◌∷◌, ◌++◌, length, take, drop, map, refl, sym, ap, subst, ◌∙◌, arith, append_assoc, zero-add}
 use Rattle.std.specs.Prelude.{min, slice_index, IfSome, is_some}
 use Rattle.std.specs.List.{AllByRecursion, list_all}
 use Rattle.std.proofs.lemmas.Bool.{and_parts, eqb-true}
@@ -24,19 +24,20 @@ use Rattle.handover.specs.declared.pads.PadSum.{PadSum}
 use Rattle.handover.specs.Handovers.{HandoverFields, start}
 use Rattle.cut_spec.specs.Cuts.{first_mcu}
 use Rattle.cut_spec.specs.RowHandovers.{handover_of, handover_at, mcus_between}
-use Rattle.box_format.specs.Parts.{BoxParts, ArePlaces, IsBox, IsBoxIn, box_bytes, cut_in, can_pad, is_list, list_bytes}
-use Rattle.box_format.specs.Versions.{layout_of, version_byte, version_in, version_of}
+use Rattle.box_format.specs.Parts.{BoxParts, ArePlaces, IsBoxIn, cut_in, can_pad, is_list, list_bytes}
+use Rattle.box_format.specs.Single.{box_bytes}
+use Rattle.box_format.specs.Versions.{layout_of}
 use Rattle.box_format.specs.declared.version.Version.{Version}
-use Rattle.box_format.specs.declared.version.Version.TheVariants.{First, Second, Third, Fifth}
+use Rattle.box_format.specs.declared.version.Version.TheVariants.{Fifth}
 use Rattle.box_format.specs.Raws.{numbers}
-use Rattle.box_format.proofs.BoxLawsProved.{no_chunk}
 use Rattle.container_spec.specs.ScanStream.{grid_of, blocks_of, blocks_stream, stream_of}
 use Rattle.container_spec.specs.SegmentLaws.{Suits}
 use Rattle.container_spec.specs.Segments.{segment_output}
-use Rattle.container_spec.specs.Meanings.{Meaning, segment_in, outputs_of, joined, meaning_of}
-use Rattle.container_spec.specs.Files.{IsContainerIn, IsContainerOf, parts_of_file, places_of_file, told_pads}
+use Rattle.container_spec.specs.Meanings.{segment_in}
+use Rattle.container_spec.specs.AloneMeanings.{outputs_of, joined}
+use Rattle.container_spec.specs.Files.{parts_of_file, places_of_file, told_pads}
+use Rattle.container_spec.specs.ScanContainers.{IsScanContainer}
 use Rattle.container_spec.specs.Indexed.{indexed, places_found}
-use Rattle.container_spec.specs.MeaningLaws.{RestoredIsContainer}
 use Rattle.container_spec.proofs.ChainedSegments.{Chained, chained}
 use Rattle.container_spec.proofs.CutsOfPlans.{AreCuts, starts_at, plan_cuts}
 use Rattle.container_spec.proofs.Numbered.{mapped_is}
@@ -46,7 +47,7 @@ use Rattle.container_spec.proofs.PlacesOfContainers.{place_is}
 use Rattle.container_spec.proofs.PlanGrids.{plan_suits}
 use Rattle.container_spec.proofs.PutsAlike.{done_alike as same_done}
 use Rattle.container_spec.proofs.ReachedSegments.{Reached, whole}
-use Rattle.container_spec.proofs.RestoredMeanings.{IsRestored, first_start, is_restored}
+use Rattle.container_spec.proofs.RestoredMeanings.{IsRestored, first_start}
 use Rattle.container_spec.proofs.ScanBytes.{put_are_bytes}
 use Rattle.container_spec.proofs.SpotsAlike.{handovers_alike}
 use Rattle.container_spec.proofs.SpotsKept.{first_is_spot}
@@ -66,15 +67,6 @@ begins_more w header rest plan is = record {
 }
 
 -- the version that a container names
-version_again : (v : Version) → version_of (version_byte v) ≡ v
-version_again First = refl
-version_again Second = refl
-version_again Third = refl
-version_again Fifth = refl
-
-pub version_said : (b : BoxParts) → version_in (box_bytes b) ≡ b.version
-unfolding box_bytes
-version_said b = version_again b.version
 
 -- pad bits that a version can say
 can_tell : (listed : Bool) (shape : Shape) (count : ℕ) (told : PadBits)
@@ -192,7 +184,7 @@ module _ {w : Walk} (plan : PlanFields) (parts : BoxParts) (file : List ℕ)
       ∙ so.told
 
   -- they are told as they were
-  told : told_pads plan chain.mcus bits ≡ b.pads
+  pub told : told_pads plan chain.mcus bits ≡ b.pads
   told =
       let some = suits.shape_is.mcus in
       told_again b.pads counts
@@ -341,7 +333,7 @@ module _ {w : Walk} (plan : PlanFields) (parts : BoxParts) (file : List ℕ)
       → can_pad (layout_of version).listed shape b.pads ≡ true
       → places ≡ places_of_file (layout_of version).placed plan chain.mcus bits count
       → (made : List ℕ) → made ≡ box_bytes (parts_in version places)
-      → IsContainerIn w version count made file
+      → IsScanContainer w version count made file
   container_in version places chunked can there made text = record {
     known = is.known;
     whole = chunked;
@@ -358,7 +350,7 @@ module _ {w : Walk} (plan : PlanFields) (parts : BoxParts) (file : List ℕ)
   }
 
   pub container_is : (layout_of b.version).chunked ≡ false → (made : List ℕ) → made ≡ box_bytes b
-      → IsContainerIn w b.version count made file
+      → IsScanContainer w b.version count made file
   container_is chunked made text =
       container_in b.version b.places chunked is.pads places_are made text
 
@@ -369,7 +361,7 @@ module _ {w : Walk} (plan : PlanFields) (parts : BoxParts) (file : List ℕ)
       found_is plan b (placed count) so.none bytes_there
       ∙ ap (λ n. map (placed n) (numbers 0 (n + 1))) as_many
 
-  pub indexed_is : IsContainerIn w Fifth count (box_bytes (indexed plan b)) file
+  pub indexed_is : IsScanContainer w Fifth count (box_bytes (indexed plan b)) file
   indexed_is =
       container_in Fifth (Some (places_found plan b)) refl
       (can_list (layout_of b.version).listed shape b.pads is.pads)
@@ -378,20 +370,3 @@ module _ {w : Walk} (plan : PlanFields) (parts : BoxParts) (file : List ℕ)
 -- parts without a chunk
 pub without : (b : BoxParts) → b.chunk ≡ None → b ≡ whole b
 without b e = rw (← e) refl
-
-pub restored_is_container : RestoredIsContainer
-restored_is_container made file each whole_is (inl refused) =
-    absurd (let f = ap (λ (m : Meaning). m.verdict) refused.2 in cc)
-restored_is_container made file each whole_is (inr (plan, b, of, e)) =
-    let version : b.version ≡ version_in made = sym (ap version_in of.text ∙ version_said b) in
-    let chunked : (layout_of b.version).chunked ≡ false =
-    ap (λ (v : Version). (layout_of v).chunked) version ∙ whole_is in
-    let same : b ≡ whole b = without b (no_chunk plan b chunked of.box) in
-    let box : IsBox plan (whole b) = subst (IsBox plan) same of.box in
-    let so = is_restored plan (whole b) file refl (e ∙ ap (meaning_of plan) same) in (
-      length b.handovers,
-      some plan b file box so,
-      subst (λ v. length b.handovers ≤ (layout_of v).most) version of.box.few,
-      subst (λ v. IsContainerOf v (length b.handovers) made file) version
-          (container_is plan b file box so chunked made (of.text ∙ ap box_bytes same)),
-    )

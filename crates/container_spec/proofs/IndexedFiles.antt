@@ -2,16 +2,20 @@
 use Rattle.std.proofs.Common.{◌≡◌, ℕ, ◌+◌, true, false, List, length, map, Option, Some, None, refl, sym, ap, subst, ◌∙◌, arith}
 use Rattle.std.specs.Prelude.{is_some, IfSome, slice_index}
 use Rattle.jpeg_marker.specs.Plans.{PlanFields}
-use Rattle.box_format.specs.Parts.{BoxParts, ArePlaces, IsBox, box_bytes, with_places}
+use Rattle.box_format.specs.Parts.{BoxParts, ArePlaces, with_places}
+use Rattle.box_format.specs.Single.{IsBox, box_bytes}
 use Rattle.box_format.specs.Raws.{numbers}
 use Rattle.box_format.specs.Versions.{layout_of}
 use Rattle.box_format.specs.declared.version.Version.TheVariants.{Fifth}
-use Rattle.box_format.proofs.BoxLawsProved.{no_chunk, parts_same}
-use Rattle.box_format.proofs.Fronts.{most_more}
-use Rattle.container_spec.specs.Meanings.{Meaning, outputs_of, joined, meaning_of}
-use Rattle.container_spec.specs.Files.{IsContainerOf}
+use Rattle.box_format.proofs.SingleBytes.{no_chunk}
+use Rattle.box_format.proofs.OneCuts.{parts_same}
+use Rattle.box_format.proofs.Layouts.{most_more}
+use Rattle.container_spec.specs.Meanings.{Meaning}
+use Rattle.container_spec.specs.AloneMeanings.{outputs_of, joined, meaning_of}
+use Rattle.container_spec.specs.ScanContainers.{IsContainerOfOne}
 use Rattle.container_spec.specs.Indexed.{indexed, places_found}
 use Rattle.container_spec.specs.MeaningLaws.{IndexedIsContainer, IndexedStays}
+use Rattle.container_spec.proofs.FilesAlone.{as_one}
 use Rattle.container_spec.proofs.FilesOfContainers.{container_is, indexed_is, some, without}
 use Rattle.container_spec.proofs.Numbered.{mapped_is}
 use Rattle.container_spec.proofs.PlacesFound.{found_is}
@@ -31,9 +35,11 @@ indexed_is_container plan b bytes file each chunked of e =
       length b.handovers,
       some plan b file box so,
       omega (arith, few, more),
-      container_is plan b file box so chunked bytes (of.text ∙ ap box_bytes same),
-      subst (λ (p : BoxParts). IsContainerOf Fifth (length b.handovers) (box_bytes (indexed plan p)) file)
-          (sym same) (indexed_is plan b file box so),
+      as_one b.version (length b.handovers) bytes file of.one
+          (container_is plan b file box so chunked bytes (of.text ∙ ap box_bytes same)),
+      as_one Fifth (length b.handovers) (box_bytes (indexed plan b)) file refl
+          (subst (λ (p : BoxParts). IsContainerOfOne Fifth (length b.handovers)
+          (box_bytes (indexed plan p)) file) (sym same) (indexed_is plan b file box so)),
     )
 
 -- ---- a container that keeps its places

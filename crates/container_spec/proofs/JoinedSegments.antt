@@ -7,7 +7,7 @@ use Rattle.handover.specs.declared.outcome.Outcome.TheVariants.{Good}
 use Rattle.cut_spec.specs.Seams.{slices}
 use Rattle.box_format.specs.Raws.{numbers}
 use Rattle.container_spec.specs.Segments.{Output}
-use Rattle.container_spec.specs.Meanings.{Joined, joined_with, joined}
+use Rattle.container_spec.specs.AloneMeanings.{Joined, joined_with, joined}
 
 -- what some segments padded
 abbrev pub all_sum : (ℕ → PadSum) → ℕ → ℕ → PadSum

@@ -19,8 +19,6 @@ pub mod McuSizes
 pub mod PlacesOfFiles
 pub mod FileParts
 pub mod ContainerSizes
-pub mod OneMeanings
-pub mod AcceptedFiles
 pub mod PaddedSlices
 pub mod RestoredFiles
 pub mod ScanBytes
@@ -34,3 +32,17 @@ pub mod PadsTold
 pub mod MigratedMeanings
 pub mod PlacesFound
 pub mod IndexedFiles
+pub mod ScanParts
+pub mod ScansRestored
+pub mod FilesRefused
+pub mod OneContainers
+pub mod RestoredScans
+pub mod BoxesOnce
+pub mod ScansSizes
+pub mod JoinedLists
+pub mod JoinedScans
+pub mod OneScans
+pub mod PortionsMeant
+pub mod SeveralScans
+pub mod FilesAlone
+pub mod OneStands

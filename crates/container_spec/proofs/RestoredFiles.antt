@@ -25,11 +25,12 @@ use Rattle.box_format.specs.declared.version.Version.{Version}
 use Rattle.container_spec.specs.ScanStream.{grid_of, stream_of}
 use Rattle.container_spec.specs.Segments.{SegmentFields, segment_output}
 use Rattle.container_spec.specs.SegmentLaws.{AreKept, IsNextStart, mcus_sum, segment_between}
-use Rattle.container_spec.specs.Files.{IsContainerIn, segment_mcus, segment_start, parts_of_file, told_pads}
-use Rattle.container_spec.specs.Meanings.{Verdict, Restored, PadSpelled, kept_in, outputs_of, joined, meaning_by, meaning_of}
-use Rattle.container_spec.specs.MeaningLaws.{ContainerIsRestored}
+use Rattle.container_spec.specs.Files.{segment_mcus, segment_start, parts_of_file, told_pads}
+use Rattle.container_spec.specs.ScanContainers.{IsScanContainer}
+use Rattle.container_spec.specs.Meanings.{Verdict, Restored, PadSpelled, kept_in}
+use Rattle.container_spec.specs.AloneMeanings.{outputs_of, joined, meaning_by, meaning_of}
 use Rattle.container_spec.proofs.CutsOfPlans.{cut_within}
-use Rattle.container_spec.proofs.FileParts.{segments, cut, cuts, small, suits, file_is, file_places, box_is}
+use Rattle.container_spec.proofs.FileParts.{segments, cut, cuts, small, suits, file_is, file_places}
 use Rattle.container_spec.proofs.JoinedSegments.{good_join, joined_good}
 use Rattle.container_spec.proofs.Numbered.{mapped_long, mapped_at, got_at, got_none}
 use Rattle.container_spec.proofs.PaddedMcus.{scan_sum}
@@ -68,7 +69,7 @@ segment_at plan b n i =
     segment_with plan b n i (get_or b.streams i []) (get_or b.handovers i start)
 
 module _ {w : Walk} (version : Version) (most : ℕ) (made file : List ℕ) (some : 0 < most)
-    (is : IsContainerIn w version most made file) where
+    (is : IsScanContainer w version most made file) where
   abbrev shape : Shape
   shape = shape_of is.plan
 
@@ -219,11 +220,3 @@ module _ {w : Walk} (version : Version) (most : ℕ) (made file : List ℕ) (som
       ∙ ap (λ all. meaning_by box all all.fault) all_joined
       ∙ ap₂ (λ (bytes : List ℕ) (v : Verdict). record { bytes = bytes; verdict = v }) whole
       (verdict_is (is_spelled told (mcus_sum shape told first_spot is.mcus)) spelled)
-
-pub container_is_restored : ContainerIsRestored
-container_is_restored version most made file some allowed is = inr (
-  is.plan,
-  parts_of_file version is.plan is.mcus is.pads (take is.plan.header_length file) is.trailer most,
-  record { box = box_is version most made file some is allowed; text = is.spelled },
-  sym (meaning_is version most made file some is),
-)

@@ -15,7 +15,8 @@ use Rattle.cut_spec.specs.Cuts.{Cut, first_mcu}
 use Rattle.cut_spec.specs.RowHandovers.{markers_before}
 use Rattle.box_format.specs.declared.chunk.Chunk.{Chunk}
 use Rattle.box_format.specs.Parts.{BoxParts, is_unused_zero, is_start, can_start, bad_start}
-use Rattle.container_spec.specs.Meanings.{Joined, Meaning, Restored, PadSpelled, Faulty, outputs_of, joined, good_end, meaning_by, meaning_of}
+use Rattle.container_spec.specs.AloneMeanings.{Joined, outputs_of, joined, good_end, meaning_by, meaning_of}
+use Rattle.container_spec.specs.Meanings.{Meaning, Restored, PadSpelled, Faulty}
 
 -- ---- the first handover
 

@@ -18,7 +18,7 @@ use Rattle.block_spec.specs.ReadingLaws.{HaveGiven}
 use Rattle.container_spec.specs.ScanStream.{blocks_stream, starts}
 use Rattle.container_spec.specs.Segments.{SegmentFields, Progress, Output, first_progress, progress_after, stream_ending, ending_by, ending, after_step, mcu_step, mcus_output, rest_output}
 use Rattle.box_format.specs.Parts.{box_cut}
-use Rattle.box_format.proofs.PassedBox.{ordered, in_grid}
+use Rattle.box_format.proofs.OneCuts.{ordered, in_grid}
 use Rattle.container_spec.specs.Meanings.{segment_in}
 use Rattle.container_spec.specs.MeaningLaws.{SegmentIsShort}
 use Rattle.container_spec.proofs.CutsOfPlans.{mcus_within}

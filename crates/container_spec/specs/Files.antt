@@ -1,12 +1,6 @@
 -- Statement: the container of a file (docs/FORMAT.md, Segments).
-use Rattle.std.specs.Prelude.{ℕ, ◌≡◌, ◌+◌, ◌<◌, ◌^◌, Bool, true, false, if◌then◌else◌, List, length, take, map, Option, Some, None}
-use Rattle.std.specs.List.{AllByRecursion}
-use Rattle.bit_list.specs.Bits.{IsByte}
+use Rattle.std.specs.Prelude.{ℕ, ◌+◌, Bool, if◌then◌else◌, List, map, Option, Some, None}
 use Rattle.jpeg_marker.specs.Plans.{PlanFields}
-use Rattle.jpeg_marker.specs.KnownBefore.{AreKnown}
-use Rattle.jpeg_marker.specs.FirstWalks.{only_walk}
-use Rattle.jpeg_marker.specs.Walks.{Walk}
-use Rattle.scan_spec.specs.FileParts.{IsScanOf}
 use Rattle.scan_spec.specs.Slots.{shape_of}
 use Rattle.scan_spec.specs.Scans.{Mcu, intervals_of, pad_counts, pad_at}
 use Rattle.scan_spec.specs.Pads.{PadBits, bits_sum, spelling_of}
@@ -14,7 +8,7 @@ use Rattle.scan_spec.specs.Spots.{bytes_done}
 use Rattle.handover.specs.Handovers.{HandoverFields}
 use Rattle.cut_spec.specs.Cuts.{Cut, cut_of, first_mcu}
 use Rattle.cut_spec.specs.RowHandovers.{handover_at, mcus_between}
-use Rattle.box_format.specs.Parts.{BoxParts, box_bytes, can_pad}
+use Rattle.box_format.specs.Parts.{BoxParts}
 use Rattle.box_format.specs.Versions.{layout_of}
 use Rattle.box_format.specs.declared.version.Version.{Version}
 use Rattle.box_format.specs.Raws.{numbers}
@@ -70,25 +64,3 @@ parts_of_file version plan mcus pads header trailer most =
       handovers = map (segment_start plan mcus pads most) segments;
       streams = map (λ i. stream_of plan (segment_mcus plan mcus most i)) segments;
     }
-
--- `made` is the container in a version of whole files, with at most `most` segments, of bytes that begin with a header,
--- which a walk passes, and its scan: by the plan of the header, the MCUs, the pad bit of each interval and what follows
--- the scan; the lengths of header and trailer have fields of four bytes, and the version can say the pad bits
-pub record IsContainerIn (w : Walk) (version : Version) (most : ℕ) (made file : List ℕ) : Type 0 where
-  pub known : AreKnown w.known
-  pub whole : (layout_of version).chunked ≡ false
-  pub bytes : AllByRecursion IsByte file
-  pub plan : PlanFields
-  pub mcus : List Mcu
-  pub pads : List Bool
-  pub trailer : List ℕ
-  pub is : IsScanOf w file plan mcus pads trailer
-  pub header_fits : plan.header_length < 2 ^ 32
-  pub trailer_fits : length trailer < 2 ^ 32
-  pub can : can_pad (layout_of version).listed (shape_of plan) (told_pads plan mcus pads) ≡ true
-  pub spelled : made
-      ≡ box_bytes (parts_of_file version plan mcus pads (take plan.header_length file) trailer most)
-
--- `made` is the container of a file of one scan
-abbrev pub IsContainerOf : Version → ℕ → List ℕ → List ℕ → Type 0
-IsContainerOf version most made file = IsContainerIn only_walk version most made file

@@ -4,7 +4,7 @@ use Rattle.std.specs.Prelude.{ℕ, ◌+◌, List, [], ◌∷◌, length}
 use Rattle.jpeg_marker.specs.Plans.{PlanFields}
 use Rattle.box_format.specs.Parts.{BoxParts, with_places}
 use Rattle.container_spec.specs.Segments.{Output}
-use Rattle.container_spec.specs.Meanings.{outputs_of}
+use Rattle.container_spec.specs.AloneMeanings.{outputs_of}
 
 -- the places of segments with these outputs, which come after so many bytes: of each one's first byte, and after them
 -- of the end

@@ -13,10 +13,11 @@ use Rattle.scan_spec.specs.Pads.{Same, Listed}
 use Rattle.cut_spec.specs.SegmentRows.{begun}
 use Rattle.block_spec.specs.ReadingRows.{one_across, zeros_stream, dc_one_stream, dc_large_stream, dc_outside_stream, ones_stream}
 use Rattle.box_format.specs.Parts.{BoxParts}
-use Rattle.box_format.specs.BoxRows.{grey_header, grey_plan, ones_plan, image_end, least_parts, byteless_parts, chunk_parts, placed_parts}
+use Rattle.box_format.specs.Rows.{grey_header, grey_plan, ones_plan, image_end, least_parts, byteless_parts, chunk_parts, placed_parts}
 use Rattle.container_spec.specs.Segments.{SegmentFields, Output, segment_output}
 use Rattle.box_format.specs.declared.version.Version.TheVariants.{First, Second}
-use Rattle.container_spec.specs.Meanings.{Meaning, Verdict, Restored, PadSpelled, ChunkShort, Faulty, meaning_of}
+use Rattle.container_spec.specs.Meanings.{Meaning, Verdict, Restored, PadSpelled, ChunkShort, Faulty}
+use Rattle.container_spec.specs.AloneMeanings.{meaning_of}
 use Rattle.container_spec.specs.Indexed.{indexed, places_found}
 
 -- a segment of one MCU of two with these tables, by its stream, what it starts from, and what the next one starts from

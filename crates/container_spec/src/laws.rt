@@ -1,7 +1,9 @@
-// What holds of all segments, containers and files.
+// What holds of all segments, containers and files, of one scan and of several.
 ghost use Rattle.container_spec.specs.SegmentLaws.{McusArePut, SegmentIsItsSlice, GoodHasItsStream, GoodHasItsPlaces};
-ghost use Rattle.container_spec.specs.MeaningLaws.{OneMeaning, ContainerIsRestored, RestoredIsContainer, OneContainer, AcceptedIsNotRefused, FirstCanPad, SecondCanPad, ContainerIsShort, MigratedMeansTheSame, SegmentIsShort, IndexedIsContainer, IndexedStays, PlacesAreFound};
+ghost use Rattle.container_spec.specs.MeaningLaws.{FirstCanPad, SecondCanPad, MigratedMeansTheSame, SegmentIsShort, IndexedIsContainer, IndexedStays, PlacesAreFound};
 ghost use Rattle.container_spec.specs.MeaningRows.{zeros_are_put, faults_are_told, places_are_counted, containers_are_joined, pad_is_spelled, lists_are_spelled, chunks_are_slices, places_are_looked_at, places_are_found};
+ghost use Rattle.container_spec.specs.ScansMeaningRows.{shares, two_segments, two_stand};
+ghost use Rattle.container_spec.specs.ScansMeaningLaws.{MeaningIsJoined, WholeIsJoined, ScansStandOneByOne, RefusedIsNone, StandsForOne, FileIsRestored, ContainerIsRestored, RestoredIsContainer, OneContainer, OneContainerOfFile, ContainedIsNotRefused, AcceptedIsNotRefused, SeveralIsNotOne, OneFileRefusal, ContainerIsShort, ContainerOfFileIsShort, OneStandsForItself, OneIsJoined};
 
 /// MCUs that a stream gives are put, and so a segment of a scan stands for its slice of the scan.
 pub fn segments_are_slices()
@@ -16,18 +18,17 @@ pub fn good_segments_have_their_stream()
     ensures places { GoodHasItsPlaces }
 {}
 
-/// A file's container stands for that file, in each version that can say its pad bits, and what stands for a file, in a
-/// version of whole files, is its container. Version 2 can always say them, version 1 if no two intervals are padded
-/// with different bits. Bytes stand for one thing. A file that has a container isn't refused.
+/// Bytes stand for one thing as a container. A file's container stands for that file, in each version that can say its
+/// pad bits, and what stands for a file, in a version of whole files, is its container. Version 2 can always say them,
+/// version 1 if no two intervals are padded with different bits.
 pub fn containers_stand_for_files()
-    ensures one_meaning { OneMeaning }
-    ensures restored { ContainerIsRestored }
+    ensures none { RefusedIsNone }
+    ensures meaning { StandsForOne }
+    ensures restored { FileIsRestored }
+    ensures encoded { ContainerIsRestored }
     ensures spelling { RestoredIsContainer }
-    ensures one_container { OneContainer }
-    ensures apart { AcceptedIsNotRefused }
     ensures first { FirstCanPad }
     ensures second { SecondCanPad }
-    ensures short { ContainerIsShort }
     ensures migrated { MigratedMeansTheSame }
 {}
 
@@ -45,6 +46,35 @@ pub fn segments_are_short()
     ensures { SegmentIsShort }
 {}
 
+/// A file has at most one container of each version and number of segments, which isn't too long to be decoded. A file
+/// that has one isn't refused, nor is a file that has scans, and a file that is refused is so for one cause. A file of
+/// several scans isn't one of one.
+pub fn files_have_one_container()
+    ensures one { OneContainer }
+    ensures encoded { OneContainerOfFile }
+    ensures apart { ContainedIsNotRefused }
+    ensures accepted { AcceptedIsNotRefused }
+    ensures several { SeveralIsNotOne }
+    ensures refusal { OneFileRefusal }
+    ensures short { ContainerIsShort }
+    ensures encoded_short { ContainerOfFileIsShort }
+{}
+
+/// Scans without a chunk stand for the first header, the bytes of their segments through the first bad one, and if none
+/// is bad, the trailer; and the scans of a container stand for that one by one. Whether a scan's pad bits are spelled as
+/// `encode` spells them goes by its own segments.
+pub fn scans_are_joined()
+    ensures scans { MeaningIsJoined }
+    ensures whole { WholeIsJoined }
+    ensures one_by_one { ScansStandOneByOne }
+{}
+
+/// A container of one scan stands for what its parts stand for, and its segments are those of the scan.
+pub fn one_scan_is_as_before()
+    ensures itself { OneStandsForItself }
+    ensures joined { OneIsJoined }
+{}
+
 /// The definitions computed on worked segments and containers.
 pub fn rows_of_meanings()
     ensures zeros { zeros_are_put }
@@ -56,4 +86,11 @@ pub fn rows_of_meanings()
     ensures chunks { chunks_are_slices }
     ensures looked { places_are_looked_at }
     ensures found { places_are_found }
+{}
+
+/// The definitions computed on a worked container of two scans.
+pub fn rows_of_scans()
+    ensures meaning { two_stand }
+    ensures segments { two_segments }
+    ensures shares { shares }
 {}

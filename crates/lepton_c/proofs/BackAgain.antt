@@ -1,14 +1,13 @@
 -- What was encoded is decoded.
-use Rattle.std.proofs.Common.{◌≡◌, ℕ, ◌<◌, ◌≤◌, inl, inr, List, [], length, take, refl, sym, ap, subst, ◌∙◌, arith}
+use Rattle.std.proofs.Common.{◌≡◌, ℕ, ◌≤◌, inl, inr, List, [], length, take, refl, sym, ap, subst, ◌∙◌, arith}
 use Rattle.std.specs.Prelude.{◌⊎◌}
 use Rattle.box_format.specs.Parts.{BoxSeen}
 use Rattle.container_spec.specs.Meanings.{Meaning, Restored, PadSpelled, ChunkShort as ShortChunk, Faulty, NoBox}
-use Rattle.scans_format.specs.Containers.{IsContainer}
-use Rattle.scans_format.proofs.ScansProved.{one_list_of_scans, one_scans_refusal, never_both_scans}
-use Rattle.scans_spec.specs.ScansMeanings.{StandsFor, scans_meaning}
-use Rattle.scans_spec.proofs.BoxesOnce.{stands_for_one_from}
-use Rattle.scans_spec.proofs.ScansRestored.{file_is_restored}
-use Rattle.scans_spec.proofs.ScansSizes.{container_of_file_is_short}
+use Rattle.box_format.specs.Containers.{IsContainer}
+use Rattle.container_spec.specs.Portions.{StandsFor, scans_meaning}
+use Rattle.container_spec.proofs.BoxesOnce.{stands_for_one}
+use Rattle.container_spec.proofs.ScansRestored.{container_is_restored}
+use Rattle.container_spec.proofs.ScansSizes.{container_of_file_is_short}
 use Rattle.container_spec.specs.Limits.{most_of_a_container}
 use Rattle.lepton_c.specs.Gives.{DecodeGives, EncodeGives, IsEncoded, Puts}
 use Rattle.lepton_c.specs.Numbers.{numbers_of}
@@ -30,8 +29,7 @@ module _ (file made : List ℕ) (stands : StandsFor made (as_file file)) where
   -- its scans stand for the file
   meant : (scans : List BoxSeen) → IsContainer scans made → scans_meaning scans ≡ as_file file
   meant scans of =
-      stands_for_one_from one_list_of_scans one_scans_refusal never_both_scans made
-      (scans_meaning scans) (as_file file) (inr (scans, of, refl)) stands
+      stands_for_one made (scans_meaning scans) (as_file file) (inr (scans, of, refl)) stands
 
   ends : (scans : List BoxSeen) → IsContainer scans made → (scans_meaning scans).verdict ≡ Restored
   ends scans of = ap (λ (m : Meaning). m.verdict) (meant scans of)
@@ -54,8 +52,7 @@ module _ (file made : List ℕ) (stands : StandsFor made (as_file file)) where
       absurd (omega (arith, same, more, room))
   back_by old new (Box refusal) short room gives =
       let none : Meaning = record { bytes = []; verdict = NoBox refusal } in
-      let e = stands_for_one_from one_list_of_scans one_scans_refusal never_both_scans made none
-      (as_file file) (inl (refusal, gives.0, refl)) stands in
+      let e = stands_for_one made none (as_file file) (inl (refusal, gives.0, refl)) stands in
       absurd (let v : NoBox refusal ≡ Restored = ap (λ (m : Meaning). m.verdict) e in cc)
   back_by old new TooLong short room gives = absurd (let long = gives.0 in omega (arith, long, short))
   back_by old new NoMemory short room gives = inr refl
@@ -74,7 +71,5 @@ pub back : (segments : ℕ) (file old new : List ℕ) (made : Answer) (bytes bef
     → DecodeGives bytes before after answer → IsBack file (length file) before after answer
 back segments file old new made bytes before after answer gives done text room is =
     let e = subst (IsEncoded segments file) (sym text) (encoded segments file old new made gives done) in
-    let some = e.some in
-    let few : 0 < segments = let h = some.0 in omega (arith, h) in
-    back_by file bytes (file_is_restored segments bytes file few some.1 e.is) before after answer
-    (container_of_file_is_short segments bytes file few some.1 e.is e.short) room is
+    back_by file bytes (container_is_restored segments bytes file e.some.1 e.is) before after answer
+    (container_of_file_is_short segments bytes file e.some.1 e.is e.short) room is

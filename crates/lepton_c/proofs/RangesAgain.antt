@@ -1,29 +1,33 @@
 -- Ranges of what was encoded and indexed.
-use Rattle.std.proofs.Common.{◌≡◌, ℕ, ◌-◌, ◌<◌, ◌≤◌, true, false, inl, inr, List, length, take, drop, Some, None, refl, sym, ap, ap₂, subst, ◌∙◌, arith}
-use Rattle.std.specs.Prelude.{min}
-use Rattle.std.proofs.Common.{length-drop, length-take}
+use Rattle.std.proofs.Common.{◌≡◌, ℕ, inl, inr, ◌-◌, ◌<◌, ◌≤◌, true, false, List, [], ◌∷◌, length, take, drop, Some, None, refl, sym, ap, subst, ◌∙◌, arith, length-drop, length-take}
+use Rattle.std.specs.Prelude.{min, sum}
 use Rattle.byte_window.specs.Slices.{slice}
 use Rattle.byte_window.proofs.SliceParts.{slice_within}
 use Rattle.jpeg_marker.specs.Plans.{PlanFields}
-use Rattle.box_format.specs.Parts.{BoxParts, IsBox, IsBoxOf, box_bytes}
+use Rattle.box_format.specs.Parts.{BoxParts}
+use Rattle.box_format.specs.Single.{IsBox, IsBoxOf, box_bytes}
 use Rattle.box_format.specs.Versions.{IsRead, indexable, layout_of, ranged}
 use Rattle.box_format.specs.declared.version.Version.{Version}
-use Rattle.box_format.specs.declared.version.Version.TheVariants.{First, Second, Third, Fifth}
-use Rattle.box_format.proofs.BoxLawsProved.{never_both, no_chunk, one_box}
-use Rattle.box_format.proofs.Fronts.{most_more}
-use Rattle.container_spec.specs.Files.{IsContainerOf, parts_of_file}
+use Rattle.box_format.specs.declared.version.Version.TheVariants.{First, Second, Third, Fourth, Fifth}
+use Rattle.box_format.proofs.Lists.{sum_first}
+use Rattle.box_format.proofs.Singles.{box_or_refused}
+use Rattle.box_format.proofs.SingleBytes.{no_chunk}
+use Rattle.box_format.proofs.Layouts.{most_more}
+use Rattle.container_spec.specs.ScansFiles.{IsContainerOf}
+use Rattle.container_spec.specs.ScanContainers.{IsContainerOfOne}
+use Rattle.container_spec.specs.Files.{parts_of_file}
 use Rattle.container_spec.specs.Indexed.{indexed}
 use Rattle.container_spec.specs.Limits.{most_of_a_container}
-use Rattle.container_spec.specs.Meanings.{IsMeaning, Meaning, NoBox, Restored, meaning_of}
-use Rattle.container_spec.proofs.ContainerSizes.{container_is_short}
+use Rattle.container_spec.specs.AloneMeanings.{meaning_of}
+use Rattle.container_spec.specs.Portions.{StandsFor}
 use Rattle.container_spec.proofs.FileParts.{box_is}
+use Rattle.container_spec.proofs.FilesAlone.{as_one, of_one}
 use Rattle.container_spec.proofs.FilesOfContainers.{indexed_is, some, without}
+use Rattle.container_spec.proofs.OneStands.{meant_alone}
 use Rattle.container_spec.proofs.ReachedSegments.{whole}
-use Rattle.container_spec.proofs.RestoredFiles.{container_is_restored}
 use Rattle.container_spec.proofs.RestoredMeanings.{is_restored}
-use Rattle.scans_format.proofs.FilesViewed.{names_one}
-use Rattle.scans_spec.proofs.OneScans.{one_is_meaning}
-use Rattle.scans_spec.proofs.ScansRestored.{file_is_restored}
+use Rattle.container_spec.proofs.ScansRestored.{container_is_restored, file_is_restored}
+use Rattle.container_spec.proofs.ScansSizes.{container_is_short}
 use Rattle.range_read.specs.IndexEnds.{IsIndexOf}
 use Rattle.range_read.specs.RangeMeanings.{RangeMeaning, is_bad_range, range_meaning}
 use Rattle.range_read.proofs.RestoredRanges.{range_of_container_is_slice}
@@ -41,20 +45,12 @@ slice_long from to file within =
     let taken = length-take (min to (length file) - from) (drop from file) in
     ap length (slice_within from to file) ∙ (omega (arith, long, taken, within))
 
--- what the parts of a container mean that stands for a file
-meant : (bytes file : List ℕ) (plan : PlanFields) (b : BoxParts) → IsBoxOf plan b bytes
-    → IsMeaning bytes (as_file file) → meaning_of plan b ≡ as_file file
-meant bytes file plan b of (inl refused) =
-    absurd (let e : Restored ≡ NoBox refused.0 = ap (λ (m : Meaning). m.verdict) refused.2 in cc)
-meant bytes file plan b of (inr m) =
-    let same = one_box plan m.0 b m.1 bytes of m.2 in
-    ap₂ (λ (p : PlanFields) (c : BoxParts). meaning_of p c) same.0 same.1 ∙ sym m.3
-
 -- a version that is indexed has whole files
 unchunked : (version : Version) → IsRead indexable version → (layout_of version).chunked ≡ false
 unchunked First read = refl
 unchunked Second read = refl
 unchunked Third read = absurd (let e : false ≡ true = read in cc)
+unchunked Fourth read = absurd (let e : false ≡ true = read in cc)
 unchunked Fifth read = refl
 
 -- and one that is read by ranges is the fifth
@@ -62,14 +58,18 @@ fifth_is : (version : Version) → IsRead ranged version → version ≡ Fifth
 fifth_is First read = absurd (let e : false ≡ true = read in cc)
 fifth_is Second read = absurd (let e : false ≡ true = read in cc)
 fifth_is Third read = absurd (let e : false ≡ true = read in cc)
+fifth_is Fourth read = absurd (let e : false ≡ true = read in cc)
 fifth_is Fifth read = refl
 
--- the file's container of version 5
+-- the file's container of version 5, of some segments
 pub record IsPlaced (made file : List ℕ) : Type 0 where
   pub most : ℕ
   pub some : 0 < most
   pub few : most ≤ (layout_of Fifth).most
-  pub is : IsContainerOf Fifth most made file
+  pub is : IsContainerOf Fifth (most ∷ []) made file
+
+sum_few : (most : ℕ) → most ≤ (layout_of Fifth).most → sum (most ∷ []) ≤ (layout_of Fifth).most
+sum_few most few = let e = sum_first most [] in omega (arith, e, few)
 
 by_parts : (bytes made file : List ℕ) (plan : PlanFields) (b : BoxParts) → IsBoxOf plan b bytes
     → IsRead indexable b.version → meaning_of plan b ≡ as_file file
@@ -80,29 +80,28 @@ by_parts bytes made file plan b of read e text =
     let so = is_restored plan (whole b) file refl (sym e ∙ ap (meaning_of plan) same) in
     let few = of.box.few in
     let more = most_more b.version in
+    let most = length b.handovers in
     record {
-      most = length b.handovers;
+      most = most;
       some = some plan b file box so;
       few = omega (arith, few, more);
-      is = subst (λ (m : List ℕ). IsContainerOf Fifth (length b.handovers) m file) (sym text)
-          (subst (λ (p : BoxParts). IsContainerOf Fifth (length b.handovers) (box_bytes (indexed plan p)) file)
-          (sym same) (indexed_is plan b file box so));
+      is = subst (λ (m : List ℕ). IsContainerOf Fifth (most ∷ []) m file) (sym text)
+          (as_one Fifth most (box_bytes (indexed plan b)) file refl
+          (subst (λ (p : BoxParts). IsContainerOfOne Fifth most (box_bytes (indexed plan p)) file)
+          (sym same) (indexed_is plan b file box so)));
     }
 
 is_placed : (segments : ℕ) (file bytes made : List ℕ) → IsEncoded segments file bytes
     → IsIndexOf made bytes → IsPlaced made file
 is_placed segments file bytes made e (plan, b, of, read, restored, text) =
-    let one = e.some.0 in
-    let few : 0 < segments = omega (arith, one) in
-    let stands = file_is_restored segments bytes file few e.some.1 e.is in
     by_parts bytes made file plan b of read
-    (meant bytes file plan b of (one_is_meaning bytes (as_file file) (names_one plan b bytes of) stands)) text
+    (sym (meant_alone plan b bytes (as_file file) of (container_is_restored segments bytes file e.some.1 e.is))) text
 
 module _ (from to : ℕ) (made file : List ℕ) (placed_is : IsPlaced made file) (order : from ≤ to)
     (within : to ≤ length file) where
-  means : IsMeaning made (as_file file)
-  means =
-      container_is_restored Fifth placed_is.most made file placed_is.some placed_is.few placed_is.is
+  means : StandsFor made (as_file file)
+  means = file_is_restored Fifth (placed_is.most ∷ []) made file (placed_is.some, tt)
+      (sum_few placed_is.most placed_is.few) placed_is.is
 
   ranges : (plan : PlanFields) (b : BoxParts) → IsBoxOf plan b made → IsRead ranged b.version
       → (is_bad_range b from to ≡ false) × ((range_meaning plan b from to).bytes ≡ slice from to file)
@@ -112,7 +111,7 @@ module _ (from to : ℕ) (made file : List ℕ) (placed_is : IsPlaced made file)
       (record {
         box = of.box;
         fifth = fifth_is b.version read;
-        restored = meant made file plan b of means;
+        restored = sym (meant_alone plan b made (as_file file) of means);
       }) order within in
       (r.0, ap (λ (m : RangeMeaning). m.bytes) r.1, ap (λ (m : RangeMeaning). m.fault) r.1)
 
@@ -140,12 +139,16 @@ module _ (from to : ℕ) (made file : List ℕ) (placed_is : IsPlaced made file)
       let r = ranges bad.0 bad.1 bad.2 bad.3 in
       absurd (let e : false ≡ true = sym r.0 ∙ bad.4 in cc)
   range_by old new (Box refusal) short room gives =
-      let is = placed_is.is in
+      let is = of_one Fifth placed_is.most made file refl placed_is.is in
       let parts = parts_of_file Fifth is.plan is.mcus is.pads (take is.plan.header_length file) is.trailer
       placed_is.most in
       let of : IsBoxOf is.plan parts made =
-      record { box = box_is Fifth placed_is.most made file placed_is.some is placed_is.few; text = is.spelled } in
-      absurd (never_both ranged made is.plan parts refusal refl of gives.0)
+      record {
+        box = box_is Fifth placed_is.most made file placed_is.some is placed_is.few;
+        one = refl;
+        text = is.spelled;
+      } in
+      absurd (box_or_refused ranged made is.plan parts refusal refl of gives.0)
   range_by old new TooLong short room gives = absurd (let long = gives.0 in omega (arith, long, short))
   range_by old new NoMemory short room gives = inr refl
   range_by old new (Counted n) short room gives = absurd gives
@@ -173,4 +176,4 @@ range_again segments from to file container bytes old new before after first las
     (placed container before after kept indexes stored) in
     let p = is_placed segments file container bytes e i in
     range_by from to bytes file p order within first last answer
-    (container_is_short Fifth p.most bytes file p.some p.few p.is e.short) room is
+    (container_is_short Fifth (p.most ∷ []) bytes file (p.some, tt) (sum_few p.most p.few) p.is e.short) room is

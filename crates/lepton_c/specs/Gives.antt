@@ -1,14 +1,15 @@
 -- Statement: what a call gives for bytes, into a memory (this project's own).
 use Rattle.std.specs.Prelude.{ℕ, ◌≡◌, ◌*◌, ◌<◌, ◌≤◌, false, true, List, ◌++◌, length, take, drop, Some, None}
 use Rattle.jpeg_marker.specs.Plans.{PlanFields}
-use Rattle.box_format.specs.BoxChecks.{IsRefusedBy}
-use Rattle.box_format.specs.Parts.{BoxParts, BoxSeen, IsBoxOf, box_bytes, migrated}
+use Rattle.box_format.specs.Checks.{IsRefusedBy, IsRefused}
+use Rattle.box_format.specs.Parts.{BoxParts, BoxSeen, migrated}
+use Rattle.box_format.specs.Single.{IsBoxOf, box_bytes}
 use Rattle.box_format.specs.Versions.{IsRead, indexable, migratable, most_segments, ranged}
 use Rattle.container_spec.specs.Limits.{most_of_a_container, most_of_a_file}
 use Rattle.container_spec.specs.Meanings.{Verdict, Restored, PadSpelled, ChunkShort as ShortChunk, Faulty}
-use Rattle.scans_format.specs.Containers.{IsContainer, IsRefusedContainer}
-use Rattle.scans_spec.specs.ScansFiles.{FileIsRefused, HasSeveralScans, IsContainerOfFile, Header as FileHeader, Scan as FileScan}
-use Rattle.scans_spec.specs.ScansMeanings.{scans_meaning}
+use Rattle.box_format.specs.Containers.{IsContainer}
+use Rattle.container_spec.specs.ScansFiles.{FileIsRefused, HasSeveralScans, IsContainerOfFile, Header as FileHeader, Scan as FileScan}
+use Rattle.container_spec.specs.Portions.{scans_meaning}
 use Rattle.chunk_cut.specs.ChunksOfFiles.{IsChunkOf, IsOneScanFile}
 use Rattle.range_read.specs.IndexEnds.{Ends, IsIndexOf}
 use Rattle.range_read.specs.RangeMeanings.{RangeMeaning, is_bad_range, range_meaning}
@@ -134,7 +135,7 @@ DecodeGives bytes old new (Fault fault n) =
 DecodeGives bytes old new (NoRoom n) =
     (scans : List BoxSeen) × IsContainer scans bytes
     × PutsFirst old new (scans_meaning scans).bytes n
-DecodeGives bytes old new (Box refusal) = IsRefusedContainer bytes refusal × (new ≡ old)
+DecodeGives bytes old new (Box refusal) = IsRefused bytes refusal × (new ≡ old)
 DecodeGives bytes old new TooLong = (most_of_a_container < length bytes) × (new ≡ old)
 DecodeGives bytes old new NoMemory = new ≡ old
 DecodeGives bytes old new other = ⊥
@@ -145,7 +146,7 @@ LengthGives bytes (Counted n) = StandsSo bytes Restored (λ all. n ≡ length al
 LengthGives bytes (PadSpelling n) = StandsSo bytes PadSpelled (λ all. n ≡ 0)
 LengthGives bytes (ChunkShort n) = StandsSo bytes ShortChunk (λ all. n ≡ 0)
 LengthGives bytes (Fault fault n) = StandsSo bytes (Faulty fault) (λ all. n ≡ 0)
-LengthGives bytes (Box refusal) = IsRefusedContainer bytes refusal
+LengthGives bytes (Box refusal) = IsRefused bytes refusal
 LengthGives bytes TooLong = most_of_a_container < length bytes
 LengthGives bytes NoMemory = Unit {0}
 LengthGives bytes other = ⊥

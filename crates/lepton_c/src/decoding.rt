@@ -1,8 +1,8 @@
 // A container decoded, and the length of what it stands for.
 ghost use Rattle.std.specs.Prelude.{◌≡◌, ◌⊎◌, ◌≤◌, ℕ, List, length, take};
 ghost use Rattle.box_format.specs.Parts.{BoxSeen};
-ghost use Rattle.scans_format.specs.Containers.{IsContainer};
-ghost use Rattle.scans_spec.specs.ScansMeanings.{scans_meaning};
+ghost use Rattle.box_format.specs.Containers.{IsContainer};
+ghost use Rattle.container_spec.specs.Portions.{scans_meaning};
 ghost use Rattle.lepton_c.specs.Gives.{DecodeGives, EncodeGives, LengthGives, Puts};
 ghost use Rattle.lepton_c.specs.Numbers.{numbers_of};
 ghost use Rattle.lepton_c.specs.Writes.{Decodes};
@@ -12,9 +12,9 @@ use crate::answer::Answer;
 use crate::memory::{MOST_OF_A_CONTAINER, copy, fill};
 use crate::nowhere::Nowhere;
 use crate::numbers::{LeptonEnding, numbers};
+use box_format::ReadError;
 use lepton_decode::{DecodeError, prepare_alone, run_alone};
 use outside_core::{MemSink, OpenGate};
-use scans_format::ReadError;
 use std::alloc::Global;
 
 /// The file or the chunk of a container.

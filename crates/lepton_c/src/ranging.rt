@@ -2,7 +2,8 @@
 ghost use Rattle.std.specs.Prelude.{◌≡◌, ◌⊎◌, ◌-◌, ◌≤◌, ℕ, List, false, length, take};
 ghost use Rattle.byte_window.specs.Slices.{slice};
 ghost use Rattle.jpeg_marker.specs.Plans.{PlanFields};
-ghost use Rattle.box_format.specs.Parts.{BoxParts, IsBoxOf};
+ghost use Rattle.box_format.specs.Parts.{BoxParts};
+ghost use Rattle.box_format.specs.Single.{IsBoxOf};
 ghost use Rattle.box_format.specs.Versions.{IsRead, ranged};
 ghost use Rattle.range_read.specs.RangeMeanings.{is_bad_range, range_meaning};
 ghost use Rattle.lepton_c.specs.Gives.{EncodeGives, IndexGives, Puts, RangeGives};

@@ -1,7 +1,7 @@
 -- How a decode ends by how its emitter did.
 use Rattle.std.proofs.Common.{◌≡◌, ℕ, true, List, Option, Result, Ok, Err}
 use Rattle.std.specs.Prelude.{All, OnOk, OnErr}
-use Rattle.scans_spec.specs.ScansJoined.{ScansJoined}
+use Rattle.container_spec.specs.ScansJoined.{ScansJoined}
 use Rattle.output_board.specs.declared.view.EmitterView.{EmitterView}
 use Rattle.output_board.specs.declared.view.WorkerView.{WorkerView}
 use Rattle.segment_crew.specs.Crews.{Member}

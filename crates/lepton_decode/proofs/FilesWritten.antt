@@ -6,11 +6,12 @@ use Rattle.byte_window.specs.declared.window.Window.{Window}
 use Rattle.byte_window.specs.Windows.{window}
 use Rattle.handover.specs.declared.outcome.StreamFault.{StreamFault}
 use Rattle.box_format.specs.Parts.{BoxSeen}
-use Rattle.scans_format.specs.Containers.{IsContainer}
+use Rattle.box_format.specs.Containers.{IsContainer}
 use Rattle.container_spec.specs.Meanings.{Meaning, Restored, PadSpelled}
-use Rattle.scans_spec.specs.ScansJoined.{ScansJoined, all_joined}
-use Rattle.scans_spec.specs.ScansMeanings.{scans_meaning}
-use Rattle.scans_spec.specs.declared.scan_pads.ScanPads.{ScanPads}
+use Rattle.container_spec.specs.ScansJoined.{ScansJoined}
+use Rattle.container_spec.specs.ScanByScan.{all_joined}
+use Rattle.container_spec.specs.Portions.{scans_meaning}
+use Rattle.container_spec.specs.declared.scan_pads.ScanPads.{ScanPads}
 use Rattle.lepton_decode.specs.declared.error.DecodeError.TheVariants as DecodeError
 use Rattle.segment_worker.specs.declared.emitted.Emitted.{Emitted}
 use Rattle.segment_worker.specs.declared.emitted.EmitStop.{EmitStop}

@@ -3,9 +3,9 @@ use Rattle.std.proofs.Common.{◌≡◌, ℕ, [], List, length, refl, sym, ap, s
 use Rattle.byte_window.specs.declared.window.Window.{Window}
 use Rattle.byte_window.proofs.WindowParts.{through_none}
 use Rattle.box_format.specs.Parts.{BoxSeen}
-use Rattle.scans_format.specs.Scans.{segment_count}
-use Rattle.scans_spec.specs.ScansJoined.{ScansJoined, no_sums, scanned_from, scans_joined}
-use Rattle.scans_spec.specs.declared.scan_pads.ScanPads.{ScanPads}
+use Rattle.box_format.specs.Containers.{segment_count}
+use Rattle.container_spec.specs.ScansJoined.{ScansJoined, no_sums, scanned_from, scans_joined}
+use Rattle.container_spec.specs.declared.scan_pads.ScanPads.{ScanPads}
 use Rattle.segment_worker.specs.declared.emitted.Emitted.{Emitted}
 use Rattle.segment_worker.specs.Emitting.{Emits, joined_in, seen_through}
 use Rattle.segment_worker.proofs.Writing.{written_nothing}

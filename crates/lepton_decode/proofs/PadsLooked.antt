@@ -7,9 +7,9 @@ use Rattle.byte_window.specs.Windows.{window}
 use Rattle.scan_spec.specs.Pads.{is_spelled}
 use Rattle.box_format.specs.Parts.{BoxSeen}
 use Rattle.box_format.specs.declared.chunk.Chunk.{Chunk}
-use Rattle.container_spec.specs.Meanings.{before_rows}
-use Rattle.scans_spec.specs.ScansJoined.{all_spelled, first_header, sum_in}
-use Rattle.scans_spec.specs.declared.scan_pads.ScanPads.{ScanPads}
+use Rattle.container_spec.specs.AloneMeanings.{before_rows}
+use Rattle.container_spec.specs.ScansJoined.{all_spelled, first_header, sum_in}
+use Rattle.container_spec.specs.declared.scan_pads.ScanPads.{ScanPads}
 use Rattle.lepton_decode.specs.Chunked.{are_spelled, chunk_in}
 
 -- the scan with number 0 has the chunk and the first header

@@ -11,15 +11,18 @@ use Rattle.handover.specs.declared.outcome.StreamFault.{StreamFault}
 use Rattle.box_format.specs.Parts.{BoxParts, BoxSeen}
 use Rattle.box_format.specs.declared.chunk.Chunk.{Chunk}
 use Rattle.box_format.proofs.Lists.{sum_first}
-use Rattle.container_spec.specs.Meanings.{Joined, Meaning, Restored, PadSpelled, ChunkShort, Faulty, before_rows, begun_bytes, good_end, joined, outputs_of, meaning_by, meaning_of, rows_window}
-use Rattle.scans_format.specs.Containers.{IsContainer}
-use Rattle.scans_format.specs.Scans.{IsScans, all_parts, segment_count, trailer_of}
-use Rattle.scans_spec.specs.ScansMeanings.{scans_meaning}
-use Rattle.scans_spec.specs.ScansJoined.{ScansJoined, all_joined, first_header, scanned_from, scans_end, scans_joined, sums_of}
-use Rattle.scans_spec.proofs.JoinedScans.{meaning_is_joined}
-use Rattle.scans_spec.proofs.OneScans.{one_is_joined, one_stands_for_itself}
-use Rattle.scans_spec.proofs.SeveralScans.{have_each}
+use Rattle.container_spec.specs.AloneMeanings.{Joined, before_rows, begun_bytes, good_end, joined, outputs_of, meaning_by, meaning_of, rows_window}
+use Rattle.container_spec.specs.Meanings.{Meaning, Restored, PadSpelled, ChunkShort, Faulty}
+use Rattle.box_format.specs.Containers.{IsContainer, AreScans, all_parts, segment_count, trailer_of}
+use Rattle.container_spec.specs.Portions.{scans_meaning}
+use Rattle.container_spec.specs.ScansJoined.{ScansJoined, first_header, scanned_from, scans_joined, sums_of}
+use Rattle.container_spec.specs.ScanByScan.{all_joined, scans_end}
+use Rattle.container_spec.proofs.OneScans.{one_is_joined}
+use Rattle.container_spec.proofs.PortionsMeant.{one_stands_for_itself, whole_is_joined}
+use Rattle.box_format.proofs.Singles.{one_or_several}
+use Rattle.container_spec.proofs.SeveralScans.{have_each}
 use Rattle.lepton_decode.specs.Chunked.{are_spelled, before_in, chunk_in, falls_short, window_in}
+use Rattle.box_format.specs.declared.version.Version.TheVariants.{Fourth}
 
 -- bytes that a fault ends, that are too few, or that are all
 abbrev pub faulty_after : StreamFault → List ℕ → Meaning
@@ -152,13 +155,12 @@ file_end scans all (Some fault) = refl
 file_end scans all None = refl
 
 -- a container of several scans
-several_end : (scans : List BoxSeen) → IsScans scans
+several_end : (scans : List BoxSeen) → AreScans Fourth scans
     → scans_meaning scans ≡ container_end scans (all_joined scans) (all_joined scans).fault
 several_end scans are =
     let all : ScansJoined = all_joined scans in
-    let each = have_each opening_walk scans are.each are.versions in
-    let several = are.several in
-    meaning_is_joined scans (omega (arith, several)) are.most each.whole each.segments each.last
+    let each = have_each Fourth refl opening_walk scans are.each are.versions in
+    whole_is_joined scans each.whole
     ∙ file_end scans all all.fault
     ∙ ap (λ (c : Option Chunk). chunk_end c (first_header scans) (trailer_in scans)
     (are_spelled c scans all.padded) all.bytes all.fault) (sym (first_chunk scans each.whole))
@@ -168,10 +170,12 @@ several_end scans are =
 -- what its scans stand for, by their joined segments
 pub scans_end_is : (scans : List BoxSeen) (bytes : List ℕ) → IsContainer scans bytes
     → scans_meaning scans ≡ container_end scans (all_joined scans) (all_joined scans).fault
-scans_end_is scans bytes (inl (one, s, e, of)) =
-    subst (λ (l : List BoxSeen). scans_meaning l ≡ container_end l (all_joined l) (all_joined l).fault)
-    (sym e) (one_end s)
-scans_end_is scans bytes (inr (several, of)) = several_end scans of.are
+scans_end_is scans bytes is = elim (one_or_several scans bytes is) [
+  | inl (s, e, of) ↦
+      subst (λ (l : List BoxSeen). scans_meaning l
+      ≡ container_end l (all_joined l) (all_joined l).fault) (sym e) (one_end s)
+  | inr of ↦ several_end scans of.are
+]
 
 -- the same by a window that is the container's
 abbrev pub end_in : List BoxSeen → Window → Meaning

@@ -1,6 +1,6 @@
 -- View: the invariant of a container that is ready for one thread (own).
 use Rattle.std.specs.Prelude.{◌≡◌, false}
-use Rattle.scans_format.specs.Scans.{all_plans}
+use Rattle.box_format.specs.Containers.{all_plans}
 use Rattle.lepton_decode.specs.Ends.{AloneSeen}
 use Rattle.lepton_decode.specs.declared.alone.ReadyAlone.TheInside.{Inside}
 

@@ -4,10 +4,10 @@ use Rattle.std.specs.Prelude.{ℕ, ◌+◌, nat_lt, Bool, true, false, List, [],
 use Rattle.byte_window.specs.declared.window.Window.{Window}
 use Rattle.box_format.specs.Parts.{BoxSeen}
 use Rattle.box_format.specs.declared.chunk.Chunk.{Chunk}
-use Rattle.container_spec.specs.Meanings.{before_rows, rows_window}
-use Rattle.scans_format.specs.Scans.{all_parts, segment_count, trailer_of}
-use Rattle.scans_spec.specs.ScansJoined.{all_spelled, first_header}
-use Rattle.scans_spec.specs.declared.scan_pads.ScanPads.{ScanPads}
+use Rattle.container_spec.specs.AloneMeanings.{before_rows, rows_window}
+use Rattle.box_format.specs.Containers.{all_parts, segment_count, trailer_of}
+use Rattle.container_spec.specs.ScansJoined.{all_spelled, first_header}
+use Rattle.container_spec.specs.declared.scan_pads.ScanPads.{ScanPads}
 use Rattle.segment_worker.specs.Contents.{Stretch, stretch}
 
 -- all of its segments

@@ -2,7 +2,7 @@
 use Rattle.std.specs.Prelude.{All, ℕ, ◌≡◌, Bool, true, List, [], length, Option, Some, None, Result, Ok, Err}
 use Rattle.box_format.specs.Parts.{BoxSeen}
 use Rattle.container_spec.specs.Meanings.{Meaning, Restored, PadSpelled, ChunkShort as ShortChunk, Faulty}
-use Rattle.scans_spec.specs.ScansMeanings.{scans_meaning}
+use Rattle.container_spec.specs.Portions.{scans_meaning}
 use Rattle.output_board.specs.declared.view.EmitterView.{EmitterView}
 use Rattle.output_board.specs.declared.view.WorkerView.{WorkerView}
 use Rattle.segment_worker.specs.Written.{HasWritten, HasFailed}

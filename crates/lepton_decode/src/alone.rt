@@ -2,17 +2,16 @@
 ghost use Rattle.std.specs.Prelude.{◌≡◌, ◌≤◌, IfOk, IsErrOf, false, true};
 ghost use Rattle.box_format.specs.declared.refusal.BoxRefusal.{BoxRefusal};
 ghost use Rattle.outside_core.specs.Takes.{TakesNext};
-ghost use Rattle.scans_format.specs.Containers.{IsContainer, IsRefusedContainer};
-ghost use Rattle.scans_format.specs.Scans.{all_plans};
-ghost use Rattle.scans_spec.specs.ScansMeanings.{scans_meaning};
+ghost use Rattle.box_format.specs.Containers.{IsContainer, all_plans};
+ghost use Rattle.box_format.specs.Checks.{IsRefused};
+ghost use Rattle.container_spec.specs.Portions.{scans_meaning};
 ghost use Rattle.lepton_decode.specs.Ends.{Ends, lone_meaning_in};
 
 use crate::error::DecodeError;
 use crate::file_parts::{put_before, put_rest, rows_window};
 use bit_list::Piece;
-use box_format::BoxRefusal;
+use box_format::{BoxRefusal, FileView, ReadError, read_container};
 use outside_core::{Gate, Sink};
-use scans_format::{FileView, ReadError, read_container};
 use segment_code::FileDecoder;
 use segment_worker::emit_alone;
 use std::alloc::Global;
@@ -56,7 +55,7 @@ pub fn prepare_alone(alloc: Global, bytes: &[u8]) -> Result<ReadyAlone<'_>, Read
     ensures ready { IfOk result (λ ready. IsContainer ready.scans bytes.now) }
     ensures fresh { IfOk result (λ ready. ready.used ≡ false) }
     ensures refused { (refusal : BoxRefusal) → IsErrOf result (ReadError.Box refusal)
-        → IsRefusedContainer bytes.now refusal }
+        → IsRefused bytes.now refusal }
 {
     let view = match read_container(alloc, bytes) {
         Ok(view) => view,

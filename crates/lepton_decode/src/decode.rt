@@ -1,8 +1,8 @@
 // A container decoded into a sink.
 ghost use Rattle.std.specs.Prelude.{◌≡◌, ◌≤◌, All, IfSome, false, is_some, length, true};
 ghost use Rattle.outside_core.specs.Takes.{TakesNext};
-ghost use Rattle.scans_format.specs.Scans.{segment_count};
-ghost use Rattle.scans_spec.specs.ScansMeanings.{scans_meaning};
+ghost use Rattle.box_format.specs.Containers.{segment_count};
+ghost use Rattle.container_spec.specs.Portions.{scans_meaning};
 ghost use Rattle.segment_crew.specs.Crews.{HasBegunItsClaims};
 ghost use Rattle.lepton_decode.specs.Chunked.{whole};
 ghost use Rattle.lepton_decode.specs.Ends.{Ends, HasEmitted, HaveLeft, meaning_in, team_in};
@@ -10,9 +10,9 @@ ghost use Rattle.lepton_decode.specs.Ends.{Ends, HasEmitted, HaveLeft, meaning_i
 use crate::error::DecodeError;
 use crate::file_parts::{put_before, put_rest, rows_window};
 use crate::ready::Ready;
+use box_format::FileView;
+use container_spec::ScanPads;
 use outside_core::{Gate, Sink};
-use scans_format::FileView;
-use scans_spec::ScanPads;
 use segment_crew::Crew;
 use segment_worker::Emitted;
 use std::sync::Wait;

@@ -2,10 +2,9 @@
 ghost use Rattle.std.specs.Prelude.{List, ℕ, ◌≡◌, ◌*◌, ◌^◌, ◌<◌, ◌≤◌, length, false, IfOk, IfErr};
 ghost use Rattle.outside_core.specs.Takes.{TakesNext};
 ghost use Rattle.box_format.specs.Versions.{most_segments};
-ghost use Rattle.scans_format.specs.Containers.{IsContainer};
-ghost use Rattle.scans_format.specs.Scans.{all_parts, trailer_of};
-ghost use Rattle.scans_spec.specs.ScansJoined.{all_spelled, first_header};
-ghost use Rattle.scans_spec.specs.ScansMeanings.{scans_meaning};
+ghost use Rattle.box_format.specs.Containers.{IsContainer, all_parts, trailer_of};
+ghost use Rattle.container_spec.specs.ScansJoined.{all_spelled, first_header};
+ghost use Rattle.container_spec.specs.Portions.{scans_meaning};
 ghost use Rattle.segment_worker.specs.Contents.{segment_room};
 ghost use Rattle.segment_worker.specs.Emitting.{Counts, Emits, joined_in, seen_through};
 ghost use Rattle.segment_worker.specs.Written.{HasWritten, HasFailed};
@@ -13,11 +12,10 @@ ghost use Rattle.lepton_decode.specs.Chunked.{are_spelled, before_in, chunk_in, 
 ghost use Rattle.lepton_decode.specs.Ends.{Ends, Follows};
 
 use crate::error::DecodeError;
-use box_format::BoxView;
+use box_format::{BoxView, FileView};
 use byte_window::Window;
+use container_spec::ScanPads;
 use outside_core::{Sink, WriteFault, write_all};
-use scans_format::FileView;
-use scans_spec::ScanPads;
 use segment_worker::{EmitStop, Emitted};
 
 // The first scan's part of the container.

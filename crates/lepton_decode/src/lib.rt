@@ -8,7 +8,7 @@
 //!
 //! `prepare` takes the memory; `run` is given no allocator, so that nothing is lost for want of it once bytes are
 //! written. `prepare_alone` and `run_alone` do the same on the calling thread, with no board: nothing in them waits, so
-//! they are proved to return. What a container stands for is `scans_spec`; what a crew does is `segment_crew`'s.
+//! they are proved to return. What a container stands for is `container_spec`'s; what a crew does is `segment_crew`'s.
 #![tactic(auto)]
 
 mod alone;

@@ -2,15 +2,14 @@
 ghost use Rattle.std.specs.Prelude.{List, ◌≡◌, ◌+◌, ◌*◌, ◌/◌, ◌^◌, ◌<◌, ◌≤◌, IfOk, IfSome, IsErrOf, false, is_some, length, max, min, nat_lt};
 ghost use Rattle.box_format.specs.Parts.{BoxSeen};
 ghost use Rattle.box_format.specs.declared.refusal.BoxRefusal.{BoxRefusal};
-ghost use Rattle.scans_format.specs.Containers.{IsContainer, IsRefusedContainer};
-ghost use Rattle.scans_format.specs.Scans.{segment_count};
+ghost use Rattle.box_format.specs.Containers.{IsContainer, segment_count};
+ghost use Rattle.box_format.specs.Checks.{IsRefused};
 ghost use Rattle.segment_crew.specs.Worth.{workers_worth};
 ghost use Rattle.lepton_decode.specs.Chunked.{whole};
 ghost use Rattle.lepton_decode.specs.Ends.{team_in};
 
-use box_format::BoxRefusal;
+use box_format::{BoxRefusal, FileView, ReadError, read_container, segments_named};
 use growth::NoMemory;
-use scans_format::{FileView, ReadError, read_container, segments_named};
 use segment_crew::{Crew, workers_worth};
 use std::alloc::Global;
 use std::marker::Model;
@@ -62,7 +61,7 @@ pub fn prepare(alloc: Global, bytes: &[u8], workers: u8, ring: u32) -> Result<Re
     ensures rings { IfOk result (λ ready.
         IfSome ready.crew (λ crew. crew.emitter.view.capacity ≡ ring)) }
     ensures refused { (refusal : BoxRefusal) → IsErrOf result (ReadError.Box refusal)
-        → IsRefusedContainer bytes.now refusal }
+        → IsRefused bytes.now refusal }
 {
     let view = match read_container(alloc, bytes) {
         Ok(view) => view,
@@ -76,8 +75,8 @@ pub fn prepare(alloc: Global, bytes: &[u8], workers: u8, ring: u32) -> Result<Re
     })
 }
 
-/// The same, by as many workers as the container is worth, `most` at most: one for each 8,192 of its blocks, rounded
-/// down. So a small container has none.
+/// The same, by as many workers as the container is worth (`workers_worth`), `most` at most: about one for each 8,192 of
+/// its blocks. So a small container has none.
 #[inline(never)]
 pub fn prepare_worth(
     alloc: Global,
@@ -95,7 +94,7 @@ pub fn prepare_worth(
     ensures rings { IfOk result (λ ready.
         IfSome ready.crew (λ crew. crew.emitter.view.capacity ≡ ring)) }
     ensures refused { (refusal : BoxRefusal) → IsErrOf result (ReadError.Box refusal)
-        → IsRefusedContainer bytes.now refusal }
+        → IsRefused bytes.now refusal }
 {
     let view = match read_container(alloc, bytes) {
         Ok(view) => view,

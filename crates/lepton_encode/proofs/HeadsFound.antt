@@ -1,18 +1,19 @@
 -- A header at its place, and where a file is refused after it.
-use Rattle.std.proofs.Common.{◌≡◌, ℕ, suc, ◌+◌, ◌≤◌, ◌<◌, true, false, List, [], ◌∷◌, ◌++◌, length, drop, inr, refl, sym, ap, ap₂, ◌∙◌, subst, arith, drop-drop, append_assoc, length-append}
+use Rattle.std.proofs.Common.{◌≡◌, ℕ, zero, suc, ◌+◌, ◌≤◌, ◌<◌, true, false, List, [], ◌∷◌, ◌++◌, length, drop, inr, refl, sym, ap, ap₂, ◌∙◌, subst, arith, drop-drop, append_assoc, length-append, zero-add, get_or, Some}
+use Rattle.std.specs.Prelude.{slice_get}
 use Rattle.std.specs.List.{AllByRecursion}
-use Rattle.std.proofs.lemmas.Bool.{false≢true}
 use Rattle.std.proofs.lemmas.List.{take-append-drop}
 use Rattle.bit_list.specs.Bits.{IsByte}
 use Rattle.jpeg_marker.specs.AcceptedPlans.{CanScan, HasBegun}
 use Rattle.jpeg_marker.specs.KnownBefore.{AreKnown}
 use Rattle.jpeg_marker.specs.FirstWalks.{opening_walk}
-use Rattle.jpeg_marker.specs.HeaderPlan.{Begins, AcceptsNext, RefusesNext}
+use Rattle.jpeg_marker.specs.HeaderPlan.{Accepts, Begins, AcceptsNext, RefusesNext}
 use Rattle.jpeg_marker.specs.Plans.{PlanFields, plan_at}
 use Rattle.jpeg_marker.specs.Walks.{Walk, next_walk}
 use Rattle.jpeg_marker.specs.declared.refusal.HeaderRefusal.{HeaderRefusal}
 use Rattle.jpeg_marker.proofs.CodedComponents.{HaveCoded, none_coded, more_coded, few_coded}
 use Rattle.jpeg_marker.proofs.MovedHeaders.{at_place}
+use Rattle.jpeg_marker.proofs.OneScans.{one_is_several, one_is_last, several_is_one}
 use Rattle.jpeg_marker.proofs.HeadersTaken.{begun_has_plan, bytes_from, can_scan_at, next_known, none_known}
 use Rattle.scan_spec.specs.FileParts.{FileScan, IsScanOf, is_last}
 use Rattle.scan_spec.specs.Items.{Refuses as ItemsRefuse}
@@ -21,26 +22,59 @@ use Rattle.scan_spec.specs.Slots.{Shape, shape_of}
 use Rattle.scan_spec.specs.declared.refusal.ScanRefusal.{ScanRefusal}
 use Rattle.segment_code.specs.FileStarts.{StartsFields}
 use Rattle.segment_code.specs.Starting.{AreStarts}
-use Rattle.scans_spec.specs.ScansFiles.{FileRefusal, FileIsRefused, Header, Scan, StopsAfter}
+use Rattle.container_spec.specs.ScansFiles.{FileRefusal, FileIsRefused, Header, Scan, StopsAfter}
 use Rattle.lepton_encode.specs.FileHeads.{AreHeads, EndsAt, Follows, IsHead, walk_after}
 use Rattle.lepton_encode.specs.declared.heads.Head.{Head}
 
+pub are_bytes : (xs : List ℕ) → ((i : ℕ) → get_or xs i 0 < 256) → AllByRecursion IsByte xs
+are_bytes [] below = tt
+are_bytes (x ∷ xs) below = (below 0, are_bytes xs (λ i. below (suc i)))
+
 -- the first header of a file
-pub first_head : (file : List ℕ) (plan : PlanFields) (h : Head) → Begins opening_walk file plan
-    → h.place ≡ 0 → h.plan ≡ plan_at 0 plan → IsHead opening_walk file h
-first_head file plan h opens place moved = record {
+abbrev pub head_at : ℕ → PlanFields → Head
+head_at place plan = record { place = place; plan = plan }
+
+pub plan_there : (plan : PlanFields) → plan_at 0 plan ≡ plan
+plan_there plan = ap (λ (n : ℕ). record plan { header_length = n }) (zero-add plan.header_length)
+
+pub first_head : (file : List ℕ) (plan : PlanFields) → Begins opening_walk file plan
+    → IsHead opening_walk file (head_at 0 plan)
+first_head file plan opens = record {
   plan = plan;
   known = none_known;
   within = omega arith;
   begins = opens;
-  place = place;
-  moved = moved;
+  place = refl;
+  moved = sym (plan_there plan);
 }
 
-pub first_within : (file : List ℕ) (plan : PlanFields) → AllByRecursion IsByte file
-    → Begins opening_walk file plan → plan.header_length ≤ length file
-first_within file plan all opens =
-    (begun_has_plan opening_walk file plan all none_known opens).within
+-- a file of one scan has one header
+pub one_head : (file : List ℕ) (plan : PlanFields) → AllByRecursion IsByte file
+    → Accepts file plan → AreHeads opening_walk file (head_at 0 plan ∷ [])
+one_head file plan all accepts =
+    (first_head file plan (one_is_several file plan accepts), one_is_last file plan all accepts)
+
+-- there is a header
+pub heads_some : (file : List ℕ) (heads : List Head) → AreHeads opening_walk file heads
+    → 1 ≤ length heads
+heads_some file [] are = absurd are
+heads_some file (h ∷ heads) are = omega arith
+
+-- and a file of one header has one scan
+pub one_accepted : (file : List ℕ) (heads : List Head) (i : ℕ) (h : Head)
+    → AllByRecursion IsByte file → AreHeads opening_walk file heads → length heads ≡ 1
+    → slice_get heads i ≡ Some h → Accepts file h.plan
+one_accepted file [] i h all are one e = absurd are
+one_accepted file (x ∷ []) (suc i) h all are one e = cc
+one_accepted file (x ∷ []) zero h all are one e =
+    let same : x ≡ h = cc in
+    let is = are.0 in
+    let plan = is.moved ∙ plan_there is.plan in
+    subst (λ (y : Head). Accepts file y.plan) same
+    (subst (Accepts file) (sym plan)
+    (several_is_one file is.plan all is.begins
+    (sym (ap (λ (p : PlanFields). is_last p) plan) ∙ are.1)))
+one_accepted file (x ∷ g ∷ heads) i h all are one e = absurd (omega (arith, one))
 
 module _ (w : Walk) (file : List ℕ) (h : Head) (all : AllByRecursion IsByte file)
     (is : IsHead w file h) where
@@ -170,30 +204,24 @@ pub record AreBefore (file : List ℕ) (heads : List Head) (h : Head) : Type 0 w
   pub walk : Walk
   pub is : IsHead walk file h
   pub coded : HaveCoded walk.known (length heads)
-  pub some : heads ≡ [] → is_last h.plan ≡ false
   pub joined : (rest : List Head) → AreHeads walk file (h ∷ rest)
       → AreHeads opening_walk file (heads ++ h ∷ rest)
   pub stops : (others : List FileScan) (refusal : FileRefusal)
       → StopsAfter walk file others refusal → FileIsRefused file refusal
 
-pub none_before : (file : List ℕ) (plan : PlanFields) (heads : List Head) (h : Head)
-    → heads ≡ [] → Begins opening_walk file plan → is_last plan ≡ false → h.place ≡ 0
-    → h.plan ≡ plan_at 0 plan → AreBefore file heads h
-none_before file plan heads h none opens more place moved = record {
+pub none_before : (file : List ℕ) (plan : PlanFields) (heads : List Head) → heads ≡ []
+    → Begins opening_walk file plan → AreBefore file heads (head_at 0 plan)
+none_before file plan heads none opens = record {
   walk = opening_walk;
-  is = first_head file plan h opens place moved;
+  is = first_head file plan opens;
   coded = subst (λ (l : List Head). HaveCoded opening_walk.known (length l)) (sym none) none_coded;
-  some = λ e. ap is_last moved ∙ more;
-  joined = λ rest are. subst (λ (l : List Head). AreHeads opening_walk file (l ++ h ∷ rest))
+  joined = λ rest are. subst (λ (l : List Head). AreHeads opening_walk file (l ++ head_at 0 plan ∷ rest))
       (sym none) are;
   stops = λ others refusal stops. record { before = others; stops = stops };
 }
 
 pub one_longer : (heads : List Head) (h : Head) → length (heads ++ h ∷ []) ≡ suc (length heads)
 one_longer heads h = omega (arith, length-append heads (h ∷ []))
-
-not_empty : (heads : List Head) (h : Head) → heads ++ h ∷ [] ≡ [] → ⊥
-not_empty heads h e = omega (arith, one_longer heads h, ap length e)
 
 module _ (file : List ℕ) (heads : List Head) (h : Head) (all : AllByRecursion IsByte file)
     (before : AreBefore file heads h) where
@@ -212,7 +240,6 @@ module _ (file : List ℕ) (heads : List Head) (h : Head) (all : AllByRecursion 
         is = follows.head;
         coded = subst (HaveCoded h.plan.known) (sym (one_longer heads h))
             (coded_next w file h all before.is (length heads) before.coded);
-        some = λ e. absurd (not_empty heads h e);
         joined = λ rest are. subst (AreHeads opening_walk file)
             (sym (append_assoc heads (h ∷ []) (next ∷ rest)))
             (before.joined (next ∷ rest) (before.is, more, next.place, follows.ends, are));
@@ -223,12 +250,6 @@ module _ (file : List ℕ) (heads : List Head) (h : Head) (all : AllByRecursion 
 
   pub heads_are : is_last h.plan ≡ true → AreHeads opening_walk file (heads ++ h ∷ [])
   heads_are last = before.joined [] (before.is, last)
-
-  pub heads_many : is_last h.plan ≡ true → 2 ≤ length (heads ++ h ∷ [])
-  heads_many last = many heads refl where
-    many : (l : List Head) → heads ≡ l → 2 ≤ length (heads ++ h ∷ [])
-    many [] e = absurd (false≢true (sym (before.some e) ∙ last))
-    many (x ∷ l) e = omega (arith, one_longer heads h, ap length e)
 
   pub header_refused : (refusal : HeaderRefusal) → is_last h.plan ≡ false
       → (after : ℕ) × EndsAt file h after × RefusesNext h.plan file after refusal

@@ -1,6 +1,7 @@
 mod FaultsFound
-mod FilesAt
 mod PlacesMade
 mod HeadsFound
 mod ScansContained
 mod SeveralRead
+mod StreamsPut
+mod PartsListed

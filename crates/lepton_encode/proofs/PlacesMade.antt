@@ -12,7 +12,7 @@ use Rattle.container_spec.specs.Files.{plan_cut, segment_place}
 use Rattle.segment_code.specs.FileStarts.{StartsFields}
 use Rattle.segment_code.specs.Starting.{AreStarts}
 use Rattle.segment_code.proofs.SegmentNumbers.{entry, length_numbers, map_alike, map_more}
-use Rattle.lepton_encode.specs.PartsMade.{places_made}
+use Rattle.lepton_encode.specs.ScansMade.{places_made}
 
 -- one more item of a list that comes to these
 pub one_more : {A : Type 0} (f : ℕ → A) (items more : List A) (x : A) (i count : ℕ) → i < count

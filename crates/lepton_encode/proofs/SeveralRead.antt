@@ -13,7 +13,7 @@ use Rattle.scan_spec.specs.Slots.{shape_of}
 use Rattle.scan_spec.specs.declared.refusal.ScanRefusal.{ScanRefusal}
 use Rattle.segment_code.specs.FileStarts.{StartsFields}
 use Rattle.segment_code.specs.Starting.{AreStarts}
-use Rattle.scans_spec.specs.ScansFiles.{FileIsRefused, HasSeveralScans, Scan}
+use Rattle.container_spec.specs.ScansFiles.{FileIsRefused, HasSeveralScans, Scan}
 use Rattle.lepton_encode.specs.FileHeads.{AreHeads, EndsAt, IsHead, walk_after}
 use Rattle.lepton_encode.specs.declared.heads.Head.{Head}
 use Rattle.lepton_encode.proofs.HeadsFound.{AreLeft, IsLeft, all_left, can, ends_at, file_scan, head_of, header_at, known_is, last_is, left_next, left_refused, scan_of}

@@ -1,4 +1,3 @@
 pub mod Errors
-pub mod PartsMade
 pub mod FileHeads
 pub mod ScansMade

@@ -1,97 +1,148 @@
-// The container of a file of one scan.
-ghost use Rattle.std.specs.Prelude.{◌≡◌, ◌<◌, ◌≤◌, ◌^◌, length, map, option_map, IfOk, IsErrOf};
-ghost use Rattle.jpeg_marker.specs.declared.refusal.HeaderRefusal.{HeaderRefusal};
-ghost use Rattle.scan_spec.specs.declared.refusal.ScanRefusal.{ScanRefusal};
-ghost use Rattle.box_format.specs.Parts.{IsBox, box_bytes};
+// From the coded scans of a file to its container.
+ghost use Rattle.std.specs.Prelude.{◌≡◌, ◌++◌, map, flat_map, option_map, if◌then◌else◌, Some, None, [], drop, IfOk, OnOk};
+ghost use Rattle.box_format.specs.Containers.{container_bytes, scan_streams};
+ghost use Rattle.box_format.specs.Given.{parts_given};
 ghost use Rattle.box_format.specs.Versions.{layout_of};
-ghost use Rattle.box_format.specs.declared.version.Version.TheVariants.{Fifth};
-ghost use Rattle.container_spec.specs.Files.{IsContainerOf};
-ghost use Rattle.scans_spec.specs.ScansFiles.{FileIsRefused, HasSeveralScans, Header, Scan};
-ghost use Rattle.lepton_encode.specs.PartsMade.{parts_made, places_made};
+ghost use Rattle.lepton_encode.specs.ScansMade.{AreScansMade, AreWithin, HasParts, scan_made, scans_made, streams_in};
 
-use crate::error::OneScanError;
-use crate::one_scan::read_one_scan;
-use box_format::{Parts, write_box};
-use growth::{NoMemory, push, with_capacity};
-use jpeg_marker::Plan;
+use crate::heads::Head;
+use box_format::{Parts, Version, write_front};
+use growth::{NoMemory, extend_from_slice, push};
 use segment_code::Starts;
-use segment_encode::encode_scan;
 use std::alloc::Global;
-use std::thread::Threads;
 
-/// The container, of version 5, of a file of one scan, in at most `segments` segments: it keeps the place in the file
-/// of each segment's first byte, so that a range of the file can be read from it. It has at most as many segments as
-/// rows of MCUs. A refusal is the first one from left to right, or else that the file has several scans. At most 16
-/// segments are coded at the same time, in threads if these can be had.
-pub fn encode_placed<R: Threads + Sync>(
-    rt: &R,
+/// A scan whose segments are coded: where they start, the place in the file of each one's first byte and after them
+/// that of the scan's end, and their streams.
+#[derive(Drop)]
+pub(crate) struct CodedScan {
+    pub(crate) starts: Starts,
+    pub(crate) places: Vec<u64>,
+    pub(crate) streams: Vec<Vec<u8>>,
+}
+
+/// The container of these scans of a file, in a version of whole files. Each stream is dropped once it is written.
+#[inline(never)]
+pub(crate) fn write_coded(
     alloc: Global,
+    version: Version,
     bytes: &[u8],
-    segments: u8,
-) -> Result<Vec<u8>, OneScanError>
-    requires length { length bytes.now < 2 ^ 32 }
-    requires some { 0 < segments }
-    requires few { segments ≤ (layout_of Fifth).most }
-    ensures made { IfOk result (λ made. IsContainerOf Fifth segments made.items bytes.now) }
-    ensures header { (refusal : HeaderRefusal) → IsErrOf result (OneScanError.Header refusal)
-        → FileIsRefused bytes.now (Header refusal) }
-    ensures scan { (refusal : ScanRefusal) → IsErrOf result (OneScanError.Scan refusal)
-        → FileIsRefused bytes.now (Scan refusal) }
-    ensures many { IsErrOf result OneScanError.ManyScans → HasSeveralScans bytes.now }
+    heads: &[Head],
+    coded: Vec<CodedScan>,
+) -> Result<Vec<u8>, NoMemory>
+    requires within { AreWithin bytes.now heads.now coded.items }
+    requires scans { AreScansMade version bytes.now heads.now coded.items }
+    ensures { IfOk result (λ made. made.items
+        ≡ container_bytes version (scans_made version bytes.now heads.now coded.items)) }
 {
-    let plan = read_one_scan(alloc, bytes)?;
-    let (starts, streams) = encode_scan(rt, alloc, &plan, bytes, segments)?;
-    let places = places_of(alloc, &starts)?;
-    let places = places.as_slice();
-    let streams = streams.as_slice();
-    let made = write_parts(alloc, bytes, &plan, &starts, Some(places), streams)?;
+    let scans = coded.as_slice();
+    let mut made = front_of(alloc, version, bytes, heads, scans)?;
+    put_scans(&mut made, coded)?;
     Ok(made)
 }
 
-// The place in the file of each segment's first byte, and after them that of the scan's end.
-fn places_of(alloc: Global, starts: &Starts) -> Result<Vec<u64>, NoMemory>
-    requires { length starts.now.rows < 2 ^ 32 }
-    ensures { IfOk result (λ places. places.items ≡ places_made starts.now) }
+// All of the container but the streams, with room for these.
+#[inline(never)]
+fn front_of(
+    alloc: Global,
+    version: Version,
+    bytes: &[u8],
+    heads: &[Head],
+    coded: &[CodedScan],
+) -> Result<Vec<u8>, NoMemory>
+    requires within { AreWithin bytes.now heads.now coded.now }
+    requires scans { AreScansMade version bytes.now heads.now coded.now }
+    ensures { IfOk result (λ front. front.items
+        ++ flat_map scan_streams (scans_made version bytes.now heads.now coded.now)
+        ≡ container_bytes version (scans_made version bytes.now heads.now coded.now)) }
 {
-    let segments = starts.segments();
-    let mut places = with_capacity(alloc, segments as usize + 1)?;
-    for segment in 0..segments {
-        push(&mut places, starts.place(segment) as u64)?;
-    }
-    push(&mut places, starts.trailer() as u64)?;
-    Ok(places)
+    let parts = parts_of(alloc, version, bytes, heads, coded)?;
+    let parts = parts.as_slice();
+    let front = write_front(alloc, version, parts)?;
+    Ok(front)
 }
 
-/// The container of a file with these starts and streams: of version 5 if its places are kept, else of version 2.
-pub(crate) fn write_parts(
+// The parts of these scans.
+#[inline(never)]
+fn parts_of<'a>(
     alloc: Global,
-    bytes: &[u8],
-    plan: &Plan,
-    starts: &Starts,
-    places: Option<&[u64]>,
-    streams: &[Vec<u8>],
-) -> Result<Vec<u8>, NoMemory>
-    requires header { plan.now.header_length ≤ length bytes.now }
-    requires trailer { starts.now.trailer ≤ length bytes.now }
-    requires parts { IsBox plan.now (parts_made plan.now bytes.now starts.now
-        (option_map (λ kept. kept.now) places) (map (λ v. v.items) streams.now)) }
-    ensures { IfOk result (λ made. made.items ≡ box_bytes (parts_made plan.now bytes.now starts.now
-        (option_map (λ kept. kept.now) places.entry) (map (λ v. v.items) streams.now))) }
+    version: Version,
+    bytes: &'a [u8],
+    heads: &[Head],
+    coded: &'a [CodedScan],
+) -> Result<Vec<Parts<'a>>, NoMemory>
+    requires { AreWithin bytes.now heads.now coded.now }
+    ensures { IfOk result (λ parts.
+        map parts_given parts.items ≡ scans_made version bytes.now heads.now coded.now) }
 {
-    let (header, _) = bytes.split_at(plan.header_length());
-    let (_, trailer) = bytes.split_at(starts.trailer());
-    let pad = starts.pad();
-    let handovers = starts.handovers();
-    write_box(
-        alloc,
-        &Parts {
-            chunk: None,
-            places,
-            pad,
-            header,
-            trailer,
-            handovers,
-            streams,
-        },
-    )
+    let mut parts = Vec::new(alloc);
+    for (i, head) in heads.iter().enumerate() {
+        push(
+            &mut parts,
+            parts_of_scan(version, bytes, head, &coded[i], i + 1 == heads.len()),
+        )?;
+    }
+    Ok(parts)
+}
+
+// The parts of a scan. The last one has the trailer.
+fn parts_of_scan<'a>(
+    version: Version,
+    bytes: &'a [u8],
+    head: &Head,
+    coded: &'a CodedScan,
+    last: bool,
+) -> Parts<'a>
+    requires { HasParts bytes.now head.now coded.now }
+    ensures { parts_given result ≡ scan_made version bytes.now
+        (if last then drop coded.now.starts.trailer bytes.now else []) head.now coded.now }
+{
+    let (_, from) = bytes.split_at(head.place);
+    let (header, _) = from.split_at(head.plan.header_length() - head.place);
+    let (_, rest) = bytes.split_at(coded.starts.trailer());
+    Parts {
+        version,
+        chunk: None,
+        places: kept_places(version, coded.places.as_slice()),
+        pad: coded.starts.pad(),
+        header,
+        trailer: if last { rest } else { &[] },
+        handovers: coded.starts.handovers(),
+        streams: coded.streams.as_slice(),
+    }
+}
+
+// The places, in a version that keeps them.
+fn kept_places(version: Version, places: &[u64]) -> Option<&[u64]>
+    ensures { option_map (λ kept. kept.now) result
+        ≡ (if (layout_of version).placed then Some places.now else None) }
+{
+    if version.layout().placed {
+        Some(places)
+    } else {
+        None
+    }
+}
+
+// The streams of these scans.
+#[inline(never)]
+fn put_scans(made: &mut Vec<u8>, coded: Vec<CodedScan>) -> Result<(), NoMemory>
+    ensures { OnOk result (made.new.items
+        ≡ made.old.items ++ flat_map streams_in coded.items) }
+{
+    for scan in coded {
+        put_streams(made, scan.streams)?;
+    }
+    Ok(())
+}
+
+/// Appends these streams, one after another. Each is dropped once it is there.
+pub fn put_streams(made: &mut Vec<u8>, streams: Vec<Vec<u8>>) -> Result<(), NoMemory>
+    ensures { OnOk result (made.new.items
+        ≡ made.old.items ++ flat_map (λ stream. stream) (map (λ v. v.items) streams.items)) }
+{
+    for stream in streams {
+        let stream = stream.as_slice();
+        extend_from_slice(made, stream)?;
+    }
+    Ok(())
 }

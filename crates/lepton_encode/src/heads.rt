@@ -1,52 +1,45 @@
-// The headers of a file of several scans.
-ghost use Rattle.std.specs.Prelude.{◌≡◌, ◌≤◌, ◌<◌, ◌^◌, false, length, List, [], ◌∷◌, ◌++◌, IfOk, OnOk, IsErrOf, ℕ};
+// The headers of a file of one scan or of several.
+ghost use Rattle.std.specs.Prelude.{◌≡◌, ◌≤◌, ◌<◌, ◌^◌, length, List, [], ◌∷◌, ◌++◌, IfOk, OnOk, IsErrOf, ℕ};
 ghost use Rattle.jpeg_marker.specs.FirstWalks.{opening_walk};
-ghost use Rattle.jpeg_marker.specs.HeaderPlan.{Begins, RefusesNext};
+ghost use Rattle.jpeg_marker.specs.HeaderPlan.{RefusesNext};
 ghost use Rattle.jpeg_marker.specs.Walks.{Walk};
 ghost use Rattle.jpeg_marker.specs.declared.refusal.HeaderRefusal.{HeaderRefusal};
-ghost use Rattle.scan_spec.specs.FileParts.{is_last};
 ghost use Rattle.scan_spec.specs.Items.{Refuses as ScanRefuses};
 ghost use Rattle.scan_spec.specs.Slots.{shape_of};
 ghost use Rattle.scan_spec.specs.declared.refusal.ScanRefusal.{ScanRefusal};
-ghost use Rattle.scans_spec.specs.ScansFiles.{FileIsRefused, Header, Scan};
+ghost use Rattle.container_spec.specs.ScansFiles.{FileIsRefused, Header, Scan};
 ghost use Rattle.lepton_encode.specs.FileHeads.{AreHeads, EndsAt, Follows, IsHead};
 
 use crate::error::EncodeError;
 use growth::{NoMemory, push, with_capacity};
-use jpeg_marker::{Plan, read_next};
+use jpeg_marker::{Plan, read_first, read_next};
 use segment_code::find_starts;
 use std::alloc::Global;
 
-/// A header of a file of several scans: its place, and its plan with all bytes before its scan as its header.
+/// A header of a file: its place, and its plan with all bytes before its scan as its header.
 #[derive(Clone, Copy)]
 pub(crate) struct Head {
     pub(crate) place: usize,
     pub(crate) plan: Plan,
 }
 
-/// The headers of a file whose first one has this plan and isn't the last. A refusal is the first one from left to
+/// The headers of a file, one or several. All scans are read but the last one. A refusal is the first one from left to
 /// right: a header's, or that of a scan but the last.
 #[inline(never)]
-pub(crate) fn find_heads(
-    alloc: Global,
-    bytes: &[u8],
-    first: &Plan,
-) -> Result<Vec<Head>, EncodeError>
-    requires opens { Begins opening_walk bytes.now first.now }
-    requires more { is_last first.now ≡ false }
+pub(crate) fn find_heads(alloc: Global, bytes: &[u8]) -> Result<Vec<Head>, EncodeError>
     requires length { length bytes.now < 2 ^ 32 }
     ensures heads { IfOk result (λ heads. AreHeads opening_walk bytes.now heads.items) }
-    ensures several { IfOk result (λ heads. 2 ≤ length heads.items) }
+    ensures few { IfOk result (λ heads. length heads.items ≤ 4) }
     ensures header { (refusal : HeaderRefusal) → IsErrOf result (EncodeError.Header refusal)
         → FileIsRefused bytes.now (Header refusal) }
     ensures scan { (refusal : ScanRefusal) → IsErrOf result (EncodeError.Scan refusal)
         → FileIsRefused bytes.now (Scan refusal) }
 {
-    let mut heads = with_capacity(alloc, 4)?;
-    let mut head = Head {
-        place: 0,
-        plan: first.at(0),
+    let mut head = match read_first(bytes) {
+        Ok(plan) => Head { place: 0, plan },
+        Err(refusal) => return Err(EncodeError::Header(refusal)),
     };
+    let mut heads = with_capacity(alloc, 4)?;
     'headers: while !head.plan.is_last() {
         keep(&mut heads, &head)?;
         go_on(alloc, bytes, &mut head)?;

@@ -1,17 +1,17 @@
 //! A file's container (this project's own; docs/FORMAT.md).
 //!
-//!     bytes --read_first--> plan, and if it isn't the last --find_heads--> the plan of each scan
-//!     one scan      --encode_scan--> starts, streams         --write_box-->   container of version 2
-//!     several scans --encode_scan--> starts, streams of each --write_scans--> container of version 4
+//!     bytes --find_heads--> the plan of each scan
+//!     each scan --code_scan--> starts, streams
+//!     scans --write_front--> all but the streams --put_streams--> container
 //!
-//! A file of several scans is gone over twice: once for where its headers are, since each scan has an equal share of
-//! the segments, and once to code them.
+//! The container is of version 2 for one scan, and of version 4 for several. A file of several scans is gone over
+//! twice: once for where its headers are, since each scan has an equal share of the segments, and once to code them.
 //!
 //! The segments are coded side by side from the file's bytes, at most 16 at the same time, each after a pass over the
 //! scan is through it; `encode_alone` codes them on the calling thread. Beside the bytes, memory is for the streams,
-//! for two MCU rows of blocks and the bins of each that is coded, and for the container. What a segment's stream is is
-//! `container_spec`'s, how it is made `segment_code`'s, and in which thread `segment_encode`'s. What a file of several
-//! scans stands for is `scans_spec`'s.
+//! for two MCU rows of blocks and the bins of each that is coded, and for the container, into which the streams move
+//! one by one. What a segment's stream is and what a file's container stands for is `container_spec`'s, how a stream
+//! is made `segment_code`'s, and in which thread `segment_encode`'s.
 #![tactic(auto)]
 
 mod coders;
@@ -21,7 +21,8 @@ mod heads;
 mod one_scan;
 mod scans;
 
-pub use container::encode_placed;
+pub use coders::{Alone, InThreads, ScanCoder};
+pub use container::put_streams;
 pub use error::{EncodeError, OneScanError};
 pub use one_scan::read_one_scan;
-pub use scans::{encode, encode_alone};
+pub use scans::{encode, encode_alone, encode_placed};

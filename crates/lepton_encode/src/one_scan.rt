@@ -3,11 +3,11 @@ ghost use Rattle.std.specs.Prelude.{◌<◌, ◌^◌, length, IfOk, IsErrOf};
 ghost use Rattle.jpeg_marker.specs.HeaderPlan.{Accepts};
 ghost use Rattle.jpeg_marker.specs.declared.refusal.HeaderRefusal.{HeaderRefusal};
 ghost use Rattle.scan_spec.specs.declared.refusal.ScanRefusal.{ScanRefusal};
-ghost use Rattle.scans_spec.specs.ScansFiles.{FileIsRefused, HasSeveralScans, Header, Scan};
+ghost use Rattle.container_spec.specs.ScansFiles.{FileIsRefused, HasSeveralScans, Header, Scan};
 
 use crate::error::OneScanError;
 use crate::heads::find_heads;
-use jpeg_marker::{Plan, read_first};
+use jpeg_marker::Plan;
 use segment_code::find_starts;
 use std::alloc::Global;
 
@@ -23,15 +23,12 @@ pub fn read_one_scan(alloc: Global, bytes: &[u8]) -> Result<Plan, OneScanError>
         → FileIsRefused bytes.now (Scan refusal) }
     ensures many { IsErrOf result OneScanError.ManyScans → HasSeveralScans bytes.now }
 {
-    let plan = match read_first(bytes) {
-        Ok(plan) => plan,
-        Err(refusal) => return Err(OneScanError::Header(refusal)),
-    };
-    if plan.is_last() {
-        return Ok(plan);
+    let heads = find_heads(alloc, bytes)?;
+    let count = heads.len();
+    let last = &heads[count - 1];
+    if count == 1 {
+        return Ok(last.plan);
     }
-    let heads = find_heads(alloc, bytes, &plan)?;
-    let last = &heads[heads.len() - 1];
     find_starts(alloc, &last.plan, bytes, 1)?;
     Err(OneScanError::ManyScans)
 }

@@ -1,21 +1,16 @@
--- A container's bytes are bytes.
-use Rattle.std.proofs.Common.{ℕ, zero, suc, ◌+◌, ◌<◌, ◌≤◌, Bool, true, false, List, [], ◌∷◌, ◌++◌, length, flat_map, ℤ, Option, Some, None, arith}
+-- The bytes of a container's fields are bytes.
+use Rattle.std.proofs.Common.{ℕ, zero, suc, ◌+◌, Bool, true, false, List, [], ◌∷◌, ◌++◌, length, flat_map, ℤ, Option, Some, None, arith}
 use Rattle.std.specs.Prelude.{slice_index}
 use Rattle.std.specs.List.{AllByRecursion}
 use Rattle.std.specs.Int.{w16, byte_at, cast_unsigned}
 use Rattle.byteorder.specs.Endian.{big_bytes}
 use Rattle.huff_table.proofs.Pairs.{all-append}
 use Rattle.bit_list.specs.Bits.{IsByte}
-use Rattle.jpeg_marker.specs.Plans.{PlanFields}
 use Rattle.handover.specs.Handovers.{HandoverFields, IsHandover}
 use Rattle.handover.specs.HandoverBytes.{handover_bytes}
 use Rattle.scan_spec.specs.Pads.{PadBits, Same, Listed}
-use Rattle.box_format.specs.Parts.{BoxParts, IsBox, bit_byte, box_bytes, chunk_bytes, list_bytes, list_length, magic, pad_byte, place_bytes, records}
-use Rattle.box_format.specs.Versions.{layout_of, version_byte}
+use Rattle.box_format.specs.Parts.{bit_byte, chunk_bytes, list_length, pad_byte, place_bytes, records}
 use Rattle.box_format.specs.declared.chunk.Chunk.{Chunk}
-use Rattle.box_format.specs.declared.version.Version.{Version}
-use Rattle.box_format.specs.declared.version.Version.TheVariants.{First, Second, Third, Fifth}
-use Rattle.box_format.proofs.Fronts.{most_few}
 
 -- the bytes of a number
 byte_small : (k n : ℕ) → IsByte (byte_at k n)
@@ -52,7 +47,7 @@ handover_are h is =
     (number_are 4 h.restarts) in
     (is.byte, (number, rest))
 
-place_are : (places : Option (List ℕ)) (i : ℕ) → AllByRecursion IsByte (place_bytes places i)
+pub place_are : (places : Option (List ℕ)) (i : ℕ) → AllByRecursion IsByte (place_bytes places i)
 place_are None i = tt
 place_are (Some places) i = number_are 8 (slice_index places i)
 
@@ -76,36 +71,7 @@ pub pad_is : (pads : PadBits) → IsByte (pad_byte pads)
 pad_is (Same pad) = bit_is pad
 pad_is (Listed bytes) = omega arith
 
-version_is : (version : Version) → IsByte (version_byte version)
-version_is First = omega arith
-version_is Second = omega arith
-version_is Third = omega arith
-version_is Fifth = omega arith
-
--- the fields before the lengths
-abbrev fields : BoxParts → List ℕ
-fields b = magic ++ version_byte b.version ∷ pad_byte b.pads ∷ length b.handovers ∷ []
-
-fields_are : (b : BoxParts) → length b.handovers ≤ (layout_of b.version).most
-    → AllByRecursion IsByte (fields b)
-fields_are b few =
-    let most = most_few b.version in
-    let number : IsByte (length b.handovers) = omega (arith, few, most) in
-    let letter : (n : ℕ) → n < 128 → IsByte n = λ n small. omega (arith, small) in (
-      letter 0x4c (omega arith),
-      (
-        letter 0x50 (omega arith),
-        (
-          letter 0x53 (omega arith),
-          (
-            letter 0x47 (omega arith),
-            (version_is b.version, (pad_is b.pads, (number, tt))),
-          ),
-        ),
-      ),
-    )
-
-named_are : (listed : Bool) (list : List ℕ) → AllByRecursion IsByte (list_length listed list)
+pub named_are : (listed : Bool) (list : List ℕ) → AllByRecursion IsByte (list_length listed list)
 named_are true list = number_are 4 (length list)
 named_are false list = tt
 
@@ -114,7 +80,7 @@ pub both_are : (xs ys : List ℕ) → AllByRecursion IsByte xs → AllByRecursio
     → AllByRecursion IsByte (xs ++ ys)
 both_are xs ys a b = all-append IsByte xs ys a b
 
-chunk_are : (chunk : Option Chunk) → AllByRecursion IsByte (chunk_bytes chunk)
+pub chunk_are : (chunk : Option Chunk) → AllByRecursion IsByte (chunk_bytes chunk)
 chunk_are None = tt
 chunk_are (Some c) =
     let to = big_bytes 4 c.to in
@@ -124,33 +90,3 @@ chunk_are (Some c) =
     (number_are 8 c.length) skip in
     both_are (big_bytes 8 c.place) (big_bytes 8 c.length ++ (big_bytes 8 c.skip ++ (big_bytes 4 c.from ++ to)))
     (number_are 8 c.place) length
-
-pub box_are : (plan : PlanFields) (b : BoxParts) → IsBox plan b
-    → AllByRecursion IsByte (box_bytes b)
-unfolding box_bytes
-box_are plan b is =
-    let header = big_bytes 4 (length b.header) in
-    let trailer = big_bytes 4 (length b.trailer) in
-    let named = list_length (layout_of b.version).listed (list_bytes b.pads) in
-    let end = place_bytes b.places (length b.handovers) in
-    let recorded = records b.places 0 b.handovers b.streams in
-    let streams = flat_map (λ (stream : List ℕ). stream) b.streams in
-    let first = both_are (fields b) header (fields_are b is.few) (number_are 4 (length b.header)) in
-    let lengths = both_are (fields b ++ header) trailer first (number_are 4 (length b.trailer)) in
-    let front = both_are ((fields b ++ header) ++ trailer) named lengths
-    (named_are (layout_of b.version).listed (list_bytes b.pads)) in
-    let chunk = chunk_bytes b.chunk in
-    let first_fields = ((fields b ++ header) ++ trailer) ++ named in
-    let chunked = both_are first_fields chunk front (chunk_are b.chunk) in
-    let all_fields = (first_fields ++ chunk) ++ end in
-    let placed = both_are (first_fields ++ chunk) end chunked
-    (place_are b.places (length b.handovers)) in
-    let entries = both_are all_fields recorded placed
-    (records_are b.places 0 b.handovers b.streams is.each) in
-    let listed = both_are (all_fields ++ recorded) (list_bytes b.pads) entries is.list_bytes_are in
-    let headed = both_are ((all_fields ++ recorded) ++ list_bytes b.pads) b.header listed
-    is.header_bytes in
-    let ended = both_are (((all_fields ++ recorded) ++ list_bytes b.pads) ++ b.header) b.trailer headed
-    is.trailer_bytes in
-    both_are ((((all_fields ++ recorded) ++ list_bytes b.pads) ++ b.header) ++ b.trailer) streams ended
-    (streams_are b.streams is.stream_bytes)

@@ -1,21 +1,24 @@
 -- From how words ended to what the top call promises.
-use Rattle.std.proofs.Common.{◌≡◌, ℕ, ◌<◌, ◌≤◌, ◌⊎◌, inl, inr, List, length, sum, Option, Some, refl, sym, ap, subst, ◌∙◌, arith}
+use Rattle.std.proofs.Common.{◌≡◌, ℕ, ◌<◌, ◌≤◌, ◌⊎◌, inl, inr, List, [], ◌∷◌, length, sum, Option, Some, refl, sym, ap, subst, ◌∙◌, arith}
 use Rattle.std.specs.Io.KnownBytes.{Appends}
 use Rattle.outside_core.specs.Faults.{Rose}
 use Rattle.std.specs.List.{AllByRecursion}
-use Rattle.bit_list.specs.Bits.{IsByte}
 use Rattle.jpeg_marker.specs.Plans.{PlanFields}
 use Rattle.scan_spec.specs.FileParts.{FileScan, IsFile}
-use Rattle.box_format.specs.Parts.{BoxParts, IsBoxOf, box_bytes, migrated}
-use Rattle.box_format.specs.Versions.{IsRead, indexable, layout_of, migratable, most_segments, version_in}
+use Rattle.box_format.specs.Parts.{BoxParts, BoxSeen, migrated}
+use Rattle.box_format.specs.Single.{IsBoxOf, box_bytes}
+use Rattle.box_format.specs.Versions.{IsRead, indexable, layout_of, migratable, version_in}
 use Rattle.box_format.specs.declared.version.Version.{Version}
 use Rattle.box_format.specs.declared.version.Version.TheVariants.{Fifth, Third}
 use Rattle.chunk_cut.specs.ChunksOfFiles.{IsChunkOf, chunk_of}
 use Rattle.byte_window.specs.Slices.{slice}
-use Rattle.container_spec.specs.Files.{IsContainerOf}
+use Rattle.container_spec.specs.ScansFiles.{IsContainerOf, IsContainerOfFile}
 use Rattle.container_spec.specs.Indexed.{indexed}
-use Rattle.container_spec.proofs.FilesOfContainers.{version_said}
-use Rattle.container_spec.specs.Meanings.{Meaning, Restored, IsMeaning, meaning_of}
+use Rattle.box_format.proofs.Singles.{alone, version_is_in, version_said}
+use Rattle.container_spec.proofs.PortionsMeant.{one_stands_for_itself}
+use Rattle.container_spec.specs.Portions.{StandsFor, scans_meaning}
+use Rattle.container_spec.specs.Meanings.{Meaning, Restored}
+use Rattle.container_spec.specs.AloneMeanings.{meaning_of}
 use Rattle.container_spec.proofs.MigratedMeanings.{migrated_means_the_same}
 use Rattle.command_words.specs.Meaning.{Means}
 use Rattle.command_words.specs.declared.command.Command.{Command}
@@ -25,14 +28,13 @@ use Rattle.lepton_run.specs.Endings.{ending_line, ending_of, status_at}
 use Rattle.lepton_run.specs.CommandEnds.{Answered, Given, SampleEnds}
 use Rattle.lepton_run.specs.declared.ending.Ending.{Ending}
 use Rattle.lepton_run.specs.declared.ending.Ending.TheVariants.{Done, Refused, WordsRefused, ReadFailed, WriteFailed, NoMemory}
-use Rattle.scans_spec.specs.ScansFiles.{IsContainerOfFile, IsContainerOfScans}
-use Rattle.lepton_run.proofs.BothWays.{file_back, scans_back}
-use Rattle.lepton_run.proofs.BoxesOfBytes.{box_are}
+use Rattle.lepton_run.proofs.BothWays.{file_back}
+use Rattle.lepton_run.proofs.ScansOfBytes.{box_are}
 use Rattle.lepton_run.proofs.BytesTaken.{answer_had}
 use Rattle.lepton_run.proofs.ChunksBack.{chunk_back}
 use Rattle.lepton_run.proofs.FilesEncoded.{accepted_made}
 use Rattle.lepton_run.proofs.OneAnswers.{one_answer}
-use Rattle.lepton_run.proofs.RangesBack.{are_placed, indexed_answer, range_within}
+use Rattle.lepton_run.proofs.RangesBack.{are_placed, indexed_answer, one_scan_file, range_within}
 use Rattle.lepton_run.proofs.SameCommand.{same_command}
 
 same_line : (answer : Answer) → ending_line (ending_of answer) ≡ line_of answer
@@ -232,33 +234,17 @@ module _ {Sink Source : Type 0} (held : Sink → Option (List ℕ)) (faults : Si
       inr is
 
   pub back_of : (ending : Ending) (status : ℕ) → status ≡ status_at ending → Ends ending
-      → Said (ending_line ending) → (version : Version) (workers most : ℕ) (bytes file : List ℕ)
-      → Means words (Decode workers) → ¬ Rose failures lost source rest
-      → ¬ Rose faults full old new → left source ≡ Some bytes
-      → length file ≤ limit_of (Encode most) → 0 < most → most ≤ (layout_of version).most
-      → IsContainerOf version most bytes file
-      → ((status ≡ 0) × Appends (held old) (held new) file) ⊎ (status ≡ 5)
-  back_of ending status is ends said version workers most bytes file means calm still had short
-      some few of =
-      elim (complete_of (Decode workers) bytes (Made file) means had
-      (file_back version most workers bytes file some few short of) ending status is ends said calm
-      (λ _. still)) [
-        | inl given ↦ inl (is ∙ ap status_at given.0, given.1)
-        | inr five ↦ inr five
-      ]
-
-  pub scans_back_of : (ending : Ending) (status : ℕ) → status ≡ status_at ending → Ends ending
-      → Said (ending_line ending) → (workers most : ℕ) (mosts : List ℕ) (bytes file : List ℕ)
+      → Said (ending_line ending) → (version : Version) (workers most : ℕ) (mosts bytes file : List ℕ)
       → Means words (Decode workers) → ¬ Rose failures lost source rest
       → ¬ Rose faults full old new → left source ≡ Some bytes
       → length file ≤ limit_of (Encode most) → AllByRecursion (λ some. 0 < some) mosts
-      → sum mosts ≤ most_segments → IsContainerOfScans mosts bytes file
+      → sum mosts ≤ (layout_of version).most → IsContainerOf version mosts bytes file
       → ((status ≡ 0) × Appends (held old) (held new) file) ⊎ (status ≡ 5)
-  scans_back_of ending status is ends said workers most mosts bytes file means calm still had short some
-      few of =
+  back_of ending status is ends said version workers most mosts bytes file means calm still had short
+      some few of =
       elim (complete_of (Decode workers) bytes (Made file) means had
-      (scans_back mosts most workers bytes file short some few of) ending status is ends said calm
-      (λ _. still)) [
+      (file_back version mosts most workers bytes file short some few of) ending status is ends said
+      calm (λ _. still)) [
         | inl given ↦ inl (is ∙ ap status_at given.0, given.1)
         | inr five ↦ inr five
       ]
@@ -284,12 +270,12 @@ module _ {Sink Source : Type 0} (held : Sink → Option (List ℕ)) (faults : Si
       (meaning : Meaning) → Means words Migrate
       → ¬ Rose failures lost source rest → ¬ Rose faults full old new
       → left source ≡ Some bytes → length bytes ≤ limit_of Migrate → IsBoxOf plan b bytes
-      → IsRead migratable b.version → IsMeaning bytes meaning
-      → ((status ≡ 0) × IsMeaning (box_bytes (migrated b)) meaning
+      → IsRead migratable b.version → StandsFor bytes meaning
+      → ((status ≡ 0) × StandsFor (box_bytes (migrated b)) meaning
       × Appends (held old) (held new) (box_bytes (migrated b))) ⊎ (status ≡ 5)
   migrated_of ending status is ends said bytes plan b meaning means calm still had short of
       whole stands =
-      let are = subst (AllByRecursion IsByte) (sym of.text) (box_are plan b of.box) in
+      let are = box_are plan b bytes of in
       let made = box_bytes (migrated b) in
       elim (complete_of Migrate bytes (Made made) means had
       (inr (record { short = short; are = are; makes = inr (plan, b, of, whole, refl) })) ending status is
@@ -310,10 +296,10 @@ module _ {Sink Source : Type 0} (held : Sink → Option (List ℕ)) (faults : Si
       → IsRead indexable (version_in bytes) → (plan : PlanFields) (b : BoxParts)
       → IsBoxOf plan b bytes → record { bytes = file; verdict = Restored } ≡ meaning_of plan b
       → ((status ≡ 0) × (most : ℕ) × (made : List ℕ)
-      × IsContainerOf (version_in bytes) most bytes file × IsContainerOf Fifth most made file
+      × IsContainerOf (version_in bytes) (most ∷ []) bytes file × IsContainerOf Fifth (most ∷ []) made file
       × Appends (held old) (held new) made) ⊎ (status ≡ 5)
   indexed_by ending status is ends said bytes file means calm still had short read plan b of e =
-      let version : b.version ≡ version_in bytes = sym (ap version_in of.text ∙ version_said b) in
+      let version : b.version ≡ version_in bytes = sym (ap version_in of.text ∙ version_said b.version (b ∷ [])) in
       let mine = subst (IsRead indexable) (sym version) read in
       let made = box_bytes (indexed plan b) in
       let placed = are_placed bytes made file plan b of mine (sym e) refl in
@@ -336,22 +322,27 @@ module _ {Sink Source : Type 0} (held : Sink → Option (List ℕ)) (faults : Si
       → ¬ Rose failures lost source rest → ¬ Rose faults full old new
       → left source ≡ Some bytes → length bytes ≤ limit_of Index
       → IsRead indexable (version_in bytes)
-      → IsMeaning bytes (record { bytes = file; verdict = Restored })
+      → StandsFor bytes (record { bytes = file; verdict = Restored })
       → ((status ≡ 0) × (most : ℕ) × (made : List ℕ)
-      × IsContainerOf (version_in bytes) most bytes file × IsContainerOf Fifth most made file
+      × IsContainerOf (version_in bytes) (most ∷ []) bytes file × IsContainerOf Fifth (most ∷ []) made file
       × Appends (held old) (held new) made) ⊎ (status ≡ 5)
   indexed_of ending status is ends said bytes file means calm still had short read (inl refused) =
       absurd (let f = ap (λ (m : Meaning). m.verdict) refused.2 in cc)
   indexed_of ending status is ends said bytes file means calm still had short read
-      (inr (plan, b, of, e)) =
-      indexed_by ending status is ends said bytes file means calm still had short read plan b of e
+      (inr (scans, (v, of), e)) =
+      let one = ap (λ (u : Version). (layout_of u).several) (sym (version_is_in v scans bytes of))
+      ∙ one_scan_file (version_in bytes) read in
+      let a = alone v scans bytes one of in
+      let s : BoxSeen = a.0 in
+      indexed_by ending status is ends said bytes file means calm still had short read s.plan s.parts
+      a.2 (e ∙ ap scans_meaning a.1 ∙ one_stands_for_itself s)
 
   pub range_back_of : (ending : Ending) (status : ℕ) → status ≡ status_at ending → Ends ending
       → Said (ending_line ending) → (workers most from to : ℕ) (bytes file : List ℕ)
       → Means words (Range from to workers) → ¬ Rose failures lost source rest
       → ¬ Rose faults full old new → left source ≡ Some bytes
       → length file ≤ limit_of (Encode most) → 0 < most → most ≤ (layout_of Fifth).most
-      → IsContainerOf Fifth most bytes file → from ≤ to → to ≤ length file
+      → IsContainerOf Fifth (most ∷ []) bytes file → from ≤ to → to ≤ length file
       → ((status ≡ 0) × Appends (held old) (held new) (slice from to file)) ⊎ (status ≡ 5)
   range_back_of ending status is ends said workers most from to bytes file means calm still had short
       some few of order within =

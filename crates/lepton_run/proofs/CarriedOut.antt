@@ -1,5 +1,5 @@
 -- How a command ends that has bytes, from what the encoder and the decoder say.
-use Rattle.std.proofs.Common.{◌≡◌, ℕ, ◌+◌, ◌<◌, ◌≤◌, ◌++◌, ◌∙◌, append-nil, Bool, true, false, if◌then◌else◌, inl, inr, List, [], ◌∷◌, length, take, Option, Some, None, refl, sym, ap, subst, arith, Result, Ok, Err}
+use Rattle.std.proofs.Common.{◌≡◌, ℕ, ◌+◌, ◌<◌, ◌≤◌, ◌∙◌, append-nil, Bool, true, false, if◌then◌else◌, inl, inr, List, [], length, take, Option, Some, None, refl, sym, ap, subst, arith, Result, Ok, Err}
 use Rattle.std.specs.Prelude.{nat_lt}
 use Rattle.std.specs.List.{AllByRecursion}
 use Rattle.std.specs.Io.KnownBytes.{Appends}
@@ -7,15 +7,14 @@ use Rattle.std.proofs.KnownBytes.{Appends-nil}
 use Rattle.bit_list.specs.Bits.{IsByte}
 use Rattle.outside_core.specs.Faults.{Rose}
 use Rattle.outside_core.specs.Takes.{TakesNext}
-use Rattle.jpeg_marker.specs.Plans.{PlanFields}
 use Rattle.handover.specs.declared.outcome.StreamFault.{StreamFault}
-use Rattle.scan_spec.specs.Pads.{is_spelled}
-use Rattle.box_format.specs.Parts.{BoxParts, rows_most, BoxSeen}
-use Rattle.box_format.specs.declared.chunk.Chunk.{Chunk}
+use Rattle.box_format.specs.Parts.{rows_most, BoxSeen}
 use Rattle.box_format.specs.declared.refusal.BoxRefusal.{BoxRefusal}
-use Rattle.container_spec.specs.Meanings.{Joined, Meaning, Verdict, Restored, PadSpelled, ChunkShort as ShortChunk, Faulty, NoBox, begun_bytes, good_end, joined, meaning_by, meaning_of, outputs_of}
-use Rattle.scans_format.specs.Containers.{IsContainer, IsRefusedContainer}
-use Rattle.scans_spec.specs.ScansMeanings.{followed_by, meaning_after, meaning_from, scans_meaning, spelled_otherwise, verdict_after}
+use Rattle.container_spec.specs.Meanings.{Meaning, Verdict, Restored, PadSpelled, ChunkShort as ShortChunk, Faulty, NoBox}
+use Rattle.box_format.specs.Containers.{IsContainer}
+use Rattle.box_format.specs.Checks.{IsRefused}
+use Rattle.container_spec.specs.Portions.{Kind, OfFile, OfChunk, OfRange, Portion, begun as begun_of, ended as ended_of, ending_by, good_end, kind_of, played, portion_by, portion_meaning, scans_meaning}
+use Rattle.container_spec.specs.ScansJoined.{ScansJoined, all_spelled, first_header}
 use Rattle.segment_worker.specs.Written.{HasFailed, HasWritten}
 use Rattle.command_words.specs.declared.command.Command.{Command}
 use Rattle.command_words.specs.declared.command.Command.TheVariants.{Decode}
@@ -59,58 +58,27 @@ by_length : (few bytes : List ℕ) (short : Bool)
 by_length few bytes true = tt
 by_length few bytes false = tt
 
-at_end : (c : Option Chunk) (b : BoxParts) (all : Joined) → IsOfBox (good_end c b all).verdict
-at_end None b all = by_pad (is_spelled b.pads all.padded)
-at_end (Some c) b all =
-    by_length (begun_bytes b all) (begun_bytes b all ++ b.trailer)
-    (nat_lt (length all.bytes) (c.skip + rows_most c b.header b.trailer))
+at_end : (kind : Kind) (scans : List BoxSeen) (p : Portion) (all : ScansJoined)
+    → IsOfBox (good_end kind scans p all).verdict
+at_end OfFile scans p all = by_pad (all_spelled 0 scans all.padded)
+at_end (OfChunk c) scans p all =
+    by_length (begun_of p all) (ended_of p all)
+    (nat_lt (length all.bytes) (c.skip + rows_most c (first_header scans) p.after))
+at_end OfRange scans p all = tt
 
-by_fault : (b : BoxParts) (all : Joined) (fault : Option StreamFault)
-    → IsOfBox (meaning_by b all fault).verdict
-by_fault b all (Some fault) = tt
-by_fault b all None = at_end b.chunk b all
-
-of_parts : (plan : PlanFields) (b : BoxParts) → IsOfBox (meaning_of plan b).verdict
-unfolding meaning_of
-of_parts plan b = let all = joined (outputs_of plan b) in by_fault b all all.fault
-
-numbered_on : (first : ℕ) (verdict : Verdict) → IsOfBox verdict → IsOfBox (verdict_after first verdict)
-numbered_on first Restored is = tt
-numbered_on first PadSpelled is = tt
-numbered_on first ShortChunk is = tt
-numbered_on first (Faulty fault) is = tt
-numbered_on first (NoBox refusal) is = absurd is
-
-otherwise : (verdict : Verdict) → IsOfBox verdict → IsOfBox (spelled_otherwise verdict)
-otherwise Restored is = tt
-otherwise PadSpelled is = tt
-otherwise ShortChunk is = tt
-otherwise (Faulty fault) is = tt
-otherwise (NoBox refusal) is = absurd is
-
-before_next : (bytes : List ℕ) (verdict : Verdict) (next : Meaning) → IsOfBox verdict
-    → IsOfBox next.verdict → IsOfBox (followed_by bytes verdict next).verdict
-before_next bytes Restored next is more = more
-before_next bytes PadSpelled next is more = otherwise next.verdict more
-before_next bytes ShortChunk next is more = tt
-before_next bytes (Faulty fault) next is more = tt
-before_next bytes (NoBox refusal) next is more = absurd is
-
-of_scans : (first : ℕ) (scans : List BoxSeen) → IsOfBox (meaning_from first scans).verdict
-of_scans first [] = tt
-of_scans first (s ∷ []) =
-    numbered_on first (meaning_of s.plan s.parts).verdict (of_parts s.plan s.parts)
-of_scans first (s ∷ t ∷ scans) =
-    let m = meaning_after first s in
-    before_next m.bytes m.verdict
-    (meaning_from (first + length s.parts.handovers) (t ∷ scans))
-    (numbered_on first (meaning_of s.plan s.parts).verdict (of_parts s.plan s.parts))
-    (of_scans (first + length s.parts.handovers) (t ∷ scans))
+by_fault : (kind : Kind) (scans : List BoxSeen) (p : Portion) (all : ScansJoined)
+    (fault : Option StreamFault) → IsOfBox (ending_by kind scans p all fault).verdict
+by_fault kind scans p all (Some fault) = tt
+by_fault kind scans p all None = at_end kind scans p all
 
 scans_written : (scans : List BoxSeen) → Written (scans_meaning scans)
 unfolding scans_meaning
 scans_written scans =
-    let m = meaning_from 0 scans in written_of m.bytes m.verdict (of_scans 0 scans)
+    let kind = kind_of scans in
+    let p = portion_by kind scans in
+    let all = played scans p in
+    let m = portion_meaning kind scans p in
+    written_of m.bytes m.verdict (by_fault kind scans p all all.fault)
 
 module _ {Sink : Type 0} (held : Sink → Option (List ℕ)) (faults : Sink → ℕ)
     (full : Sink → Type 0) (old new : Sink) where
@@ -176,7 +144,7 @@ module _ {Sink : Type 0} (held : Sink → Option (List ℕ)) (faults : Sink → 
 
     -- the bytes are no container
     pub no_box : (workers : ℕ) (refusal : BoxRefusal) → length bytes ≤ limit_of (Decode workers)
-        → IsRefusedContainer bytes refusal
+        → IsRefused bytes refusal
         → CarriedOut held faults full (Decode workers) bytes old old (Refused (Box refusal))
     no_box workers refusal short why = refused_early (Decode workers) (Box refusal) short (
       record { bytes = []; verdict = NoBox refusal },

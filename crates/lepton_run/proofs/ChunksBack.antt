@@ -1,16 +1,17 @@
 -- Chunks are decoded alone.
-use Rattle.std.proofs.Common.{◌≡◌, ℕ, ◌*◌, ◌<◌, ◌≤◌, inl, inr, List, length, take, refl, sym, subst}
+use Rattle.std.proofs.Common.{◌≡◌, ℕ, ◌*◌, ◌<◌, ◌≤◌, inl, inr, List, length, take, refl, subst}
 use Rattle.std.specs.Prelude.{flat_map}
 use Rattle.std.specs.List.{AllByRecursion}
 use Rattle.bit_list.specs.Bits.{IsByte}
-use Rattle.jpeg_marker.specs.Plans.{PlanFields}
-use Rattle.box_format.specs.Parts.{BoxParts, IsBoxOf}
+use Rattle.box_format.specs.Parts.{BoxParts}
+use Rattle.box_format.specs.Single.{IsBoxOf}
 use Rattle.box_format.specs.Raws.{numbers}
 use Rattle.box_format.specs.Versions.{layout_of}
 use Rattle.box_format.specs.declared.version.Version.TheVariants.{Third}
 use Rattle.chunk_spec.specs.Chunks.{chunk_from, chunk_to}
 use Rattle.container_spec.specs.Files.{told_pads}
-use Rattle.container_spec.specs.Meanings.{Restored, IsMeaning}
+use Rattle.container_spec.specs.Meanings.{Restored}
+use Rattle.container_spec.specs.Portions.{StandsFor}
 use Rattle.chunk_cut.specs.ChunksOfFiles.{IsChunkOf, chunk_of, parted, parts_of_chunk}
 use Rattle.chunk_cut.proofs.ChunkBoxes.{box_is}
 use Rattle.chunk_cut.proofs.ChunkSizes.{chunk_is_short}
@@ -18,8 +19,8 @@ use Rattle.chunk_cut.proofs.JoinedChunks.{chunks_are_restored}
 use Rattle.chunk_cut.proofs.RestoredChunks.{chunk_is_restored}
 use Rattle.command_words.specs.declared.command.Command.TheVariants.{Encode, Decode, Chunk}
 use Rattle.lepton_run.specs.Answers.{Answers, Made, limit_of}
-use Rattle.lepton_run.proofs.BothWays.{means_one, restored_by, same_meaning, stands_one}
-use Rattle.lepton_run.proofs.BoxesOfBytes.{box_are}
+use Rattle.lepton_run.proofs.BothWays.{restored_by, same_meaning}
+use Rattle.lepton_run.proofs.ScansOfBytes.{box_are}
 
 -- the parts of a chunk's container
 abbrev chunk_parts : (most size i : ℕ) (made file : List ℕ) → IsChunkOf most size i made file
@@ -33,15 +34,14 @@ chunk_of_parts : (most size i : ℕ) (made file : List ℕ) → 0 < most → mos
     → (is : IsChunkOf most size i made file)
     → IsBoxOf is.plan (chunk_parts most size i made file is) made
 chunk_of_parts most size i made file some few is =
-    record { box = box_is most size i made file some is few; text = is.spelled }
+    record { box = box_is most size i made file some is few; one = refl; text = is.spelled }
 
 -- the bytes of a chunk's container are bytes
 chunk_are : (most size i : ℕ) (made file : List ℕ) → 0 < most → most ≤ (layout_of Third).most
     → IsChunkOf most size i made file → AllByRecursion IsByte made
 chunk_are most size i made file some few is =
-    subst (AllByRecursion IsByte) (sym is.spelled)
-    (box_are is.plan (chunk_parts most size i made file is)
-    (box_is most size i made file some is few))
+    box_are is.plan (chunk_parts most size i made file is) made
+    (chunk_of_parts most size i made file some few is)
 
 -- of the container of a chunk of a file that encode takes, decode makes that chunk
 pub chunk_back : (most size i workers : ℕ) (made file : List ℕ) → 0 < most
@@ -52,10 +52,7 @@ chunk_back most size i workers made file some few short is = inr (record {
   are = chunk_are most size i made file some few is;
   makes = (
     record { bytes = chunk_of file size i; verdict = Restored },
-    stands_one is.plan (chunk_parts most size i made file is) made
-        (record { bytes = chunk_of file size i; verdict = Restored })
-        (chunk_of_parts most size i made file some few is)
-        (chunk_is_restored most size i made file some few is),
+    chunk_is_restored most size i made file some few is,
     refl,
   );
 })
@@ -74,15 +71,14 @@ chunk_undone index size segments workers file made some few answers =
     let is = is_chunk index size segments file made answers in
     chunk_back segments size index workers made file some few is.1 is.0
 
--- what a decode makes of a container of one scan is what that stands for
-pub is_meant : (workers : ℕ) (made bytes : List ℕ) (plan : PlanFields) (b : BoxParts)
-    → IsBoxOf plan b made → Answers (Decode workers) made (Made bytes)
-    → IsMeaning made (record { bytes = bytes; verdict = Restored })
-is_meant workers made bytes plan b of (inl long) = absurd (let e = long.1 in cc)
-is_meant workers made bytes plan b of (inr is) =
+-- what a decode makes of a container is what that stands for
+pub is_meant : (workers : ℕ) (made bytes : List ℕ) → Answers (Decode workers) made (Made bytes)
+    → StandsFor made (record { bytes = bytes; verdict = Restored })
+is_meant workers made bytes (inl long) = absurd (let e = long.1 in cc)
+is_meant workers made bytes (inr is) =
     let m = is.makes in
     let so = restored_by m.0.bytes bytes m.0.verdict m.2 in
-    subst (IsMeaning made) (same_meaning m.0 bytes so.0 so.1) (means_one plan b made m.0 of m.1)
+    subst (StandsFor made) (same_meaning m.0 bytes so.0 so.1) m.1
 
 pub chunks_joined : (count size segments workers : ℕ) (file : List ℕ) (made decoded : ℕ → List ℕ)
     → 0 < segments → segments ≤ (layout_of Third).most → length file ≤ count * size
@@ -92,7 +88,4 @@ pub chunks_joined : (count size segments workers : ℕ) (file : List ℕ) (made 
 chunks_joined count size segments workers file made decoded some few long cut back =
     chunks_are_restored segments size count file made decoded some few long
     (λ i within. (is_chunk i size segments file (made i) (cut i within)).0)
-    (λ i within.
-    let is = (is_chunk i size segments file (made i) (cut i within)).0 in
-    is_meant workers (made i) (decoded i) is.plan (chunk_parts segments size i (made i) file is)
-    (chunk_of_parts segments size i (made i) file some few is) (back i within))
+    (λ i within. is_meant workers (made i) (decoded i) (back i within))

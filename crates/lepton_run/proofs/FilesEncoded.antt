@@ -3,8 +3,8 @@ use Rattle.std.proofs.Common.{◌≡◌, ℕ, ◌≤◌, inl, inr, List, length,
 use Rattle.std.specs.List.{AllByRecursion}
 use Rattle.bit_list.specs.Bits.{IsByte}
 use Rattle.scan_spec.specs.FileParts.{FileScan, IsFile}
-use Rattle.scans_spec.specs.ScansFiles.{IsContainerOfFile}
-use Rattle.scans_spec.proofs.OneContainers.{accepted_is_not_refused}
+use Rattle.container_spec.specs.ScansFiles.{IsContainerOfFile}
+use Rattle.container_spec.proofs.OneContainers.{accepted_is_not_refused}
 use Rattle.command_words.specs.declared.command.Command.TheVariants.{Encode}
 use Rattle.lepton_run.specs.Answers.{Answer, Answers, Made, limit_of}
 use Rattle.lepton_run.proofs.OneAnswers.{Encoded, encoded_so}

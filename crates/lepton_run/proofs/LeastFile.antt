@@ -1,5 +1,5 @@
 -- The worked container of the least file is the answer to it.
-use Rattle.std.proofs.Common.{◌≡◌, ◌*◌, ◌++◌, true, ℕ, List, [], ◌∷◌, nat_lt, replicate, take, refl, sym, ap, ◌∙◌, inl, inr, arith}
+use Rattle.std.proofs.Common.{◌≡◌, ◌*◌, ◌++◌, true, ℕ, List, [], ◌∷◌, nat_lt, replicate, take, refl, sym, ap, ◌∙◌, inr, arith}
 use Rattle.std.specs.List.{AllByRecursion, list_all}
 use Rattle.std.proofs.lemmas.Bool.{and_parts, ltb-true}
 use Rattle.bit_list.specs.Bits.{IsByte}
@@ -23,12 +23,17 @@ use Rattle.block_spec.specs.BlockEvents.{block_events, inner_count_events, edge_
 use Rattle.block_spec.specs.Grid.{cell_at, block_at}
 use Rattle.block_spec.specs.SegmentEvents.{segment_events, events_at, around_in}
 use Rattle.block_spec.specs.Values.{value_events, count_events, values_events}
-use Rattle.box_format.specs.BoxRows.{grey_plan, image_end, least_parts, second_box}
-use Rattle.box_format.specs.Parts.{box_bytes, can_pad, migrated}
+use Rattle.box_format.specs.Rows.{grey_plan, image_end, least_parts, second_box}
+use Rattle.box_format.specs.Single.{box_bytes}
+use Rattle.box_format.specs.Parts.{can_pad, migrated}
+use Rattle.box_format.specs.Containers.{container_bytes}
 use Rattle.box_format.specs.Versions.{layout_of}
 use Rattle.box_format.specs.declared.version.Version.TheVariants.{Second}
-use Rattle.container_spec.specs.Files.{IsContainerOf, parts_of_file, told_pads}
+use Rattle.container_spec.specs.ScanContainers.{IsContainerOfOne}
+use Rattle.container_spec.specs.ScansFiles.{IsContainerOf}
+use Rattle.container_spec.specs.Files.{parts_of_file, told_pads}
 use Rattle.container_spec.specs.ScanStream.{blocks_stream}
+use Rattle.container_spec.proofs.FilesAlone.{as_one}
 use Rattle.lepton_run.specs.FileRows.{least, least_file}
 
 abbrev segment : ℕ → List ℕ → Segment
@@ -91,7 +96,7 @@ unfolding after stream blocks_stream value_events count_events values_events inn
 parts_are = refl
 
 text_is : box_bytes (migrated least_parts) ≡ second_box
-unfolding handover_bytes box_bytes
+unfolding handover_bytes container_bytes
 text_is = refl
 
 can_be_said : can_pad (layout_of Second).listed (shape_of (grey_plan 1))
@@ -99,8 +104,8 @@ can_be_said : can_pad (layout_of Second).listed (shape_of (grey_plan 1))
 unfolding block_text dc_text ac_text ac_values value_text zeros_text word_text word_of words_of blocks_text mcus_bits
 can_be_said = refl
 
-contained : IsContainerOf Second 8 second_box least_file
-contained = record {
+of_one_scan : IsContainerOfOne Second 8 second_box least_file
+of_one_scan = record {
   known = none_known;
   whole = refl;
   bytes = bytes_are least_file refl;
@@ -115,6 +120,9 @@ contained = record {
   spelled = sym text_is ∙ ap box_bytes (sym parts_are);
 }
 
+contained : IsContainerOf Second (8 ∷ []) second_box least_file
+contained = as_one Second 8 second_box least_file refl of_one_scan
+
 pub least_answers : least
 least_answers =
-    inr (record { short = omega arith; are = bytes_are least_file refl; makes = inl contained })
+    inr (record { short = omega arith; are = bytes_are least_file refl; makes = (1, contained) })

@@ -1,5 +1,5 @@
 -- Bytes have one answer.
-use Rattle.std.proofs.Common.{◌≡◌, ℕ, ◌*◌, ◌≤◌, ◌⊎◌, inl, inr, List, [], ◌∷◌, length, refl, sym, ap, ap₂, ◌∙◌, arith}
+use Rattle.std.proofs.Common.{◌≡◌, ℕ, ◌*◌, ◌≤◌, ◌⊎◌, inl, inr, List, [], ◌∷◌, length, refl, sym, ap, ap₂, ◌∙◌, arith, replicate}
 use Rattle.std.specs.List.{AllByRecursion}
 use Rattle.bit_list.specs.Bits.{IsByte}
 use Rattle.jpeg_marker.specs.Plans.{PlanFields}
@@ -9,15 +9,13 @@ use Rattle.box_format.specs.Parts.{BoxParts}
 use Rattle.box_format.specs.declared.refusal.BoxRefusal.{BoxRefusal}
 use Rattle.box_format.specs.declared.version.Version.{Version}
 use Rattle.box_format.specs.declared.version.Version.TheVariants.{Second}
-use Rattle.box_format.proofs.BoxLawsProved.{one_box, one_box_refusal, never_both as box_or_refused}
+use Rattle.box_format.proofs.Singles.{one_box, box_or_refused}
+use Rattle.box_format.proofs.Spelling.{one_refusal}
 use Rattle.container_spec.specs.Meanings.{Meaning}
-use Rattle.container_spec.proofs.OneMeanings.{one_container}
-use Rattle.scans_format.proofs.ScansProved.{one_list_of_scans, one_scans_refusal, never_both_scans}
-use Rattle.scans_spec.specs.ScansFiles.{FileRefusal, FileIsRefused, HasSeveralScans, IsContainerOfFile, Header as FileHeader, Scan as FileScan}
-use Rattle.scans_spec.specs.ScansMeaningLaws.{StandsForOne}
-use Rattle.scans_spec.proofs.BoxesOnce.{stands_for_one_from}
-use Rattle.scans_spec.proofs.FilesRefused.{one_file_refusal}
-use Rattle.scans_spec.proofs.OneContainers.{accepted_is_not_refused, contained_is_not_refused, one_container_of_file, several_is_not_one}
+use Rattle.container_spec.specs.ScansFiles.{FileRefusal, FileIsRefused, HasSeveralScans, IsContainerOfFile, Header as FileHeader, Scan as FileScan, share_of, version_for}
+use Rattle.container_spec.proofs.BoxesOnce.{stands_for_one}
+use Rattle.container_spec.proofs.FilesRefused.{one_file_refusal}
+use Rattle.container_spec.proofs.OneContainers.{accepted_is_not_refused, contained_is_not_refused, one_container, one_container_of_file, several_is_not_one}
 use Rattle.chunk_cut.specs.ChunksOfFiles.{IsChunkOf, IsOneScanFile}
 use Rattle.chunk_cut.proofs.ChunkedFiles.{chunked_is_not_refused, chunked_is_one}
 use Rattle.chunk_cut.proofs.OneChunks.{one_chunk}
@@ -63,15 +61,21 @@ encoded_so n bytes (Early ManyScans) p = absurd p
 encoded_so n bytes (Early RangeBad) p = absurd p
 encoded_so n bytes (Late written r) p = absurd p
 
+-- a file with a container isn't refused
+encoded_is_not_refused : (n : ℕ) (made bytes : List ℕ) (r : FileRefusal) → IsContainerOfFile n made bytes
+    → FileIsRefused bytes r → ⊥
+encoded_is_not_refused n made bytes r (k, is) =
+    contained_is_not_refused (version_for k) (replicate k (share_of n k)) made bytes r is
+
 -- so what it makes is one thing
 one_encoded : (n : ℕ) (bytes : List ℕ) (a b : Answer) → AllByRecursion IsByte bytes
     → Encoded n bytes a → Encoded n bytes b → a ≡ b
 one_encoded n bytes a b all (inl p) (inl q) =
     p.1 ∙ ap Made (one_container_of_file n p.0 q.0 bytes p.2 q.2) ∙ sym q.1
 one_encoded n bytes a b all (inl p) (inr q) =
-    absurd (contained_is_not_refused n p.0 bytes q.0 p.2 q.2)
+    absurd (encoded_is_not_refused n p.0 bytes q.0 p.2 q.2)
 one_encoded n bytes a b all (inr p) (inl q) =
-    absurd (contained_is_not_refused n q.0 bytes p.0 q.2 p.2)
+    absurd (encoded_is_not_refused n q.0 bytes p.0 q.2 p.2)
 one_encoded n bytes a b all (inr p) (inr q) = one_refused bytes a b all p q
 
 -- what is made of containers is one thing
@@ -79,7 +83,7 @@ one_boxed : (versions : List Version) (answer_to : PlanFields → BoxParts → A
     (a b : Answer) → BoxMakes versions answer_to bytes a → BoxMakes versions answer_to bytes b
     → a ≡ b
 one_boxed versions f bytes a b (inl p) (inl q) =
-    p.2 ∙ ap (λ (r : BoxRefusal). Early (Box r)) (one_box_refusal versions bytes p.0 q.0 p.1 q.1)
+    p.2 ∙ ap (λ (r : BoxRefusal). Early (Box r)) (one_refusal versions bytes p.0 q.0 p.1 q.1)
     ∙ sym q.2
 one_boxed versions f bytes a b (inl p) (inr q) =
     absurd (box_or_refused versions bytes q.0 q.1 p.0 q.3 q.2 p.1)
@@ -167,7 +171,7 @@ one_summary : (seed columns rows : ℕ) (a b : List ℕ) → IsSummary seed colu
     → IsSummary seed columns rows b → a ≡ b
 one_summary seed columns rows a b p q =
     let file = sample_file seed columns rows in
-    let same = one_container Second sample_segments p.0 q.0 file p.1 q.1 in
+    let same = one_container Second (sample_segments ∷ []) p.0 q.0 file p.1 q.1 in
     p.2
     ∙ ap (λ (made : List ℕ). summary_of (length file) (length made)
     (cut_of columns rows sample_segments).segments (length file)) same
@@ -180,9 +184,6 @@ one_sampled s c r bytes (Made a) (Early refusal) p q = absurd q
 one_sampled s c r bytes (Made a) (Late written refusal) p q = absurd q
 one_sampled s c r bytes (Early refusal) b p q = absurd p
 one_sampled s c r bytes (Late written refusal) b p q = absurd p
-
-pub stands_for_one : StandsForOne
-stands_for_one = stands_for_one_from one_list_of_scans one_scans_refusal never_both_scans
 
 one_made : (command : Command) (bytes : List ℕ) (a b : Answer) → AllByRecursion IsByte bytes
     → Makes command bytes a → Makes command bytes b → a ≡ b

@@ -1,15 +1,17 @@
 -- How a range ends, from what its reading says; and what is made of containers.
-use Rattle.std.proofs.Common.{◌≡◌, ℕ, ◌≤◌, ◌<◌, ◌∙◌, append-nil, Bool, true, false, if◌then◌else◌, inr, List, [], length, take, Option, Some, None, refl, sym, ap, subst, Result, Ok, Err}
+use Rattle.std.proofs.Common.{◌≡◌, ℕ, ◌≤◌, ◌<◌, ◌∙◌, append-nil, Bool, true, false, if◌then◌else◌, inr, List, [], ◌∷◌, length, take, Option, Some, None, refl, sym, ap, subst, Result, Ok, Err}
 use Rattle.std.specs.List.{AllByRecursion}
 use Rattle.std.specs.Io.KnownBytes.{Appends}
 use Rattle.bit_list.specs.Bits.{IsByte}
 use Rattle.outside_core.specs.Takes.{TakesNext}
 use Rattle.jpeg_marker.specs.Plans.{PlanFields}
 use Rattle.handover.specs.declared.outcome.StreamFault.{StreamFault}
-use Rattle.box_format.specs.Parts.{BoxParts, IsBoxOf, box_bytes}
+use Rattle.box_format.specs.Parts.{BoxParts}
+use Rattle.box_format.specs.Single.{IsBoxOf, box_bytes}
 use Rattle.box_format.specs.Versions.{IsRead, indexable, ranged}
 use Rattle.container_spec.specs.Indexed.{indexed}
-use Rattle.container_spec.specs.Meanings.{Verdict, meaning_of}
+use Rattle.container_spec.specs.Meanings.{Verdict}
+use Rattle.container_spec.specs.Portions.{scans_meaning}
 use Rattle.segment_worker.specs.declared.emitted.EmitStop.{EmitStop}
 use Rattle.segment_worker.specs.declared.emitted.EmitStop.TheVariants as stops
 use Rattle.range_read.specs.IndexEnds.{Ends as IndexEnds, IsIndexOf}
@@ -51,7 +53,8 @@ bad_answer from to plan b bad = sym (by_bad (is_bad_range b from to) _ _ bad)
 pub ended_as : (bytes : List ℕ) (verdict : Verdict) → IndexEnds bytes verdict
     → ((plan : PlanFields) × (b : BoxParts) × IsBoxOf plan b bytes × IsRead indexable b.version
     × (index_by (box_bytes (indexed plan b)) verdict
-    ≡ index_by (box_bytes (indexed plan b)) (meaning_of plan b).verdict))
+    ≡ index_by (box_bytes (indexed plan b))
+    (scans_meaning (record { plan = plan; parts = b } ∷ [])).verdict))
 ended_as bytes verdict (plan, b, of, read, e) =
     (plan, b, of, read, ap (index_by (box_bytes (indexed plan b))) (sym e))
 

@@ -1,18 +1,20 @@
 -- A sample is encoded and decoded, and never refused.
-use Rattle.std.proofs.Common.{◌≡◌, ℕ, ◌≤◌, Bool, inl, inr, List, [], ◌∷◌, length, replicate, Option, Result, Ok, Err, refl, sym, ap, subst, ◌∙◌, arith}
+use Rattle.std.proofs.Common.{◌≡◌, ℕ, ◌≤◌, ◌==◌, Bool, true, false, if◌then◌else◌, inl, inr, List, [], ◌∷◌, length, replicate, Option, Result, Ok, Err, refl, sym, ap, subst, ◌∙◌, arith}
 use Rattle.outside_core.specs.Faults.{Never, Rose, no_faults}
 use Rattle.jpeg_marker.specs.Plans.{PlanFields}
 use Rattle.scan_spec.specs.Scans.{Mcu}
 use Rattle.scan_spec.proofs.FilesOnce.{one_is_all}
 use Rattle.box_format.specs.Parts.{BoxSeen}
 use Rattle.box_format.specs.declared.refusal.BoxRefusal.{BoxRefusal}
-use Rattle.box_format.specs.declared.version.Version.TheVariants.{Second}
-use Rattle.container_spec.specs.Files.{IsContainerOf}
+use Rattle.box_format.specs.declared.version.Version.TheVariants.{Second, Fourth}
+use Rattle.box_format.specs.Versions.{layout_of}
+use Rattle.std.proofs.lemmas.Bool.{eqb-true}
+use Rattle.container_spec.specs.ScansFiles.{IsContainerOf, FileRefusal, FileIsRefused, IsContainerOfFile, share_of}
 use Rattle.container_spec.specs.Meanings.{Meaning, NoBox, Restored}
-use Rattle.scans_format.specs.Containers.{IsContainer, IsRefusedContainer}
-use Rattle.scans_spec.specs.ScansFiles.{FileRefusal, FileIsRefused, IsContainerOfFile, share_of}
-use Rattle.scans_spec.specs.ScansMeanings.{StandsFor, scans_meaning}
-use Rattle.scans_spec.proofs.OneContainers.{accepted_is_not_refused, scans_are_several, several_is_not_one}
+use Rattle.box_format.specs.Containers.{IsContainer}
+use Rattle.box_format.specs.Checks.{IsRefused}
+use Rattle.container_spec.specs.Portions.{StandsFor, scans_meaning}
+use Rattle.container_spec.proofs.OneContainers.{accepted_is_not_refused, scans_are_several, several_is_not_one}
 use Rattle.lepton_decode.specs.Ends.{Ends}
 use Rattle.lepton_decode.specs.declared.error.DecodeError.{DecodeError}
 use Rattle.lepton_decode.specs.declared.error.DecodeError.TheVariants.{WriteFault, Fault, PadSpelling, ChunkShort}
@@ -27,8 +29,9 @@ use Rattle.lepton_run.specs.Samples.{IsSampleFile}
 use Rattle.lepton_run.specs.Summaries.{IsSummary, sample_segments}
 use Rattle.lepton_run.specs.declared.ending.Ending.{Ending}
 use Rattle.lepton_run.specs.declared.ending.Ending.TheVariants.{Done, Refused, WordsRefused, ReadFailed, WriteFailed, NoMemory}
-use Rattle.lepton_run.proofs.BothWays.{container_stands}
-use Rattle.lepton_run.proofs.OneAnswers.{stands_for_one}
+use Rattle.lepton_run.proofs.BothWays.{one_few}
+use Rattle.container_spec.proofs.BoxesOnce.{stands_for_one}
+use Rattle.container_spec.proofs.ScansRestored.{file_is_restored}
 
 -- ---- encoding
 
@@ -63,13 +66,18 @@ sample_is_taken file refusal is why =
 -- and has one scan
 pub sample_has_one : (file made : List ℕ) → IsSampleFile file
     → IsContainerOfFile sample_segments made file
-    → IsContainerOf Second sample_segments made file
-sample_has_one file made is (inl of) = of
-sample_has_one file made is (inr (n, two, of)) =
-    let law = law_of file is in
-    absurd (several_is_not_one file end_of_image (plan_of file is) (mcus_of file is) (pads_of file is)
-    law.bytes
-    (scans_are_several (replicate n (share_of sample_segments n)) made file of) law.is)
+    → IsContainerOf Second (sample_segments ∷ []) made file
+sample_has_one file made is (n, of) = by_count (n == 1) refl of where
+  by_count : (b : Bool) → (n == 1) ≡ b
+      → IsContainerOf (if b then Second else Fourth) (replicate n (share_of sample_segments n)) made file
+      → IsContainerOf Second (sample_segments ∷ []) made file
+  by_count true e of =
+      subst (λ k. IsContainerOf Second (replicate k (share_of sample_segments k)) made file)
+      (eqb-true n 1 e) of
+  by_count false e of =
+      let law = law_of file is in
+      absurd (several_is_not_one file end_of_image (plan_of file is) (mcus_of file is) (pads_of file is)
+      law.bytes (scans_are_several (replicate n (share_of sample_segments n)) made file of) law.is)
 
 pub sample_fits : (file : List ℕ) → IsSampleFile file → length file ≤ 40000000
 sample_fits file is = (law_of file is).short
@@ -77,14 +85,15 @@ sample_fits file is = (law_of file is).short
 -- ---- decoding
 
 -- a container's meaning is its file
-meaning_restored : (made file : List ℕ) (m : Meaning) → IsContainerOf Second sample_segments made file
+meaning_restored : (made file : List ℕ) (m : Meaning) → IsContainerOf Second (sample_segments ∷ []) made file
     → StandsFor made m → m ≡ record { bytes = file; verdict = Restored }
 meaning_restored made file m of is =
     stands_for_one made m (record { bytes = file; verdict = Restored }) is
-    (container_stands Second sample_segments made file (omega arith) (omega arith) of)
+    (file_is_restored Second (sample_segments ∷ []) made file (omega arith, tt)
+    (one_few sample_segments (layout_of Second).most (omega arith)) of)
 
 pub box_is_taken : (made file : List ℕ) (refusal : BoxRefusal)
-    → IsContainerOf Second sample_segments made file → IsRefusedContainer made refusal → ⊥
+    → IsContainerOf Second (sample_segments ∷ []) made file → IsRefused made refusal → ⊥
 box_is_taken made file refusal of why =
     let e = meaning_restored made file (record { bytes = []; verdict = NoBox refusal }) of
     (inl (refusal, why, refl)) in
@@ -93,7 +102,7 @@ box_is_taken made file refusal of why =
 
 module _ {Sink : Type 0} (held : Sink → Option (List ℕ)) (takes : Sink → List ℕ → Type 0)
     (faults : Sink → ℕ) (full : Sink → Type 0) (old new : Sink) (made file : List ℕ) (scans : List BoxSeen)
-    (of : IsContainerOf Second sample_segments made file) (is : IsContainer scans made) where
+    (of : IsContainerOf Second (sample_segments ∷ []) made file) (is : IsContainer scans made) where
   abbrev meaning : Meaning
   meaning = scans_meaning scans
 
@@ -125,7 +134,7 @@ module _ {Sink : Type 0} (held : Sink → Option (List ℕ)) (takes : Sink → L
 -- the same of what the decoder answered
 pub decoded_whole : {Sink : Type 0} (held : Sink → Option (List ℕ)) (takes : Sink → List ℕ → Type 0)
     (faults : Sink → ℕ) (full : Sink → Type 0) (old new : Sink) (made file : List ℕ)
-    (scans : List BoxSeen) → IsContainerOf Second sample_segments made file → IsContainer scans made
+    (scans : List BoxSeen) → IsContainerOf Second (sample_segments ∷ []) made file → IsContainer scans made
     → (result : Result ℕ DecodeError) (written : ℕ) → result ≡ Ok written
     → Ends held takes faults full old new (scans_meaning scans) result → written ≡ length file
 decoded_whole held takes faults full old new made file scans of is result written ok ends =
@@ -134,7 +143,7 @@ decoded_whole held takes faults full old new made file scans of is result writte
     ok ends)
 
 pub never_fails : {Sink : Type 0} (held : Sink → Option (List ℕ)) (takes : Sink → List ℕ → Type 0) (old new : Sink) (made file : List ℕ) (scans : List BoxSeen)
-    → IsContainerOf Second sample_segments made file → IsContainer scans made
+    → IsContainerOf Second (sample_segments ∷ []) made file → IsContainer scans made
     → (result : Result ℕ DecodeError) (error : DecodeError) → result ≡ Err error
     → Ends held takes no_faults Never old new (scans_meaning scans) result → ⊥
 never_fails held takes old new made file scans of is result error err ends =

@@ -12,8 +12,8 @@ use Rattle.scan_spec.specs.FileParts.{IsScanOf}
 use Rattle.scan_spec.specs.ScanRows.{blank}
 use Rattle.scan_spec.specs.Scans.{IsScan, intervals_bytes, mcus_bits, scan_bytes}
 use Rattle.scan_spec.specs.Slots.{shape_of}
-use Rattle.box_format.specs.BoxRows.{image_end}
-use Rattle.scans_format.specs.ScansRows.{plan_one, plan_two}
+use Rattle.box_format.specs.Rows.{image_end}
+use Rattle.box_format.specs.ScansRows.{plan_one, plan_two}
 use Rattle.lepton_run.specs.FileRows.{after_first, two_scans, two_scans_file}
 
 abbrev segment : ℕ → List ℕ → Segment

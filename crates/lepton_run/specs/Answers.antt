@@ -1,21 +1,22 @@
 -- Statement: the one answer to a command and the bytes that it reads: the bytes that it writes and its line
 -- (README.md, Use).
-use Rattle.std.specs.Prelude.{ℕ, ◌≡◌, ◌⊎◌, ◌+◌, ◌*◌, ◌<◌, ◌≤◌, Bool, true, false, if◌then◌else◌, List, [], length, take, Option, Some, None}
+use Rattle.std.specs.Prelude.{ℕ, ◌≡◌, ◌⊎◌, ◌+◌, ◌*◌, ◌<◌, ◌≤◌, Bool, true, false, if◌then◌else◌, List, [], ◌∷◌, length, take, Option, Some, None}
 use Rattle.std.specs.List.{AllByRecursion}
 use Rattle.std.specs.Io.KnownBytes.{Appends, Consumes, IsAtEnd}
 use Rattle.bit_list.specs.Bits.{IsByte}
 use Rattle.jpeg_marker.specs.Plans.{PlanFields}
 use Rattle.handover.specs.declared.outcome.StreamFault.{StreamFault}
-use Rattle.box_format.specs.BoxChecks.{IsRefusedBy}
-use Rattle.box_format.specs.Parts.{BoxParts, IsBoxOf, box_bytes, migrated}
+use Rattle.box_format.specs.Checks.{IsRefusedBy}
+use Rattle.box_format.specs.Parts.{BoxParts, migrated}
+use Rattle.box_format.specs.Single.{IsBoxOf, box_bytes}
 use Rattle.box_format.specs.Versions.{IsRead, indexable, migratable, ranged}
 use Rattle.box_format.specs.declared.refusal.BoxRefusal.{BoxRefusal}
 use Rattle.box_format.specs.declared.version.Version.{Version}
 use Rattle.container_spec.specs.Indexed.{indexed}
 use Rattle.container_spec.specs.Limits.{most_of_a_container, most_of_a_file}
-use Rattle.container_spec.specs.Meanings.{Meaning, Verdict, Restored, PadSpelled, ChunkShort as ShortChunk, Faulty, NoBox, meaning_of}
-use Rattle.scans_spec.specs.ScansFiles.{FileIsRefused, HasSeveralScans, IsContainerOfFile, Header as FileHeader, Scan as FileScan}
-use Rattle.scans_spec.specs.ScansMeanings.{StandsFor}
+use Rattle.container_spec.specs.Meanings.{Meaning, Verdict, Restored, PadSpelled, ChunkShort as ShortChunk, Faulty, NoBox}
+use Rattle.container_spec.specs.ScansFiles.{FileIsRefused, HasSeveralScans, IsContainerOfFile, Header as FileHeader, Scan as FileScan}
+use Rattle.container_spec.specs.Portions.{StandsFor, scans_meaning}
 use Rattle.chunk_cut.specs.ChunksOfFiles.{IsChunkOf, IsOneScanFile}
 use Rattle.range_read.specs.RangeMeanings.{is_bad_range, range_meaning}
 use Rattle.command_words.specs.declared.command.Command.{Command}
@@ -131,7 +132,8 @@ index_by made (NoBox refusal) = Early (Box refusal)
 -- file; else it refuses what decode refuses, before any byte is written
 abbrev pub IndexMakes : List ℕ → Answer → Type 0
 IndexMakes =
-    BoxMakes indexable (λ plan b. index_by (box_bytes (indexed plan b)) (meaning_of plan b).verdict)
+    BoxMakes indexable (λ plan b. index_by (box_bytes (indexed plan b))
+    (scans_meaning (record { plan = plan; parts = b } ∷ [])).verdict)
 
 -- the answer that a range is, by its bytes and by the fault that ends them
 abbrev pub range_answer : List ℕ → Option StreamFault → Answer

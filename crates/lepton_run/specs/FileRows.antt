@@ -3,8 +3,8 @@ use Rattle.std.specs.Prelude.{ℕ, true, List, [], ◌∷◌, ◌++◌}
 use Rattle.jpeg_marker.specs.Plans.{PlanFields}
 use Rattle.scan_spec.specs.FileParts.{FileScan, IsFile}
 use Rattle.scan_spec.specs.ScanRows.{blank}
-use Rattle.box_format.specs.BoxRows.{grey_header, image_end, second_box}
-use Rattle.scans_format.specs.ScansRows.{header_one, header_two, plan_one, plan_two}
+use Rattle.box_format.specs.Rows.{grey_header, image_end, second_box}
+use Rattle.box_format.specs.ScansRows.{header_one, header_two, plan_one, plan_two}
 use Rattle.command_words.specs.declared.command.Command.TheVariants.{Encode}
 use Rattle.lepton_run.specs.Answers.{Answers, Made}
 

@@ -2,7 +2,7 @@
 use Rattle.std.specs.Prelude.{ℕ, ◌≡◌, List, [], ◌∷◌, ◌++◌, codes, decimal, length}
 use Rattle.cut_spec.specs.Cuts.{cut_of}
 use Rattle.box_format.specs.declared.version.Version.TheVariants.{Second}
-use Rattle.container_spec.specs.Files.{IsContainerOf}
+use Rattle.container_spec.specs.ScansFiles.{IsContainerOf}
 use Rattle.sample_jpeg.specs.SampleFile.{sample_file}
 
 -- the most segments that a sample is encoded in
@@ -30,7 +30,7 @@ summary_of file made segments restored =
 abbrev pub IsSummary : ℕ → ℕ → ℕ → List ℕ → Type 0
 IsSummary seed columns rows summary =
     let file = sample_file seed columns rows in
-    (made : List ℕ) × IsContainerOf Second sample_segments made file
+    (made : List ℕ) × IsContainerOf Second (sample_segments ∷ []) made file
     × (summary
     ≡ summary_of (length file) (length made) (cut_of columns rows sample_segments).segments
     (length file))

@@ -16,6 +16,7 @@ use crate::ending::Ending;
 use crate::refusal::Refusal;
 use crate::sample_command::show_sample;
 use crate::writing::write_made;
+use box_format::ReadError;
 use chunk_cut::{CutError, cut_chunk};
 use command_words::Command;
 use lepton_decode::{
@@ -27,7 +28,6 @@ use range_read::{
     IndexError, RangeError, Ranged, ReadyRange, ReadyRangeAlone, prepare_range_alone,
     prepare_range_worth, run_range, run_range_alone,
 };
-use scans_format::ReadError;
 use segment_worker::EmitStop;
 use std::alloc::Global;
 use std::sync::Wait;
@@ -265,14 +265,7 @@ fn range<R: Threads + Wait + Sync, K: Sink + Send, G: Gate + Sync>(
         sink.new result }
     ensures lasting { K.faults sink.old ≤ K.faults sink.new }
 {
-    let mut ready = match prepare_range_worth(
-        alloc,
-        bytes,
-        from,
-        to,
-        workers,
-        ample_ring(bytes),
-    ) {
+    let mut ready = match prepare_range_worth(alloc, bytes, from, to, workers, ample_ring(bytes)) {
         Ok(ready) => ready,
         Err(RangeError::Box(refusal)) => return Ending::Refused(Refusal::Box(refusal)),
         Err(RangeError::RangeBad) => return Ending::Refused(Refusal::RangeBad),

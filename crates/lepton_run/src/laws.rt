@@ -1,16 +1,14 @@
 // What holds of every file and every container.
-ghost use Rattle.std.specs.Prelude.{◌≡◌, ◌*◌, ◌<◌, ◌≤◌, ℕ, List, false, true, flat_map, length, sum};
+ghost use Rattle.std.specs.Prelude.{◌≡◌, ◌*◌, ◌<◌, ◌≤◌, ℕ, List, false, flat_map, length, sum};
 ghost use Rattle.std.specs.List.{AllByRecursion};
 ghost use Rattle.bit_list.specs.Bits.{IsByte};
 ghost use Rattle.scan_spec.specs.FileParts.{FileScan, IsFile};
 ghost use Rattle.box_format.specs.Raws.{numbers};
-ghost use Rattle.box_format.specs.Versions.{layout_of, most_segments, version_in};
+ghost use Rattle.box_format.specs.Versions.{layout_of, version_in};
 ghost use Rattle.box_format.specs.declared.version.Version.TheVariants.{Second, Third};
 ghost use Rattle.byte_window.specs.Slices.{slice};
-ghost use Rattle.container_spec.specs.Files.{IsContainerOf};
+ghost use Rattle.container_spec.specs.ScansFiles.{IsContainerOf, IsContainerOfFile};
 ghost use Rattle.container_spec.specs.Limits.{most_of_a_file};
-ghost use Rattle.scans_format.specs.Containers.{names_several};
-ghost use Rattle.scans_spec.specs.ScansFiles.{IsContainerOfFile, IsContainerOfScans};
 ghost use Rattle.chunk_cut.specs.ChunksOfFiles.{chunk_of};
 ghost use Rattle.command_words.specs.declared.command.Command.{Command};
 ghost use Rattle.command_words.specs.declared.command.Command.TheVariants.{Encode, Decode, Migrate, Chunk, Index, Range};
@@ -61,18 +59,13 @@ pub fn ranges_are_read_alone()
 {}
 
 /// A whole file's container has one spelling: what decode reads is the container of the file that decode makes of it,
-/// in the version that it names and some number of segments, or, if that is the version of several scans, some number
-/// of segments in each.
+/// in the version that it names and with some number of segments in each scan.
 pub fn one_spelling_a_file()
-    ensures one_scan { (workers : ℕ) (made file : List ℕ) → names_several made ≡ false
-        → (layout_of (version_in made)).chunked ≡ false
-        → Answers (Decode workers) made (Made file)
-        → (segments : ℕ) × (0 < segments) × (segments ≤ (layout_of (version_in made)).most)
-        × IsContainerOf (version_in made) segments made file }
-    ensures several { (workers : ℕ) (made file : List ℕ) → names_several made ≡ true
+    ensures { (workers : ℕ) (made file : List ℕ) → (layout_of (version_in made)).chunked ≡ false
         → Answers (Decode workers) made (Made file)
         → (segments : List ℕ) × AllByRecursion (λ some. 0 < some) segments
-        × (sum segments ≤ most_segments) × IsContainerOfScans segments made file }
+        × (sum segments ≤ (layout_of (version_in made)).most)
+        × IsContainerOf (version_in made) segments made file }
 {}
 
 /// A container is migrated to one that stands for the same: decode answers to both the same, bytes and refusal, with

@@ -1,7 +1,7 @@
 // A file made from a number, encoded, decoded, and what is said of it.
-ghost use Rattle.std.specs.Prelude.{◌≡◌, ◌+◌, ◌≤◌, ◌++◌, [], IfOk, length};
+ghost use Rattle.std.specs.Prelude.{◌≡◌, ◌+◌, ◌≤◌, ◌++◌, [], ◌∷◌, IfOk, length};
 ghost use Rattle.box_format.specs.declared.version.Version.TheVariants.{Second};
-ghost use Rattle.container_spec.specs.Files.{IsContainerOf};
+ghost use Rattle.container_spec.specs.ScansFiles.{IsContainerOf};
 ghost use Rattle.command_words.specs.Meaning.{IsInRange};
 ghost use Rattle.command_words.specs.declared.command.Command.TheVariants.{Sample};
 ghost use Rattle.lepton_run.specs.Answers.{TakesAnswers};
@@ -13,12 +13,12 @@ ghost use Rattle.lepton_run.specs.Summaries.{IsSummary, entry, sample_segments, 
 use crate::ending::Ending;
 use crate::line::Line;
 use crate::writing::write_made;
+use box_format::ReadError;
 use growth::NoMemory;
 use lepton_decode::{ample_ring, prepare};
 use lepton_encode::EncodeError;
 use outside_core::{Compare, Gate, Sink};
 use sample_jpeg::sample;
-use scans_format::ReadError;
 use std::alloc::Global;
 use std::sync::Wait;
 use std::thread::Threads;
@@ -77,7 +77,7 @@ fn recoded<R: Threads + Wait + Sync, G: Gate + Sync>(
 #[inline(never)]
 fn encoded<R: Threads + Sync>(rt: &R, alloc: Global, file: &[u8]) -> Result<Vec<u8>, NoMemory>
     requires { IsSampleFile file.now }
-    ensures { IfOk result (λ made. IsContainerOf Second sample_segments made.items file.now) }
+    ensures { IfOk result (λ made. IsContainerOf Second (sample_segments ∷ []) made.items file.now) }
 {
     match lepton_encode::encode(rt, alloc, file, SEGMENTS) {
         Ok(made) => Ok(made),
@@ -97,7 +97,7 @@ fn restored<R: Threads + Wait + Sync, G: Gate + Sync>(
     file: &[u8],
     gate: &G,
 ) -> Result<u64, NoMemory>
-    requires container { IsContainerOf Second sample_segments made.now file.now }
+    requires container { IsContainerOf Second (sample_segments ∷ []) made.now file.now }
     ensures { IfOk result (λ restored. restored ≡ length file.now) }
 {
     let mut ready = match prepare(alloc, made, WORKERS, ample_ring(made)) {

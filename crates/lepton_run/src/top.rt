@@ -1,19 +1,20 @@
 // The top call.
-ghost use Rattle.std.specs.Prelude.{◌≡◌, ◌≢◌, ◌⊎◌, ◌+◌, ◌<◌, ◌≤◌, ℕ, List, Some, true, String, string_bytes, map, length, sum};
+ghost use Rattle.std.specs.Prelude.{◌≡◌, ◌≢◌, ◌⊎◌, ◌+◌, ◌<◌, ◌≤◌, ℕ, List, Some, true, String, string_bytes, map, length, sum, [], ◌∷◌};
 ghost use Rattle.std.specs.List.{AllByRecursion};
 ghost use Rattle.std.specs.Io.KnownBytes.{Appends};
 ghost use Rattle.outside_core.specs.Faults.{Rose};
 ghost use Rattle.outside_core.specs.Takes.{TakesAll};
 ghost use Rattle.jpeg_marker.specs.Plans.{PlanFields};
 ghost use Rattle.scan_spec.specs.FileParts.{FileScan, IsFile};
-ghost use Rattle.container_spec.specs.Files.{IsContainerOf};
-ghost use Rattle.container_spec.specs.Meanings.{IsMeaning, Meaning, Restored};
+ghost use Rattle.container_spec.specs.ScansFiles.{IsContainerOf, IsContainerOfFile};
+ghost use Rattle.container_spec.specs.Meanings.{Meaning, Restored};
+ghost use Rattle.container_spec.specs.Portions.{StandsFor};
 ghost use Rattle.byte_window.specs.Slices.{slice};
-ghost use Rattle.box_format.specs.Parts.{BoxParts, IsBoxOf, box_bytes, migrated};
-ghost use Rattle.box_format.specs.Versions.{IsRead, indexable, layout_of, migratable, most_segments, version_in};
+ghost use Rattle.box_format.specs.Parts.{BoxParts, migrated};
+ghost use Rattle.box_format.specs.Single.{IsBoxOf, box_bytes};
+ghost use Rattle.box_format.specs.Versions.{IsRead, indexable, layout_of, migratable, version_in};
 ghost use Rattle.box_format.specs.declared.version.Version.{Version};
 ghost use Rattle.box_format.specs.declared.version.Version.TheVariants.{Fifth, Third};
-ghost use Rattle.scans_spec.specs.ScansFiles.{IsContainerOfFile, IsContainerOfScans};
 ghost use Rattle.chunk_cut.specs.ChunksOfFiles.{IsChunkOf, chunk_of};
 ghost use Rattle.command_words.specs.Meaning.{IsInRange, Means};
 ghost use Rattle.command_words.specs.declared.command.Command.{Command};
@@ -54,7 +55,7 @@ use std::thread::Threads;
 /// `--rows`, as `command_words` has them. `encode` accepts each file that docs/JPEG.md accepts, up to 64 MiB
 /// (`accepted`). The whole source is read before anything is written. Once the first byte is written, no memory is
 /// asked for but what a new thread is handed. `sample` reads nothing. The segments of a file are coded, and those of a
-/// container decoded, in other threads too if these can be had. A failure of `note` changes no status.
+/// container decoded, in other threads too if these are worth it and can be had. A failure of `note` changes no status.
 #[inline(never)]
 pub fn run<R: Threads + Wait + Sync, S: Source, K: Sink + Send, N: Sink + Send, G: Gate + Sync>(
     rt: &R,
@@ -147,23 +148,14 @@ pub fn run<R: Threads + Wait + Sync, S: Source, K: Sink + Send, N: Sink + Send, 
         × Appends (K.held sink.old) (K.held sink.new) made)
         ⊎ (status_at result ≡ 5) }
 
-    // What was encoded is decoded: of the container of a file of one scan within the limit, in a version that can say
-    // its pad bits, exactly that file is appended.
-    ensures back { (version : Version) (workers most : ℕ) (bytes file : List ℕ)
+    // What was encoded is decoded: of the container of a file within the limit, in a version that can say its pad bits,
+    // with any number of segments in each scan, exactly that file is appended.
+    ensures back { (version : Version) (workers most : ℕ) (mosts bytes file : List ℕ)
         → Means (map string_bytes words.now) (Decode workers)
         → ¬ Rose S.faults S.full source.old source.new → ¬ Rose K.faults K.full sink.old sink.new
         → S.left source.old ≡ Some bytes → length file ≤ limit_of (Encode most)
-        → 0 < most → most ≤ (layout_of version).most → IsContainerOf version most bytes file
-        → ((status_at result ≡ 0) × Appends (K.held sink.old) (K.held sink.new) file)
-        ⊎ (status_at result ≡ 5) }
-
-    // The same of a file of several scans, with any number of segments in each.
-    ensures scans_back { (workers most : ℕ) (segments : List ℕ) (bytes file : List ℕ)
-        → Means (map string_bytes words.now) (Decode workers)
-        → ¬ Rose S.faults S.full source.old source.new → ¬ Rose K.faults K.full sink.old sink.new
-        → S.left source.old ≡ Some bytes → length file ≤ limit_of (Encode most)
-        → AllByRecursion (λ some. 0 < some) segments → sum segments ≤ most_segments
-        → IsContainerOfScans segments bytes file
+        → AllByRecursion (λ some. 0 < some) mosts → sum mosts ≤ (layout_of version).most
+        → IsContainerOf version mosts bytes file
         → ((status_at result ≡ 0) × Appends (K.held sink.old) (K.held sink.new) file)
         ⊎ (status_at result ≡ 5) }
 
@@ -185,8 +177,8 @@ pub fn run<R: Threads + Wait + Sync, S: Source, K: Sink + Send, N: Sink + Send, 
         → ¬ Rose S.faults S.full source.old source.new → ¬ Rose K.faults K.full sink.old sink.new
         → S.left source.old ≡ Some bytes → length bytes ≤ limit_of Migrate
         → IsBoxOf plan b bytes → IsRead migratable b.version
-        → IsMeaning bytes meaning
-        → ((status_at result ≡ 0) × IsMeaning (box_bytes (migrated b)) meaning
+        → StandsFor bytes meaning
+        → ((status_at result ≡ 0) × StandsFor (box_bytes (migrated b)) meaning
         × Appends (K.held sink.old) (K.held sink.new) (box_bytes (migrated b)))
         ⊎ (status_at result ≡ 5) }
 
@@ -195,9 +187,9 @@ pub fn run<R: Threads + Wait + Sync, S: Source, K: Sink + Send, N: Sink + Send, 
         → ¬ Rose S.faults S.full source.old source.new → ¬ Rose K.faults K.full sink.old sink.new
         → S.left source.old ≡ Some bytes → length bytes ≤ limit_of Index
         → IsRead indexable (version_in bytes)
-        → IsMeaning bytes (record { bytes = file; verdict = Restored })
+        → StandsFor bytes (record { bytes = file; verdict = Restored })
         → ((status_at result ≡ 0) × (most : ℕ) × (made : List ℕ)
-        × IsContainerOf (version_in bytes) most bytes file × IsContainerOf Fifth most made file
+        × IsContainerOf (version_in bytes) (most ∷ []) bytes file × IsContainerOf Fifth (most ∷ []) made file
         × Appends (K.held sink.old) (K.held sink.new) made)
         ⊎ (status_at result ≡ 5) }
 
@@ -207,7 +199,7 @@ pub fn run<R: Threads + Wait + Sync, S: Source, K: Sink + Send, N: Sink + Send, 
         → Means (map string_bytes words.now) (Range from to workers)
         → ¬ Rose S.faults S.full source.old source.new → ¬ Rose K.faults K.full sink.old sink.new
         → S.left source.old ≡ Some bytes → length file ≤ limit_of (Encode most)
-        → 0 < most → most ≤ (layout_of Fifth).most → IsContainerOf Fifth most bytes file
+        → 0 < most → most ≤ (layout_of Fifth).most → IsContainerOf Fifth (most ∷ []) bytes file
         → from ≤ to → to ≤ length file
         → ((status_at result ≡ 0)
         × Appends (K.held sink.old) (K.held sink.new) (slice from to file))

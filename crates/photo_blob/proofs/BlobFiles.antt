@@ -1,22 +1,18 @@
 -- Blobs and their files.
-use Rattle.std.proofs.Common.{◌≡◌, ℕ, zero, suc, ◌-◌, List, [], ◌∷◌, length, take, drop, get_or, replicate, refl, sym, ap, ◌∙◌, subst, inl, inr, None, arith}
+use Rattle.std.proofs.Common.{◌≡◌, ◌≤◌, ℕ, zero, suc, ◌-◌, List, [], ◌∷◌, length, take, drop, get_or, replicate, sym, ap, ◌∙◌, subst, inl, inr, None, arith}
+use Rattle.std.specs.Prelude.{sum}
 use Rattle.std.specs.List.{AllByRecursion}
 use Rattle.jpeg_marker.specs.FirstWalks.{opening_walk}
 use Rattle.box_format.specs.Parts.{BoxSeen}
-use Rattle.box_format.specs.declared.version.Version.TheVariants.{Second}
-use Rattle.container_spec.specs.Files.{parts_of_file}
+use Rattle.box_format.specs.Versions.{layout_of, most_segments}
 use Rattle.container_spec.specs.Meanings.{Meaning, Restored, NoBox}
-use Rattle.container_spec.proofs.FileParts.{box_is}
-use Rattle.scans_format.specs.Containers.{IsContainer, names_several}
-use Rattle.scans_format.specs.Scans.{all_parts}
-use Rattle.scans_format.proofs.FilesViewed.{named_one}
-use Rattle.scans_format.proofs.ScansProved.{one_list_of_scans}
-use Rattle.scans_spec.specs.ScansFiles.{IsContainerOfFile, share_of}
-use Rattle.scans_spec.specs.ScansMeanings.{StandsFor, scans_meaning}
-use Rattle.scans_spec.proofs.BoxesOnce.{one_list_of_boxes_from}
-use Rattle.scans_spec.proofs.OneContainers.{one_container_of_file, contained_is_not_refused}
-use Rattle.scans_spec.proofs.ScansRestored.{are_scans, file_is_restored, several_named, shares_are}
-use Rattle.scans_spec.proofs.SeveralScans.{have_each}
+use Rattle.box_format.specs.Containers.{IsContainer}
+use Rattle.box_format.proofs.Spelling.{one_list_of_scans}
+use Rattle.container_spec.specs.ScansFiles.{FileIsRefused, FileRefusal, IsContainerOfFile, share_of, version_for}
+use Rattle.container_spec.specs.Portions.{StandsFor, scans_meaning}
+use Rattle.container_spec.proofs.OneContainers.{one_container_of_file, contained_is_not_refused}
+use Rattle.container_spec.proofs.ScansRestored.{are_scans, file_is_restored, for_most, shares_are}
+use Rattle.container_spec.proofs.SeveralScans.{have_each}
 use Rattle.photo_blob.specs.Blobs.{IsBlobOf, blob_segments}
 use Rattle.photo_blob.specs.BlobLaws.{OneBlob, OneFile}
 use Rattle.photo_blob.specs.Showing.{StandsForFile}
@@ -29,43 +25,28 @@ take_all (x ∷ xs) (suc n) e = ap (λ (l : List ℕ). x ∷ l) (take_all xs n (
 rest_is : (made : List ℕ) → take (length (1 ∷ made) - 1) (drop 1 (1 ∷ made)) ≡ made
 rest_is made = take_all made (length (1 ∷ made) - 1) (omega arith)
 
--- bytes have one list of scans
-same_scans : (bytes : List ℕ) (scans others : List BoxSeen) → IsContainer scans bytes
-    → IsContainer others bytes → scans ≡ others
-same_scans bytes scans others x y = one_list_of_boxes_from one_list_of_scans scans others bytes x y
-
--- a container without a chunk that stands for a file does so by its scans
-stands_by : (made file : List ℕ) (scans : List BoxSeen) → IsContainer scans made
+-- a file's container has no chunk, and stands for the file
+by_scans : (made file : List ℕ) (scans : List BoxSeen) → IsContainer scans made
     → AllByRecursion (λ (s : BoxSeen). s.parts.chunk ≡ None) scans
     → StandsFor made (record { bytes = file; verdict = Restored }) → StandsForFile made file
-stands_by made file scans is whole (inl x) =
+by_scans made file scans is whole (inl x) =
     let v : Restored ≡ NoBox x.0 = ap (λ (m : Meaning). m.verdict) x.2 in absurd (cc)
-stands_by made file scans is whole (inr x) =
-    (scans, is, whole, ap scans_meaning (same_scans made scans x.0 is x.1) ∙ sym x.2)
+by_scans made file scans is whole (inr x) =
+    (scans, is, whole, ap scans_meaning (one_list_of_scans scans x.0 made is x.1) ∙ sym x.2)
 
--- a file's container has no chunk, and stands for the file
 stands : (made file : List ℕ) → IsContainerOfFile blob_segments made file → StandsForFile made file
-stands made file (inl is) =
-    let parts = parts_of_file Second is.plan is.mcus is.pads (take is.plan.header_length file) is.trailer blob_segments in
-    let s : BoxSeen = record { plan = is.plan; parts = parts } in
-    stands_by made file (s ∷ [])
-    (inl (
-      ap names_several is.spelled ∙ named_one parts,
-      s,
-      refl,
-      record { box = box_is Second blob_segments made file (omega arith) is (omega arith); text = is.spelled },
-    ))
-    (refl, tt) (file_is_restored blob_segments made file (omega arith) (omega arith) (inl is))
-stands made file (inr (n, two, is)) =
-    let shares = shares_are blob_segments n made file (omega arith) is in
-    let are = are_scans (replicate n (share_of blob_segments n)) made file shares.some shares.few is in
-    stands_by made file is.scans
-    (inr (
-      ap names_several is.spelled ∙ several_named (all_parts is.scans),
-      record { are = are; text = is.spelled },
-    ))
-    (have_each opening_walk is.scans are.each are.versions).whole
-    (file_is_restored blob_segments made file (omega arith) (omega arith) (inr (n, two, is)))
+stands made file (n, is) =
+    let v = version_for n in
+    let below : blob_segments ≤ most_segments = omega arith in
+    let shares = shares_are v blob_segments n made file below is in
+    let all = shares.few in
+    let room = for_most n in
+    let few : sum (replicate n (share_of blob_segments n)) ≤ (layout_of v).most =
+    omega (arith, all, room) in
+    let are = are_scans v (replicate n (share_of blob_segments n)) made file shares.some few is in
+    by_scans made file is.scans (v, record { are = are; text = is.spelled })
+    (have_each v is.whole opening_walk is.scans are.each are.versions).whole
+    (file_is_restored v (replicate n (share_of blob_segments n)) made file shares.some few is)
 
 -- after a mark that isn't 0 the file's container follows
 pub container_of : (blob file : List ℕ) → (get_or blob 0 0 ≡ 0 → ⊥) → IsBlobOf blob file
@@ -82,16 +63,21 @@ one_restored : (bytes file other : List ℕ) → StandsForFile bytes file → St
     → file ≡ other
 one_restored bytes file other x y =
     ap (λ (m : Meaning). m.bytes)
-    (sym x.3 ∙ ap scans_meaning (same_scans bytes x.0 y.0 x.1 y.1) ∙ y.3)
+    (sym x.3 ∙ ap scans_meaning (one_list_of_scans x.0 y.0 bytes x.1 y.1) ∙ y.3)
+
+encoded_is_not_refused : (made file : List ℕ) (r : FileRefusal)
+    → IsContainerOfFile blob_segments made file → FileIsRefused file r → ⊥
+encoded_is_not_refused made file r (n, is) =
+    contained_is_not_refused (version_for n) (replicate n (share_of blob_segments n)) made file r is
 
 pub one_blob : OneBlob
 one_blob blob other file (inl a) (inl b) =
     a.1 ∙ ap (λ (l : List ℕ). 1 ∷ l)
     (one_container_of_file blob_segments a.0 b.0 file a.2 b.2) ∙ sym b.1
 one_blob blob other file (inl a) (inr b) =
-    absurd (contained_is_not_refused blob_segments a.0 file b.1 a.2 b.2)
+    absurd (encoded_is_not_refused a.0 file b.1 a.2 b.2)
 one_blob blob other file (inr a) (inl b) =
-    absurd (contained_is_not_refused blob_segments b.0 file a.1 b.2 a.2)
+    absurd (encoded_is_not_refused b.0 file a.1 b.2 a.2)
 one_blob blob other file (inr a) (inr b) = a.0 ∙ sym b.0
 
 -- the marks differ

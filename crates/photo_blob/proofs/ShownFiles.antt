@@ -7,13 +7,15 @@ use Rattle.handover.specs.declared.outcome.StreamFault.{StreamFault}
 use Rattle.box_format.specs.Parts.{BoxSeen}
 use Rattle.box_format.specs.declared.refusal.BoxRefusal.{BoxRefusal}
 use Rattle.container_spec.specs.Meanings.{Meaning, Verdict, Restored, Faulty}
-use Rattle.scans_format.specs.Containers.{IsContainer, IsRefusedContainer}
-use Rattle.scans_format.specs.Scans.{all_parts, segment_count, trailer_of}
-use Rattle.scans_format.proofs.ScansProved.{never_both_scans, one_list_of_scans}
-use Rattle.scans_spec.specs.ScansJoined.{ScansJoined, all_joined, first_header, scanned_from, scanned_with, scans_end, scans_joined}
-use Rattle.scans_spec.specs.ScansMeanings.{output_at, scan_of, scans_meaning}
-use Rattle.scans_spec.proofs.BoxesOnce.{one_list_of_boxes_from, refused_is_none_from}
-use Rattle.scans_spec.proofs.SeveralScans.{container_is_joined}
+use Rattle.box_format.specs.Containers.{IsContainer, all_parts, segment_count, trailer_of}
+use Rattle.box_format.specs.Checks.{IsRefused}
+use Rattle.box_format.proofs.Spelling.{one_list_of_scans}
+use Rattle.container_spec.specs.ScansJoined.{ScansJoined, first_header, scanned_from, scanned_with, scans_joined}
+use Rattle.container_spec.specs.ScanByScan.{all_joined, scans_end}
+use Rattle.container_spec.specs.ScansMeanings.{output_at, scan_of}
+use Rattle.container_spec.specs.Portions.{scans_meaning}
+use Rattle.container_spec.proofs.BoxesOnce.{refused_is_none}
+use Rattle.container_spec.proofs.PortionsMeant.{whole_is_joined}
 use Rattle.photo_blob.specs.Showing.{StandsForFile, segment_bytes, bytes_from}
 
 one_more : (scan : ℕ) (bytes : List ℕ) (o : Outcome) (rest : ScansJoined) (all : List ℕ)
@@ -86,9 +88,9 @@ first_is (t ∷ scans) s e =
 
 -- a container that stands for a file isn't refused
 pub not_refused : (bytes file : List ℕ) (refusal : BoxRefusal) → StandsForFile bytes file
-    → IsRefusedContainer bytes refusal → ⊥
+    → IsRefused bytes refusal → ⊥
 not_refused bytes file refusal x refused =
-    refused_is_none_from never_both_scans x.0 bytes refusal x.1 refused
+    refused_is_none x.0 bytes refusal x.1 refused
 
 -- its file, by its scans
 pub shown_bytes : (bytes file : List ℕ) (scans : List BoxSeen)
@@ -96,5 +98,5 @@ pub shown_bytes : (bytes file : List ℕ) (scans : List BoxSeen)
     → first_header scans ++ bytes_from scans 0 (segment_count scans) ++ trailer_of (all_parts scans) ≡ file
 shown_bytes bytes file scans x is =
     ap (λ (l : List BoxSeen). first_header l ++ bytes_from l 0 (segment_count l) ++ trailer_of (all_parts l))
-    (one_list_of_boxes_from one_list_of_scans scans x.0 bytes is x.1)
-    ∙ restored_bytes x.0 file (container_is_joined x.0 bytes x.1 x.2) x.3
+    (one_list_of_scans scans x.0 bytes is x.1)
+    ∙ restored_bytes x.0 file (whole_is_joined x.0 x.2) x.3

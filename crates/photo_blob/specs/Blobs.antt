@@ -1,6 +1,6 @@
 -- Statement: the blob by which a file is kept (docs/STORE.md, Blobs).
 use Rattle.std.specs.Prelude.{ℕ, ◌≡◌, ◌⊎◌, List, ◌∷◌}
-use Rattle.scans_spec.specs.ScansFiles.{FileRefusal, FileIsRefused, IsContainerOfFile}
+use Rattle.container_spec.specs.ScansFiles.{FileRefusal, FileIsRefused, IsContainerOfFile}
 
 -- the first byte of a blob: the file follows it, or the file's container does
 abbrev pub plain_mark : ℕ

@@ -4,8 +4,9 @@ use Rattle.std.specs.List.{AllByRecursion}
 use Rattle.box_format.specs.Raws.{numbers}
 use Rattle.box_format.specs.Parts.{BoxSeen}
 use Rattle.container_spec.specs.Meanings.{Restored}
-use Rattle.scans_format.specs.Containers.{IsContainer}
-use Rattle.scans_spec.specs.ScansMeanings.{output_at, scans_meaning}
+use Rattle.box_format.specs.Containers.{IsContainer}
+use Rattle.container_spec.specs.ScansMeanings.{output_at}
+use Rattle.container_spec.specs.Portions.{scans_meaning}
 
 -- bytes are a container with no chunk that stands for a file
 abbrev pub StandsForFile : List ℕ → List ℕ → Type 0

@@ -1,15 +1,15 @@
 // A blob's file.
 ghost use Rattle.std.specs.Prelude.{◌≡◌, ◌++◌, ◌<◌, ℕ, List, length, IfOk, OnOk, true};
 ghost use Rattle.handover.specs.declared.outcome.Outcome.{Outcome};
-ghost use Rattle.scans_format.specs.Scans.{all_parts, segment_count, trailer_of};
-ghost use Rattle.scans_spec.specs.ScansJoined.{first_header};
+ghost use Rattle.box_format.specs.Containers.{all_parts, segment_count, trailer_of};
+ghost use Rattle.container_spec.specs.ScansJoined.{first_header};
 ghost use Rattle.segment_code.specs.FileDecoding.{FileOwes};
 ghost use Rattle.photo_blob.specs.Blobs.{IsBlobOf};
 ghost use Rattle.photo_blob.specs.Showing.{StandsForFile, bytes_from};
 
 use bit_list::Piece;
+use box_format::{FileView, ReadError, read_container};
 use growth::{NoMemory, extend_from_slice, from_slice};
-use scans_format::{FileView, ReadError, read_container};
 use segment_code::{FileDecoder, Step};
 use std::alloc::Global;
 

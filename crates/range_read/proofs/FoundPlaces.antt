@@ -11,7 +11,8 @@ use Rattle.box_format.specs.Parts.{BoxParts}
 use Rattle.box_format.specs.Versions.{most_segments}
 use Rattle.box_format.specs.declared.chunk.Chunk.{Chunk}
 use Rattle.container_spec.specs.Segments.{Output, segment_output}
-use Rattle.container_spec.specs.Meanings.{Faulty, Joined, PadSpelled, Restored, good_end, joined, joined_with, meaning_by, meaning_of, outputs_of, segment_in}
+use Rattle.container_spec.specs.Meanings.{Faulty, PadSpelled, Restored, segment_in}
+use Rattle.container_spec.specs.AloneMeanings.{Joined, good_end, joined, joined_with, meaning_by, meaning_of, outputs_of}
 use Rattle.container_spec.specs.Indexed.{places_after, places_found}
 use Rattle.container_spec.proofs.Numbered.{mapped_long}
 use Rattle.container_spec.proofs.PlacesFound.{found_long}

@@ -7,13 +7,15 @@ use Rattle.byte_window.specs.Slices.{Cover, has_place}
 use Rattle.byte_window.specs.SliceLaws.{IsCover}
 use Rattle.byte_window.proofs.Covers.{cover_is_exact}
 use Rattle.jpeg_marker.specs.Plans.{PlanFields}
-use Rattle.box_format.specs.Parts.{BoxParts, IsBox, ArePlaces}
+use Rattle.box_format.specs.Parts.{BoxParts, ArePlaces}
+use Rattle.box_format.specs.Single.{IsBox}
 use Rattle.box_format.specs.Versions.{layout_of}
 use Rattle.box_format.specs.declared.chunk.Chunk.{Chunk}
 use Rattle.box_format.specs.declared.version.Version.{Version}
 use Rattle.box_format.specs.declared.version.Version.TheVariants.{Fifth}
 use Rattle.container_spec.specs.Segments.{Output, segment_output}
-use Rattle.container_spec.specs.Meanings.{outputs_of, segment_in}
+use Rattle.container_spec.specs.AloneMeanings.{outputs_of}
+use Rattle.container_spec.specs.Meanings.{segment_in}
 use Rattle.container_spec.proofs.Numbered.{mapped_long}
 use Rattle.range_spec.specs.Ranges.{place_at, segments_within}
 use Rattle.range_read.specs.RangeMeanings.{places_of, placed_file}

@@ -1,5 +1,6 @@
 pub mod KeptPlaces
 pub mod GoodParts
+mod RangePortions
 pub mod RestoredRanges
 mod RangeWritten
 mod StretchRead

@@ -9,7 +9,7 @@ use Rattle.handover.specs.declared.pads.PadSum.{PadSum}
 use Rattle.box_format.specs.Parts.{BoxSeen}
 use Rattle.container_spec.specs.Segments.{Output, segment_output}
 use Rattle.container_spec.specs.Meanings.{segment_in}
-use Rattle.scans_spec.specs.ScansMeanings.{fault_after, led_output, outcome_after, output_at}
+use Rattle.container_spec.specs.ScansMeanings.{fault_after, led_output, outcome_after, output_at}
 use Rattle.range_read.specs.Lanes.{AreAllMeasured, AreMeasuredUpTo, HasMeasured, IsLane, outputs_from}
 use Rattle.range_read.specs.declared.lanes.Lane.{Lane}
 use Rattle.range_read.specs.Measures.{After, AreMeasures, IsMeasure}

@@ -5,8 +5,8 @@ use Rattle.outside_core.specs.Takes.{TakesNext}
 use Rattle.jpeg_marker.specs.Plans.{PlanFields}
 use Rattle.handover.specs.declared.outcome.StreamFault.{StreamFault}
 use Rattle.box_format.specs.Parts.{BoxParts}
-use Rattle.container_spec.specs.Meanings.{Joined}
-use Rattle.scans_spec.specs.ScansJoined.{joined_alone}
+use Rattle.container_spec.specs.AloneMeanings.{Joined}
+use Rattle.container_spec.specs.ScanByScan.{joined_alone}
 use Rattle.segment_worker.specs.declared.emitted.Emitted.{Emitted}
 use Rattle.segment_worker.specs.declared.emitted.EmitStop.{EmitStop}
 use Rattle.segment_worker.specs.declared.emitted.EmitStop.TheVariants.{Fault}
@@ -15,7 +15,9 @@ use Rattle.segment_worker.specs.Emitting.{Emits}
 use Rattle.segment_worker.proofs.Writing.{written_later, failed_first, failed_later, next_first, next_later, next_between}
 use Rattle.range_spec.specs.Ranges.{PlacedFile, begun_within, header_within, trailer_within}
 use Rattle.range_read.specs.RangeEnds.{RangeEnds}
-use Rattle.range_read.specs.RangeMeanings.{RangeMeaning, placed_file, range_by, range_meaning, segments_read}
+use Rattle.range_read.specs.RangeMeanings.{RangeMeaning, placed_file, range_meaning}
+use Rattle.range_read.specs.RangeSteps.{range_by, segments_read}
+use Rattle.range_read.proofs.RangePortions.{as_read}
 
 by_fault : (f : PlacedFile) (from to : ℕ) (read : List ℕ) (fault : Option StreamFault)
     → (more : List ℕ)
@@ -23,11 +25,6 @@ by_fault : (f : PlacedFile) (from to : ℕ) (read : List ℕ) (fault : Option St
 by_fault f from to read (Some fault) =
     ([], ap (λ (l : List ℕ). header_within f from to ++ l) (sym (append-nil read)))
 by_fault f from to read None = (trailer_within f from to, refl)
-
-begun_by : (f : PlacedFile) (from to : ℕ) (read : List ℕ) (fault : Option StreamFault)
-    → (range_by f from to read fault).begun ≡ begun_within f from to
-begun_by f from to read (Some fault) = refl
-begun_by f from to read None = refl
 
 module _ (plan : PlanFields) (b : BoxParts) (from to : ℕ) where
   abbrev head : List ℕ
@@ -42,25 +39,24 @@ module _ (plan : PlanFields) (b : BoxParts) (from to : ℕ) where
   -- a range begins with what it has of the header and of the segments
   pub first_bytes : (more : List ℕ)
       × ((range_meaning plan b from to).bytes ≡ head ++ (read.bytes ++ more))
-  unfolding range_meaning
-  first_bytes = by_fault (placed_file plan b) from to read.bytes read.fault
+  first_bytes =
+      let by = by_fault (placed_file plan b) from to read.bytes read.fault in
+      (by.0, ap (λ (m : RangeMeaning). m.bytes) (as_read plan b from to) ∙ by.1)
 
   pub begun_is : (range_meaning plan b from to).begun ≡ begun_within (placed_file plan b) from to
   unfolding range_meaning
-  begun_is = begun_by (placed_file plan b) from to read.bytes read.fault
+  begun_is = refl
 
   -- and ends at a fault
   faulty : (fault : StreamFault) → read.fault ≡ Some fault
       → range_meaning plan b from to
       ≡ range_by (placed_file plan b) from to read.bytes (Some fault)
-  unfolding range_meaning
-  faulty fault e = ap (range_by (placed_file plan b) from to read.bytes) e
+  faulty fault e = as_read plan b from to ∙ ap (range_by (placed_file plan b) from to read.bytes) e
 
   -- or with what it has of the trailer
   faultless : read.fault ≡ None
       → range_meaning plan b from to ≡ range_by (placed_file plan b) from to read.bytes None
-  unfolding range_meaning
-  faultless e = ap (range_by (placed_file plan b) from to read.bytes) e
+  faultless e = as_read plan b from to ∙ ap (range_by (placed_file plan b) from to read.bytes) e
 
   whole_bytes : read.fault ≡ None
       → (range_meaning plan b from to).bytes ≡ (head ++ read.bytes) ++ tail

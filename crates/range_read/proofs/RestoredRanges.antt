@@ -10,13 +10,16 @@ use Rattle.handover.specs.declared.outcome.StreamFault.{StreamFault}
 use Rattle.box_format.specs.Parts.{BoxParts, file_end}
 use Rattle.box_format.specs.Raws.{numbers}
 use Rattle.container_spec.specs.Segments.{Output, segment_output}
-use Rattle.container_spec.specs.Meanings.{Joined, joined, outputs_of, segment_in}
+use Rattle.container_spec.specs.AloneMeanings.{Joined, joined, outputs_of}
+use Rattle.container_spec.specs.Meanings.{segment_in}
 use Rattle.container_spec.proofs.PlacesOfContainers.{place_is}
 use Rattle.container_spec.proofs.RestoredMeanings.{IsRestored, is_restored}
 use Rattle.range_spec.specs.Ranges as ranges
-use Rattle.range_spec.specs.Ranges.{PlacedFile, IsPlaced, place_at, scan_end, placed_bytes, segments_within, begun_within, bytes_within, range_bytes, header_within, window_within, trailer_within}
+use Rattle.range_spec.specs.Ranges.{PlacedFile, IsPlaced, place_at, placed_bytes, segments_within, begun_within, bytes_within, range_bytes, header_within, window_within, trailer_within}
 use Rattle.range_spec.proofs.RangeParts.{range_is_slice, one_more}
-use Rattle.range_read.specs.RangeMeanings.{places_of, placed_file, is_bad_range, joined_between, range_by, range_meaning}
+use Rattle.range_read.specs.RangeMeanings.{places_of, placed_file, is_bad_range, range_meaning}
+use Rattle.range_read.specs.RangeSteps.{joined_between, range_by}
+use Rattle.range_read.proofs.RangePortions.{as_read}
 use Rattle.range_read.specs.RangeMeaningLaws.{StandsFor, EndIsKept, RangeIsSlice}
 use Rattle.range_read.proofs.KeptPlaces.{AreKeptPlaces, no_chunk, kept_places, segments_long, cover_is_ordered, cover_is_within}
 use Rattle.range_read.proofs.GoodParts.{IsPart, good_bytes, good_part, numbers_between}
@@ -114,7 +117,6 @@ module _ (plan : PlanFields) (b : BoxParts) (file : List ℕ) (s : StandsFor pla
   range_is : (from to : ℕ)
       → range_meaning plan b from to
       ≡ record { bytes = slice from to file; fault = None; begun = begun_within f from to }
-  unfolding range_meaning
   range_is from to =
       let c = segments_within f from to in
       let all = joined_between plan b c in
@@ -122,7 +124,8 @@ module _ (plan : PlanFields) (b : BoxParts) (file : List ℕ) (s : StandsFor pla
       let same = between c.from c.to order (cover_is_within plan b from to) in
       let mine = part c.from (c.to - c.from) in
       let w = window_within f from to in
-      by_parts from to (window w all.bytes) all.fault
+      as_read plan b from to
+      ∙ by_parts from to (window w all.bytes) all.fault
       (ap (λ (x : Joined). x.fault) same ∙ mine.none)
       (ap (λ (x : Joined). window w x.bytes) same ∙ ap (window w) mine.bytes)
       ∙ ap (λ (bytes : List ℕ). record {

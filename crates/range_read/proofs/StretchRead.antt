@@ -5,10 +5,12 @@ use Rattle.byte_window.proofs.WindowParts.{is_counted, through_none}
 use Rattle.box_format.specs.Parts.{BoxSeen}
 use Rattle.box_format.specs.Raws.{numbers}
 use Rattle.container_spec.specs.Segments.{segment_output}
-use Rattle.container_spec.specs.Meanings.{Joined, joined, segment_in}
-use Rattle.scans_spec.specs.ScansJoined.{ScansJoined, joined_alone, no_sums}
-use Rattle.scans_spec.specs.declared.scan_pads.ScanPads.{ScanPads}
-use Rattle.scans_spec.proofs.OneScans.{one_is_joined}
+use Rattle.container_spec.specs.AloneMeanings.{Joined, joined}
+use Rattle.container_spec.specs.Meanings.{segment_in}
+use Rattle.container_spec.specs.ScansJoined.{ScansJoined, no_sums}
+use Rattle.container_spec.specs.ScanByScan.{joined_alone}
+use Rattle.container_spec.specs.declared.scan_pads.ScanPads.{ScanPads}
+use Rattle.container_spec.proofs.OneScans.{one_is_joined}
 use Rattle.segment_worker.specs.Contents.{Stretch, stretch}
 use Rattle.segment_worker.specs.declared.emitted.Emitted.{Emitted}
 use Rattle.segment_worker.specs.declared.emitted.EmitStop.{EmitStop}
@@ -17,7 +19,8 @@ use Rattle.segment_worker.specs.Emitting.{Counts, Emits, joined_in, seen_through
 use Rattle.segment_worker.proofs.Writing.{written_nothing}
 use Rattle.range_spec.specs.Ranges.{begun_within, segments_within, window_within}
 use Rattle.range_read.specs.RangeEnds.{stretch_between}
-use Rattle.range_read.specs.RangeMeanings.{placed_file, joined_between, segments_read}
+use Rattle.range_read.specs.RangeMeanings.{placed_file}
+use Rattle.range_read.specs.RangeSteps.{joined_between, segments_read}
 use Rattle.range_read.proofs.KeptPlaces.{cover_is_ordered, cover_is_within}
 
 module _ (v : BoxSeen) (from to : ℕ) where

@@ -1,4 +1,5 @@
 pub mod RangeMeanings
+pub mod RangeSteps
 pub mod RangeMeaningLaws
 pub mod RangeMeaningRows
 pub mod IndexEnds

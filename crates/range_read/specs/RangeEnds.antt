@@ -57,7 +57,7 @@ abbrev pub lone_stretch_in : LoneRangeSeen → Stretch
 lone_stretch_in ready =
     stretch_between (record { plan = ready.plan; parts = ready.parts }) ready.from ready.to
 
--- how many workers these are worth, if there may be so many at most
+-- how many workers these are worth, if there may be `most`
 abbrev pub workers_in : RangeSeen → ℕ → ℕ
 workers_in ready most =
     workers_worth (record { plan = ready.plan; parts = ready.parts } ∷ []) (stretch_in ready).count most

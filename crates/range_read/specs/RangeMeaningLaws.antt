@@ -3,9 +3,11 @@ use Rattle.std.specs.Prelude.{ℕ, ◌≡◌, ◌≤◌, false, List, length, No
 use Rattle.byte_window.specs.Slices.{slice}
 use Rattle.jpeg_marker.specs.Plans.{PlanFields}
 use Rattle.range_spec.specs.Ranges.{begun_within}
-use Rattle.box_format.specs.Parts.{BoxParts, IsBox, file_end}
+use Rattle.box_format.specs.Parts.{BoxParts, file_end}
+use Rattle.box_format.specs.Single.{IsBox}
 use Rattle.box_format.specs.declared.version.Version.TheVariants.{Fifth}
-use Rattle.container_spec.specs.Meanings.{Restored, meaning_of}
+use Rattle.container_spec.specs.Meanings.{Restored}
+use Rattle.container_spec.specs.AloneMeanings.{meaning_of}
 use Rattle.range_read.specs.RangeMeanings.{is_bad_range, placed_file, places_of, range_meaning}
 
 -- a container of the fifth version stands for this file

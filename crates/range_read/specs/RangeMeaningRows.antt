@@ -4,7 +4,7 @@ use Rattle.jpeg_marker.specs.Plans.{PlanFields}
 use Rattle.handover.specs.Handovers.{start}
 use Rattle.handover.specs.declared.outcome.StreamCause.TheVariants.{PlaceBad}
 use Rattle.handover.specs.declared.outcome.StreamFault.{StreamFault}
-use Rattle.box_format.specs.BoxRows.{byteless_parts, grey_header, grey_plan, image_end}
+use Rattle.box_format.specs.Rows.{byteless_parts, grey_header, grey_plan, image_end}
 use Rattle.box_format.specs.Parts.{BoxParts, file_end}
 use Rattle.box_format.specs.declared.version.Version.TheVariants.{Fifth}
 use Rattle.range_read.specs.RangeMeanings.{RangeMeaning, is_bad_range, range_meaning}

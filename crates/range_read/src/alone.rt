@@ -1,8 +1,9 @@
 // A range of a container's file, read on one thread.
 ghost use Rattle.std.specs.Prelude.{[], ◌∷◌, ◌≡◌, ◌≤◌, IfOk, IfSome, IsErrOf, false, is_some, nat_lt, true};
 ghost use Rattle.jpeg_marker.specs.Plans.{PlanFields};
-ghost use Rattle.box_format.specs.BoxChecks.{IsRefusedBy};
-ghost use Rattle.box_format.specs.Parts.{BoxParts, IsBoxOf};
+ghost use Rattle.box_format.specs.Checks.{IsRefusedBy};
+ghost use Rattle.box_format.specs.Parts.{BoxParts};
+ghost use Rattle.box_format.specs.Single.{IsBoxOf};
 ghost use Rattle.box_format.specs.Versions.{IsRead, ranged};
 ghost use Rattle.box_format.specs.declared.refusal.BoxRefusal.{BoxRefusal};
 ghost use Rattle.outside_core.specs.Takes.{TakesNext};

@@ -1,21 +1,21 @@
 // From a container to the same one with the places of its segments.
 ghost use Rattle.std.specs.Prelude.{◌≡◌, IfOk, IsErrOf, None};
 ghost use Rattle.handover.specs.declared.outcome.StreamFault.{StreamFault};
-ghost use Rattle.box_format.specs.BoxChecks.{IsRefusedBy};
+ghost use Rattle.box_format.specs.Checks.{IsRefusedBy};
 ghost use Rattle.box_format.specs.Versions.{indexable};
 ghost use Rattle.box_format.specs.declared.refusal.BoxRefusal.{BoxRefusal};
 ghost use Rattle.container_spec.specs.Indexed.{places_found};
-ghost use Rattle.container_spec.specs.Meanings.{Faulty, PadSpelled, Restored, meaning_of, outputs_of};
+ghost use Rattle.container_spec.specs.Meanings.{Faulty, PadSpelled, Restored};
+ghost use Rattle.container_spec.specs.AloneMeanings.{meaning_of, outputs_of};
 ghost use Rattle.range_read.specs.IndexEnds.{Ends, IsIndexOf};
 ghost use Rattle.range_read.specs.Measures.{AreMeasures};
 
 use crate::error::IndexError;
 use crate::measure::{Measure, measure_all, measure_in_turn};
 use crate::one_scan::OneScan;
-use box_format::{BoxView, Version, write_placed};
+use box_format::{BoxView, ReadError, Version, write_placed};
 use growth::{push, with_capacity};
 use handover::{Outcome, PadSum};
-use scans_format::ReadError;
 use std::alloc::Global;
 use std::thread::Threads;
 

@@ -1,12 +1,11 @@
 // A container of one scan, which alone is indexed and read by ranges.
-ghost use Rattle.std.specs.Prelude.{◌≡◌, [], ◌∷◌, IfOk, IsErrOf};
-ghost use Rattle.box_format.specs.BoxChecks.{IsRefusedBy};
-ghost use Rattle.box_format.specs.Parts.{IsBoxOf};
-ghost use Rattle.box_format.specs.Versions.{IsRead};
+ghost use Rattle.std.specs.Prelude.{◌≡◌, true, [], ◌∷◌, IfOk, IsErrOf};
+ghost use Rattle.box_format.specs.Checks.{IsRefusedBy};
+ghost use Rattle.box_format.specs.Single.{IsBoxOf};
+ghost use Rattle.box_format.specs.Versions.{IsRead, are_single};
 ghost use Rattle.box_format.specs.declared.refusal.BoxRefusal.{BoxRefusal};
 
-use box_format::{BoxView, Version};
-use scans_format::{FileView, ReadError, read_container_of};
+use box_format::{BoxView, FileView, ReadError, Version, read_container_of};
 use std::alloc::Global;
 use std::marker::Model;
 
@@ -29,13 +28,14 @@ impl<'a> Model for OneScan<'a> {
 }
 
 impl<'a> OneScan<'a> {
-    /// Reads a container of one of these versions: 31 is the refusal of the others.
+    /// Reads a container of one of these versions, which have one scan each: 31 is the refusal of the others.
     #[inline(never)]
     pub(crate) fn read(
         alloc: Global,
         bytes: &'a [u8],
         versions: &[Version],
     ) -> Result<OneScan<'a>, ReadError>
+        requires { are_single versions.now ≡ true }
         ensures taken { IfOk result (λ scan. IsBoxOf scan.plan scan.parts bytes.now) }
         ensures version { IfOk result (λ scan. IsRead versions.now scan.parts.version) }
         ensures refused { (refusal : BoxRefusal) → IsErrOf result (ReadError.Box refusal)

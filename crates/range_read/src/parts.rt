@@ -4,12 +4,13 @@ ghost use Rattle.byte_window.specs.Slices.{slice};
 ghost use Rattle.outside_core.specs.Takes.{TakesNext};
 ghost use Rattle.box_format.specs.Versions.{most_segments};
 ghost use Rattle.range_spec.specs.Ranges.{begun_within, header_within, trailer_within};
-ghost use Rattle.scans_spec.specs.ScansJoined.{joined_alone};
+ghost use Rattle.container_spec.specs.ScanByScan.{joined_alone};
 ghost use Rattle.segment_worker.specs.Contents.{segment_room};
 ghost use Rattle.segment_worker.specs.Emitting.{Counts, Emits};
 ghost use Rattle.segment_worker.specs.Written.{HasFailed, HasWritten};
 ghost use Rattle.range_read.specs.RangeEnds.{RangeEnds};
-ghost use Rattle.range_read.specs.RangeMeanings.{is_bad_range, placed_file, range_meaning, segments_read};
+ghost use Rattle.range_read.specs.RangeMeanings.{is_bad_range, placed_file, range_meaning};
+ghost use Rattle.range_read.specs.RangeSteps.{segments_read};
 
 use crate::bounds::place_of;
 use crate::reading::Ranged;

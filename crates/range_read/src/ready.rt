@@ -1,8 +1,9 @@
 // A range of a container's file that is ready to be read.
 ghost use Rattle.std.specs.Prelude.{[], ◌∷◌, ◌≡◌, ◌+◌, ◌≤◌, IfOk, IfSome, IsErrOf, false, is_some, length, min, nat_lt, true};
 ghost use Rattle.jpeg_marker.specs.Plans.{PlanFields};
-ghost use Rattle.box_format.specs.BoxChecks.{IsRefusedBy};
-ghost use Rattle.box_format.specs.Parts.{BoxParts, IsBoxOf};
+ghost use Rattle.box_format.specs.Checks.{IsRefusedBy};
+ghost use Rattle.box_format.specs.Parts.{BoxParts};
+ghost use Rattle.box_format.specs.Single.{IsBoxOf};
 ghost use Rattle.box_format.specs.Versions.{IsRead, ranged};
 ghost use Rattle.box_format.specs.declared.refusal.BoxRefusal.{BoxRefusal};
 ghost use Rattle.segment_worker.specs.Contents.{stretch};
@@ -12,9 +13,8 @@ ghost use Rattle.range_read.specs.RangeMeanings.{is_bad_range};
 use crate::bounds::{is_bad_range, segments_within};
 use crate::error::RangeError;
 use crate::one_scan::OneScan;
-use box_format::Version;
+use box_format::{ReadError, Version};
 use growth::NoMemory;
-use scans_format::ReadError;
 use segment_crew::{Crew, workers_worth};
 use std::alloc::Global;
 use std::marker::Model;
@@ -103,8 +103,8 @@ pub fn prepare_range(
     })
 }
 
-/// The same, by as many workers as the segments with a place in the range are worth, `most` at most: one for each 8,192
-/// of their blocks, rounded down. So a small range has none.
+/// The same, by as many workers as the segments with a place in the range are worth (`workers_worth`), `most` at most:
+/// about one for each 8,192 of their blocks. So a small range has none.
 #[inline(never)]
 pub fn prepare_range_worth(
     alloc: Global,

@@ -15,7 +15,7 @@ use Rattle.cut_spec.specs.Cuts.{Cut, row_of, first_mcu}
 use Rattle.cut_spec.specs.RowHandovers.{markers_before}
 use Rattle.box_format.specs.declared.chunk.Chunk.{Chunk}
 use Rattle.box_format.specs.Parts.{BoxParts, IsScanBox, bad_start, box_cut, box_rows, can_start, is_start, is_unused_zero}
-use Rattle.box_format.proofs.PassedBox.{ordered, in_grid}
+use Rattle.box_format.proofs.OneCuts.{ordered, in_grid}
 use Rattle.container_spec.proofs.CutsOfPlans.{each_has_mcus}
 use Rattle.container_spec.specs.ScanStream.{grid_of}
 use Rattle.container_spec.specs.Meanings.{kept_in, segment_in}

@@ -11,7 +11,7 @@ use Rattle.handover.specs.declared.outcome.Outcome.TheVariants.{Good, Bad}
 use Rattle.cut_spec.specs.RowHandovers.{handover_of}
 use Rattle.container_spec.specs.ScanStream.{blocks_stream, starts}
 use Rattle.container_spec.specs.Segments.{SegmentFields, Progress, Output, first_progress, stopped, after_step, mcu_step, stream_ending, ending_by, ending, mcus_output, rest_output, placed_ending, with_place, segment_output}
-use Rattle.scans_spec.specs.ScansMeanings.{outcome_after}
+use Rattle.container_spec.specs.ScansMeanings.{outcome_after}
 use Rattle.segment_code.specs.FileDecoding.{numbered}
 
 abbrev HasNumber : ℕ → Outcome → Type 0

@@ -4,8 +4,8 @@ use Rattle.std.specs.Prelude.{Some, nat_lt, slice_get}
 use Rattle.std.proofs.lemmas.Bool.{le-ltb, lt-ltb}
 use Rattle.box_format.specs.Parts.{BoxSeen}
 use Rattle.box_format.proofs.Lists.{sum_first}
-use Rattle.scans_format.specs.Scans.{all_plans, segment_count}
-use Rattle.scans_spec.specs.ScansMeanings.{lead_at, lead_from, lead_of, led_output, output_at, output_from, scan_of}
+use Rattle.box_format.specs.Containers.{all_plans, segment_count}
+use Rattle.container_spec.specs.ScansMeanings.{lead_at, lead_from, lead_of, led_output, output_at, output_from, scan_of}
 
 -- so many segments are before a scan, and the segment isn't one of them
 pub record IsBefore (scans : List BoxSeen) (segment scan before : ℕ) : Type 0 where

@@ -4,8 +4,8 @@ ghost use Rattle.handover.specs.declared.outcome.Outcome.{Outcome};
 ghost use Rattle.box_format.specs.Parts.{BoxSeen};
 ghost use Rattle.container_spec.specs.Meanings.{segment_in};
 ghost use Rattle.container_spec.specs.Segments.{segment_output};
-ghost use Rattle.scans_format.specs.Scans.{all_plans, segment_count};
-ghost use Rattle.scans_spec.specs.ScansMeanings.{lead_at, lead_of, led_output, output_at, scan_of};
+ghost use Rattle.box_format.specs.Containers.{all_plans, segment_count};
+ghost use Rattle.container_spec.specs.ScansMeanings.{lead_at, lead_of, led_output, output_at, scan_of};
 ghost use Rattle.segment_code.specs.declared.step.Step.TheVariants.{More};
 ghost use Rattle.segment_code.specs.FileDecoding.{FileOwes, FilePays, ScanOwes, ScanPays, is_running, mcus_left, plans_of, step_numbered, steps_left};
 
@@ -13,11 +13,10 @@ use crate::bytes_put::put_bytes;
 use crate::decoder::SegmentDecoder;
 use crate::step::Step;
 use bit_list::{Piece, ROOM};
-use box_format::BoxView;
+use box_format::{BoxView, FileView};
 use growth::{NoMemory, push};
 use handover::StreamFault;
 use jpeg_marker::Plan;
-use scans_format::FileView;
 use std::alloc::Global;
 use std::marker::Model;
 

@@ -3,7 +3,7 @@ use Rattle.std.specs.Prelude.{All, ℕ, ◌≡◌, ◌+◌, ◌*◌, ◌≤◌, 
 use Rattle.byte_window.specs.declared.window.Window.{Window}
 use Rattle.atomic_table.specs.Seated.{TableId}
 use Rattle.box_format.specs.Versions.{most_segments}
-use Rattle.scans_format.specs.Scans.{segment_count}
+use Rattle.box_format.specs.Containers.{segment_count}
 use Rattle.output_board.specs.declared.view.EmitterView.{EmitterView}
 use Rattle.output_board.specs.declared.view.WorkerView.{WorkerView}
 use Rattle.output_board.specs.Seats.{SeatValue}

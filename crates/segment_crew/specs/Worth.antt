@@ -1,7 +1,7 @@
 -- Statement: how many workers a container's segments are worth (own; docs/THREADS.md).
 use Rattle.std.specs.Prelude.{ℕ, ◌-◌, ◌*◌, ◌/◌, List, map, max, min, sum}
 use Rattle.box_format.specs.Parts.{BoxSeen, box_rows}
-use Rattle.scans_format.specs.Scans.{segment_count}
+use Rattle.box_format.specs.Containers.{segment_count}
 
 -- blocks that a container has of a scan: those of its rows of MCUs
 abbrev pub blocks_had : BoxSeen → ℕ
@@ -16,7 +16,8 @@ blocks_in scans = sum (map blocks_had scans)
 abbrev pub worth_a_worker : ℕ
 worth_a_worker = 8192
 
--- how many workers so many of its segments are worth, if there may be so many at most
+-- how many workers `count` of its segments are worth, if there may be `most`: each segment has an equal share of the
+-- blocks
 abbrev pub workers_worth : List BoxSeen → ℕ → ℕ → ℕ
 workers_worth scans count most =
     min most (blocks_in scans / max (segment_count scans) 1 * count / worth_a_worker)

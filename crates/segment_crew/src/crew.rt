@@ -2,7 +2,7 @@
 ghost use Rattle.std.specs.Prelude.{◌≡◌, ◌+◌, ◌*◌, ◌≤◌, All, IfOk, OnErr, OnOk, false, length, min, true};
 ghost use Rattle.outside_core.specs.Takes.{TakesNext};
 ghost use Rattle.box_format.specs.Versions.{most_segments};
-ghost use Rattle.scans_format.specs.Scans.{segment_count};
+ghost use Rattle.box_format.specs.Containers.{segment_count};
 ghost use Rattle.segment_worker.specs.Contents.{segment_room, stretch};
 ghost use Rattle.segment_worker.specs.Emitting.{Emits, IsThrough, joined_in, seen_through};
 ghost use Rattle.segment_crew.specs.Crews.{HasBegunItsClaims};
@@ -11,11 +11,11 @@ ghost use Rattle.segment_crew.specs.Teams.{IsIdleWorker, IsNewLead, emitter_memb
 use crate::team::{Emitter, Shared, Worker, team_of};
 use crate::threads::lead_beside;
 use bit_list::Piece;
+use box_format::FileView;
 use byte_window::Window;
 use growth::NoMemory;
 use output_board::Board;
 use outside_core::{Gate, Sink};
-use scans_format::FileView;
 use segment_code::FileDecoder;
 use segment_worker::{EmitStop, Emitted, Told, prepare_board};
 use std::alloc::Global;

@@ -1,16 +1,16 @@
 // The emitter and the workers of a crew, each with what it needs.
 ghost use Rattle.std.specs.Prelude.{◌≡◌, ◌+◌, ◌≤◌, All, IfOk, length};
-ghost use Rattle.scans_format.specs.Scans.{segment_count};
+ghost use Rattle.box_format.specs.Containers.{segment_count};
 ghost use Rattle.segment_worker.specs.Contents.{stretch};
 ghost use Rattle.segment_crew.specs.Teams.{IsIdleWorker, IsNewSeat, AreNewSeats};
 
 use crate::threads::{Lead, Task};
 use bit_list::Piece;
+use box_format::FileView;
 use byte_window::Window;
 use growth::{NoMemory, push};
 use output_board::{Board, EmitterSeat, WorkerSeat};
 use outside_core::{Gate, Sink};
-use scans_format::FileView;
 use segment_code::FileDecoder;
 use segment_worker::{EmitStop, Emitted, Told, emit, work};
 use std::alloc::Global;

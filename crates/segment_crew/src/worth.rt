@@ -1,17 +1,16 @@
 // How many workers a container's segments are worth.
 ghost use Rattle.std.specs.Prelude.{◌≡◌, ◌≤◌, ◌^◌, ◌*◌};
-ghost use Rattle.scans_format.specs.Scans.{segment_count};
+ghost use Rattle.box_format.specs.Containers.{segment_count};
 ghost use Rattle.segment_crew.specs.Worth.{blocks_had, blocks_in, workers_worth};
 
-use box_format::{BoxView, rows_of};
-use scans_format::FileView;
+use box_format::{BoxView, FileView, rows_of};
 
 // How many blocks are worth a worker, as many as `segment_encode` has for each lane: a photograph of 64 KiB has about
 // as many. A thread for fewer costs more processor time than the command saves by the clock.
 const WORTH_A_WORKER: u64 = 8_192;
 
 /// How many workers are worth their threads for `count` of a container's segments, if there may be `most`: one for each
-/// 8,192 blocks, rounded down. Segments count as equally long.
+/// 8,192 blocks of these, rounded down. Each segment counts for an equal share of all blocks, rounded down too.
 pub fn workers_worth(view: &FileView, count: u8, most: u8) -> u8
     requires { count ≤ segment_count view.now }
     ensures { result ≡ workers_worth view.now count most }

@@ -1,17 +1,16 @@
 -- The bytes and the outcomes that the board of a stretch is for.
-use Rattle.std.proofs.Common.{◌≡◌, ℕ, ◌+◌, ◌-◌, ◌^◌, ◌<◌, ◌≤◌, Bool, true, false, if◌then◌else◌, List, [], ◌∷◌, length, get_or, sym, ap, subst, ◌∙◌, arith, length-append, Some, None, ⊎_elim, inl, inr}
+use Rattle.std.proofs.Common.{◌≡◌, ℕ, ◌+◌, ◌-◌, ◌^◌, ◌<◌, ◌≤◌, Bool, true, false, if◌then◌else◌, List, [], ◌∷◌, length, get_or, sym, ap, subst, ◌∙◌, arith, length-append, Some, None, ⊎_elim}
 use Rattle.std.specs.Prelude.{◌==◌, ◌&&◌, slice_get}
 use Rattle.std.proofs.lemmas.Bool.{cases_lt, lt-ltb, le-ltb}
 use Rattle.jpeg_marker.specs.Walks.{Walk, next_walk}
-use Rattle.jpeg_marker.specs.FirstWalks.{only_walk, opening_walk}
+use Rattle.jpeg_marker.specs.FirstWalks.{opening_walk}
 use Rattle.handover.specs.PadSums.{no_pads}
 use Rattle.handover.specs.declared.outcome.Outcome.{Outcome}
 use Rattle.handover.specs.declared.outcome.Outcome.TheVariants.{Good}
 use Rattle.board_core.specs.BoardInvariants.{bytes_at}
 use Rattle.box_format.specs.Parts.{IsScanBox, BoxSeen}
-use Rattle.scans_format.specs.Scans.{AreBoxes}
-use Rattle.scans_format.specs.Containers.{IsContainer}
-use Rattle.scans_spec.specs.ScansMeanings.{lead_of, led_output, output_from, output_at}
+use Rattle.box_format.specs.Containers.{AreBoxes, IsContainer}
+use Rattle.container_spec.specs.ScansMeanings.{lead_of, led_output, output_from, output_at}
 use Rattle.container_spec.specs.Segments.{Output, segment_output}
 use Rattle.container_spec.specs.Meanings.{segment_in}
 use Rattle.container_spec.proofs.Numbered.{mapped_long, mapped_at, got_at, got_none}
@@ -82,8 +81,7 @@ boxes_are w (s ∷ t ∷ scans) are =
 
 -- those of a container have
 pub scans_are : (scans : List BoxSeen) (bytes : List ℕ) → IsContainer scans bytes → AreScans scans
-scans_are scans bytes (inl is) = subst AreScans (sym is.2) ((only_walk, is.3.box), tt)
-scans_are scans bytes (inr is) = boxes_are opening_walk scans is.1.are.each
+scans_are scans bytes is = boxes_are opening_walk scans is.1.are.each
 
 few_if : (test : Bool) (header : List ℕ) → length header < 2 ^ 32
     → length (if test then header else []) ≤ 2 ^ 32

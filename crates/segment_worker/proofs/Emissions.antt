@@ -15,9 +15,9 @@ use Rattle.handover.specs.declared.outcome.Outcome.TheVariants.{Good, Bad}
 use Rattle.handover.specs.declared.outcome.StreamFault.{StreamFault}
 use Rattle.board_core.specs.BoardInvariants.{bytes_at}
 use Rattle.box_format.specs.Parts.{BoxSeen}
-use Rattle.scans_spec.specs.ScansMeanings.{output_at, scan_of}
-use Rattle.scans_spec.specs.ScansJoined.{ScansJoined, no_sums, scanned_from, scanned_with, scans_joined, sums_of, sums_with}
-use Rattle.scans_spec.specs.declared.scan_pads.ScanPads.{ScanPads}
+use Rattle.container_spec.specs.ScansMeanings.{output_at, scan_of}
+use Rattle.container_spec.specs.ScansJoined.{ScansJoined, no_sums, scanned_from, scanned_with, scans_joined, sums_of, sums_with}
+use Rattle.container_spec.specs.declared.scan_pads.ScanPads.{ScanPads}
 use Rattle.segment_code.specs.FileDecoding.{FileDecoderSeen}
 use Rattle.output_board.specs.declared.view.EmitterView.{EmitterView}
 use Rattle.output_board.specs.declared.answers.Take.{Take}

@@ -7,9 +7,9 @@ use Rattle.byte_window.proofs.WindowParts.{is_counted}
 use Rattle.handover.specs.declared.pads.PadSum.{PadSum}
 use Rattle.handover.specs.declared.outcome.Outcome.TheVariants.{Good, Bad}
 use Rattle.handover.specs.declared.outcome.StreamFault.{StreamFault}
-use Rattle.scans_format.specs.Scans.{all_plans}
-use Rattle.scans_spec.specs.ScansJoined.{ScansJoined, no_sums, scanned_from, scans_joined, sums_of, sums_with}
-use Rattle.scans_spec.specs.declared.scan_pads.ScanPads.{ScanPads}
+use Rattle.box_format.specs.Containers.{all_plans}
+use Rattle.container_spec.specs.ScansJoined.{ScansJoined, no_sums, scanned_from, scans_joined, sums_of, sums_with}
+use Rattle.container_spec.specs.declared.scan_pads.ScanPads.{ScanPads}
 use Rattle.segment_code.specs.FileDecoding.{FileDecoderSeen}
 use Rattle.segment_worker.specs.Joining.{joined_from, joined_onto}
 use Rattle.segment_worker.specs.Contents.{Stretch}

@@ -6,7 +6,7 @@ use Rattle.board_core.specs.BoardInvariants.{bytes_at}
 use Rattle.box_format.specs.Raws.{numbers}
 use Rattle.box_format.specs.Parts.{BoxSeen}
 use Rattle.container_spec.specs.Segments.{Output}
-use Rattle.scans_spec.specs.ScansMeanings.{output_at}
+use Rattle.container_spec.specs.ScansMeanings.{output_at}
 
 -- some of the segments of a container's scans: so many, from one on
 pub record Stretch : Type 0 where

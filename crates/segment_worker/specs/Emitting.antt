@@ -4,9 +4,9 @@ use Rattle.byte_window.specs.declared.window.Window.{Window}
 use Rattle.byte_window.specs.Windows.{window}
 use Rattle.atomic_table.specs.Seated.{TableId}
 use Rattle.board_core.specs.BoardInvariants.{bytes_at}
-use Rattle.scans_format.specs.Scans.{all_plans}
-use Rattle.scans_spec.specs.ScansJoined.{ScansJoined, scanned_from, scans_joined}
-use Rattle.scans_spec.specs.declared.scan_pads.ScanPads.{ScanPads}
+use Rattle.box_format.specs.Containers.{all_plans}
+use Rattle.container_spec.specs.ScansJoined.{ScansJoined, scanned_from, scans_joined}
+use Rattle.container_spec.specs.declared.scan_pads.ScanPads.{ScanPads}
 use Rattle.segment_code.specs.FileDecoding.{FileDecoderSeen}
 use Rattle.output_board.specs.declared.view.EmitterView.{EmitterView}
 use Rattle.output_board.specs.Seats.{SeatValue}

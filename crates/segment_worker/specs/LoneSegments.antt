@@ -6,8 +6,8 @@ use Rattle.byte_window.specs.declared.window.Window.{Window}
 use Rattle.byte_window.specs.Windows.{window}
 use Rattle.bit_list.specs.Pieces.{piece_room}
 use Rattle.handover.specs.declared.outcome.Outcome.{Outcome}
-use Rattle.scans_format.specs.Scans.{all_plans}
-use Rattle.scans_spec.specs.declared.scan_pads.ScanPads.{ScanPads}
+use Rattle.box_format.specs.Containers.{all_plans}
+use Rattle.container_spec.specs.declared.scan_pads.ScanPads.{ScanPads}
 use Rattle.segment_code.specs.FileDecoding.{FileDecoderSeen, FileOwes, steps_left}
 use Rattle.segment_worker.specs.Contents.{Stretch}
 use Rattle.segment_worker.specs.Emitting.{joined_in}

@@ -1,7 +1,7 @@
 -- Steps: a worker at work (own).
 use Rattle.std.specs.Prelude.{◌≡◌, true, false, None}
 use Rattle.atomic_table.specs.Seated.{TableId}
-use Rattle.scans_format.specs.Scans.{all_plans}
+use Rattle.box_format.specs.Containers.{all_plans}
 use Rattle.segment_code.specs.FileDecoding.{FileDecoderSeen}
 use Rattle.output_board.specs.declared.view.WorkerView.{WorkerView}
 use Rattle.output_board.specs.Seats.{SeatValue}

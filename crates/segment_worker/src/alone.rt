@@ -4,7 +4,7 @@ ghost use Rattle.outside_core.specs.Takes.{TakesNext};
 ghost use Rattle.byte_window.specs.Windows.{window as passed};
 ghost use Rattle.handover.specs.declared.outcome.Outcome.{Outcome};
 ghost use Rattle.box_format.specs.Versions.{most_segments};
-ghost use Rattle.scans_format.specs.Scans.{all_plans, segment_count};
+ghost use Rattle.box_format.specs.Containers.{all_plans, segment_count};
 ghost use Rattle.segment_code.specs.FileDecoding.{FileOwes, steps_left};
 ghost use Rattle.segment_worker.specs.Contents.{segment_room, stretch};
 ghost use Rattle.segment_worker.specs.Emitting.{Emits, joined_in, seen_through};
@@ -14,11 +14,11 @@ use crate::emitted::{EmitStop, Emitted};
 use crate::emitter_part::write_part;
 use crate::lengths::segments_are_short;
 use bit_list::Piece;
+use box_format::FileView;
 use byte_window::Window;
+use container_spec::ScanPads;
 use handover::Outcome;
 use outside_core::{Gate, Sink};
-use scans_format::FileView;
-use scans_spec::ScanPads;
 use segment_code::{FileDecoder, Step, segment_at};
 
 /// Writes what the window lets through of `count` segments in order, from the container's number `first` on, each

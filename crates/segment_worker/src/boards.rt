@@ -1,14 +1,14 @@
 // The board of a stretch.
 ghost use Rattle.std.specs.Prelude.{◌≡◌, ◌+◌, ◌≤◌, IfOk};
 ghost use Rattle.output_board.specs.Seats.{new_emitter_seat, new_worker_seats};
-ghost use Rattle.scans_format.specs.Scans.{segment_count};
+ghost use Rattle.box_format.specs.Containers.{segment_count};
 ghost use Rattle.segment_worker.specs.Contents.{stretch};
 
 use crate::content::Told;
 use crate::lengths::segments_are_short;
+use box_format::FileView;
 use growth::NoMemory;
 use output_board::{Board, EmitterSeat, WorkerSeat};
-use scans_format::FileView;
 use std::alloc::Global;
 
 /// The board of `count` of a container's segments, from number `first` on, before the first call, the emitter's seat,

@@ -2,8 +2,8 @@
 ghost use Rattle.std.specs.Prelude.{◌≡◌};
 ghost use Rattle.segment_worker.specs.Contents.{stretch};
 
+use box_format::FileView;
 use output_board::Content;
-use scans_format::FileView;
 use std::marker::Model;
 use std::snapshot::Snapshot;
 

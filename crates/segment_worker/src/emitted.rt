@@ -1,6 +1,6 @@
 // What an emitter returns.
+use container_spec::ScanPads;
 use handover::StreamFault;
-use scans_spec::ScanPads;
 
 /// All segments were written, as far as they go through the window, none with a fault.
 #[derive(Clone, Copy, Debug, PartialEq, Eq)]

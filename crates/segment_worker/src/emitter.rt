@@ -2,7 +2,7 @@
 ghost use Rattle.std.specs.Prelude.{◌≡◌, ◌+◌, ◌*◌, ◌≤◌, length, IfOk, OnOk, OnErr, true};
 ghost use Rattle.outside_core.specs.Takes.{TakesNext};
 ghost use Rattle.box_format.specs.Versions.{most_segments};
-ghost use Rattle.scans_format.specs.Scans.{segment_count};
+ghost use Rattle.box_format.specs.Containers.{segment_count};
 ghost use Rattle.segment_worker.specs.Contents.{AreShort, segment_room, stretch};
 ghost use Rattle.segment_worker.specs.Emitting.{Emits, IsNewEmitter, IsThrough, IsUsedEmitter, joined_in, seen_through};
 
@@ -12,12 +12,12 @@ use crate::emitter_own::emit_unclaimed;
 use crate::emitter_part::write_part;
 use crate::lengths::segments_are_short;
 use bit_list::Piece;
+use box_format::FileView;
 use byte_window::Window;
+use container_spec::ScanPads;
 use handover::Outcome;
 use output_board::{Board, EmitterSeat, Take};
 use outside_core::{Gate, Sink};
-use scans_format::FileView;
-use scans_spec::ScanPads;
 use segment_code::{FileDecoder, segment_at};
 use std::sync::Wait;
 

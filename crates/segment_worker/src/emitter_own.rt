@@ -4,18 +4,18 @@ ghost use Rattle.outside_core.specs.Takes.{TakesNext};
 ghost use Rattle.byte_window.specs.Windows.{window as passed};
 ghost use Rattle.board_core.specs.BoardInvariants.{bytes_at};
 ghost use Rattle.box_format.specs.Versions.{most_segments};
-ghost use Rattle.scans_format.specs.Scans.{all_plans, segment_count};
+ghost use Rattle.box_format.specs.Containers.{all_plans, segment_count};
 ghost use Rattle.segment_worker.specs.Contents.{AreShort, segments_bytes, stretch};
 ghost use Rattle.segment_worker.specs.OwnSegments.{IsSameSeat, OwesRest, OwnEnds, own_rest};
 
 use crate::content::Told;
 use crate::emitter_part::write_part;
 use bit_list::Piece;
+use box_format::FileView;
 use byte_window::Window;
 use handover::Outcome;
 use output_board::{Board, EmitterSeat, Own};
 use outside_core::{Gate, Sink};
-use scans_format::FileView;
 use segment_code::{FileDecoder, Step};
 use std::sync::Wait;
 

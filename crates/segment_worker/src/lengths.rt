@@ -1,10 +1,10 @@
 // How many segments a container has, and how long they are.
 ghost use Rattle.std.specs.Prelude.{◌+◌, ◌≤◌, ℕ};
 ghost use Rattle.box_format.specs.Versions.{most_segments};
-ghost use Rattle.scans_format.specs.Scans.{segment_count};
+ghost use Rattle.box_format.specs.Containers.{segment_count};
 ghost use Rattle.segment_worker.specs.Contents.{AreShort, stretch};
 
-use scans_format::FileView;
+use box_format::FileView;
 
 // Whatever its streams, a container has few segments, and none has more bytes than 64 bits count. This is called for
 // its clauses and does no work but count.

@@ -1,6 +1,6 @@
 // A worker.
 ghost use Rattle.std.specs.Prelude.{◌+◌, ◌≤◌};
-ghost use Rattle.scans_format.specs.Scans.{segment_count};
+ghost use Rattle.box_format.specs.Containers.{segment_count};
 ghost use Rattle.segment_worker.specs.Contents.{stretch};
 ghost use Rattle.segment_worker.specs.Working.{HasLeft, IsIdle, IsOver};
 
@@ -8,9 +8,9 @@ use crate::content::Told;
 use crate::lengths::segments_are_short;
 use crate::worker_segment::put_segment;
 use bit_list::Piece;
+use box_format::FileView;
 use output_board::{Board, Claim, WorkerSeat};
 use outside_core::Gate;
-use scans_format::FileView;
 use segment_code::FileDecoder;
 use std::sync::Wait;
 

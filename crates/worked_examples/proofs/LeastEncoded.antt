@@ -1,6 +1,6 @@
 -- A sink that takes the container of the least file takes what encode makes of it.
 use Rattle.std.proofs.Common.{◌≡◌, ℕ, List, [], Some, refl, sym, ap, subst, ◌∙◌}
-use Rattle.box_format.specs.BoxRows.{second_box}
+use Rattle.box_format.specs.Rows.{second_box}
 use Rattle.command_words.specs.Meaning.{Means}
 use Rattle.command_words.specs.Rows.{encode_with, line}
 use Rattle.command_words.specs.declared.command.Command.{Command}

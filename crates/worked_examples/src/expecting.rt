@@ -1,7 +1,7 @@
 // What `run` may write at each moment: the container of the least file, and nothing else.
 ghost use Rattle.std.specs.Prelude.{◌≡◌, [], ◌∷◌, ◌++◌, map, string_bytes};
 ghost use Rattle.outside_core.specs.Faults.{Never, no_faults};
-ghost use Rattle.box_format.specs.BoxRows.{second_box};
+ghost use Rattle.box_format.specs.Rows.{second_box};
 ghost use Rattle.command_words.specs.Rows.{encode_with, line};
 ghost use Rattle.lepton_run.specs.FileRows.{least_file};
 ghost use Rattle.worked_examples.specs.Expected.{held_by, TakesRest};

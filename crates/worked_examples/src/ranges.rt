@@ -93,7 +93,7 @@ fn is_one<R: Threads + Wait + Sync + Abort>(
     let Ok(indexed) = index(rt, alloc, plain.as_slice()) else {
         return false;
     };
-    let Ok(view) = read_box(made.as_slice()) else {
+    let Ok(view) = read_box(alloc, made.as_slice()) else {
         return false;
     };
     indexed.as_slice() == made.as_slice()

@@ -1,15 +1,15 @@
-// A file of two scans, encoded, read, and decoded segment by segment (docs/FORMAT.md, Version 4).
+// A file of two scans, encoded, read, and decoded segment by segment (docs/FORMAT.md, The container).
 ghost use Rattle.std.specs.Prelude.{◌≡◌, ◌<◌, ℕ, List, length, true};
 ghost use Rattle.handover.specs.declared.outcome.Outcome.{Outcome};
 ghost use Rattle.segment_code.specs.FileDecoding.{FileOwes};
 
 use crate::trial::{assert_holds, comes_back};
 use bit_list::Piece;
+use box_format::{FileView, read_container};
 use jpeg_marker::HeaderRefusal;
 use lepton_encode::{EncodeError, encode};
 use outside_core::OpenGate;
 use scan_spec::ScanRefusal;
-use scans_format::{FileView, read_container};
 use segment_code::{FileDecoder, Step};
 use std::alloc::{AllocError, Global};
 use std::process::Abort;

@@ -1,22 +1,34 @@
-use Rattle.std.proofs.Common.{◌≡◌, ◌||◌, not, sym, ap, ◌∙◌, arith}
-use Rattle.std.specs.Prelude.{slice_index}
-use Rattle.std.proofs.lemmas.Bool.{eq-eqb}
-use Rattle.box_format.specs.Parts.{are_rising}
-use Rattle.box_format.specs.Raws.{header_length}
-use Rattle.box_format.specs.BoxChecks.{are_bad_places}
-use Rattle.box_format.specs.Versions.{layout_of}
-use Rattle.box_format.proofs.Places.{listed_in, one_listed, places_kept}
+use Rattle.std.proofs.Common.{refl, ◌≡◌, Bool, false, true, not, sym, ap, ◌∙◌}
+use Rattle.std.proofs.lemmas.Bool.{eq-eqb, ne_eqb, not-false}
+use Rattle.box_format.specs.declared.version.Layout.{Layout}
+use Rattle.box_format.proofs.ScansFaults.{no_places, places_by}
 use Rattle.box_format.proofs.checks.are_bad_places.Goals as goal
+
+not_true : (b : Bool) → not b ≡ true → b ≡ false
+not_true true e = cc
+not_true false e = refl
+
+pub returns-then-not-layout : goal.returns-then-not-layout
+returns-then-not-layout c =
+    let unplaced = ap (λ (l : Layout). l.placed) (sym c.layout.ensures.value) ∙ not_true c.layout.result.placed c.if-not-layout.true in
+    sym (no_places c.args.version c.args.bytes.now c.args.scan unplaced)
+
+pub returns-then-place_in-from : goal.returns-then-place_in-from
+returns-then-place_in-from c =
+    let placed = ap (λ (l : Layout). l.placed) (sym c.layout.ensures.value) ∙ not-false c.layout.result.placed c.if-not-layout.false in
+    let test = ne_eqb c.place_in.result c.from.result c.if-place_in-from.true in
+    ap not test
+    ∙ places_by c.args.version c.args.bytes.now c.args.scan c.fields_place-fields.result
+    c.place_in.result c.from.result false c.requires.whole c.requires.scan placed
+    c.fields_place-fields.ensures.value c.place_in.ensures
+    (c.from.ensures ∙ c.header_length.ensures) test
 
 pub returns-else-place_in-from : goal.returns-else-place_in-from
 returns-else-place_in-from c =
-    let bytes = c.args.bytes.now in
-    let placed = ap (λ v. (layout_of v).placed) (sym c.version_in.ensures)
-    ∙ sym c.is_placed.ensures ∙ c.if-is_placed.true in
-    let first : slice_index (listed_in bytes) 0 ≡ header_length bytes =
-    one_listed bytes 0 (omega arith) ∙ sym c.place_in.ensures ∙ c.if-place_in-from.false
-    ∙ c.from.ensures ∙ c.header_length.ensures in
+    let placed = ap (λ (l : Layout). l.placed) (sym c.layout.ensures.value) ∙ not-false c.layout.result.placed c.if-not-layout.false in
+    let test = eq-eqb c.place_in.result c.from.result c.if-place_in-from.false in
     ap not c.are_rising.ensures
-    ∙ sym (ap (are_bad_places (header_length bytes)) (places_kept bytes placed)
-    ∙ ap (λ b. not b || not (are_rising (listed_in bytes)))
-    (eq-eqb (slice_index (listed_in bytes) 0) (header_length bytes) first))
+    ∙ places_by c.args.version c.args.bytes.now c.args.scan c.fields_place-fields.result
+    c.place_in.result c.from.result true c.requires.whole c.requires.scan placed
+    c.fields_place-fields.ensures.value c.place_in.ensures
+    (c.from.ensures ∙ c.header_length.ensures) test

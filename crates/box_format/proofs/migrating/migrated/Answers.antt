@@ -1,6 +1,6 @@
 use Rattle.std.proofs.Common.{◌≡◌, IfOk, ℕ, List, sym, ap, subst, ◌∙◌}
-use Rattle.box_format.specs.Parts.{box_bytes, relaid}
-use Rattle.box_format.proofs.Migrated.{front_there, migrated_stays, relaid_is}
+use Rattle.box_format.specs.Single.{box_bytes, relaid}
+use Rattle.box_format.proofs.SingleBytes.{front_there, migrated_stays, relaid_is}
 use Rattle.box_format.proofs.migrating.migrated.Goals as goal
 
 pub relaid-requires : goal.relaid-requires

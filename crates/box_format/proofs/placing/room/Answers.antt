@@ -1,4 +1,5 @@
-use Rattle.std.proofs.Common.{◌<◌, ◌≤◌, length, arith}
+use Rattle.std.proofs.Common.{◌<◌, ◌≤◌, length, arith, ap}
+use Rattle.box_format.specs.declared.version.Layout.{Layout}
 use Rattle.box_format.proofs.Placed.{room_all, room_more}
 use Rattle.box_format.proofs.placing.room.Goals as goal
 
@@ -10,9 +11,9 @@ loop-i-preserved c =
     let below : c.loop-i.i < length streams = omega (arith, count, test) in
     record {
       small = c.saturating_add-room-in-loop-i.type_inv;
-      left = λ places. room_more streams c.loop-i.i c.loop-i.room c.record_room.result
+      left = λ places. room_more streams c.loop-i.i c.loop-i.room c.layout-layout.result.room
           c.saturating_add-in-loop-i.result c.saturating_add-room-in-loop-i.result _
-          c.stream.result.now below c.stream.ensures c.record_room.ensures.value
+          c.stream.result.now below c.stream.ensures (ap (λ (l : Layout). l.room) c.layout-layout.ensures.value)
           c.saturating_add-in-loop-i.ensures c.saturating_add-room-in-loop-i.ensures
           (c.loop-i.invariant.left places);
     }

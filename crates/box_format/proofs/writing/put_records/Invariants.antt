@@ -1,6 +1,6 @@
 use Rattle.std.proofs.Common.{◌≡◌, ◌++◌, drop, map}
 use Rattle.box_format.specs.Parts.{records}
-use Rattle.box_format.specs.Seen.{parts_given}
+use Rattle.box_format.specs.Given.{parts_given}
 use Rattle.box_format.proofs.writing.put_records.Given as goal
 
 abbrev pub invariant-loop-i : goal.invariant-loop-i

@@ -1,13 +1,10 @@
-use Rattle.std.proofs.Common.{◌≡◌, ◌+◌, ◌-◌, ◌^◌, ◌<◌, length, map, drop, min, sum}
-use Rattle.box_format.specs.Versions.{layout_of}
-use Rattle.box_format.specs.Seen.{parts_given, room_of}
+use Rattle.std.proofs.Common.{◌≡◌, ◌+◌, ◌-◌, ◌^◌, ◌<◌, map, drop, min, sum}
+use Rattle.box_format.specs.Given.{all_given, scan_room, scans_room}
 use Rattle.box_format.proofs.writing.room.Given as goal
 
-abbrev pub invariant-loop-stream : goal.invariant-loop-stream
-invariant-loop-stream l = record {
+abbrev pub invariant-loop-scan : goal.invariant-loop-scan
+invariant-loop-scan l = record {
   small : l.room < 2 ^ 64;
-  left : min (2 ^ 64 - 1)
-      (l.room + sum (map (λ stream. (layout_of (parts_given l.parts).version).room + length stream)
-      (map (λ v. v.items) (drop l.stream-index l.parts.streams.now))))
-      ≡ min (2 ^ 64 - 1) (room_of (parts_given l.parts));
+  left : min (2 ^ 64 - 1) (l.room + sum (map scan_room (all_given (drop l.scan-index l.scans))))
+      ≡ min (2 ^ 64 - 1) (scans_room l.fn.version (all_given l.scans));
 }

@@ -16,7 +16,7 @@ use Rattle.scan_spec.specs.Spots.{mcu_put, mcus_put}
 use Rattle.handover.specs.HandoverBytes.{handover_bytes}
 use Rattle.container_spec.specs.ScanStream.{blocks_stream}
 use Rattle.container_spec.specs.Segments.{mcu_step, ending, mcus_output}
-use Rattle.container_spec.specs.Meanings.{meaning_of}
+use Rattle.container_spec.specs.AloneMeanings.{meaning_of}
 use Rattle.container_spec.proofs.laws.rows_of_meanings.Goals as goal
 
 pub returns-clause-zeros : goal.returns-clause-zeros

@@ -1,6 +1,6 @@
 use Rattle.std.proofs.Common.{List, ℕ, ap, subst, sym}
 use Rattle.outside_core.specs.Memory.{Store}
-use Rattle.scans_spec.specs.ScansMeanings.{scans_meaning}
+use Rattle.container_spec.specs.Portions.{scans_meaning}
 use Rattle.lepton_c.specs.Writes.{Decodes}
 use Rattle.lepton_c.proofs.Written.{decodes}
 use Rattle.lepton_c.proofs.decoding.decode.Goals as goal

@@ -1,5 +1,5 @@
 use Rattle.std.proofs.Common.{Err, ap, subst, ◌∙◌}
-use Rattle.scans_spec.specs.ScansMeanings.{scans_meaning}
+use Rattle.container_spec.specs.Portions.{scans_meaning}
 use Rattle.lepton_decode.specs.declared.error.DecodeError.{DecodeError}
 use Rattle.lepton_c.specs.Gives.{DecodeGives}
 use Rattle.lepton_c.specs.Writes.{Decodes}

@@ -1,5 +1,5 @@
 use Rattle.std.proofs.Common.{ap, sym, length, Ok}
-use Rattle.scans_spec.specs.ScansJoined.{ScansJoined}
+use Rattle.container_spec.specs.ScansJoined.{ScansJoined}
 use Rattle.lepton_decode.proofs.FilesWritten.{trailer_taken}
 use Rattle.lepton_decode.proofs.NoSegments.{nothing_joined, nothing_emitted, nothing_with}
 use Rattle.lepton_decode.proofs.decode.restore_bare.Goals as goal

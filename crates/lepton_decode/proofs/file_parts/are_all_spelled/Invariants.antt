@@ -1,5 +1,5 @@
 use Rattle.std.proofs.Common.{◌≡◌, drop}
-use Rattle.scans_spec.specs.ScansJoined.{all_spelled}
+use Rattle.container_spec.specs.ScansJoined.{all_spelled}
 use Rattle.lepton_decode.proofs.file_parts.are_all_spelled.Given as goal
 
 abbrev pub invariant-loop-scan : goal.invariant-loop-scan

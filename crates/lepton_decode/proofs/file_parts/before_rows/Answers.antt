@@ -1,6 +1,6 @@
 use Rattle.std.proofs.Common.{List, ℕ, Option, ◌∙◌, sym, ap₂}
 use Rattle.box_format.specs.declared.chunk.Chunk.{Chunk}
-use Rattle.container_spec.specs.Meanings.{before_rows}
+use Rattle.container_spec.specs.AloneMeanings.{before_rows}
 use Rattle.lepton_decode.proofs.PadsLooked.{part_cut}
 use Rattle.lepton_decode.proofs.file_parts.before_rows.Goals as goal
 

@@ -3,7 +3,7 @@ use Rattle.std.specs.Prelude.{IfOk}
 use Rattle.outside_core.specs.Takes.{TakesNext}
 use Rattle.byte_window.proofs.WindowParts.{is_counted}
 use Rattle.handover.specs.declared.outcome.StreamFault.{StreamFault}
-use Rattle.scans_spec.specs.ScansMeanings.{scans_meaning}
+use Rattle.container_spec.specs.Portions.{scans_meaning}
 use Rattle.segment_worker.specs.Emitting.{Counts, Emits, joined_in, seen_through}
 use Rattle.segment_worker.specs.Written.{HasWritten, HasFailed}
 use Rattle.segment_worker.specs.declared.emitted.Emitted.{Emitted}

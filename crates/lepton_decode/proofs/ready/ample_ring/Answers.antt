@@ -1,6 +1,6 @@
 use Rattle.std.proofs.Common.{ℕ, ◌≤◌, ◌*◌, ◌/◌, ◌^◌, ◌∙◌, ap, subst, length}
 use Rattle.std.specs.Prelude.{max, min}
-use Rattle.scans_format.specs.Scans.{segment_count}
+use Rattle.box_format.specs.Containers.{segment_count}
 use Rattle.lepton_decode.proofs.RingSizes.{rings_of}
 use Rattle.lepton_decode.proofs.ready.ample_ring.Goals as goal
 

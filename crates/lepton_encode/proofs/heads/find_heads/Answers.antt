@@ -1,4 +1,4 @@
-use Rattle.std.proofs.Common.{rules, refl, ◌≡◌, ◌∙◌, true, sym, ap, arith, List, subst, length}
+use Rattle.std.proofs.Common.{rules, ◌≡◌, ◌∙◌, true, sym, ap, arith, List, subst, length}
 use Rattle.std.specs.Prelude.{Err}
 use Rattle.std.specs.List.{AllByRecursion}
 use Rattle.std.proofs.lemmas.Result.{err_from_is_err_and}
@@ -8,22 +8,13 @@ use Rattle.scan_spec.specs.FileParts.{is_last}
 use Rattle.lepton_encode.specs.FileHeads.{AreHeads}
 use Rattle.lepton_encode.specs.declared.error.EncodeError.TheVariants.{Header, Scan}
 use Rattle.lepton_encode.specs.declared.heads.Head.{Head}
-use Rattle.lepton_encode.proofs.FilesAt.{are_bytes}
-use Rattle.lepton_encode.proofs.HeadsFound.{AreBefore, none_before, first_within, few_before, before_next, heads_are, header_refused, scan_refused, one_longer}
+use Rattle.lepton_encode.proofs.HeadsFound.{are_bytes, AreBefore, none_before, few_before, before_next, heads_are, header_refused, scan_refused, one_longer}
 use Rattle.lepton_encode.proofs.heads.find_heads.Goals as goal
-
-pub at-requires : goal.at-requires
-at-requires c =
-    let all : AllByRecursion IsByte c.args.bytes.now =
-    are_bytes c.args.bytes.now (λ i. let h = c.type_inv.bytes i in search rules) in
-    let within = first_within c.args.bytes.now c.args.first.now all c.requires.opens in
-    let short = c.requires.length in
-    omega (arith, within, short)
 
 pub headers-init : goal.headers-init
 headers-init c =
-    none_before c.args.bytes.now c.args.first.now c.in_ok-heads.heads.items _
-    c.in_ok-heads.ensures.items c.requires.opens c.requires.more refl c.at.ensures
+    none_before c.args.bytes.now c.in-Ok.plan c.in_ok-heads.heads.items
+    c.in_ok-heads.ensures.items c.in-Ok.ensures.accepted
 
 pub returns-in_err-go_on-clause-header : goal.returns-in_err-go_on-clause-header
 returns-in_err-go_on-clause-header c =
@@ -76,3 +67,13 @@ returns-clause-heads c =
     sym c.is_last.ensures ∙ c.headers-test.false in
     subst (AreHeads opening_walk c.args.bytes.now) (sym c.in_ok-keep-2.ensures)
     (heads_are c.args.bytes.now c.headers.heads.items c.headers.head all c.headers.invariant last)
+
+pub returns-clause-few : goal.returns-clause-few
+returns-clause-few c =
+    let all : AllByRecursion IsByte c.args.bytes.now =
+    are_bytes c.args.bytes.now (λ i. let h = c.type_inv.bytes i in search rules) in
+    let few = few_before c.args.bytes.now c.headers.heads.items c.headers.head all
+    c.headers.invariant in
+    let long = ap (λ (l : List Head). length l) c.in_ok-keep-2.ensures
+    ∙ one_longer c.headers.heads.items c.headers.head in
+    omega (arith, few, long)

@@ -6,8 +6,7 @@ use Rattle.bit_list.specs.Bits.{IsByte}
 use Rattle.lepton_encode.specs.declared.error.EncodeError.TheVariants.{Scan}
 use Rattle.lepton_encode.specs.Errors.{error_of}
 use Rattle.lepton_encode.proofs.FaultsFound.{scan_found}
-use Rattle.lepton_encode.proofs.FilesAt.{are_bytes}
-use Rattle.lepton_encode.proofs.HeadsFound.{can, can_next, follows}
+use Rattle.lepton_encode.proofs.HeadsFound.{are_bytes, can, can_next, follows}
 use Rattle.lepton_encode.proofs.heads.go_on.Goals as goal
 
 pub find_starts-requires-clause-plan : goal.find_starts-requires-clause-plan

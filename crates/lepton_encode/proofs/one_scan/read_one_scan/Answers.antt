@@ -1,24 +1,34 @@
-use Rattle.std.proofs.Common.{rules, ◌≡◌, ◌+◌, ◌-◌, ◌∙◌, length, refl, sym, ap, arith}
+use Rattle.std.proofs.Common.{rules, ◌≡◌, ◌≤◌, ◌+◌, ◌-◌, ◌∙◌, ℕ, length, refl, ap, arith}
 use Rattle.std.specs.Prelude.{Err}
 use Rattle.std.specs.List.{AllByRecursion}
 use Rattle.std.proofs.lemmas.Option.{slice_get_read}
 use Rattle.std.proofs.lemmas.Result.{err_from_is_err_and}
 use Rattle.bit_list.specs.Bits.{IsByte}
-use Rattle.jpeg_marker.proofs.OneScans.{several_is_one}
 use Rattle.lepton_encode.specs.declared.error.OneScanError.TheVariants.{Header, Scan}
 use Rattle.lepton_encode.specs.Errors.{as_one_scan_error, one_scan_error_of}
 use Rattle.lepton_encode.proofs.FaultsFound.{header_as, one_scan_found, scan_as}
-use Rattle.lepton_encode.proofs.FilesAt.{are_bytes}
+use Rattle.lepton_encode.proofs.HeadsFound.{are_bytes, heads_some, one_accepted}
 use Rattle.lepton_encode.proofs.SeveralRead.{last_can, last_refused, several_read}
 use Rattle.lepton_encode.proofs.one_scan.read_one_scan.Goals as goal
 
-pub returns-then-is_last-clause-accepted : goal.returns-then-is_last-clause-accepted
-returns-then-is_last-clause-accepted c =
+pub index-last-requires : goal.index-last-requires
+index-last-requires c =
+    let some = heads_some c.args.bytes.now c.in_ok-heads.heads.items c.in_ok-heads.ensures.heads in
+    let len : c.len-count.result ≡ length c.in_ok-heads.heads.items = search rules in
+    omega (arith, some, len)
+
+pub returns-then-count-eq1-clause-accepted : goal.returns-then-count-eq1-clause-accepted
+returns-then-count-eq1-clause-accepted c =
     let bytes = c.args.bytes.now in
     let all : AllByRecursion IsByte bytes =
     are_bytes bytes (λ i. let h = c.type_inv.bytes i in search rules) in
-    several_is_one bytes c.in-Ok.plan all c.in-Ok.ensures.accepted
-    (sym c.is_last.ensures ∙ c.if-is_last.true)
+    let heads = c.in_ok-heads.heads.items in
+    let some = heads_some bytes heads c.in_ok-heads.ensures.heads in
+    let len : c.len-count.result ≡ length heads = search rules in
+    let here = slice_get_read heads (length heads) (c.len-count.result - 1) c.index-last.result.now refl
+    (omega (arith, some, len)) c.index-last.ensures in
+    one_accepted bytes heads (c.len-count.result - 1) c.index-last.result.now all
+    c.in_ok-heads.ensures.heads (search rules) here
 
 pub returns-in_err-heads-clause-header : goal.returns-in_err-heads-clause-header
 returns-in_err-heads-clause-header c =
@@ -44,12 +54,12 @@ find_starts-requires-clause-plan c =
     let all : AllByRecursion IsByte bytes =
     are_bytes bytes (λ i. let h = c.type_inv.bytes i in search rules) in
     let heads = c.in_ok-heads.heads.items in
-    let two = c.in_ok-heads.ensures.several in
-    let len : c.len.result ≡ length heads = search rules in
-    let last : c.len.result - 1 + 1 ≡ length heads = omega (arith, two, len) in
-    let here = slice_get_read heads (length heads) (c.len.result - 1) c.index-last.result.now refl
-    (omega (arith, two, len)) c.index-last.ensures in
-    last_can bytes heads (c.len.result - 1) c.index-last.result.now all c.in_ok-heads.ensures.heads
+    let some = heads_some bytes heads c.in_ok-heads.ensures.heads in
+    let len : c.len-count.result ≡ length heads = search rules in
+    let last : c.len-count.result - 1 + 1 ≡ length heads = omega (arith, some, len) in
+    let here = slice_get_read heads (length heads) (c.len-count.result - 1) c.index-last.result.now refl
+    (omega (arith, some, len)) c.index-last.ensures in
+    last_can bytes heads (c.len-count.result - 1) c.index-last.result.now all c.in_ok-heads.ensures.heads
     here last
 
 pub returns-in_err-find_starts-clause-scan : goal.returns-in_err-find_starts-clause-scan
@@ -58,19 +68,22 @@ returns-in_err-find_starts-clause-scan c =
     let all : AllByRecursion IsByte bytes =
     are_bytes bytes (λ i. let h = c.type_inv.bytes i in search rules) in
     let heads = c.in_ok-heads.heads.items in
-    let two = c.in_ok-heads.ensures.several in
-    let len : c.len.result ≡ length heads = search rules in
-    let last : c.len.result - 1 + 1 ≡ length heads = omega (arith, two, len) in
-    let here = slice_get_read heads (length heads) (c.len.result - 1) c.index-last.result.now refl
-    (omega (arith, two, len)) c.index-last.ensures in
+    let some = heads_some bytes heads c.in_ok-heads.ensures.heads in
+    let len : c.len-count.result ≡ length heads = search rules in
+    let last : c.len-count.result - 1 + 1 ≡ length heads = omega (arith, some, len) in
+    let here = slice_get_read heads (length heads) (c.len-count.result - 1) c.index-last.result.now refl
+    (omega (arith, some, len)) c.index-last.ensures in
     let p = err_from_is_err_and c.from_residual-in_err-find_starts.result
     c.from_residual-in_err-find_starts.ensures.1 in
     rw (p.1, p.2) (λ refusal is.
     let scan : one_scan_error_of c.in_err-find_starts.field-0.0 ≡ Scan refusal = cc in
     let cause = ap (λ error. Err error)
     (one_scan_found c.in_err-find_starts.field-0.0 refusal scan) in
-    last_refused bytes heads (c.len.result - 1) c.index-last.result.now all
+    last_refused bytes heads (c.len-count.result - 1) c.index-last.result.now all
     c.in_ok-heads.ensures.heads here last refusal (c.in_err-find_starts.ensures.refused refusal cause))
+
+not_one : (n : ℕ) → 1 ≤ n → (n ≡ 1 → ⊥) → 2 ≤ n
+not_one n some other = omega (arith, some, other)
 
 pub returns-clause-many : goal.returns-clause-many
 returns-clause-many c = λ many.
@@ -78,11 +91,12 @@ returns-clause-many c = λ many.
     let all : AllByRecursion IsByte bytes =
     are_bytes bytes (λ i. let h = c.type_inv.bytes i in search rules) in
     let heads = c.in_ok-heads.heads.items in
-    let two = c.in_ok-heads.ensures.several in
-    let len : c.len.result ≡ length heads = search rules in
-    let last : c.len.result - 1 + 1 ≡ length heads = omega (arith, two, len) in
-    let here = slice_get_read heads (length heads) (c.len.result - 1) c.index-last.result.now refl
-    (omega (arith, two, len)) c.index-last.ensures in
-    several_read bytes heads (c.len.result - 1) c.index-last.result.now all
+    let some = heads_some bytes heads c.in_ok-heads.ensures.heads in
+    let len : c.len-count.result ≡ length heads = search rules in
+    let last : c.len-count.result - 1 + 1 ≡ length heads = omega (arith, some, len) in
+    let here = slice_get_read heads (length heads) (c.len-count.result - 1) c.index-last.result.now refl
+    (omega (arith, some, len)) c.index-last.ensures in
+    several_read bytes heads (c.len-count.result - 1) c.index-last.result.now all
     c.in_ok-heads.ensures.heads here last c.in_ok-find_starts.field-0
-    c.in_ok-find_starts.ensures.starts two
+    c.in_ok-find_starts.ensures.starts (not_one (length heads) some
+    (λ one. c.if-count-eq1.false (len ∙ one)))

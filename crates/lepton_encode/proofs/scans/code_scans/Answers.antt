@@ -6,8 +6,7 @@ use Rattle.bit_list.specs.Bits.{IsByte}
 use Rattle.lepton_encode.specs.declared.error.EncodeError.TheVariants.{Scan}
 use Rattle.lepton_encode.specs.Errors.{error_of}
 use Rattle.lepton_encode.proofs.FaultsFound.{scan_found}
-use Rattle.lepton_encode.proofs.FilesAt.{are_bytes}
-use Rattle.lepton_encode.proofs.HeadsFound.{AreLeft, can, head_of, left_next, left_refused}
+use Rattle.lepton_encode.proofs.HeadsFound.{are_bytes, AreLeft, can, head_of, left_next, left_refused}
 use Rattle.lepton_encode.proofs.ScansContained.{coded_all, coded_more, item_first}
 use Rattle.lepton_encode.proofs.scans.code_scans.Goals as goal
 
@@ -61,6 +60,7 @@ loop-head-preserved g c =
           c.loop-head.invariant.coded h _ c.push.new.list.items split c.in_ok-push.ensures.items
           (record {
             starts = c.in_ok-starts.ensures.starts;
+            places = c.in_ok-places.ensures;
             streams = λ mcus pads file.
                 c.in_ok-starts.ensures.streams mcus pads c.in_ok-starts.starts.trailer file;
           });

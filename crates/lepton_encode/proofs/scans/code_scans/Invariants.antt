@@ -1,6 +1,6 @@
 use Rattle.std.proofs.Common.{◌++◌, List, drop}
 use Rattle.lepton_encode.specs.ScansMade.{AreCoded}
-use Rattle.lepton_encode.specs.declared.scans.CodedScan.{CodedScan}
+use Rattle.lepton_encode.specs.declared.container.CodedScan.{CodedScan}
 use Rattle.lepton_encode.proofs.HeadsFound.{AreLeft}
 use Rattle.lepton_encode.proofs.scans.code_scans.Given as goal
 

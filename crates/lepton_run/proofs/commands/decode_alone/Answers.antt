@@ -1,6 +1,6 @@
 use Rattle.std.proofs.Common.{rules, ap, sym, subst, Err}
 use Rattle.bool_coder.proofs.FirstBits.{all_bytes}
-use Rattle.scans_format.specs.declared.error.ReadError.{ReadError}
+use Rattle.box_format.specs.declared.error.ReadError.{ReadError}
 use Rattle.command_words.specs.declared.command.Command.TheVariants.{Decode}
 use Rattle.lepton_run.specs.CommandEnds.{CarriedOut}
 use Rattle.lepton_run.specs.declared.ending.Ending.{Ending}

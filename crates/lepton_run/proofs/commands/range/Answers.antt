@@ -9,6 +9,7 @@ use Rattle.lepton_run.specs.CommandEnds.{CarriedOut}
 use Rattle.lepton_run.specs.declared.ending.Ending.{Ending}
 use Rattle.lepton_run.specs.declared.refusal.Refusal.TheVariants.{Box, RangeBad}
 use Rattle.lepton_run.proofs.CarriedOut.{refused_early}
+use Rattle.lepton_run.proofs.ScansOfBytes.{box_are}
 use Rattle.lepton_run.proofs.RangesCarried.{bad_answer, range_ended, range_taken}
 use Rattle.lepton_run.proofs.commands.range.Goals as goal
 
@@ -49,7 +50,7 @@ returns-clause-ending g c =
     (Range c.args.from c.args.to c.args.workers) c.args.bytes.now c.args.sink.now c.read_range.new.sink ending)
     (sym came.1)
     (range_ended g.K.Sink.held g.K.Sink.faults g.K.Sink.full g.K.Sink.takes c.args.sink.now
-    c.read_range.new.sink c.args.bytes.now (all_bytes c.args.bytes.now (λ i. search rules)) c.args.from
+    c.read_range.new.sink c.args.bytes.now (box_are plan parts c.args.bytes.now r.ready) c.args.from
     c.args.to c.args.workers c.requires.short plan parts r.ready r.version r.good came.0 ended)
 
 pub read_range-requires-clause-takes : goal.read_range-requires-clause-takes
@@ -58,7 +59,7 @@ read_range-requires-clause-takes g c κs within =
     let plan = c.in-Ok.ready.plan in
     let parts = c.in-Ok.ready.parts in
     let taken = range_taken g.K.Sink.held g.K.Sink.faults g.K.Sink.full g.K.Sink.takes c.args.sink.now
-    c.args.sink.now c.args.bytes.now (all_bytes c.args.bytes.now (λ i. search rules)) c.args.from
+    c.args.sink.now c.args.bytes.now (box_are plan parts c.args.bytes.now r.ready) c.args.from
     c.args.to c.args.workers c.requires.short plan parts r.ready r.version r.good c.requires.takes in
     subst (λ (n : ℕ). TakesNext g.K.Sink.takes c.args.sink.now (range_meaning plan parts n c.in-Ok.ready.to).bytes)
     (sym r.from)

@@ -1,6 +1,6 @@
 use Rattle.std.proofs.Common.{ap, arith, Err}
 use Rattle.lepton_encode.specs.declared.error.EncodeError.{EncodeError}
-use Rattle.scans_spec.specs.ScansFiles.{Header, Scan}
+use Rattle.container_spec.specs.ScansFiles.{Header, Scan}
 use Rattle.lepton_run.proofs.SamplesCoded.{sample_fits, sample_has_one, sample_is_taken}
 use Rattle.lepton_run.proofs.sample_command.encoded.Goals as goal
 

@@ -1,5 +1,5 @@
 use Rattle.std.proofs.Common.{ap, Err}
-use Rattle.scans_format.specs.declared.error.ReadError.{ReadError}
+use Rattle.box_format.specs.declared.error.ReadError.{ReadError}
 use Rattle.lepton_run.proofs.SamplesCoded.{box_is_taken, decoded_whole, never_fails}
 use Rattle.lepton_run.proofs.sample_command.restored.Goals as goal
 

@@ -1,7 +1,7 @@
 use Rattle.std.proofs.Common.{List, ℕ, map, refl}
 use Rattle.std.specs.Prelude.{string_bytes}
 use Rattle.lepton_run.specs.Endings.{Notes}
-use Rattle.lepton_run.proofs.CallEnds.{accepted_of, answered_of, back_of, chunk_back_of, complete_of, cut_of, indexed_of, migrated_of, outside_of, range_back_of, sampled_of, scans_back_of}
+use Rattle.lepton_run.proofs.CallEnds.{accepted_of, answered_of, back_of, chunk_back_of, complete_of, cut_of, indexed_of, migrated_of, outside_of, range_back_of, sampled_of}
 use Rattle.lepton_run.proofs.top.run.Goals as goal
 
 pub returns-clause-answered : goal.returns-clause-answered
@@ -52,15 +52,6 @@ returns-clause-accepted g c =
 pub returns-clause-back : goal.returns-clause-back
 returns-clause-back g c =
     back_of g.K.Sink.held g.K.Sink.faults g.K.Sink.full g.S.Source.left g.S.Source.faults
-    g.S.Source.full (map string_bytes c.args.words.now) c.args.source.now
-    c.answer-ending.new.source c.args.sink.now c.answer-ending.new.sink
-    (λ (line : List ℕ). Notes g.N.Sink.held g.N.Sink.faults g.N.Sink.full c.args.note.now
-    c.tell.new.note line) c.answer-ending.result _ refl
-    c.answer-ending.ensures.ending c.tell.ensures.notes
-
-pub returns-clause-scans_back : goal.returns-clause-scans_back
-returns-clause-scans_back g c =
-    scans_back_of g.K.Sink.held g.K.Sink.faults g.K.Sink.full g.S.Source.left g.S.Source.faults
     g.S.Source.full (map string_bytes c.args.words.now) c.args.source.now
     c.answer-ending.new.source c.args.sink.now c.answer-ending.new.sink
     (λ (line : List ℕ). Notes g.N.Sink.held g.N.Sink.faults g.N.Sink.full c.args.note.now

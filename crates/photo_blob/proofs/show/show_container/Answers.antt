@@ -1,8 +1,8 @@
-use Rattle.std.proofs.Common.{◌≡◌, ℕ, List, ◌++◌, ap, ◌∙◌, Err}
+use Rattle.std.proofs.Common.{◌≡◌, ◌++◌, ap, ◌∙◌, Err}
 use Rattle.std.proofs.lemmas.Result.{IfOk-weaker}
-use Rattle.scans_format.specs.Scans.{all_parts, segment_count, trailer_of}
-use Rattle.scans_format.specs.declared.error.ReadError.{ReadError}
-use Rattle.scans_spec.specs.ScansJoined.{first_header}
+use Rattle.box_format.specs.Containers.{all_parts, segment_count, trailer_of}
+use Rattle.box_format.specs.declared.error.ReadError.{ReadError}
+use Rattle.container_spec.specs.ScansJoined.{first_header}
 use Rattle.photo_blob.specs.Showing.{bytes_from}
 use Rattle.photo_blob.proofs.ShownFiles.{not_refused, shown_bytes}
 use Rattle.photo_blob.proofs.show.show_container.Goals as goal

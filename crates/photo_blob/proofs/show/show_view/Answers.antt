@@ -1,7 +1,7 @@
 use Rattle.std.proofs.Common.{◌≡◌, ℕ, ◌+◌, ◌<◌, ◌≤◌, List, ◌++◌, ◌-◌, ap, ◌∙◌, arith}
-use Rattle.scans_format.specs.Scans.{all_parts, segment_count, trailer_of}
-use Rattle.scans_spec.specs.ScansJoined.{first_header}
-use Rattle.scans_spec.specs.ScansMeanings.{output_at}
+use Rattle.box_format.specs.Containers.{all_parts, segment_count, trailer_of}
+use Rattle.container_spec.specs.ScansJoined.{first_header}
+use Rattle.container_spec.specs.ScansMeanings.{output_at}
 use Rattle.photo_blob.specs.Showing.{segment_bytes, bytes_from}
 use Rattle.photo_blob.proofs.ShownFiles.{first_is, segment_more, none_left}
 use Rattle.photo_blob.proofs.show.show_view.Goals as goal

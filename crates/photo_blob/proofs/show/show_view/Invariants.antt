@@ -1,6 +1,6 @@
 use Rattle.std.proofs.Common.{◌≡◌, ◌-◌, ◌++◌}
-use Rattle.scans_format.specs.Scans.{all_plans, segment_count}
-use Rattle.scans_spec.specs.ScansJoined.{first_header}
+use Rattle.box_format.specs.Containers.{all_plans, segment_count}
+use Rattle.container_spec.specs.ScansJoined.{first_header}
 use Rattle.photo_blob.specs.Showing.{bytes_from}
 use Rattle.photo_blob.proofs.show.show_view.Given as goal
 

@@ -1,7 +1,7 @@
 use Rattle.std.proofs.Common.{◌≡◌, ◌∷◌, ℕ, List, inr, Err, ap}
 use Rattle.std.proofs.lemmas.Result.{IfOk-weaker}
 use Rattle.lepton_encode.specs.declared.error.EncodeError.{EncodeError}
-use Rattle.scans_spec.specs.ScansFiles.{FileIsRefused, FileRefusal, Header, Scan}
+use Rattle.container_spec.specs.ScansFiles.{FileIsRefused, FileRefusal, Header, Scan}
 use Rattle.photo_blob.specs.Blobs.{IsBlobOf, plain_mark}
 use Rattle.photo_store.proofs.make.make_blob.Goals as goal
 

@@ -5,7 +5,8 @@ use Rattle.handover.specs.declared.outcome.StreamFault.{StreamFault}
 use Rattle.scan_spec.specs.Pads.{PadBits, is_spelled}
 use Rattle.box_format.specs.Versions.{most_segments}
 use Rattle.container_spec.specs.Segments.{segment_output}
-use Rattle.container_spec.specs.Meanings.{outputs_of, segment_in}
+use Rattle.container_spec.specs.AloneMeanings.{outputs_of}
+use Rattle.container_spec.specs.Meanings.{segment_in}
 use Rattle.container_spec.proofs.Numbered.{mapped_long}
 use Rattle.range_read.proofs.FoundPlaces.{all_places, all_spelled, bad_place, good_place, next_fits, no_places}
 use Rattle.range_read.proofs.indexing.places_by.Goals as goal

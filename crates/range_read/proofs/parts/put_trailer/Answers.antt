@@ -2,7 +2,7 @@ use Rattle.std.proofs.Common.{◌+◌, ◌∙◌, sym, ap, subst, List, ℕ, len
 use Rattle.std.specs.Prelude.{IfOk}
 use Rattle.outside_core.specs.Takes.{TakesNext}
 use Rattle.handover.specs.declared.outcome.StreamFault.{StreamFault}
-use Rattle.scans_spec.specs.ScansJoined.{joined_alone}
+use Rattle.container_spec.specs.ScanByScan.{joined_alone}
 use Rattle.segment_worker.specs.Emitting.{Emits}
 use Rattle.segment_worker.specs.Written.{HasFailed, HasWritten}
 use Rattle.segment_worker.specs.declared.emitted.Emitted.{Emitted}
@@ -10,7 +10,8 @@ use Rattle.segment_worker.specs.declared.emitted.EmitStop.{EmitStop}
 use Rattle.segment_worker.specs.declared.emitted.EmitStop.TheVariants.{Fault}
 use Rattle.range_spec.specs.Ranges.{trailer_within}
 use Rattle.range_read.specs.RangeEnds.{RangeEnds}
-use Rattle.range_read.specs.RangeMeanings.{placed_file, range_meaning, segments_read}
+use Rattle.range_read.specs.RangeMeanings.{placed_file, range_meaning}
+use Rattle.range_read.specs.RangeSteps.{segments_read}
 use Rattle.range_read.proofs.RangeWritten.{ends_at_fault, ends_whole, failed_in_segments, failed_in_trailer}
 use Rattle.range_read.proofs.parts.put_trailer.Goals as goal
 

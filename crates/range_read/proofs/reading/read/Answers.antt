@@ -2,10 +2,12 @@ use Rattle.std.proofs.Common.{◌≡◌, ◌*◌, sym, subst}
 use Rattle.outside_core.specs.Takes.{TakesNext}
 use Rattle.box_format.specs.Parts.{BoxSeen}
 use Rattle.box_format.specs.Versions.{most_segments}
-use Rattle.scans_spec.specs.ScansJoined.{ScansJoined, joined_alone}
+use Rattle.container_spec.specs.ScansJoined.{ScansJoined}
+use Rattle.container_spec.specs.ScanByScan.{joined_alone}
 use Rattle.segment_worker.specs.Contents.{segment_room}
 use Rattle.range_read.specs.RangeEnds.{RangeEnds, stretch_between}
-use Rattle.range_read.specs.RangeMeanings.{range_meaning, segments_read}
+use Rattle.range_read.specs.RangeMeanings.{range_meaning}
+use Rattle.range_read.specs.RangeSteps.{segments_read}
 use Rattle.range_read.proofs.RangeWritten.{segments_taken, trailer_taken}
 use Rattle.range_read.proofs.StretchRead.{counted, emits_read, read_is, read_few}
 use Rattle.range_read.proofs.reading.read.Goals as goal

@@ -1,5 +1,5 @@
 use Rattle.std.proofs.Common.{◌≡◌}
-use Rattle.scans_format.specs.Scans.{all_plans}
+use Rattle.box_format.specs.Containers.{all_plans}
 use Rattle.worked_examples.proofs.scans.file_of.Given as goal
 
 abbrev pub invariant-loop-segment : goal.invariant-loop-segment

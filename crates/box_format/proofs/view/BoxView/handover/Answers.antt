@@ -5,7 +5,7 @@ use Rattle.handover.specs.HandoverBytes.{handover_in, is_handover}
 use Rattle.box_format.specs.Parts.{box_cut, BoxSeen}
 use Rattle.box_format.specs.Raws.{handover_from}
 use Rattle.box_format.specs.Slices.{handovers_in, place_among}
-use Rattle.box_format.proofs.Fronts.{room_low}
+use Rattle.box_format.proofs.Sliced.{room_low}
 use Rattle.box_format.proofs.RawParts.{starts_soundly}
 use Rattle.box_format.proofs.Sliced.{handover_sliced, handovers_long, record_among}
 use Rattle.box_format.proofs.view.BoxView.handover.Goals as goal

@@ -1,6 +1,7 @@
 use Rattle.std.proofs.Common.{◌≡◌, ◌≤◌, Bool, false, if◌then◌else◌, nat_lt, ℕ, length, sym, ap, ◌∙◌, arith}
 use Rattle.std.specs.Prelude.{Some, option_map, slice_index}
-use Rattle.std.proofs.lemmas.Bool.{le-ltb, lt-ltb}
+use Rattle.std.proofs.lemmas.Bool.{le-ltb, lt-ltb, not-false}
+use Rattle.box_format.specs.declared.version.Layout.{Layout}
 use Rattle.box_format.specs.Raws.{place_from}
 use Rattle.box_format.specs.Slices.{place_among}
 use Rattle.box_format.specs.Parts.{BoxSeen}
@@ -13,7 +14,7 @@ returns-then-segment-self c =
     let count = sym (ap (λ (s : BoxSeen). length s.parts.handovers) c.self.view_is)
     ∙ handovers_long i.version i.segments i.records.now in
     let within : c.args.segment ≤ i.segments = let h = c.requires in omega (arith, h, count) in
-    let placed = sym c.is_placed.ensures ∙ c.if-not-is_placed.false in
+    let placed = ap (λ (l : Layout). l.placed) (sym c.layout.ensures.value) ∙ not-false c.layout.result.placed c.if-not-layout.false in
     let test = lt-ltb c.args.segment i.segments c.if-segment-self.true in
     ap (λ (n : ℕ). Some n) (c.place_at.ensures
     ∙ ap (place_from i.records.now) c.place_among.ensures.value)
@@ -29,7 +30,7 @@ returns-else-segment-self c =
     let count = sym (ap (λ (s : BoxSeen). length s.parts.handovers) c.self.view_is)
     ∙ handovers_long i.version i.segments i.records.now in
     let within : c.args.segment ≤ i.segments = let h = c.requires in omega (arith, h, count) in
-    let placed = sym c.is_placed.ensures ∙ c.if-not-is_placed.false in
+    let placed = ap (λ (l : Layout). l.placed) (sym c.layout.ensures.value) ∙ not-false c.layout.result.placed c.if-not-layout.false in
     let past = c.if-segment-self.false in
     let test : nat_lt c.args.segment i.segments ≡ false = le-ltb c.args.segment i.segments (omega (arith, past)) in
     sym (ap (λ (b : Bool). Some (if b

@@ -2,7 +2,7 @@ use Rattle.std.specs.Prelude.{◌≤◌}
 use Rattle.std.proofs.Common.{length, sym, ap, subst, ◌∙◌, arith}
 use Rattle.box_format.specs.Versions.{layout_of}
 use Rattle.box_format.specs.Parts.{BoxSeen}
-use Rattle.box_format.proofs.Fronts.{most_more}
+use Rattle.box_format.proofs.Layouts.{most_more}
 use Rattle.box_format.proofs.Sliced.{handovers_long}
 use Rattle.box_format.proofs.view.BoxView.segments.Goals as goal
 

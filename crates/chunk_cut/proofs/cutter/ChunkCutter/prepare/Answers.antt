@@ -3,7 +3,7 @@ use Rattle.std.proofs.lemmas.Result.{err_from_is_err_and}
 use Rattle.jpeg_marker.specs.FirstWalks.{only_walk}
 use Rattle.jpeg_marker.proofs.HeadersTaken.{can_scan, none_known}
 use Rattle.bool_coder.proofs.FirstBits.{all_bytes}
-use Rattle.scans_spec.proofs.FilesRefused.{scan_alone}
+use Rattle.container_spec.proofs.FilesRefused.{scan_alone}
 use Rattle.chunk_cut.specs.declared.error.CutError.TheVariants.{Header, Scan, ManyScans}
 use Rattle.chunk_cut.specs.Errors.{as_cut_error, error_of}
 use Rattle.chunk_cut.proofs.FaultsFound.{header_as, many_as, scan_as, scan_found}

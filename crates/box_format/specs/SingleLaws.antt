@@ -1,0 +1,38 @@
+-- Law: what holds of containers of one scan (own).
+use Rattle.std.specs.Prelude.{ℕ, ◌≡◌, ◌⊎◌, false, List, [], ◌∷◌}
+use Rattle.jpeg_marker.specs.Plans.{PlanFields}
+use Rattle.box_format.specs.Versions.{layout_of}
+use Rattle.box_format.specs.Parts.{BoxParts, BoxSeen, migrated}
+use Rattle.box_format.specs.Containers.{IsContainer, IsContainerIn}
+use Rattle.box_format.specs.Single.{IsBox, IsBoxOf, box_bytes, relaid}
+use Rattle.box_format.specs.declared.version.Version.TheVariants.{First, Second, Fourth}
+
+-- a container of one scan is a container
+abbrev pub OneIsContainer : Type 0
+OneIsContainer =
+    (s : BoxSeen) (bytes : List ℕ) → IsBoxOf s.plan s.parts bytes
+    → IsContainerIn s.parts.version (s ∷ []) bytes
+
+-- and a container is one of one scan, or of several
+abbrev pub OneOrSeveral : Type 0
+OneOrSeveral =
+    (scans : List BoxSeen) (bytes : List ℕ) → IsContainer scans bytes
+    → ((s : BoxSeen) × (scans ≡ s ∷ []) × IsBoxOf s.plan s.parts bytes)
+    ⊎ IsContainerIn Fourth scans bytes
+
+-- a container of the second version is migrated already
+abbrev pub SecondStays : Type 0
+SecondStays =
+    (plan : PlanFields) (b : BoxParts) → IsBox plan b → b.version ≡ Second → migrated b ≡ b
+
+-- the parts of a container that has no chunk are, without its places, those of one of the second version too
+abbrev pub MigratedIsBox : Type 0
+MigratedIsBox =
+    (plan : PlanFields) (b : BoxParts) → (layout_of b.version).chunked ≡ false → IsBox plan b
+    → IsBox plan (migrated b)
+
+-- and the bytes of that one are a container's of the first version, but for the fields of the version and of the list
+abbrev pub RelaidIsMigrated : Type 0
+RelaidIsMigrated =
+    (plan : PlanFields) (b : BoxParts) → IsBox plan b → b.version ≡ First
+    → relaid (box_bytes b) ≡ box_bytes (migrated b)

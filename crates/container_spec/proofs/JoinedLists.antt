@@ -1,0 +1,241 @@
+-- Joined segments of several scans: of two lists, and of one scan.
+use Rattle.std.proofs.Common.{◌≡◌, ℕ, zero, suc, ◌+◌, ◌<◌, ◌≤◌, Bool, true, false, if◌then◌else◌, List, [], ◌∷◌, ◌++◌, map, Option, Some, None, refl, sym, ap, ap₂, ◌∙◌, arith, append_assoc}
+use Rattle.std.specs.Prelude.{◌==◌, option_map}
+use Rattle.std.proofs.lemmas.Bool.Decides.{nat_tests}
+use Rattle.std.proofs.lemmas.List.{map-append}
+use Rattle.handover.specs.PadSums.{no_pads, pads_with}
+use Rattle.handover.specs.declared.pads.PadSum.{PadSum}
+use Rattle.handover.specs.declared.outcome.StreamFault.{StreamFault}
+use Rattle.handover.specs.declared.outcome.Outcome.{Outcome}
+use Rattle.handover.specs.declared.outcome.Outcome.TheVariants.{Good, Bad}
+use Rattle.box_format.specs.Raws.{numbers}
+use Rattle.container_spec.specs.Segments.{Output, with_prefix}
+use Rattle.container_spec.specs.AloneMeanings.{Joined, joined, joined_with}
+use Rattle.container_spec.proofs.Numbered.{mapped_same}
+use Rattle.container_spec.proofs.PutParts.{sums_more}
+use Rattle.container_spec.specs.ScansMeanings.{fault_after, outcome_after, lead_of}
+use Rattle.container_spec.specs.ScansJoined.{no_sums, sums_of, sums_with, sum_in, Scanned, ScansJoined, scanned_with, scans_joined}
+use Rattle.container_spec.specs.declared.scan_pads.ScanPads.{ScanPads}
+
+-- ---- numbers
+
+numbers_on : (from k n : ℕ) → numbers from (k + n) ≡ numbers from k ++ numbers (from + k) n
+numbers_on from zero n =
+    let e : zero + n ≡ n = omega arith in
+    let f : from + zero ≡ from = omega arith in
+    ap (numbers from) e ∙ ap (λ m. numbers m n) (sym f)
+numbers_on from (suc k) n =
+    let e : suc k + n ≡ suc (k + n) = omega arith in
+    let f : (from + 1) + k ≡ from + suc k = omega arith in
+    ap (numbers from) e ∙ ap (λ (l : List ℕ). from ∷ l) (numbers_on (from + 1) k n)
+    ∙ ap (λ m. from ∷ (numbers (from + 1) k ++ numbers m n)) f
+
+-- the values of f from k + `from` on
+shifted : {A : Type 0} (f : ℕ → A) (k from n : ℕ)
+    → map f (numbers (k + from) n) ≡ map (λ i. f (k + i)) (numbers from n)
+shifted f k from zero = refl
+shifted f k from (suc n) =
+    let e : (k + from) + 1 ≡ k + (from + 1) = omega arith in
+    ap (λ m. f (k + from) ∷ map f (numbers m n)) e
+    ∙ ap (λ l. f (k + from) ∷ l) (shifted f k (from + 1) n)
+
+-- f is g below k, and h after k
+pub mapped_in_two : {A : Type 0} (f g h : ℕ → A) (k n : ℕ)
+    → ((i : ℕ) → i < k → f i ≡ g i) → ((i : ℕ) → f (k + i) ≡ h i)
+    → map f (numbers 0 (k + n)) ≡ map g (numbers 0 k) ++ map h (numbers 0 n)
+mapped_in_two f g h k n here more =
+    let z : 0 + k ≡ k + 0 = omega arith in
+    ap (map f) (numbers_on 0 k n) ∙ map-append f (numbers 0 k) (numbers (0 + k) n)
+    ∙ ap₂ (λ a b. a ++ b)
+    (mapped_same f g 0 k (λ i low within. here i (omega (arith, within))))
+    (ap (λ m. map f (numbers m n)) z ∙ shifted f k 0 n
+    ∙ mapped_same (λ i. f (k + i)) h 0 n (λ i low within. more i))
+
+-- ---- sums by scan
+
+-- intervals of one of four scans, by which of the first three it is
+abbrev put : Bool → Bool → Bool → PadSum → ScanPads
+put x y z p =
+    if x then record no_sums { first = p }
+    else if y then record no_sums { second = p }
+    else if z then record no_sums { third = p }
+    else record no_sums { fourth = p }
+
+abbrev got : Bool → Bool → Bool → ScanPads → PadSum
+got x y z sums =
+    if x then sums.first else if y then sums.second else if z then sums.third else sums.fourth
+
+put_none : (x y z : Bool) → put x y z no_pads ≡ no_sums
+put_none true y z = refl
+put_none false true z = refl
+put_none false false true = refl
+put_none false false false = refl
+
+put_with : (x y z : Bool) (p q : PadSum)
+    → sums_with (put x y z p) (put x y z q) ≡ put x y z (pads_with p q)
+put_with true y z p q = refl
+put_with false true z p q = refl
+put_with false false true p q = refl
+put_with false false false p q = refl
+
+got_put : (x y z : Bool) (p : PadSum) → got x y z (put x y z p) ≡ p
+got_put true y z p = refl
+got_put false true z p = refl
+got_put false false true p = refl
+got_put false false false p = refl
+
+got_with : (x y z : Bool) (a b : ScanPads)
+    → got x y z (sums_with a b) ≡ pads_with (got x y z a) (got x y z b)
+got_with true y z a b = refl
+got_with false true z a b = refl
+got_with false false true a b = refl
+got_with false false false a b = refl
+
+of_none : (scan : ℕ) → sums_of scan no_pads ≡ no_sums
+of_none scan = put_none (scan == 0) (scan == 1) (scan == 2)
+
+of_with : (scan : ℕ) (p q : PadSum)
+    → sums_with (sums_of scan p) (sums_of scan q) ≡ sums_of scan (pads_with p q)
+of_with scan p q = put_with (scan == 0) (scan == 1) (scan == 2) p q
+
+got_none : (x y z : Bool) → got x y z no_sums ≡ no_pads
+got_none true y z = refl
+got_none false true z = refl
+got_none false false true = refl
+got_none false false false = refl
+
+pub in_none : (scan : ℕ) → sum_in no_sums scan ≡ no_pads
+in_none scan = got_none (scan == 0) (scan == 1) (scan == 2)
+
+-- a scan's own intervals
+pub in_own : (scan : ℕ) (p : PadSum) → sum_in (sums_of scan p) scan ≡ p
+in_own scan p = got_put (scan == 0) (scan == 1) (scan == 2) p
+
+pub in_with : (scan : ℕ) (a b : ScanPads)
+    → sum_in (sums_with a b) scan ≡ pads_with (sum_in a scan) (sum_in b scan)
+in_with scan a b = got_with (scan == 0) (scan == 1) (scan == 2) a b
+
+-- those of another scan
+pub in_later : (m n : ℕ) (p : PadSum) → m < n → n ≤ 3 → sum_in (sums_of m p) n ≡ no_pads
+in_later zero (suc zero) p less few = refl
+in_later zero (suc (suc zero)) p less few = refl
+in_later zero (suc (suc (suc zero))) p less few = refl
+in_later (suc zero) (suc (suc zero)) p less few = refl
+in_later (suc zero) (suc (suc (suc zero))) p less few = refl
+in_later (suc (suc zero)) (suc (suc (suc zero))) p less few = refl
+in_later m n p less few = absurd (omega arith)
+
+pub in_earlier : (m n : ℕ) (p : PadSum) → n < m → m ≤ 3 → sum_in (sums_of m p) n ≡ no_pads
+in_earlier (suc zero) zero p less few = refl
+in_earlier (suc (suc zero)) zero p less few = refl
+in_earlier (suc (suc zero)) (suc zero) p less few = refl
+in_earlier (suc (suc (suc zero))) zero p less few = refl
+in_earlier (suc (suc (suc zero))) (suc zero) p less few = refl
+in_earlier (suc (suc (suc zero))) (suc (suc zero)) p less few = refl
+in_earlier m n p less few = absurd (omega arith)
+
+pub same_sums : (a b c d e f g h : PadSum) → a ≡ e → b ≡ f → c ≡ g → d ≡ h
+    → (let s : ScanPads = record { first = a; second = b; third = c; fourth = d } in s)
+    ≡ (record { first = e; second = f; third = g; fourth = h })
+same_sums a b c d e f g h p q r s = rw (p, q, r, s) refl
+
+pub sums_of_more : (a b c : ScanPads)
+    → sums_with a (sums_with b c) ≡ sums_with (sums_with a b) c
+sums_of_more a b c =
+    same_sums _ _ _ _ _ _ _ _ (sym (sums_more a.first b.first c.first))
+    (sym (sums_more a.second b.second c.second)) (sym (sums_more a.third b.third c.third))
+    (sym (sums_more a.fourth b.fourth c.fourth))
+
+-- ---- segments of several scans, one after another
+
+abbrev result : List ℕ → Option StreamFault → ScanPads → ScansJoined
+result bytes fault padded = record { bytes = bytes; fault = fault; padded = padded }
+
+-- joined segments before others, by their first fault, if there is one
+abbrev pub followed : ScansJoined → Option StreamFault → ScansJoined → ScansJoined
+followed a (Some fault) b = a
+followed a None b = record {
+  bytes = a.bytes ++ b.bytes;
+  fault = b.fault;
+  padded = sums_with a.padded b.padded;
+}
+
+good_followed : (scan : ℕ) (bytes : List ℕ) (p : PadSum) (a : ScansJoined)
+    (fault : Option StreamFault) (b : ScansJoined)
+    → scanned_with scan bytes (Good p) (followed a fault b)
+    ≡ followed (scanned_with scan bytes (Good p) a) fault b
+good_followed scan bytes p a (Some fault) b = refl
+good_followed scan bytes p a None b =
+    ap₂ (λ (l : List ℕ) (s : ScanPads). result l b.fault s)
+    (sym (append_assoc bytes a.bytes b.bytes))
+    (sums_of_more (sums_of scan p) a.padded b.padded)
+
+with_followed : (scan : ℕ) (bytes : List ℕ) (outcome : Outcome) (a b : ScansJoined)
+    → scanned_with scan bytes outcome (followed a a.fault b)
+    ≡ followed (scanned_with scan bytes outcome a) (scanned_with scan bytes outcome a).fault b
+with_followed scan bytes (Good p) a b = good_followed scan bytes p a a.fault b
+with_followed scan bytes (Bad fault) a b = refl
+
+pub joined_on : (xs ys : List Scanned)
+    → scans_joined (xs ++ ys)
+    ≡ followed (scans_joined xs) (scans_joined xs).fault (scans_joined ys)
+joined_on [] ys = refl
+joined_on (s ∷ xs) ys =
+    ap (scanned_with s.0 s.1.0 s.1.1) (joined_on xs ys)
+    ∙ with_followed s.0 s.1.0 s.1.1 (scans_joined xs) (scans_joined ys)
+
+-- ---- the segments of one scan
+
+-- what they are joined to, after other bytes, if `first` segments are before the scan
+abbrev pub of_scan : ℕ → ℕ → List ℕ → Joined → ScansJoined
+of_scan first scan lead j = record {
+  bytes = lead ++ j.bytes;
+  fault = option_map (fault_after first) j.fault;
+  padded = sums_of scan j.padded;
+}
+
+one_more : (first scan : ℕ) (lead bytes : List ℕ) (outcome : Outcome) (j : Joined)
+    → scanned_with scan (lead ++ bytes) (outcome_after first outcome) (of_scan first scan [] j)
+    ≡ of_scan first scan lead (joined_with bytes outcome j)
+one_more first scan lead bytes (Good p) j =
+    ap₂ (λ (l : List ℕ) (s : ScanPads). result l (option_map (fault_after first) j.fault) s)
+    (append_assoc lead bytes j.bytes) (of_with scan p j.padded)
+one_more first scan lead bytes (Bad fault) j =
+    ap (λ (s : ScanPads). result (lead ++ bytes) (Some (fault_after first fault)) s)
+    (sym (of_none scan))
+
+-- a segment's output after other bytes
+abbrev pub led : ℕ → ℕ → List ℕ → Output → Scanned
+led first scan lead output =
+    (scan, with_prefix lead (output.0, outcome_after first output.1))
+
+pub others : (first scan : ℕ) (f : ℕ → Output) (ns : List ℕ)
+    → scans_joined (map (λ i. led first scan [] (f i)) ns)
+    ≡ of_scan first scan [] (joined (map f ns))
+others first scan f [] = ap (λ (s : ScanPads). result [] None s) (sym (of_none scan))
+others first scan f (n ∷ ns) =
+    ap (scanned_with scan (f n).0 (outcome_after first (f n).1)) (others first scan f ns)
+    ∙ one_more first scan [] (f n).0 (f n).1 (joined (map f ns))
+
+no_lead : (later : Bool) (header : List ℕ) (i : ℕ) → 1 ≤ i → lead_of later header i ≡ []
+no_lead false header i low = refl
+no_lead true header i low =
+    let e : i == 0 ≡ false = grind (arith, nat_tests) in
+    ap (λ (t : Bool). if t then header else []) e
+
+pub one_scan : (later : Bool) (first scan : ℕ) (header : List ℕ) (f : ℕ → Output) (count : ℕ)
+    → 0 < count
+    → scans_joined
+    (map (λ i. led first scan (lead_of later header i) (f i)) (numbers 0 count))
+    ≡ of_scan first scan (lead_of later header 0) (joined (map f (numbers 0 count)))
+one_scan later first scan header f zero some = absurd (omega arith)
+one_scan later first scan header f (suc k) some =
+    let lead : List ℕ = lead_of later header 0 in
+    let rest = mapped_same (λ i. led first scan (lead_of later header i) (f i))
+    (λ i. led first scan [] (f i)) 1 k
+    (λ i low within. ap (λ (l : List ℕ). led first scan l (f i)) (no_lead later header i low)) in
+    ap (λ (l : List Scanned). scanned_with scan (lead ++ (f 0).0) (outcome_after first (f 0).1)
+    (scans_joined l)) rest
+    ∙ ap (scanned_with scan (lead ++ (f 0).0) (outcome_after first (f 0).1))
+    (others first scan f (numbers 1 k))
+    ∙ one_more first scan lead (f 0).0 (f 0).1 (joined (map f (numbers 1 k)))

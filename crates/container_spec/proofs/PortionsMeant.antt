@@ -1,0 +1,92 @@
+-- What scans stand for by portions is what they stand for one by one.
+use Rattle.std.proofs.Common.{◌≡◌, ◌≤◌, ◌+◌, ℕ, List, [], ◌∷◌, Bool, ◌&&◌, true, false, length, refl, sym, ap, ◌∙◌, arith}
+use Rattle.std.specs.Prelude.{Option, Some, None}
+use Rattle.std.proofs.lemmas.List.{append-nil}
+use Rattle.std.specs.List.{AllByRecursion}
+use Rattle.scan_spec.specs.Pads.{is_spelled}
+use Rattle.handover.specs.declared.outcome.StreamFault.{StreamFault}
+use Rattle.box_format.specs.Parts.{BoxSeen}
+use Rattle.box_format.specs.declared.chunk.Chunk.{Chunk}
+use Rattle.box_format.specs.Containers.{segment_count}
+use Rattle.box_format.proofs.Lists.{sum_first}
+use Rattle.container_spec.specs.AloneMeanings.{Joined, meaning_of, meaning_by, joined, outputs_of}
+use Rattle.container_spec.specs.ScansJoined.{ScansJoined, scanned_from, scans_joined}
+use Rattle.container_spec.specs.ScanByScan.{all_joined, joined_alone, scans_end}
+use Rattle.container_spec.specs.Portions.{OfFile, OfChunk, ending_by, kind_by, kind_of, portion_by, portion_meaning, scans_meaning, whole, chunk_portion}
+use Rattle.container_spec.specs.ScansMeaningLaws.{OneStandsForItself}
+use Rattle.container_spec.proofs.OneScans.{one_is_joined}
+
+-- ---- the whole
+
+whole_end : (scans : List BoxSeen) (all : ScansJoined) (fault : Option StreamFault)
+    → scans_end scans all fault ≡ ending_by OfFile scans (whole scans) all fault
+whole_end scans all (Some fault) = refl
+whole_end scans all None = refl
+
+of_file : (scans : List BoxSeen) → AllByRecursion (λ (s : BoxSeen). s.parts.chunk ≡ None) scans
+    → kind_of scans ≡ OfFile
+of_file [] none = refl
+of_file (s ∷ []) none = ap kind_by none.0
+of_file (s ∷ t ∷ scans) none = refl
+
+pub whole_is_joined : (scans : List BoxSeen)
+    → AllByRecursion (λ (s : BoxSeen). s.parts.chunk ≡ None) scans
+    → scans_meaning scans ≡ scans_end scans (all_joined scans) (all_joined scans).fault
+unfolding scans_meaning
+whole_is_joined scans none =
+    ap (λ k. portion_meaning k scans (portion_by k scans)) (of_file scans none)
+    ∙ sym (whole_end scans (all_joined scans) (all_joined scans).fault)
+
+-- ---- one scan
+
+one_count : (s : BoxSeen) → segment_count (s ∷ []) ≡ length s.parts.handovers
+one_count s = let e = sum_first (length s.parts.handovers) [] in omega (arith, e)
+
+all_alone : (s : BoxSeen) → all_joined (s ∷ []) ≡ joined_alone (joined (outputs_of s.plan s.parts))
+all_alone s =
+    let n = length s.parts.handovers in
+    let z : 0 + n ≤ n = omega arith in
+    ap (λ (k : ℕ). scans_joined (scanned_from (s ∷ []) 0 k)) (one_count s) ∙ one_is_joined s 0 n z
+
+spelled_one : (b : Bool) → (b && true) ≡ b
+spelled_one true = refl
+spelled_one false = refl
+
+-- without a chunk
+file_end : (s : BoxSeen) (j : Joined) (fault : Option StreamFault) → s.parts.chunk ≡ None
+    → ending_by OfFile (s ∷ []) (whole (s ∷ [])) (joined_alone j) fault ≡ meaning_by s.parts j fault
+file_end s j (Some fault) e = rw e refl
+file_end s j None e =
+    rw (e, append-nil s.parts.trailer, spelled_one (is_spelled s.parts.pads j.padded)) refl
+
+-- with one
+chunk_end : (s : BoxSeen) (c : Chunk) (j : Joined) (fault : Option StreamFault)
+    → s.parts.chunk ≡ Some c
+    → ending_by (OfChunk c) (s ∷ []) (chunk_portion c (s ∷ [])) (joined_alone j) fault
+    ≡ meaning_by s.parts j fault
+chunk_end s c j (Some fault) e = rw (e, append-nil s.parts.trailer) refl
+chunk_end s c j None e = rw (e, append-nil s.parts.trailer) refl
+
+by_kind : (s : BoxSeen) (j : Joined) (chunk : Option Chunk) → s.parts.chunk ≡ chunk
+    → (let k = kind_by chunk in
+    ending_by k (s ∷ []) (portion_by k (s ∷ [])) (joined_alone j) j.fault)
+    ≡ meaning_by s.parts j j.fault
+by_kind s j None e = file_end s j j.fault e
+by_kind s j (Some c) e = chunk_end s c j j.fault e
+
+same_played : (s : BoxSeen) (chunk : Option Chunk)
+    → (let k = kind_by chunk in portion_meaning k (s ∷ []) (portion_by k (s ∷ [])))
+    ≡ (let k = kind_by chunk in
+    let all = all_joined (s ∷ []) in ending_by k (s ∷ []) (portion_by k (s ∷ [])) all all.fault)
+same_played s None = refl
+same_played s (Some c) = refl
+
+pub one_stands_for_itself : OneStandsForItself
+unfolding scans_meaning meaning_of
+one_stands_for_itself s =
+    let j = joined (outputs_of s.plan s.parts) in
+    let k = kind_by s.parts.chunk in
+    same_played s s.parts.chunk
+    ∙ ap (λ (all : ScansJoined). ending_by k (s ∷ []) (portion_by k (s ∷ [])) all all.fault)
+    (all_alone s)
+    ∙ by_kind s j s.parts.chunk refl

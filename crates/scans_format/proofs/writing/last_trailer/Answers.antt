@@ -1,5 +1,0 @@
-use Rattle.scans_format.proofs.ScansWritten.{last_given}
-use Rattle.scans_format.proofs.writing.last_trailer.Goals as goal
-
-pub returns-in-Some : goal.returns-in-Some
-returns-in-Some c = last_given c.args.scans.now c.in-Some.scan.now c.requires c.in-Some.ensures.item.1

@@ -1,9 +1,0 @@
-use Rattle.std.proofs.Common.{◌≡◌, ◌++◌, drop, flat_map}
-use Rattle.scans_format.specs.Scans.{scan_streams}
-use Rattle.scans_format.specs.ScansGiven.{all_given}
-use Rattle.scans_format.proofs.writing.put_all_streams.Given as goal
-
-abbrev pub invariant-loop-scan : goal.invariant-loop-scan
-invariant-loop-scan l =
-    l.bytes.items ++ flat_map scan_streams (all_given (drop l.scan-index l.scans))
-    ≡ l.fn.bytes.items ++ flat_map scan_streams (all_given l.scans)

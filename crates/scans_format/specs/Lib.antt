@@ -1,9 +1,0 @@
-pub mod Scans
-pub mod ScansRaw
-pub mod ScansChecks
-pub mod ScansWhole
-pub mod Containers
-pub mod FilesSeen
-pub mod ScansLaws
-pub mod ScansRows
-pub mod ScansGiven

@@ -1,5 +1,0 @@
-pub mod ScansMeanings
-pub mod ScansJoined
-pub mod ScansFiles
-pub mod ScansMeaningLaws
-pub mod ScansMeaningRows
