@@ -95,8 +95,8 @@ are_wrong_scans l plans raws =
     || (not (are_complete plans)
     || (some_are_wrong l.most plans raws || nat_lt l.most (segments_of raws))))
 
--- whether a chunk can't be one of a grid of so many rows: its rows are in the wrong order or none of the grid, it has
--- no room for its parts of header and trailer, or without a row it has other bytes
+-- whether a chunk can't be one of a grid with this number of rows: its rows are in the wrong order or none of the grid,
+-- it has no room for its parts of header and trailer, or without a row it has other bytes
 abbrev pub is_bad_chunk : ℕ → List ℕ → List ℕ → Option Chunk → Bool
 is_bad_chunk down header trailer None = false
 is_bad_chunk down header trailer (Some c) =
@@ -110,7 +110,7 @@ is_bad_pad listed shape pad list =
     if listed && pad == 2 then not (is_list shape list)
     else nat_lt 1 pad || nat_lt 0 (length list)
 
--- whether places can't be those of a header of so many bytes: the first one isn't its end, or one is below the one
+-- whether places can't be those of a header of this length: the first one isn't its end, or one is below the one
 -- before
 abbrev pub are_bad_places : ℕ → Option (List ℕ) → Bool
 are_bad_places header None = false

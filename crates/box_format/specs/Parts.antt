@@ -130,7 +130,8 @@ header_part c header = slice c.place (c.place + c.length) header
 abbrev pub rows_most : Chunk → List ℕ → List ℕ → ℕ
 rows_most c header trailer = c.length - (length (header_part c header) + length trailer)
 
--- a chunk of a grid of so many rows has room for its parts of header and trailer, and other bytes only if it has a row
+-- a chunk of a grid with this number of rows has room for its parts of header and trailer, and other bytes only if it
+-- has a row
 pub record IsChunkIn (down : ℕ) (header trailer : List ℕ) (c : Chunk) : Type 0 where
   pub order : c.from ≤ c.to
   pub within : c.to ≤ down
@@ -153,7 +154,7 @@ are_rising [] = true
 are_rising (place ∷ []) = true
 are_rising (place ∷ next ∷ places) = not (nat_lt next place) && are_rising (next ∷ places)
 
--- the places of so many segments and of the scan's end: the first one is the header's end, and none is below the one
+-- the places of a number of segments and of the scan's end: the first one is the header's end, and none is below the one
 -- before
 pub record ArePlaces (header segments : ℕ) (places : List ℕ) : Type 0 where
   pub count : length places ≡ segments + 1

@@ -6,10 +6,10 @@ use Rattle.scan_spec.specs.BlockRows.{level_table}
 use Rattle.scan_spec.specs.ScanRows.{ones}
 use Rattle.handover.specs.Handovers.{start}
 use Rattle.scan_spec.specs.Pads.{Same, Listed}
-use Rattle.box_format.specs.Parts.{BoxParts}
-use Rattle.box_format.specs.Versions.{layout_of, version_in, migratable}
+use Rattle.box_format.specs.Parts.{BoxParts, migrated}
+use Rattle.box_format.specs.Versions.{layout_of, version_in, migratable, decoded, one_scan}
 use Rattle.box_format.specs.Raws.{numbers, parts_of}
-use Rattle.box_format.specs.Containers.{container_bytes}
+use Rattle.box_format.specs.Single.{box_bytes}
 use Rattle.box_format.specs.Fields.{raws_of}
 use Rattle.box_format.specs.Checks.{IsRefused, IsRefusedBy, early_fault, late_fault}
 use Rattle.box_format.specs.declared.version.Version.{Version}
@@ -17,13 +17,7 @@ use Rattle.box_format.specs.declared.refusal.BoxRefusal.{BoxRefusal}
 use Rattle.box_format.specs.declared.version.Version.TheVariants.{First, Second, Third, Fifth}
 use Rattle.box_format.specs.declared.refusal.BoxRefusal.TheVariants.{BoxMagic, BoxVersion, BoxCut, BoxSegments, BoxChunk, BoxPad, HandoverBad, BoxPlaces, BoxLong, HeaderLong}
 
--- one scan's container, its parts, and the checks on it
-abbrev pub box_bytes : BoxParts → List ℕ
-box_bytes b = container_bytes b.version (b ∷ [])
-
-abbrev pub migrated : BoxParts → BoxParts
-migrated b = record b { version = Second; places = None }
-
+-- the parts of a container, and the checks on it
 abbrev pub read_parts : List ℕ → List BoxParts
 read_parts bytes = map parts_of (raws_of bytes)
 
@@ -32,10 +26,6 @@ early_of versions bytes = early_fault versions (layout_of (version_in bytes)) by
 
 abbrev pub late_of : PlanFields → List ℕ → Option BoxRefusal
 late_of plan bytes = late_fault (version_in bytes) (plan ∷ []) bytes
-
--- the versions of one scan
-abbrev pub decoded : List Version
-decoded = First ∷ Second ∷ Third ∷ Fifth ∷ []
 
 -- a header of one component with one code word in each table, eight columns wide
 abbrev pub grey_header : ℕ → List ℕ
@@ -255,7 +245,7 @@ early =
     × (early_of decoded (take 3 least_box) ≡ Some BoxMagic)
     × (early_of decoded (take 4 least_box) ≡ Some BoxCut)
     × (early_of decoded (slice_set least_box 4 0x07) ≡ Some BoxVersion)
-    × (early_of decoded (slice_set least_box 4 0x04) ≡ Some BoxVersion)
+    × (early_of one_scan (slice_set least_box 4 0x04) ≡ Some BoxVersion)
     × (early_of decoded (slice_set least_box 4 0x00) ≡ Some BoxVersion)
     × (early_of decoded (take 110 least_box) ≡ Some BoxCut)
     × (early_of decoded (slice_set least_box 4 2) ≡ Some BoxCut)

@@ -264,7 +264,7 @@ fn record_fault(
     }
 }
 
-// Whether a chunk can't be one of a grid of so many rows, with these parts.
+// Whether a chunk can't be one of a grid with this number of rows, with these parts.
 fn is_bad_chunk(down: u32, header: &[u8], trailer: &[u8], chunk: Option<Chunk>) -> bool
     ensures { result ≡ is_bad_chunk down header.now trailer.now chunk }
 {

@@ -11,9 +11,9 @@
 //! | 5 | | as 2, and the place of the scan's end before the records, which have places |
 //!
 //! A container of version 4 has n scans, 2 to 4, the others one. A record has what a segment starts from and the length
-//! of its stream. `Version::layout` has the table. A container has one spelling, but for versions 1 and 2 of one file:
-//! what can be said in one way only is checked. Every check that fails has a refusal of its own. Not handled here: what
-//! a stream stands for (see `container_spec`).
+//! of its stream. `Version::layout` has the table. A file may have a container in each of versions 1, 2 and 5; in one
+//! version and with one number of segments it has one spelling: what can be said in one way only is checked. Every
+//! check that fails has a refusal of its own. Not handled here: what a stream stands for (see `container_spec`).
 #![tactic(auto)]
 
 mod checks;

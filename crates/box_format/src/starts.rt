@@ -49,7 +49,7 @@ fn can_start_at(plan: &Plan, count: u64, records: &[u8], place: usize) -> bool
     }
 }
 
-// How many MCUs come before a segment, where the rows are cut into so many.
+// How many MCUs come before a segment, where the rows are cut into `segments`.
 fn first_mcu(plan: &Plan, chunk: Option<Chunk>, segment: u8, segments: u8) -> u64
     requires { segment < segments }
     ensures { result ≡ first_mcu (box_cut plan.now chunk segments) segment }

@@ -12,7 +12,7 @@ use Rattle.box_format.proofs.Lists.{sum_first}
 use Rattle.container_spec.specs.AloneMeanings.{Joined, meaning_of, meaning_by, joined, outputs_of}
 use Rattle.container_spec.specs.ScansJoined.{ScansJoined, scanned_from, scans_joined}
 use Rattle.container_spec.specs.ScanByScan.{all_joined, joined_alone, scans_end}
-use Rattle.container_spec.specs.Portions.{OfFile, OfChunk, ending_by, kind_by, kind_of, portion_by, portion_meaning, scans_meaning, whole, chunk_portion}
+use Rattle.container_spec.specs.Portions.{OfFile, OfChunk, chunk_portion, ending_by, meaning_with, only_chunk, scans_meaning, whole}
 use Rattle.container_spec.specs.ScansMeaningLaws.{OneStandsForItself}
 use Rattle.container_spec.proofs.OneScans.{one_is_joined}
 
@@ -24,9 +24,9 @@ whole_end scans all (Some fault) = refl
 whole_end scans all None = refl
 
 of_file : (scans : List BoxSeen) → AllByRecursion (λ (s : BoxSeen). s.parts.chunk ≡ None) scans
-    → kind_of scans ≡ OfFile
+    → only_chunk scans ≡ None
 of_file [] none = refl
-of_file (s ∷ []) none = ap kind_by none.0
+of_file (s ∷ []) none = none.0
 of_file (s ∷ t ∷ scans) none = refl
 
 pub whole_is_joined : (scans : List BoxSeen)
@@ -34,7 +34,7 @@ pub whole_is_joined : (scans : List BoxSeen)
     → scans_meaning scans ≡ scans_end scans (all_joined scans) (all_joined scans).fault
 unfolding scans_meaning
 whole_is_joined scans none =
-    ap (λ k. portion_meaning k scans (portion_by k scans)) (of_file scans none)
+    ap (λ (c : Option Chunk). meaning_with c scans) (of_file scans none)
     ∙ sym (whole_end scans (all_joined scans) (all_joined scans).fault)
 
 -- ---- one scan
@@ -67,26 +67,19 @@ chunk_end : (s : BoxSeen) (c : Chunk) (j : Joined) (fault : Option StreamFault)
 chunk_end s c j (Some fault) e = rw (e, append-nil s.parts.trailer) refl
 chunk_end s c j None e = rw (e, append-nil s.parts.trailer) refl
 
-by_kind : (s : BoxSeen) (j : Joined) (chunk : Option Chunk) → s.parts.chunk ≡ chunk
-    → (let k = kind_by chunk in
-    ending_by k (s ∷ []) (portion_by k (s ∷ [])) (joined_alone j) j.fault)
-    ≡ meaning_by s.parts j j.fault
-by_kind s j None e = file_end s j j.fault e
-by_kind s j (Some c) e = chunk_end s c j j.fault e
-
-same_played : (s : BoxSeen) (chunk : Option Chunk)
-    → (let k = kind_by chunk in portion_meaning k (s ∷ []) (portion_by k (s ∷ [])))
-    ≡ (let k = kind_by chunk in
-    let all = all_joined (s ∷ []) in ending_by k (s ∷ []) (portion_by k (s ∷ [])) all all.fault)
-same_played s None = refl
-same_played s (Some c) = refl
+played_with : (s : BoxSeen) (chunk : Option Chunk) → s.parts.chunk ≡ chunk
+    → meaning_with chunk (s ∷ [])
+    ≡ (let j = joined (outputs_of s.plan s.parts) in meaning_by s.parts j j.fault)
+played_with s None e =
+    let j = joined (outputs_of s.plan s.parts) in
+    ap (λ (all : ScansJoined). ending_by OfFile (s ∷ []) (whole (s ∷ [])) all all.fault) (all_alone s)
+    ∙ file_end s j j.fault e
+played_with s (Some c) e =
+    let j = joined (outputs_of s.plan s.parts) in
+    ap (λ (all : ScansJoined). ending_by (OfChunk c) (s ∷ []) (chunk_portion c (s ∷ [])) all all.fault)
+    (all_alone s)
+    ∙ chunk_end s c j j.fault e
 
 pub one_stands_for_itself : OneStandsForItself
 unfolding scans_meaning meaning_of
-one_stands_for_itself s =
-    let j = joined (outputs_of s.plan s.parts) in
-    let k = kind_by s.parts.chunk in
-    same_played s s.parts.chunk
-    ∙ ap (λ (all : ScansJoined). ending_by k (s ∷ []) (portion_by k (s ∷ [])) all all.fault)
-    (all_alone s)
-    ∙ by_kind s j s.parts.chunk refl
+one_stands_for_itself s = played_with s s.parts.chunk refl

@@ -27,6 +27,7 @@ use Rattle.container_spec.specs.ScansMeaningLaws.{RestoredIsContainer}
 use Rattle.container_spec.specs.ScanByScan.{verdict_after, spelled_otherwise, followed_by, meaning_from}
 use Rattle.container_spec.specs.Portions.{scans_meaning}
 use Rattle.box_format.proofs.Singles.{version_is_in}
+use Rattle.box_format.proofs.Spelling.{one_list_of_scans}
 use Rattle.container_spec.proofs.ScansRestored.{restored}
 use Rattle.container_spec.proofs.SeveralScans.{each_some, joined_one_by_one, none_of}
 
@@ -233,4 +234,6 @@ restored_is_container made file whole (inr (scans, (v, of), e)) =
       is = subst (λ (u : Version). IsContainerOf u
           (map (λ (s : BoxSeen). length s.parts.handovers) scans) made file) (sym said)
           (scans_of_file v scans made file here of e);
+      each = λ others is. ap (map (λ (s : BoxSeen). length s.parts.handovers))
+          (one_list_of_scans scans others made (v, of) is);
     }

@@ -83,25 +83,20 @@ chunk_portion c scans = record {
   after = trailer_of (all_parts scans);
 }
 
--- what a container has: the chunk of its one scan, or the whole file
-abbrev pub kind_by : Option Chunk → Kind
-kind_by None = OfFile
-kind_by (Some c) = OfChunk c
+-- the chunk of a container that has one, which has one scan
+abbrev pub only_chunk : List BoxSeen → Option Chunk
+only_chunk [] = None
+only_chunk (s ∷ []) = s.parts.chunk
+only_chunk (s ∷ t ∷ scans) = None
 
-abbrev pub kind_of : List BoxSeen → Kind
-kind_of [] = OfFile
-kind_of (s ∷ []) = kind_by s.parts.chunk
-kind_of (s ∷ t ∷ scans) = OfFile
-
--- this portion; a range has one of its own
-abbrev pub portion_by : Kind → List BoxSeen → Portion
-portion_by OfFile scans = whole scans
-portion_by (OfChunk c) scans = chunk_portion c scans
-portion_by OfRange scans = whole scans
+-- the whole file without a chunk, or that chunk
+abbrev pub meaning_with : Option Chunk → List BoxSeen → Meaning
+meaning_with None scans = portion_meaning OfFile scans (whole scans)
+meaning_with (Some c) scans = portion_meaning (OfChunk c) scans (chunk_portion c scans)
 
 -- what the scans of a container stand for
 unfoldable pub scans_meaning : List BoxSeen → Meaning
-scans_meaning scans = portion_meaning (kind_of scans) scans (portion_by (kind_of scans) scans)
+scans_meaning scans = meaning_with (only_chunk scans) scans
 
 -- what bytes stand for: a refusal, or what their scans stand for
 abbrev pub StandsFor : List ℕ → Meaning → Type 0

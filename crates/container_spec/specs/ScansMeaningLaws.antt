@@ -45,13 +45,15 @@ ContainerIsRestored =
     (most : ℕ) (made file : List ℕ) → most ≤ most_segments → IsContainerOfFile most made file
     → StandsFor made (record { bytes = file; verdict = Restored })
 
--- and what stands for a file is its container in the version that it names, for some number of segments in each scan, if
--- that version is one of whole files
+-- and what stands for a file is its container in the version that it names, with as many segments in each scan as it
+-- has, if that version is one of whole files
 pub record IsOfFile (made file : List ℕ) : Type 0 where
   pub mosts : List ℕ
   pub some : AllByRecursion (λ most. 0 < most) mosts
   pub few : sum mosts ≤ (layout_of (version_in made)).most
   pub is : IsContainerOf (version_in made) mosts made file
+  pub each : (scans : List BoxSeen) → IsContainer scans made
+      → mosts ≡ map (λ (s : BoxSeen). length s.parts.handovers) scans
 
 abbrev pub RestoredIsContainer : Type 0
 RestoredIsContainer =
@@ -111,8 +113,9 @@ HaveLastTrailer [] = Unit {0}
 HaveLastTrailer (s ∷ []) = Unit {0}
 HaveLastTrailer (s ∷ t ∷ scans) = (s.parts.trailer ≡ []) × HaveLastTrailer (t ∷ scans)
 
--- scans without a chunk, each with a segment, stand one by one for the first header, their segments through the first bad one, and
--- if there is none, for the trailer; the pad bits of each scan are looked at by what its own segments padded
+-- scans without a chunk, each with a segment, stand one by one for the first header, their segments through the first
+-- bad one, and if there is none, for the trailer; the pad bits of each scan are looked at by what its own segments
+-- padded
 abbrev pub MeaningIsJoined : Type 0
 MeaningIsJoined =
     (scans : List BoxSeen) → 1 ≤ length scans → length scans ≤ 4

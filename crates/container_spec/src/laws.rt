@@ -60,9 +60,9 @@ pub fn files_have_one_container()
     ensures encoded_short { ContainerOfFileIsShort }
 {}
 
-/// Scans without a chunk stand for the first header, the bytes of their segments through the first bad one, and if none
-/// is bad, the trailer; and the scans of a container stand for that one by one. Whether a scan's pad bits are spelled as
-/// `encode` spells them goes by its own segments.
+/// Scans without a chunk stand for the first header, the bytes of their segments through the first bad one, and if
+/// none is bad, the trailer; and the scans of a container stand for that one by one. Whether a scan's pad bits are
+/// spelled as `encode` spells them goes by its own segments.
 pub fn scans_are_joined()
     ensures scans { MeaningIsJoined }
     ensures whole { WholeIsJoined }
@@ -70,7 +70,7 @@ pub fn scans_are_joined()
 {}
 
 /// A container of one scan stands for what its parts stand for, and its segments are those of the scan.
-pub fn one_scan_is_as_before()
+pub fn one_scan_stands_for_itself()
     ensures itself { OneStandsForItself }
     ensures joined { OneIsJoined }
 {}

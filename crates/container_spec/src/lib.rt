@@ -1,5 +1,5 @@
-//! What a container stands for: the bytes of a file and how decoding ends, for any bytes whatever; and the container of a
-//! file (this project's own).
+//! What a container stands for: the bytes of a file and how decoding ends, for any bytes whatever; and the container
+//! of a file (this project's own).
 //!
 //!     streams  --blocks, one after another-->  MCUs  --written from a handover-->  bytes of the scan
 //!     segment  its bytes S, and its outcome O: good, or the first fault
@@ -14,7 +14,7 @@ mod scan_pads;
 
 pub use laws::{
     containers_stand_for_files, files_have_one_container, good_segments_have_their_stream,
-    indexed_containers_stand_for_files, one_scan_is_as_before, rows_of_meanings, rows_of_scans,
-    scans_are_joined, segments_are_short, segments_are_slices,
+    indexed_containers_stand_for_files, one_scan_stands_for_itself, rows_of_meanings,
+    rows_of_scans, scans_are_joined, segments_are_short, segments_are_slices,
 };
 pub use scan_pads::ScanPads;

@@ -76,8 +76,8 @@ fn finish(ended: Result<u64, DecodeError>, held: &[u8], out: &mut [u8]) -> Answe
     }
 }
 
-/// How many bytes `lepton_decode` of the same container writes in full, or the refusal with which it ends. The bytes are
-/// decoded and dropped.
+/// How many bytes `lepton_decode` of the same container writes in full, or the refusal with which it ends. The bytes
+/// are decoded and dropped.
 #[unsafe(no_mangle)]
 pub extern "C" fn lepton_length(alloc: Global, bytes: &[u8], ending: &mut LeptonEnding) -> u8
     ensures answer { (answer : Answer) × LengthGives bytes.now answer

@@ -75,8 +75,8 @@ pub fn prepare(alloc: Global, bytes: &[u8], workers: u8, ring: u32) -> Result<Re
     })
 }
 
-/// The same, by as many workers as the container is worth (`workers_worth`), `most` at most: about one for each 8,192 of
-/// its blocks. So a small container has none.
+/// The same, by as many workers as the container is worth (`workers_worth`), `most` at most: about one for each 8,192
+/// of its blocks. So a small container has none.
 #[inline(never)]
 pub fn prepare_worth(
     alloc: Global,

@@ -11,9 +11,10 @@ use Rattle.handover.specs.declared.outcome.StreamFault.{StreamFault}
 use Rattle.box_format.specs.Parts.{rows_most, BoxSeen}
 use Rattle.box_format.specs.declared.refusal.BoxRefusal.{BoxRefusal}
 use Rattle.container_spec.specs.Meanings.{Meaning, Verdict, Restored, PadSpelled, ChunkShort as ShortChunk, Faulty, NoBox}
+use Rattle.box_format.specs.declared.chunk.Chunk.{Chunk}
 use Rattle.box_format.specs.Containers.{IsContainer}
 use Rattle.box_format.specs.Checks.{IsRefused}
-use Rattle.container_spec.specs.Portions.{Kind, OfFile, OfChunk, OfRange, Portion, begun as begun_of, ended as ended_of, ending_by, good_end, kind_of, played, portion_by, portion_meaning, scans_meaning}
+use Rattle.container_spec.specs.Portions.{Kind, OfFile, OfChunk, OfRange, Portion, begun as begun_of, chunk_portion, ended as ended_of, ending_by, good_end, meaning_with, only_chunk, played, portion_meaning, scans_meaning, whole}
 use Rattle.container_spec.specs.ScansJoined.{ScansJoined, all_spelled, first_header}
 use Rattle.segment_worker.specs.Written.{HasFailed, HasWritten}
 use Rattle.command_words.specs.declared.command.Command.{Command}
@@ -71,14 +72,20 @@ by_fault : (kind : Kind) (scans : List BoxSeen) (p : Portion) (all : ScansJoined
 by_fault kind scans p all (Some fault) = tt
 by_fault kind scans p all None = at_end kind scans p all
 
-scans_written : (scans : List BoxSeen) → Written (scans_meaning scans)
-unfolding scans_meaning
-scans_written scans =
-    let kind = kind_of scans in
-    let p = portion_by kind scans in
+portion_written : (kind : Kind) (scans : List BoxSeen) (p : Portion)
+    → Written (portion_meaning kind scans p)
+portion_written kind scans p =
     let all = played scans p in
     let m = portion_meaning kind scans p in
     written_of m.bytes m.verdict (by_fault kind scans p all all.fault)
+
+written_with : (chunk : Option Chunk) (scans : List BoxSeen) → Written (meaning_with chunk scans)
+written_with None scans = portion_written OfFile scans (whole scans)
+written_with (Some c) scans = portion_written (OfChunk c) scans (chunk_portion c scans)
+
+scans_written : (scans : List BoxSeen) → Written (scans_meaning scans)
+unfolding scans_meaning
+scans_written scans = written_with (only_chunk scans) scans
 
 module _ {Sink : Type 0} (held : Sink → Option (List ℕ)) (faults : Sink → ℕ)
     (full : Sink → Type 0) (old new : Sink) where

@@ -8,7 +8,8 @@ use Rattle.segment_code.specs.declared.step.Step.{Step}
 use Rattle.segment_code.specs.declared.step.Step.TheVariants.{More, Done, Fault}
 
 -- a decoder of several scans: their plans, how many segments it began, whether one is under way; of that the number of
--- its scan, its own number in the container, and what is left of the header before its bytes; and a decoder for each scan
+-- its scan, its own number in the container, and what is left of the header before its bytes; and a decoder for each
+-- scan
 pub record FileDecoderSeen : Type 0 where
   pub plans : List PlanFields
   pub begun : ℕ
