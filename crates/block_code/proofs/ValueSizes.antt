@@ -1,14 +1,17 @@
 -- Sizes.
-use Rattle.std.proofs.Common.{◌≡◌, List, ap, ℕ, ◌+◌, ◌*◌, ◌-◌, ◌/◌, ◌^◌, ◌<◌, ◌≤◌, zero, suc, refl, ◌∙◌, sym, arith, Option, Some, None, IfSome, [], ◌∷◌, ◌++◌, pow-suc, Bool, true, false}
-use Rattle.std.specs.Prelude.{ℤ, pos, unsigned_abs, int_lt, nat_lt}
+use Rattle.std.proofs.Common.{◌≡◌, ℕ, ◌+◌, ◌*◌, ◌-◌, ◌/◌, ◌^◌, ◌<◌, ◌≤◌, zero, suc, refl, ◌∙◌, sym, arith, Option, Some, None, IfSome, ◌∷◌, pow-suc}
+use Rattle.std.specs.Prelude.{ℤ, pos, unsigned_abs, int_lt}
 use Rattle.std.specs.Option.{option_map}
-use Rattle.std.proofs.lemmas.Bool.Decides.{nat_tests}
-use Rattle.block_spec.specs.BitEvents.{bits_events, ones}
+use Rattle.std.proofs.lemmas.List.{append-nil}
+use Rattle.block_spec.specs.BitEvents.{bits_events}
 use Rattle.coef_context.specs.ValueBins.{ValueBins}
 use Rattle.block_spec.specs.Values.{category_of, rest_events, value_events, step_events}
 use Rattle.block_spec.proofs.CategoryBits.{top_is, zero_value}
 use Rattle.coef_block.specs.Categories.{category}
 use Rattle.coef_block.proofs.CategoryLemmas.{size_of_bound}
+
+pub size_of_zero : category_of (pos 0) ≡ 0
+size_of_zero = refl
 
 -- a number whose bits below the top one are as many as said
 pub length_is : (n low : ℕ) → 2 ^ low ≤ n → n < 2 ^ (low + 1) → category n ≡ suc low
@@ -28,56 +31,10 @@ top_asked (Some x) s some fits =
     let e : s ≡ suc (s - 1) = omega arith in
     top_is (unsigned_abs x) (s - 1) (fits ∙ e)
 
--- a value that stops at a step
-pub stops : (bins : ValueBins) (k steps : ℕ) (x : ℤ) → k < steps → category_of x ≡ k → ((bins.step k, false) ∷ []) ++ rest_events bins k x ≡ value_events bins k steps x
+pub value_of_zero : (bins : ValueBins) (first steps : ℕ) → value_events bins first steps (pos 0) ≡ step_events bins.step first steps 0
 unfolding value_events
-stops bins k steps x below is =
-    let none : k - k ≡ 0 = omega arith in
-    let less : nat_lt k steps ≡ true = grind (arith, nat_tests) in
-    rw (is, none, less) refl
+value_of_zero bins first steps = append-nil (step_events bins.step first steps 0)
 
--- and one that goes on
-pub goes_on : (bins : ValueBins) (k steps : ℕ) (x : ℤ) → k + 1 ≤ category_of x → ((bins.step k, true) ∷ []) ++ value_events bins (k + 1) steps x ≡ value_events bins k steps x
-unfolding value_events
-goes_on bins k steps x more =
-    let e : category_of x - k ≡ suc (category_of x - (k + 1)) = omega (arith, more) in
-    rw e refl
-
--- a value from its first step on, 0 or 1
-pub from_first : (bins : ValueBins) (first steps : ℕ) (x : ℤ) → first ≤ 1 → 1 ≤ category_of x → ones bins.step first (1 - first) ++ value_events bins 1 steps x ≡ value_events bins first steps x
-from_first bins zero steps x few some = goes_on bins 0 steps x some
-from_first bins (suc zero) steps x few some = refl
-from_first bins (suc (suc first)) steps x few some = absurd (omega (arith, few))
-
-pub zero_coded : (bins : ValueBins) (first steps : ℕ) → first ≡ 0 → 0 < steps → (bins.step 0, false) ∷ [] ≡ value_events bins first steps (pos 0)
-zero_coded bins first steps is some = rw is (stops bins 0 steps (pos 0) some refl)
-
--- a value that is coded as no number above the first step
-pub zero_asked : (value : Option ℤ) (some : Bool) → some ≡ false → IfSome (option_map category_of value) (λ s. some ≡ nat_lt 0 s) → IfSome value (λ x. pos 0 ≡ x)
-zero_asked None some none same = tt
-zero_asked (Some x) some none same =
-    let e : nat_lt 0 (category_of x) ≡ false = sym same ∙ none in
-    sym (zero_value x (grind (arith, nat_tests)))
-
--- the same over several steps
-all_steps : (bins : ValueBins) (steps s : ℕ) (x : ℤ) → category_of x ≡ s → step_events bins.step 4 steps s ++ rest_events bins s x ≡ value_events bins 4 steps x
-unfolding value_events
-all_steps bins steps s x is = rw is refl
-
-pub stops_at_two : (bins : ValueBins) (steps : ℕ) (x : ℤ) → 2 < steps → category_of x ≡ 2 →
-    ((bins.step 1, true) ∷ []) ++ (((bins.step 2, false) ∷ []) ++ rest_events bins 2 x) ≡ value_events bins 1 steps x
-stops_at_two bins steps x below is =
-    ap (λ (es : List (ℕ × Bool)). ((bins.step 1, true) ∷ []) ++ es) (stops bins 2 steps x below is) ∙ goes_on bins 1 steps x (omega (arith, is))
-
-pub stops_at_three : (bins : ValueBins) (steps : ℕ) (x : ℤ) → 3 < steps → category_of x ≡ 3 →
-    ((bins.step 1, true) ∷ []) ++ (((bins.step 2, true) ∷ []) ++ (((bins.step 3, false) ∷ []) ++ rest_events bins 3 x)) ≡ value_events bins 1 steps x
-stops_at_three bins steps x below is =
-    ap (λ (es : List (ℕ × Bool)). ((bins.step 1, true) ∷ []) ++ (((bins.step 2, true) ∷ []) ++ es)) (stops bins 3 steps x below is)
-    ∙ ap (λ (es : List (ℕ × Bool)). ((bins.step 1, true) ∷ []) ++ es) (goes_on bins 2 steps x (omega (arith, is))) ∙ goes_on bins 1 steps x (omega (arith, is))
-
-pub from_four : (bins : ValueBins) (steps s : ℕ) (x : ℤ) → 4 ≤ s → category_of x ≡ s →
-    ((bins.step 1, true) ∷ []) ++ (((bins.step 2, true) ∷ []) ++ (((bins.step 3, true) ∷ []) ++ (step_events bins.step 4 steps s ++ rest_events bins s x))) ≡ value_events bins 1 steps x
-from_four bins steps s x many is =
-    ap (λ (es : List (ℕ × Bool)). ((bins.step 1, true) ∷ []) ++ (((bins.step 2, true) ∷ []) ++ (((bins.step 3, true) ∷ []) ++ es))) (all_steps bins steps s x is)
-    ∙ ap (λ (es : List (ℕ × Bool)). ((bins.step 1, true) ∷ []) ++ (((bins.step 2, true) ∷ []) ++ es)) (goes_on bins 3 steps x (omega (arith, is, many)))
-    ∙ ap (λ (es : List (ℕ × Bool)). ((bins.step 1, true) ∷ []) ++ es) (goes_on bins 2 steps x (omega (arith, is, many))) ∙ goes_on bins 1 steps x (omega (arith, is, many))
+pub zero_asked : (value : Option ℤ) (s : ℕ) → s ≡ 0 → IfSome (option_map category_of value) (λ n. s ≡ n) → IfSome value (λ x. pos 0 ≡ x)
+zero_asked None s z same = tt
+zero_asked (Some x) s z same = sym (zero_value x (sym same ∙ z))

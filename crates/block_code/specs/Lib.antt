@@ -6,4 +6,3 @@ pub mod SegmentInside
 pub mod SegmentUnderWay
 pub mod SumsAround
 pub mod ValueRanges
-pub mod ValueSteps

@@ -65,8 +65,8 @@ pub fn put_block(
     let neighbours = neighbours_in(rows, component, row, column);
     let residue = residue_of(block, prediction(neighbours));
     let mut same = Block::zero();
-    let mut local = coder.moved();
-    let coded = code_parts(&mut local, class, neighbours, residue, block, &mut same);
+    let local = coder.moved();
+    let (local, coded) = code_parts(local, class, neighbours, residue, block, &mut same);
     coder.back(local);
     let _ = coded?;
     Ok(())
@@ -124,8 +124,8 @@ pub(crate) fn get_in_place(
     // A coder that gets the bits ignores what is wanted.
     let wanted = Block::zero();
     *block = Block::zero();
-    let mut local = coder.moved();
-    let coded = code_parts(&mut local, class, neighbours, 0, &wanted, block);
+    let local = coder.moved();
+    let (local, coded) = code_parts(local, class, neighbours, 0, &wanted, block);
     *coder = local;
     match coded {
         Ok(counted) => block_read(counted, block, prediction(neighbours)),

@@ -1,11 +1,10 @@
 // The parts of a block in the order of their events, put or got by one body.
-ghost use Rattle.std.specs.Prelude.{◌≡◌, ℕ, Bool, ◌<◌, ◌≤◌, ◌+◌, ◌-◌, ◌++◌, IfOk, OnOk, OnErr, IfSome, IfNone, IsTrue, Some, pos, replicate, List};
+ghost use Rattle.std.specs.Prelude.{◌≡◌, ◌<◌, ◌≤◌, IfOk, OnErr, IfSome, IfNone, IsTrue, Some, pos, replicate};
 ghost use Rattle.coef_block.specs.Block.{IsBlock};
 ghost use Rattle.coef_context.specs.Runs.{bin_count, inner_values, spreads};
-ghost use Rattle.block_spec.specs.Around.{Around, dc_spread, inner_count};
-ghost use Rattle.block_spec.specs.BlockEvents.{ac_events, inner_count_events, dc_events};
+ghost use Rattle.block_spec.specs.Around.{Around, dc_spread};
+ghost use Rattle.block_spec.specs.BlockEvents.{inner_count_events, dc_events};
 ghost use Rattle.block_spec.specs.ReadBlocks.{IsBlockCount, residue_events};
-ghost use Rattle.block_spec.specs.Values.{category_of};
 ghost use Rattle.block_code.specs.BandPositions.{HaveSameAcs};
 ghost use Rattle.block_code.specs.NeighbourBlocks.{around_of};
 ghost use Rattle.block_code.specs.ValueRanges.{IsResidue, IsSixBits};
@@ -28,37 +27,64 @@ const DC_STEPS: u8 = DC_SIZES as u8;
 
 /// Codes the parts of a block, from the inner count on, puts its AC coefficients into `out` and returns its residue.
 /// A coder that is given the bits codes `wanted` and `residue`; one that gets them ignores both. Returns `None` if
-/// the six bits of the count are above 49, and then codes nothing after them.
-#[inline(always)]
+/// the six bits of the count are above 49, and then codes nothing after them. The coder is handed over and given back,
+/// so that its state stays in registers.
+#[inline(never)]
 pub(crate) fn code_parts<C: Coder>(
-    coder: &mut C,
+    coder: C,
     class: u8,
     neighbours: Neighbours,
     residue: i32,
     wanted: &Block,
     out: &mut Block,
-) -> Result<Option<i32>, C::Stop>
+) -> (C, Result<Option<i32>, C::Stop>)
     requires class { class < 2 }
-    requires room { bin_count ≤ C.room coder.old }
+    requires room { bin_count ≤ C.room coder }
     requires residue { IsTrue C.given → IsResidue residue }
     requires zeros { out.old ≡ replicate 64 (pos 0) }
-    ensures stopped { OnErr result (C.stopped coder.new) }
-    ensures coded { IfOk result (λ counted. IfSome counted (λ residue. C.codes coder.old
-        (residue_events class (around_of neighbours.entry) out.new residue) coder.new)) }
-    ensures small { IfOk result (λ counted. IfSome counted IsResidue) }
-    ensures block { IfOk result (λ counted. IfSome counted (λ _. IsBlock out.new)) }
-    ensures many { IfOk result (λ counted. IfNone counted (IsBlockCount
-        (λ events. C.codes coder.old events coder.new) class (around_of neighbours.entry))) }
-    ensures same { IsTrue C.given → IfOk result
+    ensures stopped { OnErr result.1 (C.stopped result.0) }
+    ensures coded { IfOk result.1 (λ counted. IfSome counted (λ residue. C.codes coder
+        (residue_events class (around_of neighbours.entry) out.new residue) result.0)) }
+    ensures small { IfOk result.1 (λ counted. IfSome counted IsResidue) }
+    ensures block { IfOk result.1 (λ counted. IfSome counted (λ _. IsBlock out.new)) }
+    ensures many { IfOk result.1 (λ counted. IfNone counted (IsBlockCount
+        (λ events. C.codes coder events result.0) class (around_of neighbours.entry))) }
+    ensures same { IsTrue C.given → IfOk result.1
         (λ counted. (counted ≡ Some residue) × HaveSameAcs out.new wanted.now) }
 {
-    let count = code_inner_count(coder, class, guess(neighbours), inner_count(wanted))?;
+    let mut coder = coder;
+    let (guess, wanted_count) = (guess(neighbours), inner_count(wanted));
+    let count = match code_inner_count(&mut coder, class, guess, wanted_count) {
+        Ok(count) => count,
+        Err(stop) => return (coder, Err(stop)),
+    };
     if count > MOST_INNER {
-        return Ok(None);
+        return (coder, Ok(None));
     }
-    code_acs(coder, class, neighbours, count, wanted, out)?;
-    let residue = code_dc(coder, class, spread(neighbours), residue)?;
-    Ok(Some(residue))
+    let sums = sums_of(neighbours);
+    let inner = code_inner(&mut coder, class, neighbours, &sums, count, wanted, out);
+    match inner {
+        Ok(()) => {}
+        Err(stop) => return (coder, Err(stop)),
+    }
+    let row = code_edge(
+        &mut coder, class, false, neighbours, &sums, count, wanted, out,
+    );
+    match row {
+        Ok(()) => {}
+        Err(stop) => return (coder, Err(stop)),
+    }
+    let column = code_edge(
+        &mut coder, class, true, neighbours, &sums, count, wanted, out,
+    );
+    match column {
+        Ok(()) => {}
+        Err(stop) => return (coder, Err(stop)),
+    }
+    match code_dc(&mut coder, class, spread(neighbours), residue) {
+        Ok(residue) => (coder, Ok(Some(residue))),
+        Err(stop) => (coder, Err(stop)),
+    }
 }
 
 // The inner count in six bits, by the guess at it.
@@ -77,35 +103,6 @@ fn code_inner_count<C: Coder>(coder: &mut C, class: u8, guess: u8, count: u8) ->
     let base = inner_count_base(class, bits_of(u32::from(guess)));
     let n = code_six_bits(coder, base, Some(count))?;
     Ok(n)
-}
-
-// The AC coefficients, of which `count` inner ones are not 0.
-#[inline(always)]
-fn code_acs<C: Coder>(
-    coder: &mut C,
-    class: u8,
-    neighbours: Neighbours,
-    count: u8,
-    wanted: &Block,
-    out: &mut Block,
-) -> Result<(), C::Stop>
-    requires class { class < 2 }
-    requires count { count ≤ inner_values }
-    requires room { bin_count ≤ C.room coder.old }
-    requires wanted { IsTrue C.given → inner_count wanted.now ≡ count }
-    requires zeros { out.old ≡ replicate 64 (pos 0) }
-    ensures stopped { OnErr result (C.stopped coder.new) }
-    ensures coded { OnOk result (C.codes coder.old
-        (ac_events class (around_of neighbours.entry) out.new) coder.new) }
-    ensures count { OnOk result (inner_count out.new ≡ count) }
-    ensures block { OnOk result (IsBlock out.new) }
-    ensures same { IsTrue C.given → OnOk result (HaveSameAcs out.new wanted.now) }
-{
-    let sums = sums_of(neighbours);
-    code_inner(coder, class, neighbours, &sums, count, wanted, out)?;
-    code_edge(coder, class, false, neighbours, &sums, count, wanted, out)?;
-    code_edge(coder, class, true, neighbours, &sums, count, wanted, out)?;
-    Ok(())
 }
 
 // The residue, by the spread of the DCs around.

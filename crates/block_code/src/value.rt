@@ -1,12 +1,11 @@
 // A value: its size in steps, its sign, and its bits below the highest.
-ghost use Rattle.std.specs.Prelude.{ℕ, Bool, false, nat_lt, ◌+◌, ◌-◌, ◌/◌, ◌^◌, ◌<◌, ◌≤◌, IfOk, OnOk, None, length, ◌≡◌, OnErr, IfSome, IsTrue, unsigned_abs, int_lt, pos, ◌∷◌, ◌++◌};
+ghost use Rattle.std.specs.Prelude.{ℕ, ◌+◌, ◌-◌, ◌/◌, ◌^◌, ◌<◌, ◌≤◌, IfOk, OnOk, None, length, ◌≡◌, OnErr, IfSome, IsTrue, unsigned_abs, int_lt, pos, ◌∷◌, ◌++◌};
 ghost use Rattle.std.specs.Option.{option_map};
 ghost use Rattle.coef_context.specs.Runs.{dc_sizes, bin_count};
 ghost use Rattle.block_spec.specs.Values.{category_of, rest_events, value_events};
 ghost use Rattle.coef_context.specs.BinBases.{AreBases, bins_at};
-ghost use Rattle.block_code.specs.ValueSteps.{nonzero_events};
 
-use crate::bits::{BitBins, code_bits, code_size, is_above};
+use crate::bits::{BitBins, code_bits, code_size};
 use adapt_bins::Coder;
 use coef_block::size;
 use coef_context::BinBases;
@@ -105,75 +104,7 @@ fn code_rest<C: Coder>(
     Ok(signed(negative, magnitude))
 }
 
-// Codes whether a value isn't 0, where `first` is 0; where it is 1, that is known.
-#[inline(always)]
-fn code_nonzero<C: Coder>(
-    coder: &mut C,
-    bases: BinBases,
-    first: u8,
-    size: Option<u8>,
-) -> Result<bool, C::Stop>
-    requires bases { AreBases bases }
-    requires room { bin_count ≤ C.room coder.old }
-    requires first { first ≤ 1 }
-    requires size { IsTrue C.given → IfSome size (λ s. first ≤ s) }
-    ensures stopped { OnErr result (C.stopped coder.new) }
-    ensures coded { IfOk result
-        (λ some. C.codes coder.old (nonzero_events (bins_at bases) first some) coder.new) }
-    ensures zero { IfOk result (λ some. some ≡ false → first ≡ 0) }
-    ensures same { IsTrue C.given → IfSome size (λ s. IfOk result (λ some. some ≡ nat_lt 0 s)) }
-{
-    if first != 0 {
-        return Ok(true);
-    }
-    let some = coder.code_branching(bases.step(0), is_above(size, 0))?;
-    Ok(some)
-}
-
-// Codes a value of 1 to `steps` bits. Those of up to three leave at once, which a processor foretells better than a
-// loop's end.
-#[inline(always)]
-fn code_some<C: Coder>(
-    coder: &mut C,
-    bases: BinBases,
-    steps: u8,
-    size: Option<u8>,
-    value: Option<i32>,
-) -> Result<i32, C::Stop>
-    requires bases { AreBases bases }
-    requires room { bin_count ≤ C.room coder.old }
-    requires least { 4 ≤ steps }
-    requires steps { steps ≤ dc_sizes }
-    requires size { size ≡ option_map category_of value }
-    requires value { IsTrue C.given
-        → IfSome value (λ x. (1 ≤ category_of x) × (category_of x ≤ steps)) }
-    ensures stopped { OnErr result (C.stopped coder.new) }
-    ensures coded { IfOk result
-        (λ x. C.codes coder.old (value_events (bins_at bases) 1 steps x) coder.new) }
-    ensures same { IsTrue C.given → IfSome value (λ x. IfOk result (λ y. y ≡ x)) }
-    ensures within { IfOk result (λ x. (1 ≤ category_of x) × (category_of x ≤ steps)) }
-{
-    let above_one = coder.code_branching(bases.step(1), is_above(size, 1))?;
-    if !above_one {
-        let one = code_rest(coder, bases, 1, value)?;
-        return Ok(one);
-    }
-    let above_two = coder.code_branching(bases.step(2), is_above(size, 2))?;
-    if !above_two {
-        let two = code_rest(coder, bases, 2, value)?;
-        return Ok(two);
-    }
-    let above_three = coder.code_branching(bases.step(3), is_above(size, 3))?;
-    if !above_three {
-        let three = code_rest(coder, bases, 3, value)?;
-        return Ok(three);
-    }
-    let many = code_size(coder, bases, 4, steps, size)?;
-    let x = code_rest(coder, bases, many, value)?;
-    Ok(x)
-}
-
-/// Codes a value of `first`, 0 or 1, to `steps` bits.
+/// Codes a value of `first` to `steps` bits.
 #[inline(always)]
 pub(crate) fn code_value<C: Coder>(
     coder: &mut C,
@@ -184,8 +115,7 @@ pub(crate) fn code_value<C: Coder>(
 ) -> Result<i32, C::Stop>
     requires bases { AreBases bases }
     requires room { bin_count ≤ C.room coder.old }
-    requires first { first ≤ 1 }
-    requires least { 4 ≤ steps }
+    requires first { first ≤ steps }
     requires steps { steps ≤ dc_sizes }
     requires value { IsTrue C.given
         → IfSome value (λ x. (first ≤ category_of x) × (category_of x ≤ steps)) }
@@ -195,11 +125,10 @@ pub(crate) fn code_value<C: Coder>(
     ensures same { IsTrue C.given → IfSome value (λ x. IfOk result (λ y. y ≡ x)) }
     ensures within { IfOk result (λ x. (first ≤ category_of x) × (category_of x ≤ steps)) }
 {
-    let size = size_of(value);
-    let some = code_nonzero(coder, bases, first, size)?;
-    if !some {
+    let size = code_size(coder, bases, first, steps, size_of(value))?;
+    if size == 0 {
         return Ok(0);
     }
-    let x = code_some(coder, bases, steps, size, value)?;
+    let x = code_rest(coder, bases, size, value)?;
     Ok(x)
 }

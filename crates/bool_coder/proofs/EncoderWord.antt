@@ -7,7 +7,7 @@ use Rattle.std.proofs.Math.Nat.{mul-le-mul_right, pow-le-pow_right}
 use Rattle.std.proofs.lemmas.Nat.{pow_pos, pow-add, shr_split, shr_below, shl_whole, shl_below, one_shl, and_mask, mod_below}
 use Rattle.bool_coder.specs.BoolStream.{Interval, opening, after, stream, stream_length, IsOnLine}
 use Rattle.bool_coder.specs.PlainLine.{IsKept}
-use Rattle.bool_coder.specs.EncoderInside.{bits_of, low_of, kept, IsWord}
+use Rattle.bool_coder.specs.EncoderInside.{bits_of, low_of, kept, IsLonger, IsWord}
 use Rattle.growth.specs.declared.no_memory.NoMemory.{NoMemory}
 use Rattle.bool_coder.proofs.Bytes.{byte_power, bytes_number}
 use Rattle.bool_coder.proofs.Append.{below_by_product}
@@ -143,6 +143,9 @@ full_parts written word range low bits some fits most k l b =
     let m = word-marked word some fits in
     rw (l, b) (record { some = omega (arith, k.wide); one_carry = low_carry word range m most; on_line = k.on_line })
 
+pub kept-longer : (written : List ℕ) (word range : ℕ) → IsLonger written word range → IsKept (kept written word range)
+kept-longer written word range w = record { wide = w.wide; byte = w.byte; on_line = w.on_line }
+
 -- the word of a new encoder
 pub first-word : (written : List ℕ) → written ≡ [] → IsWord written 512 255
 first-word written e =
@@ -202,3 +205,11 @@ step-kept written word range prob bit word' range' w p e =
 -- what contracts see of an encoder that isn't spent
 pub shown : (spent : Option NoMemory) (i : Interval) → spent ≡ None → (if is_some spent then None else Some i) ≡ Some i
 shown spent i e = rw e refl
+
+-- and the word is longer by a few bits
+pub step-longer : (written : List ℕ) (word range prob : ℕ) (bit : Bool) (word' range' : ℕ) → IsWord written word range → prob < 256
+    → kept written word' range' ≡ after (kept written word range) (prob, bit) → word ≤ word' → word' < 2 ^ 48
+    → word' + range' ≤ 2 ^ (bits_of word' + 2) → IsLonger written word' range'
+step-longer written word range prob bit word' range' w p e no_less few_more one_carry =
+    let k = step-kept written word range prob bit word' range' w p e in
+    record { wide = k.wide; byte = k.byte; begun = omega (arith, w.begun, no_less); long = few_more; one_carry = one_carry; on_line = k.on_line }

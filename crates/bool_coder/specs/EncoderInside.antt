@@ -1,5 +1,5 @@
 -- View: how the encoder keeps an interval: the bottom's whole bytes, and the bits after them in a word (own).
-use Rattle.std.specs.Prelude.{ℕ, ◌+◌, ◌-◌, ◌*◌, ◌^◌, ◌<◌, ◌≤◌, Option, Some, None, List, length, is_some, if◌then◌else◌}
+use Rattle.std.specs.Prelude.{ℕ, ◌≡◌, ◌+◌, ◌-◌, ◌*◌, ◌^◌, ◌<◌, ◌≤◌, Option, Some, None, List, length, is_some, if◌then◌else◌}
 use lib.Count.{count_leading_zeros}
 use Rattle.std.specs.Int.Digits.{number_from_digits}
 use Rattle.bool_coder.specs.BoolStream.{Interval, IsOnLine}
@@ -35,6 +35,20 @@ pub record IsWord (written : List ℕ) (word range : ℕ) : Type 0 where
   pub short : word < 2 ^ 41
   pub one_carry : word + range ≤ 2 ^ (bits_of word + 2)
   pub on_line : IsOnLine (kept written word range)
+
+-- after one more bool it may be longer, by seven bits at most, before four bytes of it are written
+pub record IsLonger (written : List ℕ) (word range : ℕ) : Type 0 where
+  pub wide : 128 ≤ range
+  pub byte : range ≤ 255
+  pub begun : 2 ^ 9 ≤ word
+  pub long : word < 2 ^ 48
+  pub one_carry : word + range ≤ 2 ^ (bits_of word + 2)
+  pub on_line : IsOnLine (kept written word range)
+
+-- these bytes and this word are the same interval, and the word isn't longer
+pub record IsSameKept (before : List ℕ) (longer : ℕ) (after : List ℕ) (word range : ℕ) : Type 0 where
+  pub is : IsWord after word range
+  pub same : kept after word range ≡ kept before longer range
 
 -- what holds of an encoder, a spent one too
 abbrev pub IsSound : Inside → Type 0

@@ -2,7 +2,7 @@
 ghost use Rattle.std.specs.Prelude.{[], ◌≡◌, ℕ, ◌+◌, ◌-◌, ◌*◌, ◌^◌, ◌<◌, ◌≤◌, Some, None, List, length, take, drop, IsSome, IfSome, IfOk, OnOk, OnErr, option_map};
 ghost use Rattle.std.specs.Int.Digits.{number_from_digits, AllBelowBase};
 ghost use Rattle.bool_coder.specs.BoolStream.{opening, after, split, chosen, stream};
-ghost use Rattle.bool_coder.specs.EncoderInside.{bits_of, kept, low_of};
+ghost use Rattle.bool_coder.specs.EncoderInside.{IsLonger, IsSameKept, bits_of, kept, low_of};
 
 use crate::doublings::widening;
 use growth::{NoMemory, extend_from_slice};
@@ -95,25 +95,23 @@ impl Encoder {
         let (low, less) = step(self.low, self.less, prob, bit);
         if low < FULL {
             self.low = low;
-        } else {
-            let (number, bits) = parts_of(low);
-            let left = bits - 32;
-            let alloc = *self.written.allocator();
-            let whole = replace(&mut self.written, Vec::new(alloc));
-            match append_apart(whole, number >> left, 4) {
-                Ok(written) => self.written = written,
-                // The bytes are gone: what is left is a new encoder's word.
-                Err(short) => {
-                    self.low = FIRST;
-                    self.less = 254;
-                    self.spent = Some(short);
-                    return Err(short);
-                }
-            }
-            self.low = (number & ((1 << left) - 1)) + (2 << left);
+            self.less = less;
+            return Ok(());
         }
-        self.less = less;
-        Ok(())
+        match flush_into(&mut self.written, low) {
+            Ok(rest) => {
+                self.low = rest;
+                self.less = less;
+                Ok(())
+            }
+            // The bytes are gone: what is left is a new encoder's word.
+            Err(short) => {
+                self.low = FIRST;
+                self.less = 254;
+                self.spent = Some(short);
+                Err(short)
+            }
+        }
     }
 
     /// The stream of the bools that were coded: the bottom in eight bits and one more for each shift, the highest
@@ -219,22 +217,38 @@ pub(crate) fn split_of(range: u32, prob: u8) -> u32
     1 + part_of(range - 1, prob)
 }
 
-// `append`, so placed that the room for its answer is cleared only if it is called, and not for each bool.
+// `flush` behind a reference. What it has in memory is cleared only if it is called, and not for each bool.
 #[inline(always)]
-fn append_apart(written: Vec<u8>, number: u64, count: usize) -> Result<Vec<u8>, NoMemory>
-    requires count { count ≤ 7 }
-    requires carry { number < 2 * 256 ^ count }
-    requires room { number_from_digits 256 written.items * 256 ^ count + number
-        < 256 ^ (length written.items + count) }
-    ensures number { IfOk result (λ longer. number_from_digits 256 longer.items
-        ≡ number_from_digits 256 written.items * 256 ^ count + number) }
-    ensures longer { IfOk result (λ longer. length longer.items ≡ length written.items + count) }
-    ensures bytes { IfOk result (λ longer. AllBelowBase 256 longer.items) }
+fn flush_into(written: &mut Vec<u8>, low: u64) -> Result<u64, NoMemory>
+    requires full { 2 ^ 41 ≤ low }
+    requires word { (range : ℕ) × IsLonger written.old.items low range }
+    ensures kept { IfOk result (λ rest. (range : ℕ) → IsLonger written.old.items low range
+        → IsSameKept written.old.items low written.new.items rest range) }
+    ensures lost { OnErr result (written.new.items ≡ []) }
 {
-    match append(written, number, count) {
-        Ok(longer) => Ok(longer),
+    let alloc = *written.allocator();
+    match flush(replace(written, Vec::new(alloc)), low) {
+        Ok((longer, rest)) => {
+            *written = longer;
+            Ok(rest)
+        }
         Err(short) => Err(short),
     }
+}
+
+// Appends the first four bytes of a full word, and answers the word that is left.
+#[cold]
+#[inline(never)]
+fn flush(written: Vec<u8>, low: u64) -> Result<(Vec<u8>, u64), NoMemory>
+    requires full { 2 ^ 41 ≤ low }
+    requires word { (range : ℕ) × IsLonger written.items low range }
+    ensures { IfOk result (λ left. (range : ℕ) → IsLonger written.items low range
+        → IsSameKept written.items low left.0.items left.1 range) }
+{
+    let (number, bits) = parts_of(low);
+    let left = bits - 32;
+    let longer = append(written, number >> left, 4)?;
+    Ok((longer, (number & ((1 << left) - 1)) + (2 << left)))
 }
 
 // `append_to` for a vector by value, so that no address of a local encoder is passed on.
