@@ -2,8 +2,8 @@
 use Rattle.std.specs.Prelude.{◌≡◌, ℕ, ◌+◌, ◌-◌, ◌*◌, ◌/◌, ◌%◌, ◌^◌, ◌<◌, ◌≤◌, ◌≢◌, List, length, slice_index_or, Ok, nat_lt, if◌then◌else◌}
 use Rattle.bit_list.specs.Bits.{low_bits}
 use Rattle.bit_list.specs.Units.{Cursor, unit_at}
-use Rattle.bit_list.specs.declared.bit_in.Fetched.{Fetched}
-use Rattle.bit_list.specs.declared.bit_in.Window.{Window}
+use Rattle.bit_list.specs.declared.fetched.Fetched.{Fetched}
+use Rattle.bit_list.specs.declared.window.Window.{Window}
 
 -- the low bits of a number, which has no others
 pub record IsKept (most number count : ℕ) : Type 0 where

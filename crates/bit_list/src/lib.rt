@@ -14,8 +14,10 @@
 mod bit_in;
 mod bit_out;
 mod fault;
+mod fetched;
 mod laws;
 mod piece;
+mod window;
 
 pub use bit_in::BitIn;
 pub use bit_out::BitOut;

@@ -1,6 +1,6 @@
 use Rattle.std.proofs.Common.{◌≡◌, ◌-◌}
 use Rattle.bit_list.specs.BitsInside.{cursor_of_fetched, IsFetched}
-use Rattle.bit_list.proofs.bit_in.fetch_up_to.Given as goal
+use Rattle.bit_list.proofs.fetched.fetch_up_to.Given as goal
 
 abbrev pub invariant-loop-at : goal.invariant-loop-at
 invariant-loop-at l = record {

@@ -2,7 +2,7 @@ use Rattle.std.proofs.Common.{◌≡◌, ◌-◌, ◌^◌, ◌<◌, ◌≤◌, �
 use Rattle.bit_list.specs.Bits.{low_bits}
 use Rattle.bit_list.specs.BitsInside.{cursor_of, IsWindow}
 use Rattle.bit_list.specs.Peeked.{peeked}
-use Rattle.bit_list.proofs.bit_in.peek_by_units.Given as goal
+use Rattle.bit_list.proofs.fetched.peek_by_units.Given as goal
 
 abbrev pub invariant-loop-wanted : goal.invariant-loop-wanted
 invariant-loop-wanted l = record {

@@ -1,6 +1,6 @@
 use Rattle.std.proofs.Common.{◌-◌, arith}
 use Rattle.bit_list.proofs.Machine.{masked, split_off}
-use Rattle.bit_list.proofs.bit_in.split.Goals as goal
+use Rattle.bit_list.proofs.window.split.Goals as goal
 
 pub returns-clause-below : goal.returns-clause-below
 returns-clause-below c =

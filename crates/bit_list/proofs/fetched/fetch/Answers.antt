@@ -1,6 +1,6 @@
 use Rattle.std.proofs.Common.{get_or, arith}
 use Rattle.bit_list.proofs.Ahead.{same_cursor, one_unit_ahead}
-use Rattle.bit_list.proofs.bit_in.fetch.Goals as goal
+use Rattle.bit_list.proofs.fetched.fetch.Goals as goal
 
 pub returns-clause-cursor : goal.returns-clause-cursor
 returns-clause-cursor c =

@@ -2,7 +2,7 @@ use Rattle.std.proofs.Common.{◌≡◌, ◌-◌, ◌^◌, ◌<◌, ◌≤◌, O
 use Rattle.bit_list.specs.Bits.{low_bits}
 use Rattle.bit_list.specs.Units.{bits_at}
 use Rattle.bit_list.specs.BitsInside.{cursor_of, IsWindow}
-use Rattle.bit_list.proofs.bit_in.first_bits.Given as goal
+use Rattle.bit_list.proofs.window.first_bits.Given as goal
 
 abbrev pub invariant-loop-wanted : goal.invariant-loop-wanted
 invariant-loop-wanted l = record {

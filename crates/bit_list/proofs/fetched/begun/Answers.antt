@@ -1,8 +1,8 @@
 use Rattle.std.proofs.Common.{◌≡◌, ◌-◌, ◌/◌, ◌%◌, ◌*◌, ◌^◌, nat_lt, arith}
 use Rattle.bit_list.proofs.Machine.{masked}
 use Rattle.bit_list.proofs.Ahead.{place_by, begun_of, last_begun, last_before}
-use Rattle.bit_list.proofs.bit_in.begun.Goals.{then-at-next, else-at-next}
-use Rattle.bit_list.proofs.bit_in.begun.Goals as goal
+use Rattle.bit_list.proofs.fetched.begun.Goals.{then-at-next, else-at-next}
+use Rattle.bit_list.proofs.fetched.begun.Goals as goal
 
 pub returns-clause-cursor : goal.returns-clause-cursor
 returns-clause-cursor c =

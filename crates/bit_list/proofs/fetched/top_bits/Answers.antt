@@ -1,7 +1,7 @@
 use Rattle.std.proofs.Common.{◌-◌, ◌/◌, ◌^◌, arith}
 use Rattle.bit_list.proofs.Machine.{masked}
 use Rattle.bit_list.proofs.Ahead.{number_ahead}
-use Rattle.bit_list.proofs.bit_in.top_bits.Goals as goal
+use Rattle.bit_list.proofs.fetched.top_bits.Goals as goal
 
 pub returns-clause-bits : goal.returns-clause-bits
 returns-clause-bits c =

@@ -4,7 +4,7 @@ use Rattle.bit_list.specs.NumbersOfBits.{length-low_bits}
 use Rattle.bit_list.specs.BitsInside.{cursor_of}
 use Rattle.bit_list.proofs.Cursors.{filled_already}
 use Rattle.bit_list.proofs.Machine.{masked, fill_made, fill_fault}
-use Rattle.bit_list.proofs.bit_in.fill.Goals as goal
+use Rattle.bit_list.proofs.window.fill.Goals as goal
 
 pub returns-then-at-gt0-clause-ok : goal.returns-then-at-gt0-clause-ok
 returns-then-at-gt0-clause-ok c =

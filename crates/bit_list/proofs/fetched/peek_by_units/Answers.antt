@@ -3,7 +3,7 @@ use Rattle.bit_list.specs.Bits.{low_bits}
 use Rattle.bit_list.specs.BitsInside.{cursor_of}
 use Rattle.bit_list.specs.Peeked.{peeked}
 use Rattle.bit_list.proofs.Peeking.{seen_more, seen_all, with_zeros, ended_seen}
-use Rattle.bit_list.proofs.bit_in.peek_by_units.Goals as goal
+use Rattle.bit_list.proofs.fetched.peek_by_units.Goals as goal
 
 pub returns-in-Err-clause-bits : goal.returns-in-Err-clause-bits
 returns-in-Err-clause-bits c =

@@ -1,6 +1,6 @@
 use Rattle.std.proofs.Common.{sym, arith}
 use Rattle.bit_list.proofs.Stuffing.{unit_past, unit_plain, unit_last, unit_marker, unit_stuffed}
-use Rattle.bit_list.proofs.bit_in.unit.Goals as goal
+use Rattle.bit_list.proofs.window.unit.Goals as goal
 
 pub returns-then-place-bytes : goal.returns-then-place-bytes
 returns-then-place-bytes c = sym (unit_past c.args.bytes.now c.args.place c.if-place-bytes.true)

@@ -5,7 +5,7 @@ use Rattle.bit_list.specs.Bits.{low_bits}
 use Rattle.bit_list.specs.BitsInside.{cursor_of}
 use Rattle.bit_list.proofs.Cursors.{fault_after}
 use Rattle.bit_list.proofs.Machine.{grown, none_yet, number_taken}
-use Rattle.bit_list.proofs.bit_in.first_bits.Goals as goal
+use Rattle.bit_list.proofs.window.first_bits.Goals as goal
 
 pub loop-wanted-init : goal.loop-wanted-init
 loop-wanted-init c =
