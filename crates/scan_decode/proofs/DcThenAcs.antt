@@ -1,5 +1,5 @@
 -- A block by its DC and its AC coefficients.
-use Rattle.std.proofs.Common.{◌≡◌, ℕ, List, [], ◌∷◌, get_or, replicate, ℤ, pos, false, Result, Ok, Err, refl, ap, sym, ◌∙◌}
+use Rattle.std.proofs.Common.{◌≡◌, ℕ, List, [], ◌∷◌, get_or, length, replicate, set, ℤ, pos, false, Result, Ok, Err, refl, ap, sym, ◌∙◌}
 use Rattle.bit_list.specs.Units.{Cursor}
 use Rattle.huff_table.specs.declared.plan_codes.ComponentCodes.{ComponentCodes}
 use Rattle.scan_spec.specs.BlockBits.{ac_values, coefficient_at, in_zigzag}
@@ -14,6 +14,20 @@ Whole = Result (List ℤ × Cursor) ScanRefusal
 pub dc_alone : (v : ℤ) → ac_values (v ∷ replicate 63 (pos 0)) ≡ replicate 63 (pos 0)
 unfolding ac_values
 dc_alone v = refl
+
+-- zeros into which a DC was put
+module _ (block zeros : List ℤ) (v : ℤ) (e : block ≡ set zeros 0 v) (f : zeros ≡ replicate 64 (pos 0)) where
+  begun : block ≡ v ∷ replicate 63 (pos 0)
+  begun = e ∙ ap (λ z. set z 0 v) f
+
+  pub begun_long : length block ≡ 64
+  begun_long = ap length begun
+
+  pub begun_first : coefficient_at block 0 ≡ v
+  begun_first = ap (λ b. coefficient_at b 0) begun
+
+  pub begun_acs : ac_values block ≡ replicate 63 (pos 0)
+  begun_acs = ap ac_values begun ∙ dc_alone v
 
 -- the AC coefficients after a DC
 pub coded : (codes : ComponentCodes) (before dc value : ℤ) (bytes later : List ℕ) (cursor to : Cursor) → Ok (dc, to) ≡ dc_at codes.dc before bytes cursor

@@ -1,8 +1,7 @@
 -- The blocks of an MCU, one after the other.
-use Rattle.std.proofs.Common.{ap₂, unsigned_abs, ◌≡◌, set, ℕ, zero, suc, ◌+◌, ◌<◌, ◌≤◌, List, [], ◌∷◌, ◌++◌, length, take, drop, map, get_or, ℤ, pos, Result, Ok, Err, refl, subst, sym, ap, ◌∙◌, arith, append_assoc, append-nil, drop-cons, add-one}
+use Rattle.std.proofs.Common.{ap₂, unsigned_abs, ◌≡◌, set, ℕ, ◌+◌, ◌<◌, ◌≤◌, List, [], ◌∷◌, ◌++◌, length, drop, map, get_or, ℤ, pos, Result, Ok, Err, refl, sym, ap, ◌∙◌, append_assoc, append-nil, drop-cons, add-one}
 use Rattle.std.proofs.lemmas.List.{drop_all, get_or_read}
 use Rattle.std.specs.Int.{w16}
-use Rattle.std.specs.List.{AllZip}
 use mir.Val.{to_z, of_z}
 use Rattle.huff_table.specs.ComponentTables.{no_codes}
 use Rattle.scan_spec.specs.BlockBits.{coefficient_at, in_zigzag}
@@ -77,23 +76,6 @@ no_more codes whole read slots i before bytes cursor past e =
     ∙ ap (after_prefix (map in_zigzag read)) (none_of before bytes cursor)
     ∙ ap (λ (l : List (List ℤ)). Ok (record { blocks = l; before = before; cursor = cursor })) (append-nil (map in_zigzag read))
     )
-
--- what each of some targets holds, with one more
-module _ {A : Type 0} (holds : A → List ℤ → Type 0) where
-  each_next : (out : List A) (i : ℕ) (kept : A) (read : List (List ℤ)) (block : List ℤ) → i < length out
-      → AllZip holds (take i out) read → holds kept block → AllZip holds (take (suc i) (set out i kept)) (read ++ block ∷ [])
-  each_next [] i kept read block below each here = absurd (omega arith)
-  each_next (x ∷ out) zero kept [] block below each here = (here, tt)
-  each_next (x ∷ out) zero kept (first ∷ read) block below each here = elim each [ ]
-  each_next (x ∷ out) (suc i) kept [] block below each here = elim each [ ]
-  each_next (x ∷ out) (suc i) kept (first ∷ read) block below each here =
-      (each.0, each_next out i kept read block (omega (arith, below)) each.1 here)
-
-  pub each_more : (out : List A) (i : ℕ) (kept : A) (read : List (List ℤ)) (block : List ℤ) → i < length out
-      → AllZip holds (take i out) read → holds kept block → AllZip holds (take (i + 1) (set out i kept)) (read ++ block ∷ [])
-  each_more out i kept read block below each here =
-      subst (λ (k : ℕ). AllZip holds (take k (set out i kept)) (read ++ block ∷ [])) (sym (add-one i))
-      (each_next out i kept read block below each here)
 
 -- a block of the machine's component, tables and DC
 pub at_slot : (codes : List ComponentCodes) (slots : List ℕ) (i component : ℕ) (tables : ComponentCodes) (before : List ℤ) (bytes given : List ℕ) (cursor : Cursor) (r : Result (List ℤ × Cursor) ScanRefusal)

@@ -1,6 +1,5 @@
 -- An MCU by its blocks and what stands after them.
 use Rattle.std.proofs.Common.{◌≡◌, ℕ, ◌+◌, Bool, true, false, if◌then◌else◌, List, ℤ, None, Result, Ok, Err, refl, ap, ◌∙◌}
-use Rattle.std.specs.Prelude.{OnOk}
 use Rattle.scan_spec.specs.Slots.{Shape}
 use Rattle.scan_spec.specs.Spots.{is_closed}
 use Rattle.scan_spec.specs.ScanReading.{and_then, blocks_at, BlocksRead, after_mcu, after_pads, pads_at, mcu_at, Standing}
@@ -43,8 +42,3 @@ pub ends_well : {A : Type 0} (r : Result A ScanRefusal) (next : Standing) (shape
     → standing_read r next ≡ after_mcu shape bytes at read → mcu_read r read.blocks next ≡ mcu_at shape bytes at
 ends_well r next shape bytes at read e is =
     put_both r read.blocks next ∙ ap (λ (s : Result Standing ScanRefusal). and_then s (λ n. Ok (read.blocks, n))) is ∙ blocks_there shape bytes at read e
-
--- a fact, where a call answers well
-pub kept_if : {A : Type 0} {P : Type 0} (r : Result A ScanRefusal) → P → OnOk r P
-kept_if (Ok x) fact = fact
-kept_if (Err refusal) fact = tt

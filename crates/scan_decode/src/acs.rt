@@ -1,5 +1,5 @@
 // The AC coefficients of a block.
-ghost use Rattle.std.specs.Prelude.{◌≡◌, ◌≤◌, ◌<◌, ◌-◌, List, ℤ, ◌∷◌, [], Bool, true, false, length, replicate, pos, Result, Err, IfOk, IfErr, OnOk};
+ghost use Rattle.std.specs.Prelude.{◌≡◌, ◌≤◌, ◌<◌, ◌-◌, List, ℤ, ◌∷◌, [], Bool, true, false, length, replicate, pos, Result, Err, IfOk, IfErr};
 ghost use Rattle.bit_list.specs.Units.{Cursor};
 ghost use Rattle.scan_spec.specs.BlockBits.{coefficient_at, ac_values, in_zigzag};
 ghost use Rattle.scan_spec.specs.ScanReading.{prefixed_values, acs_at};
@@ -11,6 +11,7 @@ ghost use Rattle.scan_spec.specs.declared.refusal.ScanRefusal.{ScanRefusal as Re
 use crate::target::Target;
 use crate::values::{extended, symbol};
 use bit_list::BitIn;
+use coef_block::Block;
 use huff_table::Codes;
 use scan_spec::ScanRefusal;
 
@@ -117,17 +118,12 @@ pub(crate) fn go_on<T: Target>(
 
 /// The AC coefficients of a block that has none yet (ITU-T T.81, F.2.2.2).
 #[inline(always)]
-pub(crate) fn acs<T: Target>(
-    codes: &Codes,
-    input: &mut BitIn,
-    out: &mut T,
-) -> Result<(), ScanRefusal>
-    ensures is { (old : List ℤ) → T.holds out.old old → length old ≡ 64
-        → ac_values old ≡ replicate 63 (pos 0)
-        → (block : List ℤ) × OnOk result (T.holds out.new block)
-        × (values_at_cursor result (in_zigzag block) input.new.cursor
-        ≡ prefixed_values (coefficient_at old 0 ∷ [])
-        (acs_at 63 codes.now 63 false input.old.bytes input.old.cursor)) }
+pub(crate) fn acs(codes: &Codes, input: &mut BitIn, out: &mut Block) -> Result<(), ScanRefusal>
+    requires long { length out.old ≡ 64 }
+    requires zeros { ac_values out.old ≡ replicate 63 (pos 0) }
+    ensures is { values_at_cursor result (in_zigzag out.new) input.new.cursor
+        ≡ prefixed_values (coefficient_at out.old 0 ∷ [])
+        (acs_at 63 codes.now 63 false input.old.bytes input.old.cursor) }
     ensures bytes { input.new.bytes ≡ input.old.bytes }
 {
     let mut at = At {

@@ -1,6 +1,5 @@
 // A scan, MCU by MCU.
 ghost use Rattle.std.specs.Prelude.{◌≡◌, ◌+◌, ◌*◌, ◌<◌, ◌≤◌, ◌==◌, List, ℤ, length, map, IfErr, OnErr, OnOk, Some};
-ghost use Rattle.std.specs.List.{AllZip};
 ghost use Rattle.scan_spec.specs.ScanCalls.{McuIsRead, reader_at, resume_place, stopped_at};
 ghost use Rattle.scan_spec.specs.Slots.{shape_of};
 ghost use Rattle.scan_spec.specs.Spots.{is_closed};
@@ -17,7 +16,6 @@ use crate::blocks::blocks;
 use crate::byte_begun::{after_bits, byte_begun};
 use crate::pads::{pads, restart};
 use crate::skip::{SkipCodes, skip_blocks};
-use crate::target::Target;
 use bit_list::BitIn;
 use coef_block::Block;
 use handover::Handover;
@@ -120,7 +118,11 @@ impl<'a> Reader<'a> {
         requires room { length out.old ≡ length self.old.shape.slots }
         ensures { McuIsRead self.old.stop self.old result self.new out.new }
     {
-        self.read(out)
+        if let Some(refusal) = self.stop {
+            return Err(refusal);
+        }
+        let read = self.mcu(out);
+        self.keep(read)
     }
 
     /// Reads the next MCU and keeps none of its coefficients. It is refused exactly if `next_mcu` is, with the same
@@ -204,29 +206,14 @@ impl<'a> Reader<'a> {
         self.shape.interval_number(self.count.min(last))
     }
 
-    #[inline]
-    fn read<T: Target>(&mut self, out: &mut [T]) -> Result<(), ScanRefusal>
-        requires more { self.old.at.count < self.old.shape.mcus }
-        requires room { length out.old ≡ length self.old.shape.slots }
-        ensures { (read : List (List ℤ)) × OnOk result (AllZip T.holds out.new read)
-            × McuIsRead self.old.stop self.old result self.new read }
-    {
-        if let Some(refusal) = self.stop {
-            return Err(refusal);
-        }
-        let read = self.mcu(out);
-        self.keep(read)
-    }
-
     // Reads an MCU, the pad bits and the marker after it.
     #[inline]
-    fn mcu<T: Target>(&mut self, out: &mut [T]) -> Result<(), ScanRefusal>
+    fn mcu(&mut self, out: &mut [Block]) -> Result<(), ScanRefusal>
         requires more { self.old.at.count < self.old.shape.mcus }
         requires room { length out.old ≡ length self.old.shape.slots }
         ensures same { self.new ≡ record self.old { at = self.new.at } }
-        ensures is { (read : List (List ℤ)) × OnOk result (AllZip T.holds out.new read)
-            × (mcu_read result (map in_zigzag read) self.new.at
-            ≡ mcu_at self.old.shape self.old.bytes self.old.at) }
+        ensures is { mcu_read result (map in_zigzag out.new) self.new.at
+            ≡ mcu_at self.old.shape self.old.bytes self.old.at }
         ensures stays { OnErr result (self.new.at ≡ stopped_at self.old.at self.new.at) }
     {
         let (codes, slots) = self.shape.slots();

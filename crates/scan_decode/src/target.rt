@@ -1,6 +1,6 @@
 // What the coefficients that are read are put into.
-ghost use Rattle.std.specs.Prelude.{◌≡◌, ◌<◌, List, ℤ, pos, replicate, slice_index, slice_set, unsigned_abs, ⊤};
-ghost use Rattle.coef_block.specs.Block.{IsCoefficient, IsDc};
+ghost use Rattle.std.specs.Prelude.{◌≡◌, ◌<◌, List, ℤ, slice_index, slice_set, unsigned_abs, ⊤};
+ghost use Rattle.coef_block.specs.Block.{IsCoefficient};
 ghost use Rattle.coef_block.specs.Zigzag.{zigzag};
 
 use coef_block::Block;
@@ -9,11 +9,6 @@ use coef_block::Block;
 pub(crate) trait Target {
     /// It may have been given these coefficients, in natural order.
     ghost holds: { Self → List ℤ → Type 0 };
-
-    /// Begins a block: its DC, and 63 zeros.
-    fn begin(&mut self, dc: i16)
-        requires { IsDc dc }
-        ensures { holds self.new (slice_set (replicate 64 (pos 0)) 0 dc) };
 
     /// Puts a coefficient that isn't 0 at a zigzag index, from 0 to 63.
     fn put(&mut self, index: usize, value: i16)
@@ -28,12 +23,6 @@ impl Target for Block {
     ghost holds = { λ kept block. kept ≡ block };
 
     #[inline(always)]
-    fn begin(&mut self, dc: i16) {
-        *self = Block::zero();
-        self.set(0, dc);
-    }
-
-    #[inline(always)]
     fn put(&mut self, index: usize, value: i16) {
         self.put_in_zigzag(index, value);
     }
@@ -45,9 +34,6 @@ pub(crate) struct Nothing {}
 
 impl Target for Nothing {
     ghost holds = { λ kept block. ⊤ };
-
-    #[inline(always)]
-    fn begin(&mut self, _dc: i16) {}
 
     #[inline(always)]
     fn put(&mut self, _index: usize, _value: i16) {}

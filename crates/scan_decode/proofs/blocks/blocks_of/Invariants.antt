@@ -1,5 +1,5 @@
-use Rattle.std.proofs.Common.{◌≡◌, ◌≤◌, List, ℤ, take, drop, map, length, unsigned_abs}
-use Rattle.std.specs.List.{All, AllZip}
+use Rattle.std.proofs.Common.{◌≡◌, ◌≤◌, take, drop, map, length, unsigned_abs}
+use Rattle.std.specs.List.{All}
 use Rattle.scan_spec.specs.ScanReading.{blocks_at}
 use Rattle.scan_spec.specs.BlockBits.{in_zigzag}
 use Rattle.scan_spec.specs.ShapeInside.{slot_in}
@@ -7,12 +7,11 @@ use Rattle.scan_decode.specs.McuBlocks.{after_prefix}
 use Rattle.scan_decode.proofs.blocks.blocks_of.Given as goal
 
 abbrev pub invariant-loop-i : goal.invariant-loop-i
-invariant-loop-i g l = record {
+invariant-loop-i l = record {
   bytes : l.input.bytes ≡ l.fn.input.bytes;
   long : length l.out ≡ length l.slots;
   four : length l.before ≡ 4;
   small : All (λ dc. unsigned_abs dc ≤ 32767) l.before;
-  going : (read : List (List ℤ)) × AllZip g.T.Target.holds (take l.i l.out) read
-      × (blocks_at (map (slot_in l.codes) l.slots) l.fn.before l.fn.input.bytes l.fn.input.cursor
-      ≡ after_prefix (map in_zigzag read) (blocks_at (map (slot_in l.codes) (drop l.i l.slots)) l.before l.fn.input.bytes l.input.cursor));
+  going : blocks_at (map (slot_in l.codes) l.slots) l.fn.before l.fn.input.bytes l.fn.input.cursor
+      ≡ after_prefix (map in_zigzag (take l.i l.out)) (blocks_at (map (slot_in l.codes) (drop l.i l.slots)) l.before l.fn.input.bytes l.input.cursor);
 }

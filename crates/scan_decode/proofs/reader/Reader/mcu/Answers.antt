@@ -1,4 +1,4 @@
-use Rattle.std.proofs.Common.{[], ◌≡◌, List, ℕ, Ok, Err, map, subst}
+use Rattle.std.proofs.Common.{◌≡◌, List, ℕ, Ok, Err, map, subst}
 use Rattle.std.proofs.lemmas.Result.{err_from_is_err_and}
 use Rattle.scan_spec.specs.declared.slot.Slot.{Slot}
 use Rattle.scan_spec.specs.ScanCalls.{ScanReader}
@@ -6,28 +6,24 @@ use Rattle.scan_spec.specs.ScanReading.{after_mcu, blocks_at, BlocksRead, mcu_at
 use Rattle.scan_spec.specs.BlockBits.{in_zigzag}
 use Rattle.scan_decode.specs.ReadResults.{mcu_read, standing_read}
 use Rattle.scan_decode.specs.ReaderInside.{reader_of}
-use Rattle.scan_decode.proofs.Standings.{no_blocks, ends_well, kept_if}
+use Rattle.scan_decode.proofs.Standings.{no_blocks, ends_well}
 use Rattle.scan_decode.proofs.reader.Reader.mcu.Goals as goal
 
 pub returns-in_err-blocks-clause-is : goal.returns-in_err-blocks-clause-is
-returns-in_err-blocks-clause-is g c =
+returns-in_err-blocks-clause-is c =
     let p = err_from_is_err_and c.from_residual.result c.from_residual.ensures.1 in
     let i = c.self.inside in
     let r = reader_of i in
-    let e = subst (λ (slots : List Slot). Err c.in_err-blocks.field-0.0 ≡ blocks_at slots i.before i.input.bytes i.input.cursor) c.slots.ensures.slots c.in_err-blocks.ensures.is.2 in
-    rw (p.1, p.2) ([], tt, subst (λ (s : ScanReader). Err c.in_err-blocks.field-0.0 ≡ mcu_at s.shape s.bytes s.at) c.self.view_is (no_blocks r.shape r.bytes r.at c.in_err-blocks.field-0.0 e))
+    let e = subst (λ (slots : List Slot). Err c.in_err-blocks.field-0.0 ≡ blocks_at slots i.before i.input.bytes i.input.cursor) c.slots.ensures.slots c.in_err-blocks.ensures.is in
+    rw (p.1, p.2) (subst (λ (s : ScanReader). Err c.in_err-blocks.field-0.0 ≡ mcu_at s.shape s.bytes s.at) c.self.view_is (no_blocks r.shape r.bytes r.at c.in_err-blocks.field-0.0 e))
 
 pub returns-clause-is : goal.returns-clause-is
-returns-clause-is g c =
+returns-clause-is c =
     let i = c.self.inside in
     let r = reader_of i in
-    let is = c.in_ok-blocks.ensures.is in
     let end = c.end_mcu in
-    let read : BlocksRead = record { blocks = map in_zigzag is.0; before = c.blocks-2.new.before; cursor = c.blocks-2.new.input.cursor } in
-    let e = subst (λ (slots : List Slot). Ok read ≡ blocks_at slots i.before i.input.bytes i.input.cursor) c.slots.ensures.slots is.2 in
-    let after = subst (λ (bytes : List ℕ). standing_read end.result end.new.self.at ≡ after_mcu r.shape bytes r.at read) c.blocks-2.ensures.bytes end.ensures.is in (
-      is.0,
-      kept_if end.result is.1,
-      subst (λ (s : ScanReader). mcu_read end.result (map in_zigzag is.0) end.new.self.at ≡ mcu_at s.shape s.bytes s.at) c.self.view_is
-          (ends_well end.result end.new.self.at r.shape r.bytes r.at read e after),
-    )
+    let read : BlocksRead = record { blocks = map in_zigzag c.blocks-2.new.out; before = c.blocks-2.new.before; cursor = c.blocks-2.new.input.cursor } in
+    let e = subst (λ (slots : List Slot). Ok read ≡ blocks_at slots i.before i.input.bytes i.input.cursor) c.slots.ensures.slots c.in_ok-blocks.ensures.is in
+    let after = subst (λ (bytes : List ℕ). standing_read end.result end.new.self.at ≡ after_mcu r.shape bytes r.at read) c.blocks-2.ensures.bytes end.ensures.is in
+    subst (λ (s : ScanReader). mcu_read end.result (map in_zigzag c.blocks-2.new.out) end.new.self.at ≡ mcu_at s.shape s.bytes s.at) c.self.view_is
+    (ends_well end.result end.new.self.at r.shape r.bytes r.at read e after)
