@@ -16,7 +16,7 @@ use Rattle.lepton_decode.specs.declared.error.DecodeError.TheVariants as DecodeE
 use Rattle.segment_worker.specs.declared.emitted.Emitted.{Emitted}
 use Rattle.segment_worker.specs.declared.emitted.EmitStop.{EmitStop}
 use Rattle.segment_worker.specs.declared.emitted.EmitStop.TheVariants.{Fault}
-use Rattle.segment_worker.specs.Written.{HasWritten, HasFailed}
+use Rattle.outside_core.specs.Written.{HasWritten, HasFailed}
 use Rattle.segment_worker.specs.Emitting.{Emits, seen_through}
 use Rattle.segment_worker.proofs.Writing.{written_later, failed_later, next_first, next_later, next_between}
 use Rattle.lepton_decode.specs.Chunked.{are_spelled, before_in, chunk_in, falls_short, window_in}

@@ -5,7 +5,7 @@ use Rattle.container_spec.specs.Meanings.{Meaning, Restored, PadSpelled, ChunkSh
 use Rattle.container_spec.specs.Portions.{scans_meaning}
 use Rattle.output_board.specs.declared.view.EmitterView.{EmitterView}
 use Rattle.output_board.specs.declared.view.WorkerView.{WorkerView}
-use Rattle.segment_worker.specs.Written.{HasWritten, HasFailed}
+use Rattle.outside_core.specs.Written.{HasWritten, HasFailed}
 use Rattle.segment_worker.specs.Emitting.{IsThrough}
 use Rattle.segment_worker.specs.declared.emitted.Emitted.{Emitted}
 use Rattle.segment_worker.specs.declared.emitted.EmitStop.{EmitStop}

@@ -7,7 +7,7 @@ ghost use Rattle.container_spec.specs.ScansJoined.{all_spelled, first_header};
 ghost use Rattle.container_spec.specs.Portions.{scans_meaning};
 ghost use Rattle.segment_worker.specs.Contents.{segment_room};
 ghost use Rattle.segment_worker.specs.Emitting.{Counts, Emits, joined_in, seen_through};
-ghost use Rattle.segment_worker.specs.Written.{HasWritten, HasFailed};
+ghost use Rattle.outside_core.specs.Written.{HasWritten, HasFailed};
 ghost use Rattle.lepton_decode.specs.Chunked.{are_spelled, before_in, chunk_in, falls_short, whole, window_in};
 ghost use Rattle.lepton_decode.specs.Ends.{Ends, Follows};
 

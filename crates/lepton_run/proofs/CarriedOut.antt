@@ -16,7 +16,7 @@ use Rattle.box_format.specs.Containers.{IsContainer}
 use Rattle.box_format.specs.Checks.{IsRefused}
 use Rattle.container_spec.specs.Portions.{Kind, OfFile, OfChunk, OfRange, Portion, begun as begun_of, chunk_portion, ended as ended_of, ending_by, good_end, meaning_with, only_chunk, played, portion_meaning, scans_meaning, whole}
 use Rattle.container_spec.specs.ScansJoined.{ScansJoined, all_spelled, first_header}
-use Rattle.segment_worker.specs.Written.{HasFailed, HasWritten}
+use Rattle.outside_core.specs.Written.{HasFailed, HasWritten}
 use Rattle.command_words.specs.declared.command.Command.{Command}
 use Rattle.command_words.specs.declared.command.Command.TheVariants.{Decode}
 use Rattle.lepton_run.specs.Answers.{Answer, Answers, Early, Late, Made, Makes, TakesAnswers, Writes, answer_by, bytes_of, limit_of}

@@ -10,7 +10,7 @@ use Rattle.container_spec.specs.ScanByScan.{joined_alone}
 use Rattle.segment_worker.specs.declared.emitted.Emitted.{Emitted}
 use Rattle.segment_worker.specs.declared.emitted.EmitStop.{EmitStop}
 use Rattle.segment_worker.specs.declared.emitted.EmitStop.TheVariants.{Fault}
-use Rattle.segment_worker.specs.Written.{HasWritten, HasFailed}
+use Rattle.outside_core.specs.Written.{HasWritten, HasFailed}
 use Rattle.segment_worker.specs.Emitting.{Emits}
 use Rattle.segment_worker.proofs.Writing.{written_later, failed_first, failed_later, next_first, next_later, next_between}
 use Rattle.range_spec.specs.Ranges.{PlacedFile, begun_within, header_within, trailer_within}

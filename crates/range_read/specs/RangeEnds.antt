@@ -7,7 +7,7 @@ use Rattle.range_spec.specs.Ranges.{begun_within, segments_within}
 use Rattle.segment_crew.specs.Crews.{CrewSeen, Member}
 use Rattle.segment_crew.specs.Worth.{workers_worth}
 use Rattle.segment_worker.specs.Contents.{Stretch, stretch}
-use Rattle.segment_worker.specs.Written.{HasWritten, HasFailed}
+use Rattle.outside_core.specs.Written.{HasWritten, HasFailed}
 use Rattle.segment_worker.specs.declared.emitted.EmitStop.{EmitStop}
 use Rattle.segment_worker.specs.declared.emitted.EmitStop.TheVariants.{Fault, WriteFault}
 use Rattle.range_read.specs.RangeMeanings.{RangeMeaning, placed_file, range_meaning}

@@ -7,7 +7,7 @@ ghost use Rattle.range_spec.specs.Ranges.{begun_within, header_within, trailer_w
 ghost use Rattle.container_spec.specs.ScanByScan.{joined_alone};
 ghost use Rattle.segment_worker.specs.Contents.{segment_room};
 ghost use Rattle.segment_worker.specs.Emitting.{Counts, Emits};
-ghost use Rattle.segment_worker.specs.Written.{HasFailed, HasWritten};
+ghost use Rattle.outside_core.specs.Written.{HasFailed, HasWritten};
 ghost use Rattle.range_read.specs.RangeEnds.{RangeEnds};
 ghost use Rattle.range_read.specs.RangeMeanings.{is_bad_range, placed_file, range_meaning};
 ghost use Rattle.range_read.specs.RangeSteps.{segments_read};

@@ -26,7 +26,7 @@ use Rattle.output_board.specs.Seats.{SeatValue, HasHeldOnce}
 use Rattle.output_board.specs.Answers.{TakeGives}
 use Rattle.segment_worker.specs.declared.emitted.EmitStop.TheVariants.{Fault}
 use Rattle.segment_worker.specs.Contents.{Stretch, segments_bytes, segments_outcomes, segment_room, AreShort}
-use Rattle.segment_worker.specs.Written.{HasWritten, HasFailed}
+use Rattle.outside_core.specs.Written.{HasWritten, HasFailed}
 use Rattle.segment_worker.specs.Joining.{joined_from, joined_onto}
 use Rattle.segment_worker.specs.Emitting.{joined_in, seen_through, IsNewEmitter, IsUsedEmitter, Emits, IsWrittenTo, IsEmitting}
 use Rattle.segment_worker.specs.OwnSegments.{own_rest, OwnEnds}

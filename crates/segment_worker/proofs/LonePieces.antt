@@ -11,7 +11,7 @@ use Rattle.handover.specs.declared.outcome.StreamFault.{StreamFault}
 use Rattle.segment_code.specs.FileDecoding.{FileDecoderSeen, FileOwes, FilePays, steps_left}
 use Rattle.segment_code.specs.declared.step.Step.{Step}
 use Rattle.segment_code.specs.declared.step.Step.TheVariants.{More, Done, Fault}
-use Rattle.segment_worker.specs.Written.{HasWritten, HasFailed}
+use Rattle.outside_core.specs.Written.{HasWritten, HasFailed}
 use Rattle.segment_worker.specs.LoneSegments.{OwesSome, UnderWay}
 use Rattle.segment_worker.proofs.Writing.{written_nothing, written_on, failed_on, next_on}
 

@@ -15,7 +15,7 @@ use Rattle.segment_worker.specs.Joining.{joined_from, joined_onto}
 use Rattle.segment_worker.specs.Contents.{Stretch}
 use Rattle.segment_worker.specs.Emitting.{Emits, joined_in, seen_through}
 use Rattle.segment_worker.specs.LoneSegments.{SegmentsWritten, pieces_room}
-use Rattle.segment_worker.specs.Written.{HasWritten, HasFailed}
+use Rattle.outside_core.specs.Written.{HasWritten, HasFailed}
 use Rattle.segment_worker.proofs.ContentsTold.{output_of}
 use Rattle.segment_worker.proofs.SegmentsJoined.{scan_at, sums_with_none, good_next, bad_next, bytes_next}
 use Rattle.segment_worker.proofs.Writing.{written_nothing, written_on, failed_on, next_on}

@@ -17,7 +17,7 @@ use Rattle.segment_code.specs.declared.step.Step.TheVariants.{More, Done, Fault}
 use Rattle.output_board.specs.declared.view.EmitterView.{EmitterView}
 use Rattle.output_board.specs.Seats.{SeatValue}
 use Rattle.segment_worker.specs.Contents.{Stretch, segments_bytes, segments_outcomes}
-use Rattle.segment_worker.specs.Written.{HasWritten, HasFailed}
+use Rattle.outside_core.specs.Written.{HasWritten, HasFailed}
 use Rattle.segment_worker.specs.OwnSegments.{OwesRest, IsSameSeat, IsPassing, own_rest, OwnEnds}
 use Rattle.segment_worker.proofs.Tails.{rest_after, first_of_rest, rest_within, rest_ends}
 use Rattle.segment_worker.proofs.ContentsTold.{output_of, bytes_of, outcome_of}

@@ -8,7 +8,7 @@ use Rattle.outside_core.proofs.TextTaken.{moves_later}
 use Rattle.byte_window.specs.declared.window.Window.{Window}
 use Rattle.byte_window.specs.Windows.{window, after, through}
 use Rattle.byte_window.proofs.WindowParts.{comes_in_pieces, is_counted, through_none}
-use Rattle.segment_worker.specs.Written.{HasWritten, HasFailed}
+use Rattle.outside_core.specs.Written.{HasWritten, HasFailed}
 
 -- the first bytes, and some of those that come next
 pub take_into : (first out more : List ℕ) (n : ℕ) → n ≤ length out

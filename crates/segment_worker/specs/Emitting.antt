@@ -15,7 +15,7 @@ use Rattle.segment_worker.specs.declared.emitted.EmitStop.{EmitStop}
 use Rattle.segment_worker.specs.declared.emitted.EmitStop.TheVariants.{WriteFault, Fault}
 use Rattle.segment_worker.specs.Contents.{Stretch, segments_bytes, segment_room}
 use Rattle.segment_worker.specs.Joining.{joined_from, joined_onto}
-use Rattle.segment_worker.specs.Written.{HasWritten, HasFailed}
+use Rattle.outside_core.specs.Written.{HasWritten, HasFailed}
 
 -- the segments of a stretch, joined
 abbrev pub joined_in : Stretch → ScansJoined

@@ -1,5 +1,4 @@
 pub mod Contents
-pub mod Written
 pub mod Joining
 pub mod Emitting
 pub mod OwnSegments

@@ -12,7 +12,7 @@ use Rattle.segment_code.specs.FileDecoding.{FileDecoderSeen, FileOwes, steps_lef
 use Rattle.segment_worker.specs.Contents.{Stretch}
 use Rattle.segment_worker.specs.Emitting.{joined_in}
 use Rattle.segment_worker.specs.Joining.{joined_from, joined_onto}
-use Rattle.segment_worker.specs.Written.{HasWritten, HasFailed}
+use Rattle.outside_core.specs.Written.{HasWritten, HasFailed}
 
 -- more bytes than the pieces of a segment hold
 abbrev pub pieces_room : ℕ

@@ -8,7 +8,7 @@ use Rattle.segment_code.specs.FileDecoding.{FileDecoderSeen, FileOwes}
 use Rattle.output_board.specs.declared.view.EmitterView.{EmitterView}
 use Rattle.output_board.specs.Seats.{SeatValue}
 use Rattle.segment_worker.specs.Contents.{Stretch, segments_bytes, segments_outcomes}
-use Rattle.segment_worker.specs.Written.{HasWritten, HasFailed}
+use Rattle.outside_core.specs.Written.{HasWritten, HasFailed}
 
 -- a decoder owes the bytes of segment i of a stretch from one on, and its outcome
 pub record OwesRest (v : Stretch) (i from : ℕ) (d : FileDecoderSeen) : Type 0 where

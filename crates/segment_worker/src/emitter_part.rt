@@ -2,7 +2,7 @@
 ghost use Rattle.std.specs.Prelude.{◌≤◌, IfErr, OnOk};
 ghost use Rattle.outside_core.specs.Takes.{TakesNext};
 ghost use Rattle.byte_window.specs.Windows.{after, window as passed};
-ghost use Rattle.segment_worker.specs.Written.{HasFailed, HasWritten};
+ghost use Rattle.outside_core.specs.Written.{HasFailed, HasWritten};
 
 use byte_window::Window;
 use outside_core::{Sink, WriteFault, write_all};

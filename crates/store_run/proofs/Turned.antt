@@ -5,7 +5,7 @@ use Rattle.std.specs.declared.result.Result.TheVariants.{Ok, Err}
 use Rattle.outside_core.specs.Faults.{Rose}
 use Rattle.blob_store.specs.Callers.{CallerValue}
 use Rattle.photo_store.specs.FileStores.{FileCall}
-use Rattle.segment_worker.specs.Written.{HasWritten, HasFailed}
+use Rattle.outside_core.specs.Written.{HasWritten, HasFailed}
 use Rattle.store_run.specs.Answering.{Gives, answer_bytes}
 use Rattle.store_run.specs.Reading.{ReadsNext}
 use Rattle.store_run.specs.Turns.{CallTurns, Stops, ending_by}

@@ -5,7 +5,7 @@ use Rattle.std.specs.Io.KnownBytes.{Appends, Consumes, IsAtEnd}
 use Rattle.outside_core.specs.Faults.{Rose}
 use Rattle.blob_store.specs.States.{HasRisen}
 use Rattle.photo_store.specs.FileStores.{FileCall, no_files}
-use Rattle.segment_worker.specs.Written.{HasFailed}
+use Rattle.outside_core.specs.Written.{HasFailed}
 use Rattle.store_run.specs.Records.{IsBad, IsBegun, IsRecord, IsWhole, most_records, record_bytes, replies}
 use Rattle.store_run.specs.declared.ending.Ending.{Ending}
 use Rattle.store_run.specs.declared.ending.Ending.TheVariants.{Answered, BadRecord, ReadFailed, WriteFailed, NoMemory, KeeperFailed, Full}

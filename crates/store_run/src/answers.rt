@@ -3,7 +3,7 @@ ghost use Rattle.std.specs.Prelude.{◌≡◌, ◌<◌, ◌≤◌, ◌++◌, len
 ghost use Rattle.container_spec.specs.Limits.{most_of_a_file};
 ghost use Rattle.photo_store.specs.FileStores.{PutFile, FindFile, RemoveFile};
 ghost use Rattle.outside_core.specs.Takes.{TakesNext};
-ghost use Rattle.segment_worker.specs.Written.{HasWritten, HasFailed};
+ghost use Rattle.outside_core.specs.Written.{HasWritten, HasFailed};
 ghost use Rattle.store_run.specs.Answering.{HasAnswered, IsShort, answer_bytes, put_answer, remove_answer};
 ghost use Rattle.store_run.specs.Reading.{call_of};
 ghost use Rattle.store_run.specs.Records.{IsWhole};

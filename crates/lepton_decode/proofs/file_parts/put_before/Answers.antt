@@ -1,6 +1,6 @@
 use Rattle.std.proofs.Common.{List, ℕ, refl, subst, sym}
 use Rattle.outside_core.specs.Takes.{TakesNext}
-use Rattle.segment_worker.specs.Written.{HasFailed}
+use Rattle.outside_core.specs.Written.{HasFailed}
 use Rattle.segment_worker.proofs.Writing.{failed_first}
 use Rattle.lepton_decode.specs.Chunked.{before_in, window_in}
 use Rattle.lepton_decode.proofs.FilesWritten.{before_taken, first_bytes}

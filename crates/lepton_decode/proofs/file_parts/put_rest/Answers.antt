@@ -5,7 +5,7 @@ use Rattle.byte_window.proofs.WindowParts.{is_counted}
 use Rattle.handover.specs.declared.outcome.StreamFault.{StreamFault}
 use Rattle.container_spec.specs.Portions.{scans_meaning}
 use Rattle.segment_worker.specs.Emitting.{Counts, Emits, joined_in, seen_through}
-use Rattle.segment_worker.specs.Written.{HasWritten, HasFailed}
+use Rattle.outside_core.specs.Written.{HasWritten, HasFailed}
 use Rattle.segment_worker.specs.declared.emitted.Emitted.{Emitted}
 use Rattle.segment_worker.specs.declared.emitted.EmitStop.{EmitStop}
 use Rattle.lepton_decode.specs.Chunked.{falls_short, whole}

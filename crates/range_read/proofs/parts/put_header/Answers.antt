@@ -1,6 +1,6 @@
 use Rattle.std.proofs.Common.{List, ℕ, subst, sym}
 use Rattle.outside_core.specs.Takes.{TakesNext}
-use Rattle.segment_worker.specs.Written.{HasFailed}
+use Rattle.outside_core.specs.Written.{HasFailed}
 use Rattle.range_spec.specs.Ranges.{header_within}
 use Rattle.range_read.specs.RangeMeanings.{placed_file}
 use Rattle.range_read.proofs.RangeWritten.{header_taken, failed_in_header}

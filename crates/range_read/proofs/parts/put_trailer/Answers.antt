@@ -4,7 +4,7 @@ use Rattle.outside_core.specs.Takes.{TakesNext}
 use Rattle.handover.specs.declared.outcome.StreamFault.{StreamFault}
 use Rattle.container_spec.specs.ScanByScan.{joined_alone}
 use Rattle.segment_worker.specs.Emitting.{Emits}
-use Rattle.segment_worker.specs.Written.{HasFailed, HasWritten}
+use Rattle.outside_core.specs.Written.{HasFailed, HasWritten}
 use Rattle.segment_worker.specs.declared.emitted.Emitted.{Emitted}
 use Rattle.segment_worker.specs.declared.emitted.EmitStop.{EmitStop}
 use Rattle.segment_worker.specs.declared.emitted.EmitStop.TheVariants.{Fault}

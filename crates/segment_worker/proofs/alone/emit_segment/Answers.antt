@@ -2,7 +2,7 @@ use Rattle.std.proofs.Common.{◌+◌, sym, ap, subst, arith, List, ℕ, length}
 use Rattle.outside_core.specs.Takes.{TakesNext}
 use Rattle.byte_window.specs.Windows.{window, after}
 use Rattle.byte_window.proofs.WindowParts.{is_counted}
-use Rattle.segment_worker.specs.Written.{HasWritten, HasFailed}
+use Rattle.outside_core.specs.Written.{HasWritten, HasFailed}
 use Rattle.segment_worker.proofs.LonePieces.{none_written, piece_taken, more_written, all_written, done_last, fault_last, write_failed, piece_fits}
 use Rattle.segment_code.specs.declared.step.Step.TheVariants.{Done, Fault}
 use Rattle.segment_worker.proofs.alone.emit_segment.Goals as goal

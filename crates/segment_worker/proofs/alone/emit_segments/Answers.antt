@@ -4,7 +4,7 @@ use Rattle.byte_window.specs.declared.window.Window.{Window}
 use Rattle.byte_window.specs.Windows.{window}
 use Rattle.container_spec.specs.ScansJoined.{sums_of, sums_with}
 use Rattle.segment_worker.specs.Contents.{stretch}
-use Rattle.segment_worker.specs.Written.{HasWritten, HasFailed}
+use Rattle.outside_core.specs.Written.{HasWritten, HasFailed}
 use Rattle.segment_worker.specs.Emitting.{Emits, joined_in, seen_through}
 use Rattle.segment_worker.specs.LoneSegments.{OwesSome}
 use Rattle.segment_worker.proofs.ContentsTold.{output_of}

@@ -8,7 +8,7 @@ use Rattle.container_spec.specs.ScansJoined.{sums_of, sums_with}
 use Rattle.segment_worker.proofs.Emissions.{starts_emitting, taken_next, own_next, bytes_taken, taken_failed, good_taken, good_cur, good_within, bad_taken, same_emitted, own_emitted, own_failed, all_came, all_emitted}
 use Rattle.segment_worker.proofs.ContentsTold.{bytes_long}
 use Rattle.segment_worker.specs.Contents.{Stretch, stretch}
-use Rattle.segment_worker.specs.Written.{HasFailed}
+use Rattle.outside_core.specs.Written.{HasFailed}
 use Rattle.segment_worker.specs.OwnSegments.{OwnEnds, own_rest}
 use Rattle.segment_worker.specs.Emitting.{Emits, joined_in, seen_through}
 use Rattle.segment_worker.proofs.emitter.emit_through.Goals as goal

@@ -6,7 +6,7 @@ use Rattle.segment_worker.specs.Contents.{AreShort}
 use Rattle.segment_code.specs.declared.step.Step.TheVariants.{Done, Fault}
 use Rattle.handover.specs.declared.outcome.Outcome.TheVariants.{Good, Bad}
 use Rattle.outside_core.specs.Takes.{TakesNext}
-use Rattle.segment_worker.specs.Written.{HasWritten, HasFailed}
+use Rattle.outside_core.specs.Written.{HasWritten, HasFailed}
 use Rattle.segment_worker.specs.OwnSegments.{IsPassing, OwnEnds}
 use Rattle.segment_worker.proofs.OwnPieces.{starts_passing, piece_taken, piece_passed, piece_within, all_passed, piece_failed, owed_later, owed_done, owed_fault, ends_there}
 use Rattle.segment_worker.proofs.emitter_own.emit_own.Goals as goal

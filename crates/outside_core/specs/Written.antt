@@ -1,4 +1,4 @@
--- Steps: what a sink got (own).
+-- Statement: what a sink got (own).
 use Rattle.std.specs.Prelude.{ℕ, ◌≡◌, ◌<◌, List, length, take, Option}
 use Rattle.std.specs.Io.KnownBytes.{Appends}
 use Rattle.outside_core.specs.Faults.{Rose}
