@@ -19,16 +19,6 @@ pub record IsIdle (table : TableId) (v : Stretch) (seat : SeatValue Stretch Work
   pub plans : decoder.plans ≡ all_plans v.container
   pub begun : decoder.begun ≡ seat.claims
 
--- nothing is left for it to do
-pub record IsOver (table : TableId) (v : Stretch) (seat : SeatValue Stretch WorkerView)
-    (decoder : FileDecoderSeen) : Type 0 where
-  pub own : seat.table ≡ table
-  pub content : seat.content ≡ v
-  pub over : seat.view.over ≡ true
-  pub here : seat.view.left ≡ false
-  pub plans : decoder.plans ≡ all_plans v.container
-  pub begun : decoder.begun ≡ seat.claims
-
 -- it left
 pub record HasLeft (table : TableId) (v : Stretch) (seat : SeatValue Stretch WorkerView)
     (decoder : FileDecoderSeen) : Type 0 where

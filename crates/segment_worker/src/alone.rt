@@ -57,35 +57,6 @@ pub fn emit_alone<'a, K: Sink, G: Gate>(
     ensures lasting { K.faults sink.old ≤ K.faults sink.new }
 {
     segments_are_short(view);
-    emit_segments(decoder, piece, view, window, sink, gate, first, count)
-}
-
-// The same.
-fn emit_segments<'a, K: Sink, G: Gate>(
-    decoder: &mut FileDecoder<'a>,
-    piece: &mut Piece,
-    view: &FileView<'a>,
-    window: Window,
-    sink: &mut K,
-    gate: &G,
-    first: u8,
-    count: u8,
-) -> Result<Emitted, EmitStop>
-    requires within { first + count ≤ segment_count view.now }
-    requires few { segment_count view.now ≤ most_segments }
-    requires plans { decoder.old.plans ≡ all_plans view.now }
-    requires fresh { decoder.old.begun ≡ 0 }
-    requires takes { TakesNext K.takes sink.old
-        (seen_through window (joined_in (stretch view.now first count))).bytes }
-    ensures ends { Emits K.held K.takes K.faults K.full sink.old sink.new
-        (seen_through window (joined_in (stretch view.now first count))) result }
-    ensures came { IfOk result (λ emitted.
-        emitted.came ≡ length (joined_in (stretch view.now first count)).bytes) }
-    ensures begun { OnOk result (decoder.new.begun ≡ count) }
-    ensures most { decoder.new.begun ≤ count }
-    ensures plans { decoder.new.plans ≡ decoder.old.plans }
-    ensures lasting { K.faults sink.old ≤ K.faults sink.new }
-{
     let mut came = 0;
     let mut pads = ScanPads::none();
     for segment in 0..count {

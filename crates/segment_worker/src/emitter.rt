@@ -3,7 +3,7 @@ ghost use Rattle.std.specs.Prelude.{◌≡◌, ◌+◌, ◌*◌, ◌≤◌, leng
 ghost use Rattle.outside_core.specs.Takes.{TakesNext};
 ghost use Rattle.box_format.specs.Versions.{most_segments};
 ghost use Rattle.box_format.specs.Containers.{segment_count};
-ghost use Rattle.segment_worker.specs.Contents.{AreShort, segment_room, stretch};
+ghost use Rattle.segment_worker.specs.Contents.{segment_room, stretch};
 ghost use Rattle.segment_worker.specs.Emitting.{Emits, IsNewEmitter, IsThrough, IsUsedEmitter, joined_in, seen_through};
 
 use crate::content::Told;
@@ -11,6 +11,7 @@ use crate::emitted::{EmitStop, Emitted};
 use crate::emitter_own::emit_unclaimed;
 use crate::emitter_part::write_part;
 use crate::lengths::segments_are_short;
+use crate::shared::Shared;
 use bit_list::Piece;
 use box_format::FileView;
 use byte_window::Window;
@@ -61,59 +62,19 @@ pub fn emit<'a, R: Wait, K: Sink, G: Gate>(
     ensures lasting { K.faults sink.old ≤ K.faults sink.new }
 {
     segments_are_short(view);
-    let mut buffer = [0; MOST_TAKEN];
-    emit_through(
-        rt,
-        decoder,
-        piece,
-        seat,
+    let shared = Shared {
         board,
         view,
-        window,
-        sink,
-        gate,
         first,
         count,
-        &mut buffer,
-    )
-}
-
-// The same, with a buffer for the bytes of a take.
-fn emit_through<'a, R: Wait, K: Sink, G: Gate>(
-    rt: &R,
-    decoder: &mut FileDecoder<'a>,
-    piece: &mut Piece,
-    seat: &mut EmitterSeat<Told<'a>>,
-    board: &Board<Told<'a>>,
-    view: &FileView<'a>,
-    window: Window,
-    sink: &mut K,
-    gate: &G,
-    first: u8,
-    _count: u8,
-    buffer: &mut [u8],
-) -> Result<Emitted, EmitStop>
-    requires within { first + _count ≤ segment_count view.now }
-    requires new { IsNewEmitter board.now (stretch view.now first _count) seat.old decoder.old }
-    requires short { AreShort (stretch view.now first _count) }
-    requires few { segment_count view.now ≤ most_segments }
-    requires some { 1 ≤ length buffer.old }
-    requires takes { TakesNext K.takes sink.old
-        (seen_through window (joined_in (stretch view.now first _count))).bytes }
-    ensures ends { Emits K.held K.takes K.faults K.full sink.old sink.new
-        (seen_through window (joined_in (stretch view.now first _count))) result }
-    ensures came { IfOk result (λ emitted.
-        emitted.came ≡ length (joined_in (stretch view.now first _count)).bytes) }
-    ensures through { OnOk result (IsThrough _count seat.new.view) }
-    ensures stopped { OnErr result (seat.new.view.stopped ≡ true) }
-    ensures used { IsUsedEmitter board.now (stretch view.now first _count) seat.new decoder.new }
-    ensures lasting { K.faults sink.old ≤ K.faults sink.new }
-{
+        gate,
+    };
+    let mut buffer = [0; MOST_TAKEN];
     let mut came = 0;
     let mut pads = ScanPads::none();
     let mut current = 0;
     for _ in rt.forever() {
-        match board.take(rt, seat, buffer) {
+        match board.take(rt, seat, &mut buffer) {
             Take::Bytes(taken) => {
                 if let Err(more) = write_part(sink, window, came, &buffer[..taken]) {
                     board.stop(rt, seat);
@@ -134,9 +95,7 @@ fn emit_through<'a, R: Wait, K: Sink, G: Gate>(
             }
             Take::Unclaimed => {
                 let rest = window.after(came);
-                match emit_unclaimed(
-                    rt, decoder, piece, seat, board, view, rest, sink, gate, first, current,
-                ) {
+                match emit_unclaimed(rt, decoder, piece, seat, &shared, rest, sink, current) {
                     Ok(passed) => came += passed,
                     Err(more) => {
                         board.stop(rt, seat);

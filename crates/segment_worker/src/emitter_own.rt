@@ -10,8 +10,8 @@ ghost use Rattle.segment_worker.specs.OwnSegments.{IsSameSeat, OwesRest, OwnEnds
 
 use crate::content::Told;
 use crate::emitter_part::write_part;
+use crate::shared::Shared;
 use bit_list::Piece;
-use box_format::FileView;
 use byte_window::Window;
 use handover::Outcome;
 use output_board::{Board, EmitterSeat, Own};
@@ -21,30 +21,28 @@ use std::sync::Wait;
 
 // Claims the segment that is emitted, if nobody has, and writes what the window lets through of it, whatever its
 // outcome. Returns how many bytes came, or how many were written before the sink failed. The segment is the board's
-// with index `current`, and the board's first one is the container's with number `first`.
-pub(crate) fn emit_unclaimed<'a, R: Wait, K: Sink, G: Gate>(
+// with index `current`.
+pub(crate) fn emit_unclaimed<'s, 'a, R: Wait, K: Sink, G: Gate>(
     rt: &R,
     decoder: &mut FileDecoder<'a>,
     piece: &mut Piece,
     seat: &mut EmitterSeat<Told<'a>>,
-    board: &Board<Told<'a>>,
-    view: &FileView<'a>,
+    shared: &Shared<'s, 'a, G>,
     window: Window,
     sink: &mut K,
-    gate: &G,
-    first: u8,
     current: u8,
 ) -> Result<u64, u64>
-    requires own { seat.old.table ≡ board.now }
-    requires content { seat.old.content ≡ stretch view.now first seat.old.content.count }
-    requires fits { first + seat.old.content.count ≤ segment_count view.now }
-    requires few { segment_count view.now ≤ most_segments }
-    requires number { first + current < 256 }
+    requires own { seat.old.table ≡ shared.now.board.now }
+    requires content { seat.old.content
+        ≡ stretch shared.now.view.now shared.now.first shared.now.count }
+    requires fits { shared.now.first + shared.now.count ≤ segment_count shared.now.view.now }
+    requires few { segment_count shared.now.view.now ≤ most_segments }
+    requires number { shared.now.first + current < 256 }
     requires free { seat.old.view.owns ≡ false }
     requires going { seat.old.view.stopped ≡ false }
     requires within { seat.old.view.taken
         ≤ length (bytes_at (segments_bytes seat.old.content) seat.old.view.cur) }
-    requires plans { decoder.old.plans ≡ all_plans view.now }
+    requires plans { decoder.old.plans ≡ all_plans shared.now.view.now }
     requires begun { decoder.old.begun ≡ seat.old.claims }
     requires short { AreShort seat.old.content }
     requires takes { TakesNext K.takes sink.old (passed window (own_rest seat.old)) }
@@ -56,11 +54,11 @@ pub(crate) fn emit_unclaimed<'a, R: Wait, K: Sink, G: Gate>(
     ensures plans { decoder.new.plans ≡ decoder.old.plans }
     ensures lasting { K.faults sink.old ≤ K.faults sink.new }
 {
-    gate.before_own(first + current);
-    match board.claim_own(rt, seat) {
+    shared.gate.before_own(shared.first + current);
+    match shared.board.claim_own(rt, seat) {
         Own::Mine(segment) => {
-            decoder.begin(view, first + segment);
-            emit_own(rt, decoder, piece, seat, board, window, sink)
+            decoder.begin(shared.view, shared.first + segment);
+            emit_own(rt, decoder, piece, seat, shared.board, window, sink)
         }
         Own::Other => Ok(0),
     }

@@ -24,6 +24,7 @@ mod emitter;
 mod emitter_own;
 mod emitter_part;
 mod lengths;
+mod shared;
 mod worker;
 mod worker_puts;
 mod worker_segment;

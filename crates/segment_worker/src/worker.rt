@@ -2,10 +2,11 @@
 ghost use Rattle.std.specs.Prelude.{◌+◌, ◌≤◌};
 ghost use Rattle.box_format.specs.Containers.{segment_count};
 ghost use Rattle.segment_worker.specs.Contents.{stretch};
-ghost use Rattle.segment_worker.specs.Working.{HasLeft, IsIdle, IsOver};
+ghost use Rattle.segment_worker.specs.Working.{HasLeft, IsIdle};
 
 use crate::content::Told;
 use crate::lengths::segments_are_short;
+use crate::shared::Shared;
 use crate::worker_segment::put_segment;
 use bit_list::Piece;
 use box_format::FileView;
@@ -33,37 +34,24 @@ pub fn work<'a, R: Wait, G: Gate>(
     requires idle { IsIdle board.now (stretch view.now first count) seat.old decoder.old }
     ensures { HasLeft board.now (stretch view.now first count) seat.new decoder.new }
 {
-    put_segments(rt, decoder, piece, seat, board, view, gate, first, count);
-    board.leave(rt, seat);
-}
-
-// The same, but for leaving.
-fn put_segments<'a, R: Wait, G: Gate>(
-    rt: &R,
-    decoder: &mut FileDecoder<'a>,
-    piece: &mut Piece,
-    seat: &mut WorkerSeat<Told<'a>>,
-    board: &Board<Told<'a>>,
-    view: &FileView<'a>,
-    gate: &G,
-    first: u8,
-    _count: u8,
-)
-    requires within { first + _count ≤ segment_count view.now }
-    requires idle { IsIdle board.now (stretch view.now first _count) seat.old decoder.old }
-    ensures { IsOver board.now (stretch view.now first _count) seat.new decoder.new }
-{
     segments_are_short(view);
+    let shared = Shared {
+        board,
+        view,
+        first,
+        count,
+        gate,
+    };
     for _ in rt.forever() {
         match board.claim(rt, seat) {
             Claim::Segment(segment) => {
                 decoder.begin(view, first + segment);
-                if !put_segment(rt, decoder, piece, seat, board, first, segment, gate) {
-                    return;
+                if !put_segment(rt, decoder, piece, seat, &shared, segment) {
+                    return board.leave(rt, seat);
                 }
             }
-            Claim::NoneLeft => return,
-            Claim::Stopped => return,
+            Claim::NoneLeft => return board.leave(rt, seat),
+            Claim::Stopped => return board.leave(rt, seat),
         }
     }
     unreachable!()

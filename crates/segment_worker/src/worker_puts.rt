@@ -5,6 +5,7 @@ ghost use Rattle.segment_worker.specs.Contents.{segments_bytes, segments_outcome
 ghost use Rattle.segment_worker.specs.OwnSegments.{IsSameSeat};
 
 use crate::content::Told;
+use crate::shared::Shared;
 use handover::Outcome;
 use output_board::{Board, Finish, Put, WorkerSeat};
 use outside_core::Gate;
@@ -12,15 +13,14 @@ use std::sync::Wait;
 
 // Puts the next bytes of the worker's segment, as its ring has room, and returns whether all were put before the board
 // was stopped. The gate is called before and after each put, with the segment's number in the container.
-pub(crate) fn put_bytes<'a, R: Wait, G: Gate>(
+pub(crate) fn put_bytes<'s, 'a, R: Wait, G: Gate>(
     rt: &R,
     seat: &mut WorkerSeat<Told<'a>>,
-    board: &Board<Told<'a>>,
+    shared: &Shared<'s, 'a, G>,
     bytes: &[u8],
     number: u8,
-    gate: &G,
 ) -> bool
-    requires own { seat.old.table ≡ board.now }
+    requires own { seat.old.table ≡ shared.now.board.now }
     requires next { HasNext (segments_bytes seat.old.content) seat.old.view bytes.now }
     requires going { seat.old.view.over ≡ false }
     ensures same { IsSameSeat seat.old seat.new }
@@ -35,11 +35,11 @@ pub(crate) fn put_bytes<'a, R: Wait, G: Gate>(
         if rest.is_empty() {
             return true;
         }
-        gate.before_put(number);
-        let answer = board.put(rt, seat, rest);
-        gate.after_put(number);
+        shared.gate.before_put(number);
+        let answer = shared.board.put(rt, seat, rest);
+        shared.gate.after_put(number);
         match answer {
-            Put::Took(0) => board.pause_worker(rt, seat),
+            Put::Took(0) => shared.board.pause_worker(rt, seat),
             Put::Took(count) => put += count,
             Put::Stopped => return false,
         }

@@ -3,30 +3,28 @@ ghost use Rattle.std.specs.Prelude.{◌≡◌, ◌+◌, ◌<◌, Some, None, tru
 ghost use Rattle.segment_worker.specs.OwnSegments.{IsSameSeat, OwesRest};
 
 use crate::content::Told;
+use crate::shared::Shared;
 use crate::worker_puts::{end, put_bytes};
 use bit_list::Piece;
 use handover::Outcome;
-use output_board::{Board, WorkerSeat};
+use output_board::WorkerSeat;
 use outside_core::Gate;
 use segment_code::{FileDecoder, Step};
 use std::sync::Wait;
 
 // Decodes the rest of the worker's segment into its ring, piece by piece, and ends it. Returns whether the board wasn't
-// stopped before. The gate is called with the segment's number in the container, where `first` is that of the board's
-// first segment.
-pub(crate) fn put_segment<'a, R: Wait, G: Gate>(
+// stopped before.
+pub(crate) fn put_segment<'s, 'a, R: Wait, G: Gate>(
     rt: &R,
     decoder: &mut FileDecoder<'a>,
     piece: &mut Piece,
     seat: &mut WorkerSeat<Told<'a>>,
-    board: &Board<Told<'a>>,
-    first: u8,
+    shared: &Shared<'s, 'a, G>,
     segment: u8,
-    gate: &G,
 ) -> bool
-    requires own { seat.old.table ≡ board.now }
+    requires own { seat.old.table ≡ shared.now.board.now }
     requires segment { seat.old.view.segment ≡ Some segment }
-    requires number { first + segment < 256 }
+    requires number { shared.now.first + segment < 256 }
     requires going { seat.old.view.over ≡ false }
     requires running { decoder.old.running ≡ true }
     requires owes { OwesRest seat.old.content segment seat.old.view.put decoder.old }
@@ -38,16 +36,16 @@ pub(crate) fn put_segment<'a, R: Wait, G: Gate>(
     ensures begun { decoder.new.begun ≡ decoder.old.begun }
     ensures plans { decoder.new.plans ≡ decoder.old.plans }
 {
-    let number = first + segment;
+    let number = shared.first + segment;
     loop {
         let step = decoder.step(piece);
-        if !put_bytes(rt, seat, board, piece.bytes(), number, gate) {
+        if !put_bytes(rt, seat, shared, piece.bytes(), number) {
             return false;
         }
         match step {
             Step::More => {}
-            Step::Done { pads } => return end(rt, seat, board, Outcome::Good { pads }),
-            Step::Fault(fault) => return end(rt, seat, board, Outcome::Bad(fault)),
+            Step::Done { pads } => return end(rt, seat, shared.board, Outcome::Good { pads }),
+            Step::Fault(fault) => return end(rt, seat, shared.board, Outcome::Bad(fault)),
         }
     }
 }

@@ -8,10 +8,10 @@ use Rattle.segment_worker.proofs.ContentsTold.{bytes_long}
 use Rattle.segment_worker.proofs.OwnPieces.{owes_all, claimed_rest, own_none}
 use Rattle.segment_worker.proofs.emitter_own.emit_unclaimed.Goals as goal
 
-pub overflow_add-first-in-Mine : goal.overflow_add-first-in-Mine
-overflow_add-first-in-Mine g c =
+pub overflow_add-shared-in-Mine : goal.overflow_add-shared-in-Mine
+overflow_add-shared-in-Mine g c =
     let a = c.in-Mine.ensures.answer in
-    let long = bytes_long c.args.seat.now.content in
+    let long = bytes_long c.args.seat.now.content ∙ ap (λ (v : Stretch). v.count) c.requires.content in
     let under = a.6 in
     let is = a.7 in
     let fits = c.requires.fits in
@@ -21,7 +21,7 @@ overflow_add-first-in-Mine g c =
 pub begin-requires-clause-segment : goal.begin-requires-clause-segment
 begin-requires-clause-segment g c =
     let a = c.in-Mine.ensures.answer in
-    let long = bytes_long c.args.seat.now.content in
+    let long = bytes_long c.args.seat.now.content ∙ ap (λ (v : Stretch). v.count) c.requires.content in
     let under = a.6 in
     let is = a.7 in
     let fits = c.requires.fits in
@@ -29,9 +29,9 @@ begin-requires-clause-segment g c =
 
 pub emit_own-requires-clause-owes : goal.emit_own-requires-clause-owes
 emit_own-requires-clause-owes g c =
-    let v = stretch c.args.view.now c.args.first c.args.seat.now.content.count in
+    let v = stretch c.args.shared.now.view.now c.args.shared.now.first c.args.shared.now.count in
     let a = c.in-Mine.ensures.answer in
-    let long = bytes_long c.args.seat.now.content in
+    let long = bytes_long c.args.seat.now.content ∙ ap (λ (v : Stretch). v.count) c.requires.content in
     let under = a.6 in
     let is = a.7 in
     let within : c.in-Mine.segment < v.count = omega (arith, long, under, is) in

@@ -1,6 +1,6 @@
 use Rattle.segment_worker.specs.Contents.{stretch}
 use Rattle.segment_worker.specs.LoneSegments.{SegmentsWritten}
-use Rattle.segment_worker.proofs.alone.emit_segments.Given as goal
+use Rattle.segment_worker.proofs.alone.emit_alone.Given as goal
 
 abbrev pub invariant-loop-segment : goal.invariant-loop-segment
 invariant-loop-segment g l =

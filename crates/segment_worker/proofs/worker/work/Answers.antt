@@ -4,7 +4,7 @@ use Rattle.segment_worker.specs.Contents.{Stretch, stretch}
 use Rattle.segment_worker.specs.OwnSegments.{OwesRest}
 use Rattle.segment_worker.proofs.ContentsTold.{bytes_long}
 use Rattle.segment_worker.proofs.OwnPieces.{owes_all}
-use Rattle.segment_worker.proofs.worker.put_segments.Goals as goal
+use Rattle.segment_worker.proofs.worker.work.Goals as goal
 
 pub overflow_add-first : goal.overflow_add-first
 overflow_add-first g c =
@@ -40,14 +40,14 @@ put_segment-requires-clause-number g c =
 
 pub put_segment-requires-clause-owes : goal.put_segment-requires-clause-owes
 put_segment-requires-clause-owes g c =
-    let v = stretch c.args.view.now c.args.first c.args._count in
+    let v = stretch c.args.view.now c.args.first c.args.count in
     let i = c.loop.invariant in
     let a = c.in-Segment.ensures.answer in
     let long = bytes_long c.loop.seat.content in
     let same = ap (λ (v : Stretch). v.count) i.content in
     let under = a.5 in
     let is = a.6 in
-    let within : c.in-Segment.segment < c.args._count = omega (arith, long, same, under, is) in
+    let within : c.in-Segment.segment < c.args.count = omega (arith, long, same, under, is) in
     let content = c.claim.ensures.hold.content ∙ i.content in
     let none = ap (λ (w : WorkerView). w.put) a.0 in
     subst (λ (z : Stretch). OwesRest z c.in-Segment.segment c.claim.new.seat.view.put c.begin.new.self) (sym content)
