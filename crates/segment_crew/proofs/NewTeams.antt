@@ -35,7 +35,25 @@ new_lead table v workers ring emitter within e plans begun =
       };
     }
 
--- and so are the workers'
+-- and a worker's with a new seat
+pub idle_worker : (table : TableId) (v : Stretch) (seat : SeatValue Stretch WorkerView) (worker : Worker)
+    → v.first + v.count ≤ segment_count v.container → IsNewSeat table v seat → worker.seat ≡ seat
+    → worker.decoder.plans ≡ all_plans v.container → worker.decoder.begun ≡ 0 → IsIdleWorker table v worker
+idle_worker table v seat worker within new same plans begun =
+    let is = subst (IsNewSeat table v) (sym same) new in record {
+      within = within;
+      idle = record {
+        own = is.own;
+        content = is.content;
+        free = is.free;
+        going = is.going;
+        here = is.here;
+        plans = plans;
+        begun = begun ∙ sym is.claims;
+      };
+    }
+
+-- the workers' seats are new
 pub new_seats : (table : TableId) (v : Stretch) (workers : ℕ)
     → AreNewSeats table v (new_worker_seats table v workers)
 new_seats table v zero = λ k d within. absurd (omega (arith, within))

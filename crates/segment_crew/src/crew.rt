@@ -72,7 +72,7 @@ impl<'a> Crew<'a> {
         let decoder = FileDecoder::prepare(alloc, view.plans())?;
         let piece = Piece::new(alloc)?;
         let (board, seat, seats) = prepare_board(alloc, view, ring, workers, first, count)?;
-        let team = team_of(alloc, view, &board, seats, first, count)?;
+        let team = team_of(alloc, view, seats)?;
         Ok(Crew {
             board,
             emitter: Emitter {
@@ -134,41 +134,35 @@ impl<'a> Crew<'a> {
         ensures lasting { K.faults sink.old ≤ K.faults sink.new }
     {
         self.used = true;
-        emit_beside(
-            rt,
+        let shared = Shared {
+            board: &self.board,
             view,
-            self.first,
-            self.count,
-            &self.board,
-            &mut self.emitter,
-            &mut self.team,
+            first: self.first,
+            count: self.count,
             window,
-            sink,
             gate,
-        )
+        };
+        emit_beside(rt, &shared, &mut self.emitter, &mut self.team, sink)
     }
 }
 
 // The same, for the parts of a crew.
-fn emit_beside<'a, R: Threads + Wait + Sync, K: Sink + Send, G: Gate + Sync>(
+fn emit_beside<'s, 'a, R: Threads + Wait + Sync, K: Sink + Send, G: Gate + Sync>(
     rt: &R,
-    view: &FileView<'a>,
-    first: u8,
-    count: u8,
-    board: &Board<Told<'a>>,
+    shared: &Shared<'s, 'a, G>,
     emitter: &mut Emitter<'a>,
     team: &mut Vec<Worker<'a>>,
-    window: Window,
     sink: &mut K,
-    gate: &G,
 ) -> Result<Emitted, EmitStop>
-    requires content { emitter.old.seat.content ≡ stretch view.now first count }
-    requires new { IsNewLead board.now emitter.old.seat.content emitter.old }
-    requires team { All (IsIdleWorker board.now emitter.old.seat.content) team.old.items }
+    requires content { emitter.old.seat.content
+        ≡ stretch shared.now.view.now shared.now.first shared.now.count }
+    requires new { IsNewLead shared.now.board.now emitter.old.seat.content emitter.old }
+    requires team { All (IsIdleWorker shared.now.board.now emitter.old.seat.content)
+        team.old.items }
     requires takes { TakesNext K.takes sink.old
-        (seen_through window (joined_in emitter.old.seat.content)).bytes }
+        (seen_through shared.now.window (joined_in emitter.old.seat.content)).bytes }
     ensures ends { Emits K.held K.takes K.faults K.full sink.old sink.new
-        (seen_through window (joined_in emitter.old.seat.content)) result }
+        (seen_through shared.now.window (joined_in emitter.old.seat.content)) result }
     ensures came { IfOk result (λ emitted.
         emitted.came ≡ length (joined_in emitter.old.seat.content).bytes) }
     ensures few { length (joined_in emitter.old.seat.content).bytes
@@ -182,13 +176,5 @@ fn emit_beside<'a, R: Threads + Wait + Sync, K: Sink + Send, G: Gate + Sync>(
     ensures content { emitter.new.seat.content ≡ emitter.old.seat.content }
     ensures lasting { K.faults sink.old ≤ K.faults sink.new }
 {
-    let shared = Shared {
-        board,
-        view,
-        first,
-        count,
-        window,
-        gate,
-    };
-    lead_beside(rt, emitter, team.as_mut_slice(), &shared, sink)
+    lead_beside(rt, emitter, team.as_mut_slice(), shared, sink)
 }

@@ -1,8 +1,9 @@
 // The emitter and the workers of a crew, each with what it needs.
 ghost use Rattle.std.specs.Prelude.{◌≡◌, ◌+◌, ◌≤◌, All, IfOk, length};
-ghost use Rattle.box_format.specs.Containers.{segment_count};
-ghost use Rattle.segment_worker.specs.Contents.{stretch};
-ghost use Rattle.segment_crew.specs.Teams.{IsIdleWorker, IsNewSeat, AreNewSeats};
+ghost use Rattle.atomic_table.specs.Seated.{TableId};
+ghost use Rattle.box_format.specs.Containers.{all_plans, segment_count};
+ghost use Rattle.segment_worker.specs.Contents.{Stretch};
+ghost use Rattle.segment_crew.specs.Teams.{IsIdleWorker, AreNewSeats};
 
 use crate::threads::{Lead, Task};
 use bit_list::Piece;
@@ -113,20 +114,16 @@ impl<'s, 'a, G: Gate, K: Sink> Lead<Shared<'s, 'a, G>, K> for Emitter<'a> {
 pub(crate) fn team_of<'a>(
     alloc: Global,
     view: &FileView<'a>,
-    board: &Board<Told<'a>>,
     seats: Vec<WorkerSeat<Told<'a>>>,
-    first: u8,
-    count: u8,
 ) -> Result<Vec<Worker<'a>>, NoMemory>
-    requires within { first + count ≤ segment_count view.now }
-    requires new { AreNewSeats board.now (stretch view.now first count) seats.items }
-    ensures idle { IfOk result (λ team.
-        All (IsIdleWorker board.now (stretch view.now first count)) team.items) }
+    ensures idle { (table : TableId) (v : Stretch) → v.container ≡ view.now
+        → v.first + v.count ≤ segment_count v.container → AreNewSeats table v seats.entry.items
+        → IfOk result (λ team. All (IsIdleWorker table v) team.items) }
     ensures count { IfOk result (λ team. length team.items ≡ length seats.entry.items) }
 {
     let mut team = Vec::new(alloc);
     for seat in seats {
-        let worker = worker_of(alloc, view, board, seat, first, count)?;
+        let worker = worker_of(alloc, view, seat)?;
         push(&mut team, worker)?;
     }
     Ok(team)
@@ -136,15 +133,11 @@ pub(crate) fn team_of<'a>(
 fn worker_of<'a>(
     alloc: Global,
     view: &FileView<'a>,
-    _board: &Board<Told<'a>>,
     seat: WorkerSeat<Told<'a>>,
-    _first: u8,
-    _count: u8,
 ) -> Result<Worker<'a>, NoMemory>
-    requires within { _first + _count ≤ segment_count view.now }
-    requires new { IsNewSeat _board.now (stretch view.now _first _count) seat }
-    ensures { IfOk result (λ worker.
-        IsIdleWorker _board.now (stretch view.now _first _count) worker) }
+    ensures seat { IfOk result (λ worker. worker.seat ≡ seat.entry) }
+    ensures plans { IfOk result (λ worker. worker.decoder.plans ≡ all_plans view.now) }
+    ensures begun { IfOk result (λ worker. worker.decoder.begun ≡ 0) }
 {
     let decoder = FileDecoder::prepare(alloc, view.plans())?;
     let piece = Piece::new(alloc)?;

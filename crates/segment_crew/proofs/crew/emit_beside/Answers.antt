@@ -11,16 +11,16 @@ use Rattle.segment_crew.proofs.crew.emit_beside.Goals as goal
 
 pub returns-clause-left : goal.returns-clause-left
 returns-clause-left g c =
-    let v = stretch c.args.view.now c.args.first c.args.count in
+    let v = stretch c.args.shared.now.view.now c.args.shared.now.first c.args.shared.now.count in
     let e : length c.lead_beside.new.tasks ≡ vec_len c.args.team.now = search rules in
     subst (λ (workers : List Worker). All (λ (member : Member WorkerView). member.view.left ≡ true) (members_of workers))
     (sym (with_items_is c.args.team.now c.lead_beside.new.tasks e))
-    (left_members c.args.board.now v c.lead_beside.new.tasks c.lead_beside.ensures.tasks)
+    (left_members c.args.shared.now.board.now v c.lead_beside.new.tasks c.lead_beside.ensures.tasks)
 
 pub returns-clause-team : goal.returns-clause-team
 returns-clause-team g c =
-    let v = stretch c.args.view.now c.args.first c.args.count in
+    let v = stretch c.args.shared.now.view.now c.args.shared.now.first c.args.shared.now.count in
     let e : length c.lead_beside.new.tasks ≡ vec_len c.args.team.now = search rules in
     subst (λ (workers : List Worker). All HasBegunItsClaims (members_of workers))
     (sym (with_items_is c.args.team.now c.lead_beside.new.tasks e))
-    (begun_members c.args.board.now v c.lead_beside.new.tasks c.lead_beside.ensures.tasks)
+    (begun_members c.args.shared.now.board.now v c.lead_beside.new.tasks c.lead_beside.ensures.tasks)

@@ -1,4 +1,4 @@
-use Rattle.std.proofs.Common.{◌∙◌, sym, ap, subst, List, length}
+use Rattle.std.proofs.Common.{◌∙◌, refl, sym, ap, subst, List, length}
 use Rattle.std.specs.Prelude.{All}
 use Rattle.output_board.specs.declared.view.EmitterView.{EmitterView}
 use Rattle.output_board.specs.declared.view.WorkerView.{WorkerView}
@@ -8,12 +8,6 @@ use Rattle.segment_crew.specs.Teams.{AreNewSeats, IsIdleWorker}
 use Rattle.segment_crew.proofs.NewTeams.{idle_members, members_long, new_lead, new_seats, seats_long}
 use Rattle.segment_crew.proofs.crew.Crew.prepare.Goals as goal
 
-pub team_of-requires-clause-new : goal.team_of-requires-clause-new
-team_of-requires-clause-new c =
-    let v = stretch c.args.view.now c.args.first c.args.count in
-    subst (λ (seats : List (SeatValue Stretch WorkerView)). AreNewSeats c.in_ok-board.board v seats)
-    (sym c.in_ok-board.ensures.workers) (new_seats c.in_ok-board.board v c.min-workers.result)
-
 pub invariant_of-result : goal.invariant_of-result
 invariant_of-result c =
     let v = stretch c.args.view.now c.args.first c.args.count in
@@ -21,7 +15,9 @@ invariant_of-result c =
     let team = c.in_ok-team.team.items in
     let e = c.in_ok-board.ensures.emitter in
     let content = ap (λ (s : SeatValue Stretch EmitterView). s.content) e in
-    let idle = c.in_ok-team.ensures.idle in
+    let seats = subst (λ (seats : List (SeatValue Stretch WorkerView)). AreNewSeats board v seats)
+    (sym c.in_ok-board.ensures.workers) (new_seats board v c.min-workers.result) in
+    let idle = c.in_ok-team.ensures.idle board v refl c.requires.within seats in
     record {
       first = ap (λ (s : Stretch). s.first) (sym content);
       count = ap (λ (s : Stretch). s.count) (sym content);
