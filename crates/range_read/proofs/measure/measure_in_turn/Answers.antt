@@ -1,6 +1,5 @@
-use Rattle.std.proofs.Common.{rules, ◌≡◌, ◌+◌, ◌<◌, ◌≤◌, ◌∙◌, ℕ, length, subst, ap, arith}
+use Rattle.std.proofs.Common.{rules, ◌+◌, ◌<◌, ◌≤◌, ◌∙◌, ℕ, length, ap, arith}
 use Rattle.box_format.specs.Parts.{BoxSeen}
-use Rattle.range_read.specs.Lanes.{AreMeasuredUpTo}
 use Rattle.range_read.proofs.MeasuredSegments.{none_measured, good_measured, bad_measured, all_measured}
 use Rattle.range_read.proofs.measure.measure_in_turn.Goals as goal
 
