@@ -3,8 +3,8 @@ use Rattle.std.proofs.Common.{◌≡◌, ℕ, zero, suc, ◌+◌, ◌-◌, ◌<�
 use Rattle.std.specs.Prelude.{◌==◌, nat_lt, if◌then◌else◌}
 use Rattle.std.proofs.lemmas.Bool.{cases_lt}
 use Rattle.std.proofs.lemmas.Bool.Decides.{nat_tests}
-use Rattle.byte_window.specs.Slices.{Cover, has_place, with_part, cover, cover_of}
-use Rattle.byte_window.specs.SliceLaws.{IsCover, CoverIsExact, Rises, CoverHasSlice, NothingCovered}
+use Rattle.byte_window.specs.Slices.{Cover, Rises, has_place, with_part, cover, cover_of}
+use Rattle.byte_window.specs.SliceLaws.{IsCover, CoverIsExact, CoverHasSlice, NothingCovered}
 
 -- one more part
 with_one : (met : ℕ → Bool) (count : ℕ) (c : Cover) (is : Bool) → met count ≡ is → IsCover met count c
@@ -75,6 +75,20 @@ cover_is_exact met zero = record {
 }
 cover_is_exact met (suc count) =
     with_one met count (cover met count) (met count) refl (cover_is_exact met count)
+
+-- and its parts are some of those
+pub cover_fits : (met : ℕ → Bool) (count : ℕ)
+    → ((cover met count).from ≤ (cover met count).to) × ((cover met count).to ≤ count)
+cover_fits met count =
+    let c = cover met count in
+    let k = cover_is_exact met count in
+    let order = k.order in (
+      order,
+      ⊎_elim (λ (some : c.from < c.to). (k.some some).2)
+          (λ (h : c.to ≤ c.from).
+          let z = (k.none (omega (arith, order, h))).1 in omega (arith, z))
+          (cases_lt c.from c.to),
+    )
 
 -- a part without a place
 unmet : (a b x y : ℕ) → nat_lt (max a x) (min b y) ≡ false → min b y ≤ max a x

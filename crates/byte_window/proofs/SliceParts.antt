@@ -28,6 +28,12 @@ slice_is_taken (suc a) (suc b) (x ∷ xs) =
     let e : b - a ≡ suc b - suc a = omega arith in
     slice_is_taken a b xs ∙ ap (λ (k : ℕ). take k (drop a xs)) e
 
+-- a slice of no place
+pub no_slice : (a : ℕ) (xs : List ℕ) → slice a a xs ≡ []
+no_slice a xs =
+    let none : a - a ≡ 0 = omega arith in
+    slice_is_taken a a xs ∙ ap (λ (n : ℕ). take n (drop a xs)) none
+
 pub slice_of_parts : SliceOfParts
 slice_of_parts a b xs ys =
     ap (drop a) (take_joined b xs ys)

@@ -1,7 +1,7 @@
 -- Law: what holds of all slices (own).
 use Rattle.std.specs.Prelude.{ℕ, ◌≡◌, ◌+◌, ◌-◌, ◌<◌, ◌≤◌, max, min, Bool, true, List, [], ◌++◌, length, Some}
 use Rattle.byte_window.specs.Windows.{window}
-use Rattle.byte_window.specs.Slices.{Cover, slice, cover, cover_of}
+use Rattle.byte_window.specs.Slices.{Cover, Rises, slice, cover, cover_of}
 
 -- a slice of two lists joined
 abbrev pub SliceOfParts : Type 0
@@ -31,10 +31,6 @@ pub record IsCover (met : ℕ → Bool) (count : ℕ) (c : Cover) : Type 0 where
 
 abbrev pub CoverIsExact : Type 0
 CoverIsExact = (met : ℕ → Bool) (count : ℕ) → IsCover met count (cover met count)
-
--- starts that don't fall
-abbrev pub Rises : (ℕ → ℕ) → ℕ → Type 0
-Rises starts count = (i : ℕ) → i < count → starts i ≤ starts (i + 1)
 
 -- if some parts have a place from a to before b, they hold all places of the list in between
 abbrev pub CoverHasSlice : Type 0

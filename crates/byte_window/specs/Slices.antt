@@ -1,9 +1,20 @@
 -- Statement: slices of a list, and which of a list's parts have a place in one (own).
-use Rattle.std.specs.Prelude.{ℕ, zero, suc, ◌+◌, ◌==◌, max, min, nat_lt, if◌then◌else◌, Bool, true, false, List, take, drop}
+use Rattle.std.specs.Prelude.{ℕ, zero, suc, ◌+◌, ◌*◌, ◌<◌, ◌≤◌, ◌==◌, max, min, nat_lt, if◌then◌else◌, Bool, true, false, List, take, drop}
 
 -- the items from place a to before place b
 abbrev pub slice : ℕ → ℕ → List ℕ → List ℕ
 slice a b xs = drop a (take b xs)
+
+-- chunk i of a file's chunks of one size: the place of its first byte, and that after its last
+abbrev pub chunk_from : ℕ → ℕ → ℕ
+chunk_from size i = i * size
+
+abbrev pub chunk_to : ℕ → ℕ → ℕ → ℕ
+chunk_to length size i = min (i * size + size) length
+
+-- starts that don't fall
+abbrev pub Rises : (ℕ → ℕ) → ℕ → Type 0
+Rises starts count = (i : ℕ) → i < count → starts i ≤ starts (i + 1)
 
 -- whether part i, of parts that start at these places, has a place from a to before b
 abbrev pub has_place : (ℕ → ℕ) → ℕ → ℕ → ℕ → Bool
