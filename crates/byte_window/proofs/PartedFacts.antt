@@ -8,7 +8,7 @@ use Rattle.byte_window.specs.Windows.{window}
 use Rattle.byte_window.specs.Slices.{slice, has_place, chunk_to}
 use Rattle.byte_window.specs.SliceLaws.{IsCover}
 use Rattle.byte_window.specs.PartedFiles.{PartedFile, IsPlaced, file_bytes, parts_bytes, parts_end, parts_within, bytes_within, skip_within, window_within, header_within, joined}
-use Rattle.byte_window.specs.PartedLaws.{SliceOfFile, BytesAreEnough, MostIsLeft, RangesJoin, ChunksAreTheFile, chunks_of, most_within}
+use Rattle.byte_window.specs.PartedLaws.{PartsAreInFile, SliceOfFile, BytesAreEnough, MostIsLeft, RangesJoin, ChunksAreTheFile, chunks_of, most_within}
 use Rattle.byte_window.proofs.SliceParts.{slice_of_parts, slices_join, most_is_counted, no_slice}
 use Rattle.byte_window.proofs.Covers.{cover_is_exact, cover_fits, cover_has_slice, nothing_covered, met_there, rising}
 use Rattle.byte_window.proofs.Covered.{covered_is_window, uncovered_is_nothing}
@@ -26,8 +26,7 @@ some_or_none f a b P some none =
     (cases_lt c.from c.to)
 
 -- they are some of the file's
-pub parts_are_in_file : (f : PartedFile) (a b : ℕ)
-    → ((parts_within f a b).from ≤ (parts_within f a b).to) × ((parts_within f a b).to ≤ f.count)
+pub parts_are_in_file : PartsAreInFile
 parts_are_in_file f a b = cover_fits (has_place f.place a b) f.count
 
 -- places don't fall

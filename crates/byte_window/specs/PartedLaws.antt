@@ -3,6 +3,13 @@ use Rattle.std.specs.Prelude.{ℕ, zero, suc, ◌≡◌, ◌+◌, ◌-◌, ◌*�
 use Rattle.byte_window.specs.Slices.{slice, has_place, chunk_from, chunk_to}
 use Rattle.byte_window.specs.PartedFiles.{PartedFile, IsPlaced, file_bytes, parts_within, begun_within, bytes_within, skip_within, header_within, trailer_within, slice_bytes, joined, listed}
 
+-- the parts of a slice are some of the file's
+abbrev pub PartsAreInFile : Type 0
+PartsAreInFile =
+    (f : PartedFile) (a b : ℕ)
+    → ((parts_within f a b).from ≤ (parts_within f a b).to)
+    × ((parts_within f a b).to ≤ f.count)
+
 -- a slice's bytes are the file's
 abbrev pub SliceOfFile : Type 0
 SliceOfFile =

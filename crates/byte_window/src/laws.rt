@@ -2,7 +2,7 @@
 ghost use Rattle.byte_window.specs.WindowLaws.{AllPasses, ComesInPieces, StepsAdd, StepOfNothing, IsCounted, IsPrefix};
 ghost use Rattle.byte_window.specs.SliceLaws.{SliceOfParts, SliceIsWindow, SlicesJoin, CoverIsExact, CoverHasSlice, NothingCovered, MostIsCounted, CoveredIsWindow, UncoveredIsNothing};
 ghost use Rattle.byte_window.specs.PartedFiles.{IsPlaced};
-ghost use Rattle.byte_window.specs.PartedLaws.{BegunAreFirstToLast, BytesAreEnough, ChunksAreTheFile, ListIsPlaced, MostIsLeft, NoneIsBegun, OthersAreEmpty, OthersAreUnread, RangesJoin, SliceOfFile};
+ghost use Rattle.byte_window.specs.PartedLaws.{BegunAreFirstToLast, BytesAreEnough, ChunksAreTheFile, ListIsPlaced, MostIsLeft, NoneIsBegun, OthersAreEmpty, OthersAreUnread, PartsAreInFile, RangesJoin, SliceOfFile};
 ghost use Rattle.byte_window.specs.PartedRows.{kept_places, on_the_seam, restart_on_the_seam, segments_without_a_byte};
 ghost use Rattle.byte_window.specs.WindowRows.{worked_windows, worked_covers};
 
@@ -44,6 +44,7 @@ pub fn slices_of_files()
 /// A slice begins the parts from the first to the last with a place in it, and the other parts' bytes change nothing.
 /// If one that it begins has no place in the slice, that one has no byte.
 pub fn parts_are_first_to_last()
+    ensures within { PartsAreInFile }
     ensures some { BegunAreFirstToLast }
     ensures none { NoneIsBegun }
     ensures empty { OthersAreEmpty }
