@@ -5,7 +5,9 @@ use Rattle.std.specs.List.{AllByRecursion}
 use Rattle.std.proofs.lemmas.Bool.{cases_lt}
 use Rattle.std.proofs.lemmas.Bool.Decides.{nat_tests}
 use Rattle.std.proofs.lemmas.List.{length-take-le, map-id}
-use Rattle.byte_window.specs.Slices.{Cover, slice, has_place, with_part, cover}
+use Rattle.byte_window.specs.Slices.{Cover, slice, has_place, with_part, cover, chunk_from, chunk_to}
+use Rattle.byte_window.specs.PartedFiles.{PartedFile, parts_within, skip_of, trailer_within}
+use Rattle.byte_window.proofs.PartedFacts.{parts_are_in_file}
 use Rattle.bit_list.specs.Bits.{IsByte}
 use Rattle.jpeg_marker.specs.Plans.{PlanFields}
 use Rattle.jpeg_marker.specs.AcceptedPlans.{HasPlan}
@@ -20,23 +22,22 @@ use Rattle.scan_spec.specs.Spots.{bytes_done}
 use Rattle.scan_spec.proofs.PlanShapes.{can_be_shape}
 use Rattle.cut_spec.specs.Cuts.{Cut, first_mcu, row_of}
 use Rattle.cut_spec.specs.RowHandovers.{handover_at, mcus_between}
-use Rattle.chunk_spec.specs.Chunks.{FileParts, IsParted, row_place, rows_within, rows_cut, trailer_part, chunk_from, chunk_to}
-use Rattle.chunk_spec.proofs.ChunkParts.{all_done, rows_are_in_grid}
 use Rattle.box_format.specs.Parts.{BoxParts, box_cut}
 use Rattle.box_format.specs.Single.{IsBox, box_bytes}
 use Rattle.box_format.specs.Raws.{numbers}
 use Rattle.box_format.specs.Versions.{layout_of}
 use Rattle.box_format.specs.declared.chunk.Chunk.{Chunk}
 use Rattle.box_format.specs.declared.version.Version.TheVariants.{Third}
-use Rattle.container_spec.specs.Files.{plan_cut, segment_start, told_pads}
+use Rattle.container_spec.specs.Files.{cut_start, plan_cut, segment_start}
 use Rattle.container_spec.specs.ScanStream.{stream_of}
 use Rattle.container_spec.proofs.CutsOfPlans.{mcus_within, each_has_mcus}
 use Rattle.container_spec.proofs.Numbered.{mapped_at, mapped_long, mapped_same}
 use Rattle.segment_code.specs.FileStarts.{StartsFields}
 use Rattle.segment_code.specs.Starting.{AreStarts}
-use Rattle.chunk_cut.specs.ChunksOfFiles.{IsChunkOf, cut_start, parted, parts_of_chunk}
+use Rattle.container_spec.specs.Chunks.{IsChunkOf, file_rows, parts_of_chunk, rows_cut}
 use Rattle.chunk_cut.specs.Found.{chunk_found, handovers_found, place_of, rows_found}
-use Rattle.chunk_cut.proofs.ChunkBoxes.{box_is, chunk_fields}
+use Rattle.container_spec.proofs.ChunkBoxes.{box_is, chunk_fields}
+use Rattle.container_spec.proofs.RowsPlaced.{all_done}
 
 -- parts that are met alike have one cover
 met_alike : (met other : ℕ → Bool) (count : ℕ) → ((i : ℕ) → i < count → met i ≡ other i)
@@ -63,12 +64,12 @@ one_more {A = A} f items more x i count under is at =
     ∙ ap (λ (y : A). items ++ (y ∷ rest)) at
     ∙ ap (λ (n : ℕ). items ++ map f (numbers i n)) (sym left)
 
--- a chunk with these rows, the first of which has its first byte there
+-- a chunk with these rows, which skips so many bytes
 abbrev chunk_with : ℕ → ℕ → Cover → ℕ → Chunk
-chunk_with a b rows place = record {
+chunk_with a b rows skip = record {
   place = a;
   length = b - a;
-  skip = if rows.from == rows.to then 0 else a - place;
+  skip = skip;
   from = rows.from;
   to = rows.to;
 }
@@ -97,22 +98,17 @@ module _ (plan : PlanFields) (bytes : List ℕ) (starts : StartsFields)
   }
 
   -- the file's parts
-  abbrev pub parts : FileParts
-  parts = parted plan have.mcus have.pads (take plan.header_length bytes) have.file.scan.scan trailer
+  abbrev pub header : List ℕ
+  header = take plan.header_length bytes
+
+  abbrev pub parts : PartedFile
+  parts = file_rows plan have.mcus have.pads header have.file.scan.scan trailer
 
   has_plan : HasPlan bytes plan
   has_plan = accepted_has_plan bytes plan are accepts
 
-  header_long : length (take plan.header_length bytes) ≡ plan.header_length
+  header_long : length header ≡ plan.header_length
   header_long = length-take-le plan.header_length bytes has_plan.within
-
-  is_parted : IsParted parts
-  is_parted = record {
-    shape_is = (can_be_shape bytes plan have.file.can).0;
-    mcus_are = have.file.scan.is.grid;
-    text = have.file.scan.is.text;
-    rows = refl;
-  }
 
   abbrev cut : Cut
   cut = plan_cut plan plan.down
@@ -138,7 +134,7 @@ module _ (plan : PlanFields) (bytes : List ℕ) (starts : StartsFields)
   row_starts : (row : ℕ) → row < plan.down → first_mcu cut row ≡ plan.across * row
   row_starts row under = ap (λ (n : ℕ). plan.across * n) (row_is row under)
 
-  place_found : (row : ℕ) → row < plan.down → get_or starts.places row 0 ≡ row_place parts row
+  place_found : (row : ℕ) → row < plan.down → get_or starts.places row 0 ≡ parts.place row
   place_found row under =
       let done : ℕ → ℕ = bytes_done (shape_of plan) (pad_at have.pads) have.mcus in
       let first = ap (λ (s : StartsFields). get_or s.places row 0) have.are
@@ -148,35 +144,36 @@ module _ (plan : PlanFields) (bytes : List ℕ) (starts : StartsFields)
       first ∙ ap (λ (i : ℕ). plan.header_length + done (first_mcu cut i)) none
       ∙ ap₂ (λ (h n : ℕ). h + done n) (sym header_long) (row_starts row under)
 
-  end_found : starts.trailer ≡ row_place parts plan.down
+  end_found : starts.trailer ≡ parts.place plan.down
   end_found =
       have.file.scan.long ∙ ap₂ (λ (h n : ℕ). h + n) (sym header_long)
-      (sym (all_done parts is_parted))
+      (sym (all_done plan have.mcus have.pads header have.file.scan.scan trailer
+      (can_be_shape bytes plan have.file.can).0 have.file.scan.is))
 
   -- the rows' places
-  pub place_is : (row : ℕ) → row ≤ plan.down → place_of starts row ≡ row_place parts row
+  pub place_is : (row : ℕ) → row ≤ plan.down → place_of starts row ≡ parts.place row
   place_is row within =
       elim (cases_lt row (length starts.rows)) [
         | inl under ↦ rw (is_less row (length starts.rows) under)
             (place_found row (omega (arith, under, rows_long)))
         | inr past ↦
             let last : plan.down ≡ row = omega (arith, past, rows_long, within) in
-            rw (isnt_less row (length starts.rows) past) (end_found ∙ ap (row_place parts) last)
+            rw (isnt_less row (length starts.rows) past) (end_found ∙ ap parts.place last)
       ]
 
   module _ (a b : ℕ) where
     abbrev rows : Cover
-    rows = rows_within parts a b
+    rows = parts_within parts a b
 
     rows_are : rows_found starts a b ≡ rows
     rows_are =
         ap (cover (has_place (place_of starts) a b)) rows_long
-        ∙ met_alike (has_place (place_of starts) a b) (has_place (row_place parts) a b) plan.down
+        ∙ met_alike (has_place (place_of starts) a b) (has_place parts.place a b) plan.down
         (λ i under. ap₂ (λ (m n : ℕ). nat_lt (max a m) (min b n))
         (place_is i (omega (arith, under))) (place_is (i + 1) (omega (arith, under))))
 
     grid : (rows.from ≤ rows.to) × (rows.to ≤ plan.down)
-    grid = rows_are_in_grid parts a b
+    grid = parts_are_in_file parts a b
 
     pub chunk_grid : ((chunk_found starts a b).from ≤ (chunk_found starts a b).to)
         × ((chunk_found starts a b).to ≤ plan.down)
@@ -188,12 +185,13 @@ module _ (plan : PlanFields) (bytes : List ℕ) (starts : StartsFields)
     chunk_is =
         let order = grid.0 in
         let within = grid.1 in
-        ap (λ (c : Cover). chunk_with a b c (place_of starts c.from)) rows_are
-        ∙ ap (chunk_with a b rows) (place_is rows.from (omega (arith, order, within)))
+        ap (λ (c : Cover). chunk_with a b c (skip_of (place_of starts) c a)) rows_are
+        ∙ ap (λ (n : ℕ). chunk_with a b rows (if rows.from == rows.to then 0 else a - n))
+        (place_is rows.from (omega (arith, order, within)))
 
     module _ (most : ℕ) where
       abbrev segments : Cut
-      segments = rows_cut parts rows most
+      segments = rows_cut plan rows most
 
       -- a segment starts with a row
       row_under : (i : ℕ) → i < segments.segments → row_of segments i < plan.down
@@ -216,26 +214,20 @@ module _ (plan : PlanFields) (bytes : List ℕ) (starts : StartsFields)
 
       -- what its segments start from
       pub handovers_are : handovers_found plan starts (chunk_fields parts a b) segments.segments
-          ≡ map (cut_start parts segments) (numbers 0 segments.segments)
+          ≡ map (cut_start plan have.mcus have.pads segments) (numbers 0 segments.segments)
       handovers_are =
           mapped_same (λ i. get_or starts.handovers (row_of segments i) start)
-          (cut_start parts segments) 0 segments.segments
+          (cut_start plan have.mcus have.pads segments) 0 segments.segments
           (λ i after under. start_found (row_of segments i) (row_under i (omega (arith, under))))
 
       -- its part of the trailer
       pub trailer_is : slice (a - starts.trailer) (b - starts.trailer) trailer
-          ≡ trailer_part parts a b
-      trailer_is =
-          let scan = length have.file.scan.scan in
-          let header = length (take plan.header_length bytes) in
-          let long = have.file.scan.long in
-          let first : a - starts.trailer ≡ a - header - scan = omega (arith, long, header_long) in
-          let last : b - starts.trailer ≡ b - header - scan = omega (arith, long, header_long) in
-          ap₂ (λ (m n : ℕ). slice m n trailer) first last
+          ≡ trailer_within parts a b
+      trailer_is = ap (λ (n : ℕ). slice (a - n) (b - n) trailer) end_found
 
       -- the parts of its container
       abbrev pub box : BoxParts
-      box = parts_of_chunk plan (told_pads plan have.mcus have.pads) parts a b most
+      box = parts_of_chunk plan have.mcus have.pads header have.file.scan.scan trailer a b most
 
       -- the streams of so many segments of a chunk
       abbrev streams_of : Chunk → ℕ → List (List ℕ)

@@ -1,7 +1,8 @@
 -- Steps: a chunk by where the rows of a file start (own).
-use Rattle.std.specs.Prelude.{ℕ, ◌≡◌, ◌-◌, ◌<◌, ◌^◌, ◌==◌, nat_lt, if◌then◌else◌, List, length, get_or, map, Some}
+use Rattle.std.specs.Prelude.{ℕ, ◌≡◌, ◌-◌, ◌<◌, ◌^◌, nat_lt, if◌then◌else◌, List, length, get_or, map, Some}
 use Rattle.std.specs.List.{AllByRecursion}
 use Rattle.byte_window.specs.Slices.{Cover, cover_of}
+use Rattle.byte_window.specs.PartedFiles.{skip_of}
 use Rattle.bit_list.specs.Bits.{IsByte}
 use Rattle.jpeg_marker.specs.HeaderPlan.{Accepts}
 use Rattle.jpeg_marker.specs.Plans.{PlanFields}
@@ -29,7 +30,7 @@ chunk_found s a b =
     record {
       place = a;
       length = b - a;
-      skip = if rows.from == rows.to then 0 else a - place_of s rows.from;
+      skip = skip_of (place_of s) rows a;
       from = rows.from;
       to = rows.to;
     }

@@ -1,17 +1,16 @@
 // A file whose chunks are cut, each into a container of its own.
 ghost use Rattle.std.specs.Prelude.{◌≡◌, ◌-◌, ◌*◌, ◌++◌, ◌<◌, ◌≤◌, ◌^◌, drop, length, IfNone, IfOk, IfSome, IsErrOf};
-ghost use Rattle.byte_window.specs.Slices.{slice};
+ghost use Rattle.byte_window.specs.Slices.{chunk_from, chunk_to, slice};
 ghost use Rattle.jpeg_marker.specs.Plans.{PlanFields};
 ghost use Rattle.jpeg_marker.specs.declared.refusal.HeaderRefusal.{HeaderRefusal};
 ghost use Rattle.scan_spec.specs.declared.refusal.ScanRefusal.{ScanRefusal};
-ghost use Rattle.chunk_spec.specs.Chunks.{chunk_from, chunk_to};
 ghost use Rattle.box_format.specs.Containers.{scan_streams};
 ghost use Rattle.box_format.specs.Given.{parts_given};
 ghost use Rattle.box_format.specs.Single.{IsBox, box_bytes};
 ghost use Rattle.box_format.specs.Versions.{layout_of};
 ghost use Rattle.box_format.specs.declared.version.Version.TheVariants.{Third};
+ghost use Rattle.container_spec.specs.Chunks.{IsChunkOf, IsOneScanFile};
 ghost use Rattle.container_spec.specs.ScansFiles.{FileIsRefused, HasSeveralScans, Header, Scan};
-ghost use Rattle.chunk_cut.specs.ChunksOfFiles.{IsChunkOf, IsOneScanFile};
 
 use crate::error::CutError;
 use crate::rows::{chunk_between, handovers_of};

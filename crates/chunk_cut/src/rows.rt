@@ -1,82 +1,56 @@
 // The rows of a file that a chunk's bytes come of.
-ghost use Rattle.std.specs.Prelude.{◌≡◌, ◌==◌, ◌<◌, ◌≤◌, ◌-◌, ◌^◌, if◌then◌else◌, IfOk, length};
-ghost use Rattle.byte_window.specs.Slices.{has_place, with_part};
-ghost use Rattle.chunk_cut.specs.Found.{chunk_found, handovers_found, place_of, rows_found};
+ghost use Rattle.std.specs.Prelude.{◌≡◌, ◌≤◌, ◌-◌, IfOk, length};
+ghost use Rattle.chunk_cut.specs.Found.{chunk_found, handovers_found};
 
 use box_format::Chunk;
+use byte_window::{Places, parts_within, window_within};
 use growth::{NoMemory, push, with_capacity};
 use handover::Handover;
 use jpeg_marker::Plan;
 use segment_code::{Starts, row_of};
 use std::alloc::Global;
 
+// Where a file's rows begin.
+struct RowPlaces<'a> {
+    starts: &'a Starts,
+}
+
+impl<'a> Places for RowPlaces<'a> {
+    ghost use Rattle.std.specs.Prelude.{length};
+    ghost use Rattle.chunk_cut.specs.Found.{place_of};
+
+    ghost count = { λ rows. length rows.starts.now.rows };
+
+    ghost place = { λ rows. place_of rows.starts.now };
+
+    fn count(&self) -> u32 {
+        self.starts.segments()
+    }
+
+    fn place(&self, part: u32) -> u64 {
+        let place = if part < self.starts.segments() {
+            self.starts.place(part)
+        } else {
+            self.starts.trailer()
+        };
+        place as u64
+    }
+}
+
 /// The chunk of a file's bytes from place `from` to before place `to`, by the starts of all rows.
 pub(crate) fn chunk_between(starts: &Starts, from: usize, to: usize) -> Chunk
     requires { from ≤ to }
     ensures { result ≡ chunk_found starts.now from to }
 {
-    let (first, past) = rows_between(starts, from, to);
+    let places = RowPlaces { starts };
+    let (from, to) = (from as u64, to as u64);
+    let rows = parts_within(&places, from, to);
     Chunk {
-        place: from as u64,
-        length: (to - from) as u64,
-        skip: skipped(starts, first, past, from),
-        from: first,
-        to: past,
-    }
-}
-
-// The rows that have a byte there: the first one, and the row after the last; 0 and 0 if there is none.
-fn rows_between(starts: &Starts, from: usize, to: usize) -> (u32, u32)
-    ensures first { result.0 ≡ (rows_found starts.now from to).from }
-    ensures past { result.1 ≡ (rows_found starts.now from to).to }
-{
-    let mut rows = (0, 0);
-    for row in 0..starts.segments() {
-        rows = with_row(rows, row, has_byte(starts, row, from, to));
-    }
-    rows
-}
-
-// These rows, and one after them if it is to be among them.
-fn with_row(rows: (u32, u32), row: u32, is_one: bool) -> (u32, u32)
-    requires { row < 2 ^ 32 - 1 }
-    ensures first { result.0
-        ≡ (with_part (record { from = rows.0; to = rows.1 }) row is_one).from }
-    ensures past { result.1 ≡ (with_part (record { from = rows.0; to = rows.1 }) row is_one).to }
-{
-    match is_one {
-        false => rows,
-        true => (if rows.0 == rows.1 { row } else { rows.0 }, row + 1),
-    }
-}
-
-// Whether a row has a byte there.
-fn has_byte(starts: &Starts, row: u32, from: usize, to: usize) -> bool
-    requires { row < 2 ^ 32 - 1 }
-    ensures { result ≡ has_place (place_of starts.now) from to row }
-{
-    from.max(place_of(starts, row)) < to.min(place_of(starts, row + 1))
-}
-
-// How many of the first row's bytes stand before `from`; none if there is no row.
-fn skipped(starts: &Starts, first: u32, past: u32, from: usize) -> u64
-    ensures { result ≡ (if first == past then 0 else from - place_of starts.now first) }
-{
-    if first == past {
-        0
-    } else {
-        from.saturating_sub(place_of(starts, first)) as u64
-    }
-}
-
-// The place of a row's first byte; after the last row that of the trailer.
-fn place_of(starts: &Starts, row: u32) -> usize
-    ensures { result ≡ place_of starts.now row }
-{
-    if row < starts.segments() {
-        starts.place(row)
-    } else {
-        starts.trailer()
+        place: from,
+        length: to - from,
+        skip: window_within(&places, rows, from, to).skip,
+        from: rows.0,
+        to: rows.1,
     }
 }
 

@@ -46,3 +46,10 @@ pub mod PortionsMeant
 pub mod SeveralScans
 pub mod FilesAlone
 pub mod OneStands
+pub mod RowsPlaced
+pub mod ChunkBoxes
+pub mod OneChunks
+pub mod ChunkedFiles
+pub mod RestoredChunks
+pub mod JoinedChunks
+pub mod ChunkSizes

@@ -23,10 +23,17 @@ abbrev pub segment_mcus : PlanFields → List Mcu → ℕ → ℕ → List Mcu
 segment_mcus plan mcus most i =
     let cut = plan_cut plan most in mcus_between mcus (first_mcu cut i) (first_mcu cut (i + 1))
 
--- what segment i starts from
+-- what segment i of a cut starts from, and its stream
+abbrev pub cut_start : PlanFields → List Mcu → List Bool → Cut → ℕ → HandoverFields
+cut_start plan mcus pads cut i = handover_at (shape_of plan) (pad_at pads) mcus (first_mcu cut i)
+
+abbrev pub cut_stream : PlanFields → List Mcu → Cut → ℕ → List ℕ
+cut_stream plan mcus cut i =
+    stream_of plan (mcus_between mcus (first_mcu cut i) (first_mcu cut (i + 1)))
+
+-- what segment i of a plan's rows starts from
 abbrev pub segment_start : PlanFields → List Mcu → List Bool → ℕ → ℕ → HandoverFields
-segment_start plan mcus pads most i =
-    handover_at (shape_of plan) (pad_at pads) mcus (first_mcu (plan_cut plan most) i)
+segment_start plan mcus pads most i = cut_start plan mcus pads (plan_cut plan most) i
 
 -- how the pad bits of a file are spelled
 abbrev pub told_pads : PlanFields → List Mcu → List Bool → PadBits
@@ -53,7 +60,8 @@ places_of_file placed plan mcus pads most =
 abbrev pub parts_of_file : Version → PlanFields → List Mcu → List Bool → List ℕ → List ℕ → ℕ
     → BoxParts
 parts_of_file version plan mcus pads header trailer most =
-    let segments = numbers 0 (plan_cut plan most).segments in
+    let cut = plan_cut plan most in
+    let segments = numbers 0 cut.segments in
     record {
       version = version;
       chunk = None;
@@ -61,6 +69,6 @@ parts_of_file version plan mcus pads header trailer most =
       pads = told_pads plan mcus pads;
       header = header;
       trailer = trailer;
-      handovers = map (segment_start plan mcus pads most) segments;
-      streams = map (λ i. stream_of plan (segment_mcus plan mcus most i)) segments;
+      handovers = map (cut_start plan mcus pads cut) segments;
+      streams = map (cut_stream plan mcus cut) segments;
     }

@@ -16,3 +16,6 @@ pub mod Portions
 pub mod ScansFiles
 pub mod ScansMeaningLaws
 pub mod ScansMeaningRows
+pub mod Chunks
+pub mod ChunkLaws
+pub mod ChunkRows

@@ -4,6 +4,8 @@ ghost use Rattle.container_spec.specs.MeaningLaws.{FirstCanPad, SecondCanPad, Mi
 ghost use Rattle.container_spec.specs.MeaningRows.{zeros_are_put, faults_are_told, places_are_counted, containers_are_joined, pad_is_spelled, lists_are_spelled, chunks_are_slices, places_are_looked_at, places_are_found};
 ghost use Rattle.container_spec.specs.ScansMeaningRows.{shares, two_segments, two_stand};
 ghost use Rattle.container_spec.specs.ScansMeaningLaws.{MeaningIsJoined, WholeIsJoined, ScansStandOneByOne, RefusedIsNone, StandsForOne, FileIsRestored, ContainerIsRestored, RestoredIsContainer, OneContainer, OneContainerOfFile, ContainedIsNotRefused, AcceptedIsNotRefused, SeveralIsNotOne, OneFileRefusal, ContainerIsShort, ContainerOfFileIsShort, OneStandsForItself, OneIsJoined};
+ghost use Rattle.container_spec.specs.ChunkLaws.{ChunkIsRestored, ChunkIsShort, ChunkedIsNotRefused, ChunkedIsOne, ChunksAreRestored, OneChunk, RowsArePlaced, SegmentsAreTheRows};
+ghost use Rattle.container_spec.specs.ChunkRows.{chunks_of_four_rows, one_byte_across_four_rows};
 
 /// MCUs that a stream gives are put, and so a segment of a scan stands for its slice of the scan.
 pub fn segments_are_slices()
@@ -75,6 +77,20 @@ pub fn one_scan_stands_for_itself()
     ensures joined { OneIsJoined }
 {}
 
+/// The rows of a file of one scan have a byte for each of their places, and segments of rows are the rows. A chunk's
+/// container stands for the chunk, and the chunks one after another are the file. A chunk has one container of each
+/// number of segments, and decode accepts it. A file that has a chunk isn't refused, and has one scan.
+pub fn chunks_are_restored()
+    ensures placed { RowsArePlaced }
+    ensures segments { SegmentsAreTheRows }
+    ensures restored { ChunkIsRestored }
+    ensures joined { ChunksAreRestored }
+    ensures one_chunk { OneChunk }
+    ensures apart { ChunkedIsNotRefused }
+    ensures one_scan { ChunkedIsOne }
+    ensures short { ChunkIsShort }
+{}
+
 /// The definitions computed on worked segments and containers.
 pub fn rows_of_meanings()
     ensures zeros { zeros_are_put }
@@ -93,4 +109,10 @@ pub fn rows_of_scans()
     ensures meaning { two_stand }
     ensures segments { two_segments }
     ensures shares { shares }
+{}
+
+/// The definitions computed on worked chunks.
+pub fn rows_of_chunks()
+    ensures seam { one_byte_across_four_rows }
+    ensures containers { chunks_of_four_rows }
 {}

@@ -1,20 +1,22 @@
-//! What a container stands for: the bytes of a file and how decoding ends, for any bytes whatever; and the container
-//! of a file (this project's own).
+//! What a container stands for: the bytes of a file and how decoding ends, for any bytes whatever; and the containers
+//! of a file and of its chunks (this project's own).
 //!
 //!     streams  --blocks, one after another-->  MCUs  --written from a handover-->  bytes of the scan
 //!     segment  its bytes S, and its outcome O: good, or the first fault
 //!     meaning  header, S 0, S 1, .. and trailer; or all up to the first fault
 //!
 //! These are definitions as functions of the container alone, with their laws: a file's container stands for that file,
-//! and what stands for a file is its container. Segments are numbered on through the scans.
+//! what stands for a file is its container, and a chunk's container stands for the chunk. Segments are numbered on
+//! through the scans. A chunk is a slice of a file with its rows of MCUs as parts (see `byte_window`).
 #![tactic(auto)]
 
 mod laws;
 mod scan_pads;
 
 pub use laws::{
-    containers_stand_for_files, files_have_one_container, good_segments_have_their_stream,
-    indexed_containers_stand_for_files, one_scan_stands_for_itself, rows_of_meanings,
-    rows_of_scans, scans_are_joined, segments_are_short, segments_are_slices,
+    chunks_are_restored, containers_stand_for_files, files_have_one_container,
+    good_segments_have_their_stream, indexed_containers_stand_for_files,
+    one_scan_stands_for_itself, rows_of_chunks, rows_of_meanings, rows_of_scans, scans_are_joined,
+    segments_are_short, segments_are_slices,
 };
 pub use scan_pads::ScanPads;

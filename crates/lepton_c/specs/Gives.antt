@@ -10,7 +10,7 @@ use Rattle.container_spec.specs.Meanings.{Verdict, Restored, PadSpelled, ChunkSh
 use Rattle.box_format.specs.Containers.{IsContainer}
 use Rattle.container_spec.specs.ScansFiles.{FileIsRefused, HasSeveralScans, IsContainerOfFile, Header as FileHeader, Scan as FileScan}
 use Rattle.container_spec.specs.Portions.{scans_meaning}
-use Rattle.chunk_cut.specs.ChunksOfFiles.{IsChunkOf, IsOneScanFile}
+use Rattle.container_spec.specs.Chunks.{IsChunkOf, IsOneScanFile}
 use Rattle.range_read.specs.IndexEnds.{Ends, IsIndexOf}
 use Rattle.range_read.specs.RangeMeanings.{RangeMeaning, is_bad_range, range_meaning}
 use Rattle.lepton_c.specs.declared.answer.Answer.{Answer}

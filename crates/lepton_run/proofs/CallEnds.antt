@@ -10,7 +10,7 @@ use Rattle.box_format.specs.Single.{IsBoxOf, box_bytes}
 use Rattle.box_format.specs.Versions.{IsRead, indexable, layout_of, migratable, version_in}
 use Rattle.box_format.specs.declared.version.Version.{Version}
 use Rattle.box_format.specs.declared.version.Version.TheVariants.{Fifth, Third}
-use Rattle.chunk_cut.specs.ChunksOfFiles.{IsChunkOf, chunk_of}
+use Rattle.container_spec.specs.Chunks.{IsChunkOf, chunk_of}
 use Rattle.byte_window.specs.Slices.{slice}
 use Rattle.container_spec.specs.ScansFiles.{IsContainerOf, IsContainerOfFile}
 use Rattle.container_spec.specs.Indexed.{indexed}

@@ -8,15 +8,14 @@ use Rattle.box_format.specs.Single.{IsBoxOf}
 use Rattle.box_format.specs.Raws.{numbers}
 use Rattle.box_format.specs.Versions.{layout_of}
 use Rattle.box_format.specs.declared.version.Version.TheVariants.{Third}
-use Rattle.chunk_spec.specs.Chunks.{chunk_from, chunk_to}
-use Rattle.container_spec.specs.Files.{told_pads}
+use Rattle.byte_window.specs.Slices.{chunk_from, chunk_to}
 use Rattle.container_spec.specs.Meanings.{Restored}
 use Rattle.container_spec.specs.Portions.{StandsFor}
-use Rattle.chunk_cut.specs.ChunksOfFiles.{IsChunkOf, chunk_of, parted, parts_of_chunk}
-use Rattle.chunk_cut.proofs.ChunkBoxes.{box_is}
-use Rattle.chunk_cut.proofs.ChunkSizes.{chunk_is_short}
-use Rattle.chunk_cut.proofs.JoinedChunks.{chunks_are_restored}
-use Rattle.chunk_cut.proofs.RestoredChunks.{chunk_is_restored}
+use Rattle.container_spec.specs.Chunks.{IsChunkOf, chunk_of, parts_of_chunk}
+use Rattle.container_spec.proofs.ChunkBoxes.{box_is}
+use Rattle.container_spec.proofs.ChunkSizes.{chunk_is_short}
+use Rattle.container_spec.proofs.JoinedChunks.{chunks_are_restored}
+use Rattle.container_spec.proofs.RestoredChunks.{chunk_is_restored}
 use Rattle.command_words.specs.declared.command.Command.TheVariants.{Encode, Decode, Chunk}
 use Rattle.lepton_run.specs.Answers.{Answers, Made, limit_of}
 use Rattle.lepton_run.proofs.BothWays.{restored_by, same_meaning}
@@ -26,8 +25,7 @@ use Rattle.lepton_run.proofs.ScansOfBytes.{box_are}
 abbrev chunk_parts : (most size i : ℕ) (made file : List ℕ) → IsChunkOf most size i made file
     → BoxParts
 chunk_parts most size i made file is =
-    parts_of_chunk is.plan (told_pads is.plan is.mcus is.pads)
-    (parted is.plan is.mcus is.pads (take is.plan.header_length file) is.is.scan is.trailer)
+    parts_of_chunk is.plan is.mcus is.pads (take is.plan.header_length file) is.is.scan is.trailer
     (chunk_from size i) (chunk_to (length file) size i) most
 
 chunk_of_parts : (most size i : ℕ) (made file : List ℕ) → 0 < most → most ≤ (layout_of Third).most

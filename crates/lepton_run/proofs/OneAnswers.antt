@@ -16,9 +16,9 @@ use Rattle.container_spec.specs.ScansFiles.{FileRefusal, FileIsRefused, HasSever
 use Rattle.container_spec.proofs.BoxesOnce.{stands_for_one}
 use Rattle.container_spec.proofs.FilesRefused.{one_file_refusal}
 use Rattle.container_spec.proofs.OneContainers.{accepted_is_not_refused, contained_is_not_refused, one_container, one_container_of_file, several_is_not_one}
-use Rattle.chunk_cut.specs.ChunksOfFiles.{IsChunkOf, IsOneScanFile}
-use Rattle.chunk_cut.proofs.ChunkedFiles.{chunked_is_not_refused, chunked_is_one}
-use Rattle.chunk_cut.proofs.OneChunks.{one_chunk}
+use Rattle.container_spec.specs.Chunks.{IsChunkOf, IsOneScanFile}
+use Rattle.container_spec.proofs.ChunkedFiles.{chunked_is_not_refused, chunked_is_one}
+use Rattle.container_spec.proofs.OneChunks.{one_chunk}
 use Rattle.command_words.specs.declared.command.Command.{Command}
 use Rattle.command_words.specs.declared.command.Command.TheVariants.{Encode, Decode, Migrate, Chunk, Index, Range, Sample}
 use Rattle.sample_jpeg.specs.SampleFile.{sample_file}

@@ -17,7 +17,7 @@ use Rattle.container_spec.specs.Limits.{most_of_a_container, most_of_a_file}
 use Rattle.container_spec.specs.Meanings.{Meaning, Verdict, Restored, PadSpelled, ChunkShort as ShortChunk, Faulty, NoBox}
 use Rattle.container_spec.specs.ScansFiles.{FileIsRefused, HasSeveralScans, IsContainerOfFile, Header as FileHeader, Scan as FileScan}
 use Rattle.container_spec.specs.Portions.{StandsFor, scans_meaning}
-use Rattle.chunk_cut.specs.ChunksOfFiles.{IsChunkOf, IsOneScanFile}
+use Rattle.container_spec.specs.Chunks.{IsChunkOf, IsOneScanFile}
 use Rattle.range_read.specs.RangeMeanings.{is_bad_range, range_meaning}
 use Rattle.command_words.specs.declared.command.Command.{Command}
 use Rattle.command_words.specs.declared.command.Command.TheVariants.{Encode, Decode, Migrate, Chunk, Index, Range, Sample}

@@ -9,7 +9,7 @@ ghost use Rattle.box_format.specs.declared.version.Version.TheVariants.{Second, 
 ghost use Rattle.byte_window.specs.Slices.{slice};
 ghost use Rattle.container_spec.specs.ScansFiles.{IsContainerOf, IsContainerOfFile};
 ghost use Rattle.container_spec.specs.Limits.{most_of_a_file};
-ghost use Rattle.chunk_cut.specs.ChunksOfFiles.{chunk_of};
+ghost use Rattle.container_spec.specs.Chunks.{chunk_of};
 ghost use Rattle.command_words.specs.declared.command.Command.{Command};
 ghost use Rattle.command_words.specs.declared.command.Command.TheVariants.{Encode, Decode, Migrate, Chunk, Index, Range};
 ghost use Rattle.lepton_run.specs.Answers.{Answer, Answers, Made, limit_of};

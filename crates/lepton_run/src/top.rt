@@ -15,7 +15,7 @@ ghost use Rattle.box_format.specs.Single.{IsBoxOf, box_bytes};
 ghost use Rattle.box_format.specs.Versions.{IsRead, indexable, layout_of, migratable, version_in};
 ghost use Rattle.box_format.specs.declared.version.Version.{Version};
 ghost use Rattle.box_format.specs.declared.version.Version.TheVariants.{Fifth, Third};
-ghost use Rattle.chunk_cut.specs.ChunksOfFiles.{IsChunkOf, chunk_of};
+ghost use Rattle.container_spec.specs.Chunks.{IsChunkOf, chunk_of};
 ghost use Rattle.command_words.specs.Meaning.{IsInRange, Means};
 ghost use Rattle.command_words.specs.declared.command.Command.{Command};
 ghost use Rattle.command_words.specs.declared.command.Command.TheVariants.{Encode, Decode, Migrate, Index, Range, Sample};

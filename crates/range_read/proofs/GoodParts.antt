@@ -6,7 +6,7 @@ use Rattle.box_format.specs.Raws.{numbers}
 use Rattle.container_spec.specs.Segments.{Output}
 use Rattle.container_spec.specs.AloneMeanings.{joined_with, joined}
 use Rattle.container_spec.proofs.ReachedSegments.{first_good}
-use Rattle.range_spec.specs.Ranges as ranges
+use Rattle.byte_window.specs.PartedFiles as parted
 
 -- ---- numbers
 
@@ -59,7 +59,7 @@ good_parts (x ∷ xs) ys none =
 
 -- have all their bytes
 pub good_bytes : (outputs : List Output) → (joined outputs).fault ≡ None
-    → (joined outputs).bytes ≡ ranges.joined (map (λ (output : Output). output.0) outputs)
+    → (joined outputs).bytes ≡ parted.joined (map (λ (output : Output). output.0) outputs)
 good_bytes [] none = refl
 good_bytes (x ∷ xs) none =
     let good = first_good x.0 x.1 (joined xs) none in
@@ -70,7 +70,7 @@ good_bytes (x ∷ xs) none =
 pub record IsPart (outputs : List Output) (from count : ℕ) : Type 0 where
   pub none : (joined (take count (drop from outputs))).fault ≡ None
   pub bytes : (joined (take count (drop from outputs))).bytes
-      ≡ ranges.joined (take count (drop from (map (λ (output : Output). output.0) outputs)))
+      ≡ parted.joined (take count (drop from (map (λ (output : Output). output.0) outputs)))
 
 pub good_part : (outputs : List Output) (from count : ℕ) → (joined outputs).fault ≡ None
     → IsPart outputs from count
@@ -83,6 +83,6 @@ good_part outputs from count none =
     let first = λ (output : Output). output.0 in record {
       none = part.first;
       bytes = good_bytes (take count (drop from outputs)) part.first
-          ∙ ap ranges.joined (sym (ap (take count) (drop-map first from outputs)
+          ∙ ap parted.joined (sym (ap (take count) (drop-map first from outputs)
           ∙ take-map first count (drop from outputs)));
     }

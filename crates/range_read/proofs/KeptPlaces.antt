@@ -1,11 +1,7 @@
--- A container of the fifth version keeps its places, and which of its segments a range of its file has.
-use Rattle.std.proofs.Common.{◌≡◌, ℕ, ◌+◌, ◌<◌, ◌≤◌, Bool, true, false, List, length, Option, Some, None, refl, ap, ◌∙◌, arith, ⊎_elim}
+-- A container of the fifth version keeps its places.
+use Rattle.std.proofs.Common.{◌≡◌, ℕ, ◌+◌, Bool, true, false, List, length, map, Option, Some, None, refl, ap, ◌∙◌}
 use Rattle.std.specs.Prelude.{IfSome, is_some}
-use Rattle.std.proofs.lemmas.Bool.{cases_lt}
 use Rattle.std.proofs.lemmas.List.{length-map}
-use Rattle.byte_window.specs.Slices.{Cover, has_place}
-use Rattle.byte_window.specs.SliceLaws.{IsCover}
-use Rattle.byte_window.proofs.Covers.{cover_is_exact}
 use Rattle.jpeg_marker.specs.Plans.{PlanFields}
 use Rattle.box_format.specs.Parts.{BoxParts, ArePlaces}
 use Rattle.box_format.specs.Single.{IsBox}
@@ -17,8 +13,7 @@ use Rattle.container_spec.specs.Segments.{Output, segment_output}
 use Rattle.container_spec.specs.AloneMeanings.{outputs_of}
 use Rattle.container_spec.specs.Meanings.{segment_in}
 use Rattle.container_spec.proofs.Numbered.{mapped_long}
-use Rattle.range_spec.specs.Ranges.{place_at, segments_within}
-use Rattle.range_read.specs.RangeMeanings.{places_of, placed_file}
+use Rattle.range_read.specs.RangeMeanings.{places_of}
 
 -- places that are kept
 pub record AreKeptPlaces (b : BoxParts) : Type 0 where
@@ -40,37 +35,10 @@ none_if (Some c) none = absurd cc
 
 -- as many segments as handovers
 pub segments_long : (plan : PlanFields) (b : BoxParts)
-    → length (placed_file plan b).segments ≡ length b.handovers
+    → length (map (λ (output : Output). output.0) (outputs_of plan b)) ≡ length b.handovers
 segments_long plan b =
     length-map (outputs_of plan b) (λ (output : Output). output.0)
     ∙ mapped_long (λ i. segment_output (segment_in plan b i)) 0 (length b.handovers)
-
-cover_fits : (met : ℕ → Bool) (count : ℕ) (c : Cover) → IsCover met count c → c.to ≤ count
-cover_fits met count c k =
-    ⊎_elim (λ (some : c.from < c.to). (k.some some).2)
-    (λ (h : c.to ≤ c.from).
-    let order = k.order in
-    let same : c.from ≡ c.to = omega (arith, order, h) in
-    let zero_is = (k.none same).1 in omega (arith, zero_is))
-    (cases_lt c.from c.to)
-
--- the segments that a range has are some of the container's
-pub cover_is_ordered : (plan : PlanFields) (b : BoxParts) (from to : ℕ)
-    → (segments_within (placed_file plan b) from to).from
-    ≤ (segments_within (placed_file plan b) from to).to
-cover_is_ordered plan b from to =
-    let f = placed_file plan b in
-    (cover_is_exact (has_place (place_at f) from to) (length f.segments)).order
-
-pub cover_is_within : (plan : PlanFields) (b : BoxParts) (from to : ℕ)
-    → (segments_within (placed_file plan b) from to).to ≤ length b.handovers
-cover_is_within plan b from to =
-    let f = placed_file plan b in
-    let met = has_place (place_at f) from to in
-    let fits = cover_fits met (length f.segments) (segments_within f from to)
-    (cover_is_exact met (length f.segments)) in
-    let long = segments_long plan b in
-    omega (arith, fits, long)
 
 -- of the fifth version
 module _ (plan : PlanFields) (b : BoxParts) (box : IsBox plan b) (fifth : b.version ≡ Fifth) where

@@ -10,15 +10,15 @@ use Rattle.container_spec.specs.Portions.{OfRange, ending_by}
 use Rattle.container_spec.specs.ScanByScan.{joined_alone}
 use Rattle.container_spec.specs.ScansJoined.{ScansJoined}
 use Rattle.container_spec.proofs.OneScans.{one_is_joined}
-use Rattle.range_spec.specs.Ranges.{PlacedFile, segments_within, begun_within, window_within, header_within, trailer_within}
+use Rattle.byte_window.specs.PartedFiles.{PartedFile, parts_within, begun_within, window_within, header_within, trailer_within}
 use Rattle.range_read.specs.RangeMeanings.{RangeMeaning, fault_in, placed_file, range_meaning, range_portion}
 use Rattle.range_read.specs.RangeSteps.{joined_between, range_by, segments_read}
-use Rattle.range_read.proofs.KeptPlaces.{cover_is_ordered, cover_is_within}
+use Rattle.byte_window.proofs.PartedFacts.{parts_are_in_file}
 
 abbrev as_range : ℕ → Meaning → RangeMeaning
 as_range begun m = record { bytes = m.bytes; fault = fault_in m.verdict; begun = begun }
 
-range_end : (scans : List BoxSeen) (f : PlacedFile) (from to : ℕ) (j : Joined)
+range_end : (scans : List BoxSeen) (f : PartedFile) (from to : ℕ) (j : Joined)
     (fault : Option StreamFault)
     → as_range (begun_within f from to)
     (ending_by OfRange scans (range_portion f from to) (joined_alone j) fault)
@@ -37,11 +37,12 @@ unfolding range_meaning
 as_read plan b from to =
     let s : BoxSeen = record { plan = plan; parts = b } in
     let f = placed_file plan b in
-    let j = joined_between plan b (segments_within f from to) in
-    let order = cover_is_ordered plan b from to in
-    let within = cover_is_within plan b from to in
+    let j = joined_between plan b (parts_within f from to) in
+    let within = parts_are_in_file f from to in
+    let order = within.0 in
+    let fits = within.1 in
     ap (λ (k : ScansJoined). as_range (begun_within f from to)
     (ending_by OfRange (s ∷ []) (range_portion f from to) k k.fault))
-    (one_is_joined s (segments_within f from to).from (begun_within f from to)
-    (omega (arith, order, within)))
+    (one_is_joined s (parts_within f from to).from (begun_within f from to)
+    (omega (arith, order, fits)))
     ∙ range_end (s ∷ []) f from to j j.fault

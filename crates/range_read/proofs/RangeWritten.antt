@@ -13,13 +13,13 @@ use Rattle.segment_worker.specs.declared.emitted.EmitStop.TheVariants.{Fault}
 use Rattle.outside_core.specs.Written.{HasWritten, HasFailed}
 use Rattle.segment_worker.specs.Emitting.{Emits}
 use Rattle.segment_worker.proofs.Writing.{written_later, failed_first, failed_later, next_first, next_later, next_between}
-use Rattle.range_spec.specs.Ranges.{PlacedFile, begun_within, header_within, trailer_within}
+use Rattle.byte_window.specs.PartedFiles.{PartedFile, begun_within, header_within, trailer_within}
 use Rattle.range_read.specs.RangeEnds.{RangeEnds}
 use Rattle.range_read.specs.RangeMeanings.{RangeMeaning, placed_file, range_meaning}
 use Rattle.range_read.specs.RangeSteps.{range_by, segments_read}
 use Rattle.range_read.proofs.RangePortions.{as_read}
 
-by_fault : (f : PlacedFile) (from to : ℕ) (read : List ℕ) (fault : Option StreamFault)
+by_fault : (f : PartedFile) (from to : ℕ) (read : List ℕ) (fault : Option StreamFault)
     → (more : List ℕ)
     × ((range_by f from to read fault).bytes ≡ header_within f from to ++ (read ++ more))
 by_fault f from to read (Some fault) =

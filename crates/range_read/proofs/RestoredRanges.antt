@@ -14,14 +14,15 @@ use Rattle.container_spec.specs.AloneMeanings.{Joined, joined, outputs_of}
 use Rattle.container_spec.specs.Meanings.{segment_in}
 use Rattle.container_spec.proofs.PlacesOfContainers.{place_is}
 use Rattle.container_spec.proofs.RestoredMeanings.{IsRestored, is_restored}
-use Rattle.range_spec.specs.Ranges as ranges
-use Rattle.range_spec.specs.Ranges.{PlacedFile, IsPlaced, place_at, placed_bytes, segments_within, begun_within, bytes_within, range_bytes, header_within, window_within, trailer_within}
-use Rattle.range_spec.proofs.RangeParts.{range_is_slice, one_more}
+use Rattle.byte_window.specs.PartedFiles as parted
+use Rattle.byte_window.specs.PartedFiles.{PartedFile, IsPlaced, file_bytes, parts_bytes, parts_end, parts_within, begun_within, bytes_within, slice_bytes, header_within, window_within, trailer_within, listed}
+use Rattle.byte_window.proofs.BegunParts.{list_is_placed, one_more}
+use Rattle.byte_window.proofs.PartedFacts.{parts_are_in_file, place_rises, slice_of_file}
 use Rattle.range_read.specs.RangeMeanings.{places_of, placed_file, is_bad_range, range_meaning}
 use Rattle.range_read.specs.RangeSteps.{joined_between, range_by}
 use Rattle.range_read.proofs.RangePortions.{as_read}
 use Rattle.range_read.specs.RangeMeaningLaws.{StandsFor, EndIsKept, RangeIsSlice}
-use Rattle.range_read.proofs.KeptPlaces.{AreKeptPlaces, no_chunk, kept_places, segments_long, cover_is_ordered, cover_is_within}
+use Rattle.range_read.proofs.KeptPlaces.{AreKeptPlaces, no_chunk, kept_places, segments_long}
 use Rattle.range_read.proofs.GoodParts.{IsPart, good_bytes, good_part, numbers_between}
 
 module _ (plan : PlanFields) (b : BoxParts) (file : List ℕ) (s : StandsFor plan b file) where
@@ -34,7 +35,10 @@ module _ (plan : PlanFields) (b : BoxParts) (file : List ℕ) (s : StandsFor pla
   abbrev outputs : List Output
   outputs = outputs_of plan b
 
-  abbrev f : PlacedFile
+  abbrev segments : List (List ℕ)
+  segments = map (λ (output : Output). output.0) outputs
+
+  abbrev f : PartedFile
   f = placed_file plan b
 
   restored : IsRestored b (joined outputs) file
@@ -55,7 +59,7 @@ module _ (plan : PlanFields) (b : BoxParts) (file : List ℕ) (s : StandsFor pla
 
   -- a place is where the bytes of the segments before end
   place : (k : ℕ) → k ≤ count
-      → place_at f k ≡ length b.header + length (ranges.joined (take k f.segments))
+      → f.place k ≡ length b.header + length (parted.joined (take k segments))
   place k few =
       let all : k - 0 ≡ k = omega arith in
       let here =
@@ -68,32 +72,36 @@ module _ (plan : PlanFields) (b : BoxParts) (file : List ℕ) (s : StandsFor pla
       omega (arith, here, long)
 
   pub is_placed : IsPlaced f
-  is_placed = record {
-    first = kept.are.first;
-    each = λ i within.
-        let long = segments_long plan b in
-        let here = place i (omega (arith, within, long)) in
-        let next = place (i + 1) (omega (arith, within, long)) in
-        let more = one_more f.segments i within in
-        omega (arith, here, next, more);
-  }
+  is_placed =
+      subst (λ (n : ℕ). IsPlaced (record f { count = n })) (segments_long plan b)
+      (list_is_placed b.header b.trailer (places_of b.places) segments kept.are.first
+      (λ i within.
+      let long = segments_long plan b in
+      let here = place i (omega (arith, within, long)) in
+      let next = place (i + 1) (omega (arith, within, long)) in
+      let more = one_more segments i within in
+      omega (arith, here, next, more)))
 
-  file_is : file ≡ placed_bytes f
+  file_is : file ≡ file_bytes f
   file_is =
+      let all : count - 0 ≡ count = omega arith in
+      let long = segments_long plan b in
       restored.text
       ∙ ap (λ (bytes : List ℕ). (b.header ++ bytes) ++ b.trailer) (good_bytes outputs restored.none)
-      ∙ append_assoc b.header (ranges.joined f.segments) b.trailer
+      ∙ append_assoc b.header (parted.joined segments) b.trailer
+      ∙ ap (λ (bytes : List ℕ). b.header ++ (bytes ++ b.trailer))
+      (sym (ap (λ (n : ℕ). parted.joined (take n segments)) all
+      ∙ ap parted.joined (take_all count segments (omega (arith, long)))))
 
   end_is : file_end b (places_of b.places) ≡ length file
   end_is =
-      let long = segments_long plan b in
-      let last = place count (omega arith) in
-      let all = ap (λ (xs : List (List ℕ)). length (ranges.joined xs))
-      (take_all count f.segments (omega (arith, long))) in
+      let first = is_placed.first in
+      let last = is_placed.all in
+      let up = place_rises f 0 count is_placed (omega arith) (omega arith) in
       let whole = ap length file_is in
-      let parts = length-append b.header (ranges.joined f.segments ++ b.trailer) in
-      let rest = length-append (ranges.joined f.segments) b.trailer in
-      omega (arith, last, all, whole, parts, rest)
+      let parts = length-append b.header (parts_bytes f ++ b.trailer) in
+      let rest = length-append (parts_bytes f) b.trailer in
+      omega (arith, first, last, up, whole, parts, rest)
 
   good_range : (from to : ℕ) → from ≤ to → to ≤ length file → is_bad_range b from to ≡ false
   good_range from to order within =
@@ -105,7 +113,7 @@ module _ (plan : PlanFields) (b : BoxParts) (file : List ℕ) (s : StandsFor pla
   by_parts : (from to : ℕ) (read : List ℕ) (fault : Option StreamFault) → fault ≡ None
       → read ≡ window (window_within f from to) (bytes_within f from to)
       → range_by f from to read fault
-      ≡ record { bytes = range_bytes f from to; fault = None; begun = begun_within f from to }
+      ≡ record { bytes = slice_bytes f from to; fault = None; begun = begun_within f from to }
   by_parts from to read (Some fault) none bytes = absurd cc
   by_parts from to read None none bytes =
       ap (λ (xs : List ℕ). record {
@@ -118,10 +126,10 @@ module _ (plan : PlanFields) (b : BoxParts) (file : List ℕ) (s : StandsFor pla
       → range_meaning plan b from to
       ≡ record { bytes = slice from to file; fault = None; begun = begun_within f from to }
   range_is from to =
-      let c = segments_within f from to in
+      let c = parts_within f from to in
       let all = joined_between plan b c in
-      let order = cover_is_ordered plan b from to in
-      let same = between c.from c.to order (cover_is_within plan b from to) in
+      let within = parts_are_in_file f from to in
+      let same = between c.from c.to within.0 within.1 in
       let mine = part c.from (c.to - c.from) in
       let w = window_within f from to in
       as_read plan b from to
@@ -132,7 +140,7 @@ module _ (plan : PlanFields) (b : BoxParts) (file : List ℕ) (s : StandsFor pla
         bytes = bytes;
         fault = None;
         begun = begun_within f from to;
-      }) (range_is_slice f from to is_placed ∙ ap (slice from to) (sym file_is))
+      }) (slice_of_file f from to is_placed ∙ ap (slice from to) (sym file_is))
 
 pub end_is_kept : EndIsKept
 end_is_kept plan b file s = end_is plan b file s

@@ -17,11 +17,11 @@ use Rattle.segment_worker.specs.declared.emitted.EmitStop.{EmitStop}
 use Rattle.segment_worker.specs.declared.emitted.EmitStop.TheVariants.{Fault, WriteFault}
 use Rattle.segment_worker.specs.Emitting.{Counts, Emits, joined_in, seen_through}
 use Rattle.segment_worker.proofs.Writing.{written_nothing}
-use Rattle.range_spec.specs.Ranges.{begun_within, segments_within, window_within}
+use Rattle.byte_window.specs.PartedFiles.{begun_within, parts_within, window_within}
 use Rattle.range_read.specs.RangeEnds.{stretch_between}
 use Rattle.range_read.specs.RangeMeanings.{placed_file}
 use Rattle.range_read.specs.RangeSteps.{joined_between, segments_read}
-use Rattle.range_read.proofs.KeptPlaces.{cover_is_ordered, cover_is_within}
+use Rattle.byte_window.proofs.PartedFacts.{parts_are_in_file}
 
 module _ (v : BoxSeen) (from to : ℕ) where
   abbrev read : Joined
@@ -32,8 +32,8 @@ module _ (v : BoxSeen) (from to : ℕ) where
 
   -- segments of the container of this one scan, from a first one to before another
   pub between_is : (s : BoxSeen) (file : List BoxSeen) (first past : ℕ) → v ≡ s → file ≡ s ∷ []
-      → first ≡ (segments_within (placed_file v.plan v.parts) from to).from
-      → past ≡ (segments_within (placed_file v.plan v.parts) from to).to
+      → first ≡ (parts_within (placed_file v.plan v.parts) from to).from
+      → past ≡ (parts_within (placed_file v.plan v.parts) from to).to
       → stretch file first (past - first) ≡ stretch_between v from to
   between_is s file first past this alone e same =
       ap (λ (scans : List BoxSeen). stretch scans first (past - first))
@@ -43,13 +43,14 @@ module _ (v : BoxSeen) (from to : ℕ) where
   -- the segments with a place in the range, joined
   between_alone : joined_in (stretch_between v from to)
       ≡ joined_alone
-      (joined_between v.plan v.parts (segments_within (placed_file v.plan v.parts) from to))
+      (joined_between v.plan v.parts (parts_within (placed_file v.plan v.parts) from to))
   between_alone =
       let f = placed_file v.plan v.parts in
-      let order = cover_is_ordered v.plan v.parts from to in
-      let within = cover_is_within v.plan v.parts from to in
-      one_is_joined v (segments_within f from to).from (begun_within f from to)
-      (omega (arith, order, within))
+      let within = parts_are_in_file f from to in
+      let order = within.0 in
+      let fits = within.1 in
+      one_is_joined v (parts_within f from to).from (begun_within f from to)
+      (omega (arith, order, fits))
 
   -- it is what goes through of them
   pub read_is : (w : Window) (s : Stretch) → w ≡ through → s ≡ stretch_between v from to
@@ -70,7 +71,7 @@ module _ (v : BoxSeen) (from to : ℕ) where
   nothing_read : (stretch_between v from to).count ≡ 0
       → joined_alone read ≡ seen_through through (joined_alone (joined []))
   nothing_read none =
-      let first = (segments_within (placed_file v.plan v.parts) from to).from in
+      let first = (parts_within (placed_file v.plan v.parts) from to).from in
       ap (λ (n : ℕ). seen_through through (joined_alone
       (joined (map (λ i. segment_output (segment_in v.plan v.parts i)) (numbers first n))))) none
 

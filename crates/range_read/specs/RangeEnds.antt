@@ -3,7 +3,7 @@ use Rattle.std.specs.Prelude.{ℕ, ◌≡◌, Bool, List, [], ◌∷◌, length,
 use Rattle.jpeg_marker.specs.Plans.{PlanFields}
 use Rattle.box_format.specs.Parts.{BoxParts, BoxSeen}
 use Rattle.output_board.specs.declared.view.WorkerView.{WorkerView}
-use Rattle.range_spec.specs.Ranges.{begun_within, segments_within}
+use Rattle.byte_window.specs.PartedFiles.{begun_within, parts_within}
 use Rattle.segment_crew.specs.Crews.{CrewSeen, Member}
 use Rattle.segment_crew.specs.Worth.{workers_worth}
 use Rattle.segment_worker.specs.Contents.{Stretch, stretch}
@@ -45,7 +45,7 @@ lone_range_in ready = range_meaning ready.plan ready.parts ready.from ready.to
 abbrev pub stretch_between : BoxSeen → ℕ → ℕ → Stretch
 stretch_between v from to =
     let f = placed_file v.plan v.parts in
-    stretch (v ∷ []) (segments_within f from to).from (begun_within f from to)
+    stretch (v ∷ []) (parts_within f from to).from (begun_within f from to)
 
 -- and in this one
 abbrev pub stretch_in : RangeSeen → Stretch

@@ -2,7 +2,7 @@
 use Rattle.std.specs.Prelude.{ℕ, ◌≡◌, ◌≤◌, false, List, length, None}
 use Rattle.byte_window.specs.Slices.{slice}
 use Rattle.jpeg_marker.specs.Plans.{PlanFields}
-use Rattle.range_spec.specs.Ranges.{begun_within}
+use Rattle.byte_window.specs.PartedFiles.{begun_within}
 use Rattle.box_format.specs.Parts.{BoxParts, file_end}
 use Rattle.box_format.specs.Single.{IsBox}
 use Rattle.box_format.specs.declared.version.Version.TheVariants.{Fifth}

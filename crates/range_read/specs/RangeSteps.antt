@@ -9,7 +9,7 @@ use Rattle.box_format.specs.Raws.{numbers}
 use Rattle.container_spec.specs.Segments.{segment_output}
 use Rattle.container_spec.specs.AloneMeanings.{Joined, joined}
 use Rattle.container_spec.specs.Meanings.{segment_in}
-use Rattle.range_spec.specs.Ranges.{PlacedFile, segments_within, begun_within, window_within, header_within, trailer_within}
+use Rattle.byte_window.specs.PartedFiles.{PartedFile, parts_within, begun_within, window_within, header_within, trailer_within}
 use Rattle.range_read.specs.RangeMeanings.{RangeMeaning, placed_file}
 
 -- segments from one to before another, one after another
@@ -21,11 +21,11 @@ joined_between plan b c =
 abbrev pub segments_read : PlanFields → BoxParts → ℕ → ℕ → Joined
 segments_read plan b from to =
     let f = placed_file plan b in
-    let all = joined_between plan b (segments_within f from to) in
+    let all = joined_between plan b (parts_within f from to) in
     record all { bytes = window (window_within f from to) all.bytes }
 
 -- by the first fault of the segments: the trailer's part comes only if there is none
-abbrev pub range_by : PlacedFile → ℕ → ℕ → List ℕ → Option StreamFault → RangeMeaning
+abbrev pub range_by : PartedFile → ℕ → ℕ → List ℕ → Option StreamFault → RangeMeaning
 range_by f from to read (Some fault) = record {
   bytes = header_within f from to ++ read;
   fault = Some fault;

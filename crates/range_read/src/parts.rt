@@ -3,7 +3,7 @@ ghost use Rattle.std.specs.Prelude.{◌≡◌, ◌*◌, ◌^◌, ◌<◌, ◌≤
 ghost use Rattle.byte_window.specs.Slices.{slice};
 ghost use Rattle.outside_core.specs.Takes.{TakesNext};
 ghost use Rattle.box_format.specs.Versions.{most_segments};
-ghost use Rattle.range_spec.specs.Ranges.{begun_within, header_within, trailer_within};
+ghost use Rattle.byte_window.specs.PartedFiles.{begun_within, header_within, trailer_within};
 ghost use Rattle.container_spec.specs.ScanByScan.{joined_alone};
 ghost use Rattle.segment_worker.specs.Contents.{segment_room};
 ghost use Rattle.segment_worker.specs.Emitting.{Counts, Emits};

@@ -1,5 +1,5 @@
 use Rattle.std.proofs.Common.{List, ℕ, subst, sym}
-use Rattle.chunk_cut.specs.ChunksOfFiles.{IsChunkOf}
+use Rattle.container_spec.specs.Chunks.{IsChunkOf}
 use Rattle.lepton_c.specs.Gives.{ChunkRefuses}
 use Rattle.lepton_c.proofs.Made.{gives_made}
 use Rattle.lepton_c.proofs.encoding.chunk.Goals as goal

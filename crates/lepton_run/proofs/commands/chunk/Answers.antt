@@ -2,7 +2,7 @@ use Rattle.std.proofs.Common.{rules, ap, Err, List, ℕ, subst, sym}
 use Rattle.std.specs.List.{AllByRecursion}
 use Rattle.bit_list.specs.Bits.{IsByte}
 use Rattle.bool_coder.proofs.FirstBits.{all_bytes}
-use Rattle.chunk_cut.specs.ChunksOfFiles.{IsChunkOf}
+use Rattle.container_spec.specs.Chunks.{IsChunkOf}
 use Rattle.chunk_cut.specs.declared.error.CutError.{CutError}
 use Rattle.command_words.specs.declared.command.Command.TheVariants.{Chunk}
 use Rattle.lepton_run.specs.Answers.{Answers, Made}

@@ -1,7 +1,7 @@
 use Rattle.std.proofs.Common.{List, ℕ, subst, sym}
 use Rattle.outside_core.specs.Takes.{TakesNext}
 use Rattle.outside_core.specs.Written.{HasFailed}
-use Rattle.range_spec.specs.Ranges.{header_within}
+use Rattle.byte_window.specs.PartedFiles.{header_within}
 use Rattle.range_read.specs.RangeMeanings.{placed_file}
 use Rattle.range_read.proofs.RangeWritten.{header_taken, failed_in_header}
 use Rattle.range_read.proofs.parts.put_header.Goals as goal

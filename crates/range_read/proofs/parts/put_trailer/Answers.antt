@@ -8,7 +8,7 @@ use Rattle.outside_core.specs.Written.{HasFailed, HasWritten}
 use Rattle.segment_worker.specs.declared.emitted.Emitted.{Emitted}
 use Rattle.segment_worker.specs.declared.emitted.EmitStop.{EmitStop}
 use Rattle.segment_worker.specs.declared.emitted.EmitStop.TheVariants.{Fault}
-use Rattle.range_spec.specs.Ranges.{trailer_within}
+use Rattle.byte_window.specs.PartedFiles.{trailer_within}
 use Rattle.range_read.specs.RangeEnds.{RangeEnds}
 use Rattle.range_read.specs.RangeMeanings.{placed_file, range_meaning}
 use Rattle.range_read.specs.RangeSteps.{segments_read}

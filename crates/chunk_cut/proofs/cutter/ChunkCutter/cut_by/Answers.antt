@@ -3,7 +3,7 @@ use Rattle.std.specs.Prelude.{min}
 use Rattle.byte_window.specs.Slices.{slice}
 use Rattle.box_format.specs.Single.{IsBox, box_bytes}
 use Rattle.box_format.specs.declared.chunk.Chunk.{Chunk}
-use Rattle.chunk_cut.specs.ChunksOfFiles.{IsChunkOf}
+use Rattle.container_spec.specs.Chunks.{IsChunkOf}
 use Rattle.chunk_cut.proofs.ChunksFound.{box, chunk_grid, found, is_box, is_chunk, rows_long}
 use Rattle.chunk_cut.proofs.cutter.ChunkCutter.cut_by.Goals as goal
 

@@ -1,2 +1,0 @@
-pub mod RangeParts
-pub mod BegunSegments
