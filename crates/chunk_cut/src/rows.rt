@@ -11,6 +11,7 @@ use segment_code::{Starts, row_of};
 use std::alloc::Global;
 
 // Where a file's rows begin.
+#[derive(Drop)]
 struct RowPlaces<'a> {
     starts: &'a Starts,
 }

@@ -7,6 +7,7 @@ use box_format::BoxView;
 use byte_window::{Places, Window};
 
 // Where a container's segments begin.
+#[derive(Drop)]
 struct SegmentPlaces<'a> {
     view: &'a BoxView<'a>,
 }
