@@ -8,8 +8,8 @@
 //!
 //!     alone   both on the calling thread, segment after segment: nothing waits
 //!
-//! Which segments a range needs, and what of them goes into it, is `range_spec`'s. What a crew does is
-//! `segment_crew`'s.
+//! Which segments a range needs, and what of them goes into it, is found by `byte_window`. What a crew does:
+//! `segment_crew`.
 #![tactic(auto)]
 
 mod alone;
