@@ -111,37 +111,28 @@ impl<'a> Decoder<'a> {
         bit
     }
 
-    /// Which bool `take` reads next.
+    /// `take`, with a branch on the bool: quicker if the caller branches on it too, and slower if it doesn't.
     #[inline(always)]
-    pub fn peek(&mut self, prob: u8) -> bool
+    pub fn take_branching(&mut self, prob: u8) -> bool
         requires { 0 < prob }
-        ensures bit { result ≡ seen_bit self.old prob }
-        ensures same { self.new ≡ self.old }
-    {
-        let (fetched, value, bits) = fill(self.bytes, self.fetched, self.value, self.bits);
-        self.fetched = fetched;
-        self.value = value;
-        self.bits = bits;
-        is_one(value, bits, self.less + 1, prob)
-    }
-
-    /// `take`, after `peek` with the same probability, whose bool is `bit`. If the caller branches on that bool anyway,
-    /// both together are quicker than `take`, which doesn't branch.
-    #[inline(always)]
-    pub fn take_peeked(&mut self, prob: u8, bit: bool)
-        requires prob { 0 < prob }
-        requires bit { bit ≡ seen_bit self.old prob }
         ensures bytes { self.new.bytes ≡ self.old.bytes }
+        ensures next { (bools : List (ℕ × Bool)) → Reads bools self.old
+            → result ≡ next_bit self.old.bytes (coded bools) prob }
         ensures taken { (bools : List (ℕ × Bool)) → Reads bools self.old
-            → Reads (bools ++ (prob, bit) ∷ []) self.new }
+            → Reads (bools ++ (prob, result) ∷ []) self.new }
+        ensures in_turn { (bools rest : List (ℕ × Bool)) (bit : Bool) → Reads bools self.old
+            → AllByRecursion IsBool (bools ++ (prob, bit) ∷ rest)
+            → self.old.bytes ≡ stream (coded (bools ++ (prob, bit) ∷ rest)) → result ≡ bit }
+        ensures bit { result ≡ seen_bit self.old prob }
         ensures step { self.new ≡ seen_after self.old prob }
     {
         let (fetched, value, bits) = fill(self.bytes, self.fetched, self.value, self.bits);
-        let (value, bits, less) = step_known(value, bits, self.less + 1, prob, bit);
+        let (bit, value, bits, less) = step_branching(value, bits, self.less + 1, prob);
         self.fetched = fetched;
         self.value = value;
         self.bits = bits;
         self.less = less;
+        bit
     }
 
     /// Whether the bytes are the stream of the bools that were read, no byte and no bit more or less: the offset and
@@ -292,6 +283,30 @@ fn is_one(value: u64, bits: u32, range: u32, prob: u8) -> bool
     ensures { result ≡ nat_le (split range prob) (value / 2 ^ bits) }
 {
     value >= u64::from(split_of(range, prob)) << bits
+}
+
+// `step`, with a branch on the bool.
+#[inline(always)]
+fn step_branching(value: u64, bits: u32, range: u32, prob: u8) -> (bool, u64, u32, u32)
+    requires wide { 128 ≤ range }
+    requires byte { range ≤ 255 }
+    requires enough { 7 ≤ bits }
+    requires short { bits < 55 }
+    requires prob { 0 < prob }
+    ensures bit { result.0 ≡ nat_le (split range prob) (value / 2 ^ bits) }
+    ensures window { (bytes : List ℕ) (fetched : ℕ) → IsWindow bytes fetched value bits range
+        → IsWindow bytes fetched result.1 result.2 (result.3 + 1) }
+    ensures step { (bytes : List ℕ) (fetched : ℕ) → IsWindow bytes fetched value bits range
+        → seen_in bytes fetched result.1 result.2 (result.3 + 1)
+        ≡ seen_after (seen_in bytes fetched value bits range) prob }
+{
+    if is_one(value, bits, range, prob) {
+        let (value, bits, less) = step_known(value, bits, range, prob, true);
+        (true, value, bits, less)
+    } else {
+        let (value, bits, less) = step_known(value, bits, range, prob, false);
+        (false, value, bits, less)
+    }
 }
 
 // `step`, given the bool.
