@@ -1,12 +1,11 @@
--- `Put` after one event more.
+-- `PutLocal` after one event more.
 use Rattle.std.specs.Prelude.{◌≡◌, ◌<◌, get_or, set, ℕ, Bool, List, [], ◌∷◌, ◌++◌, length, Option, Some, refl, fold}
 use Rattle.std.specs.Option.{option_map}
 use Rattle.std.proofs.Common.{◌∙◌, sym, ap}
 use Rattle.bool_coder.specs.BoolStream.{Interval, coded, opening, after}
 use Rattle.adapt_bins.specs.Counts.{unseen, counted, prob_of}
 use Rattle.adapt_bins.specs.Events.{bools_of, probability}
-use Rattle.adapt_bins.specs.PutEvents.{HasPut, LocalHasPut}
-use Rattle.adapt_bins.specs.declared.put.Put.{Put}
+use Rattle.adapt_bins.specs.PutEvents.{LocalHasPut}
 use Rattle.adapt_bins.specs.declared.put_local.PutLocal.{PutLocal}
 use Rattle.adapt_bins.proofs.CountedTables.{counted_more, bools_push, probability_is}
 
@@ -29,20 +28,7 @@ encoder_more : (old new : Option Interval) (events : List (ℕ × Bool)) (bin pr
 encoder_more old new events bin prob bit is goes was =
     goes ∙ ap (option_map (λ i. after i (prob, bit))) was ∙ ap Some (interval_more events bin prob bit is)
 
--- a bool of the bin's probability, and its bit counted
-pub has_put_one_more : (s t : Put) (events : List (ℕ × Bool)) (bin prob : ℕ) (bit : Bool) → bin < length s.bins.now
-    → prob ≡ prob_of (get_or s.bins.now bin unseen)
-    → t.bins.now ≡ set s.bins.now bin (counted (get_or s.bins.now bin unseen) bit)
-    → t.encoder.now ≡ option_map (λ i. after i (prob, bit)) s.encoder.now
-    → HasPut s events → HasPut t (events ++ (bin, bit) ∷ [])
-has_put_one_more s t events bin prob bit within is bins encoder has =
-    let p = probability_is s.bins.now events bin prob within has.bins is in
-    record {
-      bins = rw bins (counted_more s.bins.now events bin bit within has.bins);
-      encoder = encoder_more s.encoder.now t.encoder.now events bin prob bit p encoder has.encoder;
-    }
-
--- the same of bins and an encoder that are owned
+-- bins and an encoder after a bool of the bin's probability, whose bit is counted
 pub local_one_more : (s t : PutLocal) (events : List (ℕ × Bool)) (bin prob : ℕ) (bit : Bool) → bin < length s.bins
     → prob ≡ prob_of (get_or s.bins bin unseen)
     → t.bins ≡ set s.bins bin (counted (get_or s.bins bin unseen) bit)

@@ -66,22 +66,27 @@ local_joined s t u es fs p q = record {
       subst (LocalHasPut u) (append_assoc earlier es fs) (q.on (earlier ++ es) (p.on earlier has));
 }
 
--- bins and encoder are moved out of s, which leaves m; they put events; moved back into m they make t
+-- bins and encoder of s are moved out, which leaves m
+pub record MovesOut (s m : Put) (local : PutLocal) : Type 0 where
+  pub bins : local.bins ≡ s.bins.now
+  pub encoder : local.encoder ≡ s.encoder.now
+  pub same_bins : m.bins.ghost_name ≡ s.bins.ghost_name
+  pub same_encoder : m.encoder.ghost_name ≡ s.encoder.ghost_name
+
+-- they put events; moved back into m they make t
 pub puts_moved : (s m t : Put) (from to : PutLocal) (es : List (ℕ × Bool))
-    → from.bins ≡ s.bins.now → from.encoder ≡ s.encoder.now
-    → m.bins.ghost_name ≡ s.bins.ghost_name → m.encoder.ghost_name ≡ s.encoder.ghost_name
-    → LocalPuts from es to
+    → MovesOut s m from → LocalPuts from es to
     → t.bins.now ≡ to.bins → t.encoder.now ≡ to.encoder
     → t.bins.ghost_name ≡ m.bins.ghost_name → t.encoder.ghost_name ≡ m.encoder.ghost_name
     → PutsEvents s es t
-puts_moved s m t from to es bins encoder names names' puts back back' loans loans' = record {
-  same_bins = loans ∙ names;
-  same_encoder = loans' ∙ names';
-  room = ap length back ∙ puts.room ∙ ap length bins;
+puts_moved s m t from to es out puts back back' loans loans' = record {
+  same_bins = loans ∙ out.same_bins;
+  same_encoder = loans' ∙ out.same_encoder;
+  room = ap length back ∙ puts.room ∙ ap length out.bins;
   on = λ earlier has.
       let first : LocalHasPut from earlier = record {
-        bins = subst (λ table. HasCounted table earlier) (sym bins) has.bins;
-        encoder = encoder ∙ has.encoder;
+        bins = subst (λ table. HasCounted table earlier) (sym out.bins) has.bins;
+        encoder = out.encoder ∙ has.encoder;
       } in
       let last = puts.on earlier first in
       record {

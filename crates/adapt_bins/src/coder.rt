@@ -44,3 +44,31 @@ pub trait Coder {
     /// There are as many bins as before.
     ghost keeps: { (s t : Self) (es : List (ℕ × Bool)) → codes s es t → room t ≡ room s };
 }
+
+/// What holds a coder `L` behind a reference, and moves it into a local value for a while. A local coder's state stays
+/// in registers; behind a reference all of it is loaded again after each store to a bin.
+pub trait Holds<L: Coder> {
+    /// How many bins there are.
+    ghost room: { Self → ℕ };
+
+    /// These events were coded between two states.
+    ghost codes: { Self → List (ℕ × Bool) → Self → Type 0 };
+
+    /// What holds after a stop.
+    ghost stopped: { Self → Type 0 };
+
+    /// What it was before, what it is without its coder, and the coder.
+    ghost moves: { Self → Self → L → Type 0 };
+
+    /// Moves the coder out, and leaves one with no bins.
+    fn moved(&mut self) -> L
+        ensures moved { moves self.old self.new result }
+        ensures room { L.room result ≡ room self.old };
+
+    /// Moves a coder in. What it coded since `moved` is coded here.
+    fn back(&mut self, local: L)
+        ensures coded { (before : Self) (from : L) (events : List (ℕ × Bool))
+            → moves before self.old from → L.codes from events local
+            → codes before events self.new }
+        ensures stopped { L.stopped local → stopped self.new };
+}

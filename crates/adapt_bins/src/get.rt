@@ -1,11 +1,11 @@
 // From a stream to bits.
-ghost use Rattle.std.specs.Prelude.{◌≡◌, ◌<◌, ◌↔◌, [], ◌∷◌, IfOk, IfSome, IsTrue, get_or, length, replicate, List, ℕ, Bool};
+ghost use Rattle.std.specs.Prelude.{◌≡◌, ◌<◌, ◌↔◌, [], ◌∷◌, IfOk, IfSome, IsTrue, length, replicate, List, ℕ, Bool};
 ghost use Rattle.bool_coder.specs.BoolStream.{coded, stream};
-ghost use Rattle.bool_coder.specs.DecoderSeen.{Reads, seen_bit};
-ghost use Rattle.adapt_bins.specs.Counts.{unseen, prob_of};
+ghost use Rattle.bool_coder.specs.DecoderSeen.{Reads};
+ghost use Rattle.adapt_bins.specs.Counts.{unseen};
 ghost use Rattle.adapt_bins.specs.GotEvents.{GetsEvents, HasGot};
 
-use crate::{Bins, Coder};
+use crate::{Bins, Coder, Holds};
 use bool_coder::Decoder;
 
 /// The stop of what never stops: there is no value of it.
@@ -32,20 +32,6 @@ impl<'b> Get<'b> {
         Get { bins, decoder }
     }
 
-    /// Moves the coder out, and leaves one with no bins. Its state stays in registers while a local value has it;
-    /// behind a reference all of it is loaded again after each store to a bin.
-    #[inline(always)]
-    pub fn moved(&mut self) -> Get<'b>
-        ensures value { result ≡ self.old }
-        ensures left { self.new.bins ≡ [] }
-        ensures decoder { self.new.decoder ≡ self.old.decoder }
-    {
-        Get {
-            bins: self.bins.moved(),
-            decoder: self.decoder.again(),
-        }
-    }
-
     /// Begins again at another stream, with the same number of fresh bins. It allocates no memory.
     pub fn restart(&mut self, decoder: Decoder<'b>)
         ensures bins { self.new.bins ≡ replicate (length self.old.bins) unseen }
@@ -54,17 +40,6 @@ impl<'b> Get<'b> {
     {
         self.bins.fresh();
         self.decoder = decoder;
-    }
-
-    // Reads the next bit, which is known.
-    #[inline(always)]
-    fn read(&mut self, bin: usize, bit: bool)
-        requires bin { bin < length self.old.bins }
-        requires bit { bit ≡ seen_bit self.old.decoder (prob_of (get_or self.old.bins bin unseen)) }
-        ensures { GetsEvents self.old ((bin, bit) ∷ []) self.new }
-    {
-        self.decoder.take_peeked(self.bins.prob(bin), bit);
-        self.bins.count(bin, bit);
     }
 
     /// Whether the bytes are the stream of the bits that were read, and nothing more.
@@ -108,12 +83,37 @@ impl Coder for Get<'_> {
     /// Reads the bit, with a branch on it.
     #[inline(always)]
     fn code_branching(&mut self, bin: usize, _bit: Option<bool>) -> Result<bool, Never> {
-        if self.decoder.peek(self.bins.prob(bin)) {
-            self.read(bin, true);
-            Ok(true)
-        } else {
-            self.read(bin, false);
-            Ok(false)
+        if self.decoder.take_branching(self.bins.prob(bin)) {
+            self.bins.count(bin, true);
+            return Ok(true);
         }
+        self.bins.count(bin, false);
+        Ok(false)
+    }
+}
+
+impl<'b> Holds<Get<'b>> for Get<'b> {
+    ghost use Rattle.std.specs.Prelude.{◌≡◌, length, ⊤};
+    ghost use Rattle.adapt_bins.specs.GotEvents.{GetsEvents};
+
+    ghost room = { λ s. length s.bins };
+
+    ghost codes = { GetsEvents };
+
+    ghost stopped = { λ _. ⊤ };
+
+    ghost moves = { λ before left from. from ≡ before };
+
+    #[inline(always)]
+    fn moved(&mut self) -> Get<'b> {
+        Get {
+            bins: self.bins.moved(),
+            decoder: self.decoder.again(),
+        }
+    }
+
+    #[inline(always)]
+    fn back(&mut self, local: Get<'b>) {
+        *self = local;
     }
 }

@@ -22,7 +22,7 @@ mod reciprocals;
 mod shares;
 
 pub use bins::{Bin, Bins};
-pub use coder::Coder;
+pub use coder::{Coder, Holds};
 pub use get::{Get, Never};
 pub use put::Put;
 pub use put_local::PutLocal;

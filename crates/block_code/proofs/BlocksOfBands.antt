@@ -17,9 +17,9 @@ pub row_empty : (zeros first : List ℤ) → zeros ≡ replicate 64 (pos 0) → 
 row_empty zeros first e inner =
     ap nonzeros (values_kept row_positions inner_positions zeros first bands_apart.2 inner ∙ ap (values_in row_positions) e) ∙ zeros_none.1
 
-pub column_empty : (zeros first second : List ℤ) → zeros ≡ replicate 64 (pos 0) → AreSameElsewhere inner_positions zeros first → AreSameElsewhere row_positions first second → nonzeros (values_in column_positions second) ≡ 0
-column_empty zeros first second e inner row =
-    ap nonzeros (values_kept column_positions row_positions first second bands_apart.5 row ∙ values_kept column_positions inner_positions zeros first bands_apart.4 inner ∙ ap (values_in column_positions) e) ∙ zeros_none.2
+pub column_empty : (zeros first : List ℤ) → zeros ≡ replicate 64 (pos 0) → AreSameElsewhere inner_positions zeros first → nonzeros (values_in column_positions first) ≡ 0
+column_empty zeros first e inner =
+    ap nonzeros (values_kept column_positions inner_positions zeros first bands_apart.4 inner ∙ ap (values_in column_positions) e) ∙ zeros_none.2
 
 pub inner_stays : (first second third : List ℤ) → AreSameElsewhere row_positions first second → AreSameElsewhere column_positions second third → values_in inner_positions third ≡ values_in inner_positions first
 inner_stays first second third row column =

@@ -4,6 +4,7 @@ pub mod BitSteps
 pub mod BlockCoefficients
 pub mod BlocksOfBands
 pub mod Counting
+pub mod EdgesInTurn
 pub mod IndexTables
 pub mod McuCells
 pub mod McuSteps

@@ -1,4 +1,5 @@
 pub mod BandPositions
+pub mod Edges
 pub mod GridInside
 pub mod NeighbourBlocks
 pub mod ReadInPlace
@@ -6,3 +7,4 @@ pub mod SegmentInside
 pub mod SegmentUnderWay
 pub mod SumsAround
 pub mod ValueRanges
+pub mod ValueSteps

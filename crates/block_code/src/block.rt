@@ -65,10 +65,7 @@ pub fn put_block(
     let neighbours = neighbours_in(rows, component, row, column);
     let residue = residue_of(block, prediction(neighbours));
     let mut same = Block::zero();
-    let local = coder.moved();
-    let (local, coded) = code_parts(local, class, neighbours, residue, block, &mut same);
-    coder.back(local);
-    let _ = coded?;
+    let _ = code_parts(coder, class, neighbours, residue, block, &mut same)?;
     Ok(())
 }
 
@@ -124,10 +121,7 @@ pub(crate) fn get_in_place(
     // A coder that gets the bits ignores what is wanted.
     let wanted = Block::zero();
     *block = Block::zero();
-    let local = coder.moved();
-    let (local, coded) = code_parts(local, class, neighbours, 0, &wanted, block);
-    *coder = local;
-    match coded {
+    match code_parts(coder, class, neighbours, 0, &wanted, block) {
         Ok(counted) => block_read(counted, block, prediction(neighbours)),
         Err(never) => match never {},
     }

@@ -1,11 +1,12 @@
 // A value: its size in steps, its sign, and its bits below the highest.
-ghost use Rattle.std.specs.Prelude.{ℕ, ◌+◌, ◌-◌, ◌/◌, ◌^◌, ◌<◌, ◌≤◌, IfOk, OnOk, None, length, ◌≡◌, OnErr, IfSome, IsTrue, unsigned_abs, int_lt, pos, ◌∷◌, ◌++◌};
+ghost use Rattle.std.specs.Prelude.{ℕ, Bool, false, nat_lt, ◌+◌, ◌-◌, ◌/◌, ◌^◌, ◌<◌, ◌≤◌, IfOk, OnOk, None, length, ◌≡◌, OnErr, IfSome, IsTrue, unsigned_abs, int_lt, pos, ◌∷◌, ◌++◌};
 ghost use Rattle.std.specs.Option.{option_map};
 ghost use Rattle.coef_context.specs.Runs.{dc_sizes, bin_count};
 ghost use Rattle.block_spec.specs.Values.{category_of, rest_events, value_events};
 ghost use Rattle.coef_context.specs.BinBases.{AreBases, bins_at};
+ghost use Rattle.block_code.specs.ValueSteps.{nonzero_events};
 
-use crate::bits::{BitBins, code_bits, code_size};
+use crate::bits::{BitBins, code_bits, code_size, is_above};
 use adapt_bins::Coder;
 use coef_block::size;
 use coef_context::BinBases;
@@ -104,6 +105,48 @@ fn code_rest<C: Coder>(
     Ok(signed(negative, magnitude))
 }
 
+// What is left open of a value of one bit: the sign. It is `code_rest` without its loop, of which a second copy would
+// make the code larger than what is inlined (`tests/inlined`).
+#[inline(always)]
+fn code_sign<C: Coder>(coder: &mut C, bases: BinBases, value: Option<i32>) -> Result<i32, C::Stop>
+    requires bases { AreBases bases }
+    requires room { bin_count ≤ C.room coder.old }
+    requires value { IsTrue C.given → IfSome value (λ x. (category_of x ≡ 1)) }
+    ensures stopped { OnErr result (C.stopped coder.new) }
+    ensures coded { IfOk result
+        (λ x. C.codes coder.old (rest_events (bins_at bases) 1 x) coder.new) }
+    ensures same { IsTrue C.given → IfSome value (λ x. IfOk result (λ y. y ≡ x)) }
+    ensures size { IfOk result (λ x. category_of x ≡ 1) }
+{
+    let negative = coder.code(bases.sign(1), sign_of(value))?;
+    Ok(signed(negative, 1))
+}
+
+// Codes whether a value isn't 0, where `first` is 0; where it is 1, that is known.
+#[inline(always)]
+fn code_nonzero<C: Coder>(
+    coder: &mut C,
+    bases: BinBases,
+    first: u8,
+    size: Option<u8>,
+) -> Result<bool, C::Stop>
+    requires bases { AreBases bases }
+    requires room { bin_count ≤ C.room coder.old }
+    requires first { first ≤ 1 }
+    requires size { IsTrue C.given → IfSome size (λ s. first ≤ s) }
+    ensures stopped { OnErr result (C.stopped coder.new) }
+    ensures coded { IfOk result
+        (λ some. C.codes coder.old (nonzero_events (bins_at bases) first some) coder.new) }
+    ensures zero { IfOk result (λ some. some ≡ false → first ≡ 0) }
+    ensures same { IsTrue C.given → IfSome size (λ s. IfOk result (λ some. some ≡ nat_lt 0 s)) }
+{
+    if first != 0 {
+        return Ok(true);
+    }
+    let some = coder.code_branching(bases.step(0), is_above(size, 0))?;
+    Ok(some)
+}
+
 /// Codes a value of `first` to `steps` bits.
 #[inline(always)]
 pub(crate) fn code_value<C: Coder>(
@@ -130,5 +173,42 @@ pub(crate) fn code_value<C: Coder>(
         return Ok(0);
     }
     let x = code_rest(coder, bases, size, value)?;
+    Ok(x)
+}
+
+/// Codes a value of `first`, 0 or 1, to `steps` bits, of which most have few. One of no bits or of one returns before
+/// the loop: a processor predicts that better than a loop's end.
+#[inline(always)]
+pub(crate) fn code_small_value<C: Coder>(
+    coder: &mut C,
+    bases: BinBases,
+    first: u8,
+    steps: u8,
+    value: Option<i32>,
+) -> Result<i32, C::Stop>
+    requires bases { AreBases bases }
+    requires room { bin_count ≤ C.room coder.old }
+    requires first { first ≤ 1 }
+    requires least { 2 ≤ steps }
+    requires steps { steps ≤ dc_sizes }
+    requires value { IsTrue C.given
+        → IfSome value (λ x. (first ≤ category_of x) × (category_of x ≤ steps)) }
+    ensures stopped { OnErr result (C.stopped coder.new) }
+    ensures coded { IfOk result
+        (λ x. C.codes coder.old (value_events (bins_at bases) first steps x) coder.new) }
+    ensures same { IsTrue C.given → IfSome value (λ x. IfOk result (λ y. y ≡ x)) }
+    ensures within { IfOk result (λ x. (first ≤ category_of x) × (category_of x ≤ steps)) }
+{
+    let size = size_of(value);
+    let some = code_nonzero(coder, bases, first, size)?;
+    if !some {
+        return Ok(0);
+    }
+    let many = coder.code_branching(bases.step(1), is_above(size, 1))?;
+    if !many {
+        let one = code_sign(coder, bases, value)?;
+        return Ok(one);
+    }
+    let x = code_value(coder, bases, 2, steps, value)?;
     Ok(x)
 }

@@ -11,7 +11,7 @@ ghost use Rattle.block_code.specs.BandPositions.{AreSameElsewhere, IsAcPosition,
 ghost use Rattle.block_code.specs.ValueRanges.{IsAc};
 
 use crate::coefficients::{coefficient, put_coefficient};
-use crate::value::code_value;
+use crate::value::code_small_value;
 use adapt_bins::Coder;
 use coef_block::Block;
 use coef_context::{AC_SIZES, BinBases};
@@ -85,7 +85,7 @@ fn code_one<C: Coder, B: Band>(
 {
     let full = remain as usize == band.count() - place;
     let bases = band.bases(place, remain);
-    let x = code_value(coder, bases, u8::from(full), AC_STEPS, Some(value))?;
+    let x = code_small_value(coder, bases, u8::from(full), AC_STEPS, Some(value))?;
     Ok(x)
 }
 

@@ -1,7 +1,7 @@
 // Bins worked by hand, and streams that a program of the definitions over whole numbers gives.
 ghost use Rattle.std.specs.Prelude.{◌≡◌, IfOk, length};
 
-use adapt_bins::{Bin, Bins, Coder, Get, Put};
+use adapt_bins::{Bin, Bins, Coder, Get, Holds, Put, PutLocal};
 use bool_coder::{Decoder, Encoder};
 use std::alloc::{AllocError, Global};
 use std::test::Fail;
@@ -140,14 +140,16 @@ fn stream_of(alloc: Global, events: &[(usize, bool)]) -> Result<Vec<u8>, AllocEr
     let mut bins = Bins::new(alloc, 3)?;
     let mut encoder = Encoder::new(alloc);
     let mut put = Put::new(&mut bins, &mut encoder);
-    put_all(&mut put, events)?;
+    let mut local = put.moved();
+    put_all(&mut local, events)?;
+    put.back(local);
     drop(put);
     Ok(encoder.finish()?)
 }
 
-fn put_all(put: &mut Put, events: &[(usize, bool)]) -> Result<(), AllocError>
-    requires { length put.old.bins.now ≡ 3 }
-    ensures { IfOk result (λ _. length put.new.bins.now ≡ 3) }
+fn put_all(put: &mut PutLocal, events: &[(usize, bool)]) -> Result<(), AllocError>
+    requires { length put.old.bins ≡ 3 }
+    ensures { IfOk result (λ _. length put.new.bins ≡ 3) }
 {
     'events: for &(bin, bit) in events {
         if bin < 3 {
