@@ -54,42 +54,39 @@ pub(crate) fn code_parts<L: Coder, H: Holds<L>>(
     ensures same { IsTrue L.given → IfOk result
         (λ counted. (counted ≡ Some residue) × HaveSameAcs out.new wanted.now) }
 {
+    let (guess, wanted_count) = (guess(neighbours), inner_count(wanted));
     let mut coder = held.moved();
-    let coded = code_each_part(&mut coder, class, neighbours, residue, wanted, out);
-    held.back(coder);
-    coded
-}
-
-// The same of a local coder.
-#[inline(always)]
-fn code_each_part<C: Coder>(
-    coder: &mut C,
-    class: u8,
-    neighbours: Neighbours,
-    residue: i32,
-    wanted: &Block,
-    out: &mut Block,
-) -> Result<Option<i32>, C::Stop>
-    requires class { class < 2 }
-    requires room { bin_count ≤ C.room coder.old }
-    requires residue { IsTrue C.given → IsResidue residue }
-    requires zeros { out.old ≡ replicate 64 (pos 0) }
-    ensures stopped { OnErr result (C.stopped coder.new) }
-    ensures coded { IfOk result (λ counted. IfSome counted (λ residue. C.codes coder.old
-        (residue_events class (around_of neighbours.entry) out.new residue) coder.new)) }
-    ensures small { IfOk result (λ counted. IfSome counted IsResidue) }
-    ensures block { IfOk result (λ counted. IfSome counted (λ _. IsBlock out.new)) }
-    ensures many { IfOk result (λ counted. IfNone counted (IsBlockCount
-        (λ events. C.codes coder.old events coder.new) class (around_of neighbours.entry))) }
-    ensures same { IsTrue C.given → IfOk result
-        (λ counted. (counted ≡ Some residue) × HaveSameAcs out.new wanted.now) }
-{
-    let count = code_inner_count(coder, class, guess(neighbours), inner_count(wanted))?;
+    let count = match code_inner_count(&mut coder, class, guess, wanted_count) {
+        Ok(count) => count,
+        Err(stop) => {
+            held.back(coder);
+            return Err(stop);
+        }
+    };
     if count > MOST_INNER {
+        held.back(coder);
         return Ok(None);
     }
-    code_acs(coder, class, neighbours, count, wanted, out)?;
-    let residue = code_dc(coder, class, spread(neighbours), residue)?;
+    let sums = sums_of(neighbours);
+    let inner = code_inner(&mut coder, class, neighbours, &sums, count, wanted, out);
+    match inner {
+        Ok(()) => {}
+        Err(stop) => {
+            held.back(coder);
+            return Err(stop);
+        }
+    }
+    let edges = code_edges(&mut coder, class, neighbours, &sums, count, wanted, out);
+    match edges {
+        Ok(()) => {}
+        Err(stop) => {
+            held.back(coder);
+            return Err(stop);
+        }
+    }
+    let dc = code_dc(&mut coder, class, spread(neighbours), residue);
+    held.back(coder);
+    let residue = dc?;
     Ok(Some(residue))
 }
 
@@ -109,34 +106,6 @@ fn code_inner_count<C: Coder>(coder: &mut C, class: u8, guess: u8, count: u8) ->
     let base = inner_count_base(class, bits_of(u32::from(guess)));
     let n = code_six_bits(coder, base, Some(count))?;
     Ok(n)
-}
-
-// The AC coefficients, of which `count` inner ones are not 0.
-#[inline(always)]
-fn code_acs<C: Coder>(
-    coder: &mut C,
-    class: u8,
-    neighbours: Neighbours,
-    count: u8,
-    wanted: &Block,
-    out: &mut Block,
-) -> Result<(), C::Stop>
-    requires class { class < 2 }
-    requires count { count ≤ inner_values }
-    requires room { bin_count ≤ C.room coder.old }
-    requires wanted { IsTrue C.given → inner_count wanted.now ≡ count }
-    requires zeros { out.old ≡ replicate 64 (pos 0) }
-    ensures stopped { OnErr result (C.stopped coder.new) }
-    ensures coded { OnOk result (C.codes coder.old
-        (ac_events class (around_of neighbours.entry) out.new) coder.new) }
-    ensures count { OnOk result (inner_count out.new ≡ count) }
-    ensures block { OnOk result (IsBlock out.new) }
-    ensures same { IsTrue C.given → OnOk result (HaveSameAcs out.new wanted.now) }
-{
-    let sums = sums_of(neighbours);
-    code_inner(coder, class, neighbours, &sums, count, wanted, out)?;
-    code_edges(coder, class, neighbours, &sums, count, wanted, out)?;
-    Ok(())
 }
 
 // The row edge, and then the column edge. By one body: with two copies the compiler wouldn't inline the values

@@ -54,9 +54,9 @@ fn magnitude_of(value: Option<i32>) -> Option<u32>
     }
 }
 
-// How many bits a value that may be given has.
+/// How many bits a value that may be given has.
 #[inline(always)]
-fn size_of(value: Option<i32>) -> Option<u8>
+pub(crate) fn size_of(value: Option<i32>) -> Option<u8>
     ensures { result ≡ option_map category_of value }
 {
     match value {
@@ -77,9 +77,9 @@ fn signed(negative: bool, magnitude: u32) -> i32
     if negative { -x } else { x }
 }
 
-// What the size, from 1 to 16 bits, leaves open of a value: the sign, and the bits below the highest.
+/// What the size, from 1 to 16 bits, leaves open of a value: the sign, and the bits below the highest.
 #[inline(always)]
-fn code_rest<C: Coder>(
+pub(crate) fn code_rest<C: Coder>(
     coder: &mut C,
     bases: BinBases,
     size: u8,
@@ -105,10 +105,13 @@ fn code_rest<C: Coder>(
     Ok(signed(negative, magnitude))
 }
 
-// What is left open of a value of one bit: the sign. It is `code_rest` without its loop, of which a second copy would
-// make the code larger than what is inlined (`tests/inlined`).
+/// What is left open of a value of one bit: the sign.
 #[inline(always)]
-fn code_sign<C: Coder>(coder: &mut C, bases: BinBases, value: Option<i32>) -> Result<i32, C::Stop>
+pub(crate) fn code_sign<C: Coder>(
+    coder: &mut C,
+    bases: BinBases,
+    value: Option<i32>,
+) -> Result<i32, C::Stop>
     requires bases { AreBases bases }
     requires room { bin_count ≤ C.room coder.old }
     requires value { IsTrue C.given → IfSome value (λ x. (category_of x ≡ 1)) }
@@ -122,9 +125,9 @@ fn code_sign<C: Coder>(coder: &mut C, bases: BinBases, value: Option<i32>) -> Re
     Ok(signed(negative, 1))
 }
 
-// Codes whether a value isn't 0, where `first` is 0; where it is 1, that is known.
+/// Codes whether a value isn't 0, where `first` is 0; where it is 1, that is known.
 #[inline(always)]
-fn code_nonzero<C: Coder>(
+pub(crate) fn code_nonzero<C: Coder>(
     coder: &mut C,
     bases: BinBases,
     first: u8,
@@ -173,42 +176,5 @@ pub(crate) fn code_value<C: Coder>(
         return Ok(0);
     }
     let x = code_rest(coder, bases, size, value)?;
-    Ok(x)
-}
-
-/// Codes a value of `first`, 0 or 1, to `steps` bits, of which most have few. One of no bits or of one returns before
-/// the loop: a processor predicts that better than a loop's end.
-#[inline(always)]
-pub(crate) fn code_small_value<C: Coder>(
-    coder: &mut C,
-    bases: BinBases,
-    first: u8,
-    steps: u8,
-    value: Option<i32>,
-) -> Result<i32, C::Stop>
-    requires bases { AreBases bases }
-    requires room { bin_count ≤ C.room coder.old }
-    requires first { first ≤ 1 }
-    requires least { 2 ≤ steps }
-    requires steps { steps ≤ dc_sizes }
-    requires value { IsTrue C.given
-        → IfSome value (λ x. (first ≤ category_of x) × (category_of x ≤ steps)) }
-    ensures stopped { OnErr result (C.stopped coder.new) }
-    ensures coded { IfOk result
-        (λ x. C.codes coder.old (value_events (bins_at bases) first steps x) coder.new) }
-    ensures same { IsTrue C.given → IfSome value (λ x. IfOk result (λ y. y ≡ x)) }
-    ensures within { IfOk result (λ x. (first ≤ category_of x) × (category_of x ≤ steps)) }
-{
-    let size = size_of(value);
-    let some = code_nonzero(coder, bases, first, size)?;
-    if !some {
-        return Ok(0);
-    }
-    let many = coder.code_branching(bases.step(1), is_above(size, 1))?;
-    if !many {
-        let one = code_sign(coder, bases, value)?;
-        return Ok(one);
-    }
-    let x = code_value(coder, bases, 2, steps, value)?;
     Ok(x)
 }

@@ -1,17 +1,18 @@
 // The values of a band, place after place, while some that are not 0 remain.
-ghost use Rattle.std.specs.Prelude.{◌≡◌, ℕ, List, ◌+◌, ◌-◌, ◌<◌, ◌≤◌, ◌==◌, IfOk, OnErr, OnOk, IsTrue, unsigned_abs, pos, length, slice_index, if◌then◌else◌};
+ghost use Rattle.std.specs.Prelude.{◌≡◌, ℕ, List, ◌+◌, ◌-◌, ◌<◌, ◌≤◌, ◌==◌, IfOk, IfSome, OnErr, OnOk, IsTrue, unsigned_abs, pos, length, slice_index, if◌then◌else◌};
 ghost use Rattle.coef_block.specs.Block.{IsBlock};
 ghost use Rattle.coef_block.specs.Zigzag.{zigzag};
 ghost use Rattle.coef_context.specs.Runs.{inner_values, bin_count};
 ghost use Rattle.coef_context.specs.ValueBins.{ValueBins};
 ghost use Rattle.block_spec.specs.Around.{values_in};
-ghost use Rattle.block_spec.specs.Values.{category_of, is_zero, nonzeros, one_events, values_events};
+ghost use Rattle.block_spec.specs.Values.{category_of, is_zero, nonzeros, one_events, value_events, values_events};
 ghost use Rattle.coef_context.specs.BinBases.{AreBases, bins_at};
 ghost use Rattle.block_code.specs.BandPositions.{AreSameElsewhere, IsAcPosition, IsBand};
 ghost use Rattle.block_code.specs.ValueRanges.{IsAc};
 
+use crate::bits::is_above;
 use crate::coefficients::{coefficient, put_coefficient};
-use crate::value::code_small_value;
+use crate::value::{code_nonzero, code_rest, code_sign, code_value, size_of};
 use adapt_bins::Coder;
 use coef_block::Block;
 use coef_context::{AC_SIZES, BinBases};
@@ -60,6 +61,56 @@ pub(crate) trait Band {
         ensures bases { AreBases result };
 }
 
+// Codes a value of a band, of `first`, 0 or 1, to ten bits. One of up to three bits returns before the loop over the
+// size: a processor predicts that better than a loop's end. Each band has a copy of its own, which has one call: a
+// large function with more calls isn't inlined (`tests/inlined`).
+#[inline(always)]
+fn code_small<C: Coder, B: Band>(
+    coder: &mut C,
+    band: &B,
+    place: usize,
+    remain: u8,
+    first: u8,
+    value: Option<i32>,
+) -> Result<i32, C::Stop>
+    requires band { B.holds band.now }
+    requires some { 1 ≤ remain }
+    requires place { place + remain ≤ B.count band.now }
+    requires room { bin_count ≤ C.room coder.old }
+    requires first { first ≤ 1 }
+    requires value { IsTrue C.given
+        → IfSome value (λ x. (first ≤ category_of x) × (category_of x ≤ 10)) }
+    ensures stopped { OnErr result (C.stopped coder.new) }
+    ensures coded { IfOk result (λ x. C.codes coder.old
+        (value_events (B.bins band.now place remain) first 10 x) coder.new) }
+    ensures same { IsTrue C.given → IfSome value (λ x. IfOk result (λ y. y ≡ x)) }
+    ensures within { IfOk result (λ x. (first ≤ category_of x) × (category_of x ≤ 10)) }
+{
+    let bases = band.bases(place, remain);
+    let size = size_of(value);
+    let some = code_nonzero(coder, bases, first, size)?;
+    if !some {
+        return Ok(0);
+    }
+    let above_one = coder.code_branching(bases.step(1), is_above(size, 1))?;
+    if !above_one {
+        let one = code_sign(coder, bases, value)?;
+        return Ok(one);
+    }
+    let above_two = coder.code_branching(bases.step(2), is_above(size, 2))?;
+    if !above_two {
+        let two = code_rest(coder, bases, 2, value)?;
+        return Ok(two);
+    }
+    let above_three = coder.code_branching(bases.step(3), is_above(size, 3))?;
+    if !above_three {
+        let three = code_rest(coder, bases, 3, value)?;
+        return Ok(three);
+    }
+    let x = code_value(coder, bases, 4, AC_STEPS, value)?;
+    Ok(x)
+}
+
 // The value at a place, while some that are not 0 remain: the step 0 is left out if all that are left are not 0.
 #[inline(always)]
 fn code_one<C: Coder, B: Band>(
@@ -84,8 +135,7 @@ fn code_one<C: Coder, B: Band>(
     ensures within { IfOk result IsAc }
 {
     let full = remain as usize == band.count() - place;
-    let bases = band.bases(place, remain);
-    let x = code_small_value(coder, bases, u8::from(full), AC_STEPS, Some(value))?;
+    let x = code_small(coder, band, place, remain, u8::from(full), Some(value))?;
     Ok(x)
 }
 
