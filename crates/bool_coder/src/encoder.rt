@@ -132,8 +132,9 @@ impl Encoder {
         }
         let (low, bits) = parts_of(low);
         let count = bits.div_ceil(8);
-        let written = append(written, low << (8 * count - bits), count as usize)?;
-        Ok(written)
+        let mut stream = written;
+        append(&mut stream, low << (8 * count - bits), count as usize)?;
+        Ok(stream)
     }
 }
 
@@ -247,31 +248,15 @@ fn flush(written: Vec<u8>, low: u64) -> Result<(Vec<u8>, u64), NoMemory>
 {
     let (number, bits) = parts_of(low);
     let left = bits - 32;
-    let longer = append(written, number >> left, 4)?;
+    let mut longer = written;
+    // With this count at hand the bytes are one store.
+    append(&mut longer, number >> left, 4)?;
     Ok((longer, (number & ((1 << left) - 1)) + (2 << left)))
-}
-
-// `append_to` for a vector by value, so that no address of a local encoder is passed on.
-#[cold]
-#[inline(never)]
-fn append(written: Vec<u8>, number: u64, count: usize) -> Result<Vec<u8>, NoMemory>
-    requires count { count ≤ 7 }
-    requires carry { number < 2 * 256 ^ count }
-    requires room { number_from_digits 256 written.items * 256 ^ count + number
-        < 256 ^ (length written.items + count) }
-    ensures number { IfOk result (λ longer. number_from_digits 256 longer.items
-        ≡ number_from_digits 256 written.items * 256 ^ count + number) }
-    ensures longer { IfOk result (λ longer. length longer.items ≡ length written.items + count) }
-    ensures bytes { IfOk result (λ longer. AllBelowBase 256 longer.items) }
-{
-    let mut written = written;
-    append_to(&mut written, number, count)?;
-    Ok(written)
 }
 
 // Appends the last `count` bytes of a number, and adds the carry above them to what was written.
 #[inline(always)]
-fn append_to(written: &mut Vec<u8>, number: u64, count: usize) -> Result<(), NoMemory>
+fn append(written: &mut Vec<u8>, number: u64, count: usize) -> Result<(), NoMemory>
     requires count { count ≤ 7 }
     requires carry { number < 2 * 256 ^ count }
     requires room { number_from_digits 256 written.old.items * 256 ^ count + number

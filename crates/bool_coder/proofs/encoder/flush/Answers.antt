@@ -18,8 +18,8 @@ pub returns : goal.returns
 returns c = λ range w.
     let k = kept-longer c.args.written.items c.args.low range w in
     let full = c.parts_of-number.ensures.full c.requires.full in
-    let longer = c.in_ok-longer.ensures.longer in
-    let number = c.in_ok-longer.ensures.number in
+    let longer = c.in_ok-append.ensures.longer in
+    let number = c.in_ok-append.ensures.number in
     rw (word_left c.parts_of-number.result.0 (c.parts_of-number.result.1 - 32) (omega arith))
     (record {
       is = flushed-word c.args.written.items _ c.args.low range _ _ c.parts_of-number.ensures.low c.parts_of-number.ensures.bits full c.parts_of-number.ensures.few longer number k;

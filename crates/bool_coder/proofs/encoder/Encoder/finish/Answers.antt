@@ -22,8 +22,8 @@ returns-clause-stream c =
     let p = word_parts c.self.inside.written.items c.self.inside.low (c.self.inside.less + 1) _ _ c.self.invariant c.parts_of-low.ensures.low c.parts_of-low.ensures.bits in
     let few : 8 * c.div_ceil-count.result - c.parts_of-low.result.1 ≤ 7 = omega arith in
     let fits = word_fits c.parts_of-low.result.0 c.parts_of-low.result.1 (c.self.inside.less + 1) (8 * c.div_ceil-count.result - c.parts_of-low.result.1) p.short few (omega arith) p.one_carry in
-    let number = rw fits at c.in_ok-written.ensures.number in
+    let number = rw fits at c.in_ok-append.ensures.number in
     let same = kept-parts c.self.inside.written.items c.self.inside.low (c.self.inside.less + 1) _ _ c.parts_of-low.ensures.low c.parts_of-low.ensures.bits in
     rw (sym c.self.view_is ∙ shown _ _ c.in_default.is ∙ ap Some same)
     (stream_is c.self.inside.written.items _ c.parts_of-low.result.0 c.parts_of-low.result.1 (c.self.inside.less + 1) c.div_ceil-count.result
-    p.begun c.div_ceil-count.ensures c.in_ok-written.ensures.bytes c.in_ok-written.ensures.longer number)
+    p.begun c.div_ceil-count.ensures c.in_ok-append.ensures.bytes c.in_ok-append.ensures.longer number)

@@ -1,7 +1,7 @@
 use Rattle.std.proofs.Common.{◌≡◌, length, arith}
 use Rattle.bool_coder.proofs.Append.{Appends-from, carry_room, no_carry, one_carry, Appends-carried}
 use Rattle.bool_coder.proofs.Bytes.{all_below}
-use Rattle.bool_coder.proofs.encoder.append_to.Goals as goal
+use Rattle.bool_coder.proofs.encoder.append.Goals as goal
 
 pub carry-requires-clause-room : goal.carry-requires-clause-room
 carry-requires-clause-room c =
