@@ -60,7 +60,7 @@ pub trait Holds<L: Coder> {
     /// What it was before, what it is without its coder, and the coder.
     ghost moves: { Self → Self → L → Type 0 };
 
-    /// Moves the coder out, and leaves one with no bins.
+    /// Moves the coder out. What is left is of no use until `back`.
     fn moved(&mut self) -> L
         ensures moved { moves self.old self.new result }
         ensures room { L.room result ≡ room self.old };

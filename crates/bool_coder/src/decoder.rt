@@ -111,18 +111,14 @@ impl<'a> Decoder<'a> {
         bit
     }
 
-    /// `take`, with a branch on the bool: quicker if the caller branches on it too, and slower if it doesn't.
+    /// `take`, with a branch on the bool: quicker if the caller branches on it too, and slower if it doesn't. `bit` and
+    /// `step` are those of `take`.
     #[inline(always)]
     pub fn take_branching(&mut self, prob: u8) -> bool
         requires { 0 < prob }
         ensures bytes { self.new.bytes ≡ self.old.bytes }
-        ensures next { (bools : List (ℕ × Bool)) → Reads bools self.old
-            → result ≡ next_bit self.old.bytes (coded bools) prob }
         ensures taken { (bools : List (ℕ × Bool)) → Reads bools self.old
             → Reads (bools ++ (prob, result) ∷ []) self.new }
-        ensures in_turn { (bools rest : List (ℕ × Bool)) (bit : Bool) → Reads bools self.old
-            → AllByRecursion IsBool (bools ++ (prob, bit) ∷ rest)
-            → self.old.bytes ≡ stream (coded (bools ++ (prob, bit) ∷ rest)) → result ≡ bit }
         ensures bit { result ≡ seen_bit self.old prob }
         ensures step { self.new ≡ seen_after self.old prob }
     {

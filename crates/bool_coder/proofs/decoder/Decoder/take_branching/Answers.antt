@@ -1,7 +1,6 @@
 use Rattle.std.proofs.Common.{◌+◌, ◌≡◌, ◌<◌, ap, ◌∙◌, arith, length}
 use Rattle.bool_coder.specs.DecoderSeen.{Seen, seen_bit, seen_after}
 use Rattle.bool_coder.proofs.BoolsTaken.{Reads-more}
-use Rattle.bool_coder.proofs.Beginnings.{next_in_turn}
 use Rattle.bool_coder.proofs.decoder.Decoder.take_branching.Goals as goal
 
 pub returns-clause-taken : goal.returns-clause-taken
@@ -13,9 +12,3 @@ returns-clause-taken c =
     let bit : c.step_branching-bit.result.0 ≡ seen_bit c.args.self.now c.args.prob = c.step_branching-bit.ensures.bit ∙ ap (λ s. seen_bit s c.args.prob) was in
     let some : 0 < length c.args.self.now.bytes = rw (ap (λ (s : Seen). s.bytes) c.self.view_is) at c.self.invariant.some in
     rw now (Reads-more bools c.args.self.now c.args.prob c.step_branching-bit.result.0 c.requires (omega arith) some r bit)
-
-pub returns-clause-in_turn : goal.returns-clause-in_turn
-returns-clause-in_turn c =
-    λ bools rest bit r all e.
-    let was = c.fill-fetched.ensures.same (c.self.inside.less + 1) c.self.invariant ∙ c.self.view_is in
-    c.step_branching-bit.ensures.bit ∙ ap (λ s. seen_bit s c.args.prob) was ∙ next_in_turn c.args.self.now bools rest c.args.prob bit r all e
