@@ -97,6 +97,16 @@ impl Piece {
         self.used += 1;
     }
 
+    /// Appends bytes.
+    pub fn extend_from_slice(&mut self, bytes: &[u8])
+        requires { length self.old + length bytes.now ≤ piece_room }
+        ensures { self.new ≡ self.old ++ bytes.now }
+    {
+        for byte in bytes {
+            self.push(*byte);
+        }
+    }
+
     /// Appends the first `count` bytes of a number of eight, the highest first, by one store of all eight.
     #[inline(always)]
     pub(crate) fn push_first(&mut self, eight: u64, count: usize)

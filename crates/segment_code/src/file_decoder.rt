@@ -9,7 +9,6 @@ ghost use Rattle.container_spec.specs.ScansMeanings.{lead_at, lead_of, led_outpu
 ghost use Rattle.segment_code.specs.declared.step.Step.TheVariants.{More};
 ghost use Rattle.segment_code.specs.FileDecoding.{FileOwes, FilePays, ScanOwes, ScanPays, is_running, mcus_left, plans_of, step_numbered, steps_left};
 
-use crate::bytes_put::put_bytes;
 use crate::decoder::SegmentDecoder;
 use crate::step::Step;
 use bit_list::{Piece, ROOM};
@@ -144,7 +143,7 @@ impl<'a> FileDecoder<'a> {
         out.clear();
         let count = self.lead.len().min(ROOM);
         let (first, rest) = self.lead.split_at(count);
-        put_bytes(first, out);
+        out.extend_from_slice(first);
         self.lead = rest;
     }
 

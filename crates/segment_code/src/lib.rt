@@ -14,7 +14,6 @@
 //! are is `scan_spec`'s, and what a segment's stream stands for is `container_spec`'s.
 #![tactic(auto)]
 
-mod bytes_put;
 mod causes;
 mod cuts;
 mod decoder;
