@@ -33,25 +33,37 @@ pub fn write_container(
     requires { AreGiven version scans.now }
     ensures { IfOk result (λ made. made.items ≡ container_bytes version (all_given scans.now)) }
 {
-    let mut bytes = write_front(alloc, version, scans)?;
+    let mut bytes = with_capacity(alloc, room(version, scans).min(MOST_ROOM))?;
+    put_front(&mut bytes, version, scans)?;
     put_all_streams(&mut bytes, scans)?;
     Ok(bytes)
 }
 
-/// Writes all of the container but the streams, with room for these: whoever has them appends them in their order.
+/// Writes all of the container but the streams, which follow in their order.
 #[inline(never)]
 pub fn write_front(alloc: Global, version: Version, scans: &[Parts]) -> Result<Vec<u8>, NoMemory>
     requires { AreGiven version scans.now }
     ensures { IfOk result (λ front. front.items ++ flat_map scan_streams (all_given scans.now)
         ≡ container_bytes version (all_given scans.now)) }
 {
-    let mut bytes = with_capacity(alloc, room(version, scans).min(MOST_ROOM))?;
-    let trailer = last_trailer(version, scans);
-    put_start(&mut bytes, version, scans.len() as u8, trailer.len() as u32)?;
-    put_all_fields(&mut bytes, scans)?;
-    put_headers(&mut bytes, scans)?;
-    extend_from_slice(&mut bytes, trailer)?;
+    let mut bytes = Vec::new(alloc);
+    put_front(&mut bytes, version, scans)?;
     Ok(bytes)
+}
+
+// Appends the same.
+fn put_front(bytes: &mut Vec<u8>, version: Version, scans: &[Parts]) -> Result<(), NoMemory>
+    requires given { AreGiven version scans.now }
+    requires none { bytes.old.items ≡ [] }
+    ensures { OnOk result (bytes.new.items ++ flat_map scan_streams (all_given scans.now)
+        ≡ container_bytes version (all_given scans.now)) }
+{
+    let trailer = last_trailer(version, scans);
+    put_start(bytes, version, scans.len() as u8, trailer.len() as u32)?;
+    put_all_fields(bytes, scans)?;
+    put_headers(bytes, scans)?;
+    extend_from_slice(bytes, trailer)?;
+    Ok(())
 }
 
 // How many bytes the container has, or the most that is counted.

@@ -17,7 +17,7 @@ use crate::rows::{chunk_between, handovers_of};
 use box_format::{Parts, Version, write_front};
 use growth::NoMemory;
 use jpeg_marker::Plan;
-use lepton_encode::{Alone, InThreads, ScanCoder, put_streams, read_one_scan};
+use lepton_encode::{Alone, InThreads, ScanCoder, joined_after, read_one_scan};
 use segment_code::{Starts, find_rows};
 use std::alloc::Global;
 use std::marker::Model;
@@ -146,7 +146,7 @@ impl<'a> ChunkCutter<'a> {
         )?;
         let (header, _) = self.bytes.split_at(self.plan.header_length());
         let trailer = trailer_between(self.bytes, self.starts.trailer(), from, to);
-        let mut made = front_of(
+        let front = front_of(
             alloc,
             &Parts {
                 version: Version::Third,
@@ -159,7 +159,7 @@ impl<'a> ChunkCutter<'a> {
                 streams: streams.as_slice(),
             },
         )?;
-        put_streams(&mut made, streams)?;
+        let made = joined_after(alloc, front.as_slice(), streams)?;
         Ok(Some(made))
     }
 
@@ -245,7 +245,7 @@ pub fn cut_chunk_alone(
     }
 }
 
-// All of a chunk's container but the streams, with room for these.
+// All of a chunk's container but the streams.
 fn front_of(alloc: Global, parts: &Parts) -> Result<Vec<u8>, NoMemory>
     requires { (plan : PlanFields) × IsBox plan (parts_given parts.now)
         × ((parts_given parts.now).version ≡ Third) }

@@ -20,7 +20,7 @@ pub(crate) struct CodedScan {
     pub(crate) streams: Vec<Vec<u8>>,
 }
 
-/// The container of these scans of a file, in a version of whole files. Each stream is dropped once it is written.
+/// The container of these scans of a file, in a version of whole files.
 #[inline(never)]
 pub(crate) fn write_coded(
     alloc: Global,
@@ -35,12 +35,13 @@ pub(crate) fn write_coded(
         ≡ container_bytes version (scans_made version bytes.now heads.now coded.items)) }
 {
     let scans = coded.as_slice();
-    let mut made = front_of(alloc, version, bytes, heads, scans)?;
-    put_scans(&mut made, coded)?;
+    let front = front_of(alloc, version, bytes, heads, scans)?;
+    let streams = streams_of(alloc, coded)?;
+    let made = joined_after(alloc, front.as_slice(), streams)?;
     Ok(made)
 }
 
-// All of the container but the streams, with room for these.
+// All of the container but the streams.
 #[inline(never)]
 fn front_of(
     alloc: Global,
@@ -125,24 +126,52 @@ fn kept_places(version: Version, places: &[u64]) -> Option<&[u64]>
 
 // The streams of these scans.
 #[inline(never)]
-fn put_scans(made: &mut Vec<u8>, coded: Vec<CodedScan>) -> Result<(), NoMemory>
-    ensures { OnOk result (made.new.items
-        ≡ made.old.items ++ flat_map streams_in coded.items) }
+fn streams_of(alloc: Global, coded: Vec<CodedScan>) -> Result<Vec<Vec<u8>>, NoMemory>
+    ensures { IfOk result (λ streams. flat_map (λ stream. stream) (map (λ v. v.items) streams.items)
+        ≡ flat_map streams_in coded.items) }
 {
+    let mut streams = Vec::new(alloc);
     for scan in coded {
-        put_streams(made, scan.streams)?;
+        append(&mut streams, scan.streams)?;
+    }
+    Ok(streams)
+}
+
+// Streams after others.
+fn append(streams: &mut Vec<Vec<u8>>, more: Vec<Vec<u8>>) -> Result<(), NoMemory>
+    ensures { OnOk result (streams.new.items ≡ streams.old.items ++ more.items) }
+{
+    for stream in more {
+        push(streams, stream)?;
     }
     Ok(())
 }
 
-/// Appends these streams, one after another. Each is dropped once it is there.
-pub fn put_streams(made: &mut Vec<u8>, streams: Vec<Vec<u8>>) -> Result<(), NoMemory>
-    ensures { OnOk result (made.new.items
-        ≡ made.old.items ++ flat_map (λ stream. stream) (map (λ v. v.items) streams.items)) }
+/// A front, and after it these streams, one after another. They are joined in the memory of the first one that has
+/// bytes, and each other one is dropped once it is there, so that no stream is in memory twice but the one that is
+/// being appended.
+#[inline(never)]
+pub fn joined_after(alloc: Global, front: &[u8], streams: Vec<Vec<u8>>) -> Result<Vec<u8>, NoMemory>
+    ensures { IfOk result (λ made. made.items
+        ≡ front.now ++ flat_map (λ stream. stream) (map (λ v. v.items) streams.items)) }
 {
+    let mut made = Vec::new(alloc);
     for stream in streams {
-        let stream = stream.as_slice();
-        extend_from_slice(made, stream)?;
+        if made.is_empty() {
+            made = stream;
+        } else {
+            extend_from_slice(&mut made, stream.as_slice())?;
+        }
     }
+    put_before(&mut made, front)?;
+    Ok(made)
+}
+
+// Puts items before those of a list.
+fn put_before(list: &mut Vec<u8>, front: &[u8]) -> Result<(), NoMemory>
+    ensures { OnOk result (list.new.items ≡ front.now ++ list.old.items) }
+{
+    extend_from_slice(list, front)?;
+    list.rotate_right(front.len());
     Ok(())
 }

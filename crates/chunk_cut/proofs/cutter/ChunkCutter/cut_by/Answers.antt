@@ -96,11 +96,11 @@ returns-clause-made g c =
     c.in-Some.ensures.from c.in-Some.ensures.to in
     let made = is_chunk i.plan bytes i.starts has.bytes has.plan have has.rows c.args.segments c.args.size
     c.args.index has.few (rw (sym c.in-Some.ensures.from) c.in-Some.ensures.some) in
-    let text = c.in_ok-put_streams.ensures
-    ∙ ap (λ (l : List (List ℕ)). c.in_ok-made.made.items ++ flat_map (λ stream. stream) l)
-    (ap (map (λ v. v.items)) (sym c.as_slice-2.ensures.value))
-    ∙ c.in_ok-made.ensures ∙ ap box_bytes (same ∙ there) in
-    subst (IsChunkOf c.args.segments c.args.size c.args.index c.put_streams.new.made.items)
+    let text = c.in_ok-made.ensures
+    ∙ ap₂ (λ (a : List ℕ) (l : List (List ℕ)). a ++ flat_map (λ stream. stream) l)
+    c.as_slice-3.ensures.value (ap (map (λ v. v.items)) (sym c.as_slice-2.ensures.value))
+    ∙ c.in_ok-front.ensures ∙ ap box_bytes (same ∙ there) in
+    subst (IsChunkOf c.args.segments c.args.size c.args.index c.in_ok-made.made.items)
     c.self.view_is
     (subst (λ (m : List ℕ). IsChunkOf c.args.segments c.args.size c.args.index m bytes)
     (sym text) made)
