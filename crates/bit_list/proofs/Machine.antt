@@ -16,10 +16,6 @@ use Rattle.bit_list.proofs.Cursors.{filled_now, more_taken}
 pub masked : (n k w : ℕ) → k < w → bit_and n (1 * 2 ^ k % 2 ^ w - 1) ≡ n % 2 ^ k
 masked n k w h = ap (λ (p : ℕ). bit_and n (p - 1)) (one_shl k w h) ∙ and_mask n k
 
--- a mask is no less than nothing
-pub mask_some : (k w : ℕ) → k < w → 1 ≤ 1 * 2 ^ k % 2 ^ w
-mask_some k w h = rw (one_shl k w h) (omega (arith, pow_pos k))
-
 -- bits after a number's bits fit
 pub joined_below : (m k number prefix : ℕ) → number < 2 ^ m → prefix < 2 ^ k → number * 2 ^ k + prefix < 2 ^ (m + k)
 joined_below m k number prefix a b = rw (pow-add 2 m k) (omega (arith, mul-add-lt number (2 ^ k) prefix (2 ^ m) a b))

@@ -37,7 +37,3 @@ abbrev pub IsRead : (List (ℕ × Bool) → Type 0) → ℕ → Around → Resul
 IsRead codes class around (Ok block) = IsBlock block × codes (block_events class around block)
 IsRead codes class around (Err BlockCount) = IsBlockCount codes class around
 IsRead codes class around (Err DcRange) = IsDcRange codes class around
-
--- these events were read after earlier ones (own)
-abbrev pub ReadAfter : (List (ℕ × Bool) → Type 0) → List (ℕ × Bool) → List (ℕ × Bool) → Type 0
-ReadAfter reads earlier events = reads (earlier ++ events)

@@ -28,13 +28,6 @@ kept_past l i a late own =
     omega arith) in
     let e : None ≡ Some a = sym (ap (λ (s : SegmentState). s.owner) none) ∙ own in cc
 
-pub none_kept : (l : List Segment) (a : Actor)
-    → ((k : ℕ) → k < length l → (kept_at l k).owner ≢ Some a) → (k : ℕ)
-    → (kept_at l k).owner ≢ Some a
-none_kept l a none k = dite (dec_le (suc k) (length l))
-    (λ (h : suc k ≤ length l). none k (omega arith))
-    (λ (h : ¬ (suc k ≤ length l)). kept_past l k a (omega arith))
-
 -- a segment put in another's index
 pub set_same : (l : List Segment) (i : ℕ) (s : Segment) → i < length l → kept_at (set l i s) i ≡ state_of s
 set_same l i s lt = ap (λ m. get_or m i unclaimed_segment) (map-set state_of l i s)

@@ -6,14 +6,13 @@ use Rattle.std.proofs.lemmas.Option.{slice_get_read, slice_get_within, get_or_fr
 use Rattle.jpeg_marker.specs.Plans.{PlanFields}
 use Rattle.jpeg_marker.specs.Walks.{Walk, next_walk}
 use Rattle.jpeg_marker.specs.FirstWalks.{opening_walk}
-use Rattle.box_format.specs.Versions.{layout_of, most_segments}
+use Rattle.box_format.specs.Versions.{layout_of}
 use Rattle.box_format.specs.Parts.{BoxSeen, IsScanBox}
 use Rattle.box_format.specs.Raws.{Raw, numbers, parts_of}
 use Rattle.box_format.specs.Containers.{AreBoxes, IsContainerIn, all_parts, segment_count, trailer_of}
 use Rattle.box_format.specs.Fields.{scans_in, scan_raw, raws_as}
 use Rattle.box_format.specs.Checks.{HeadersPass, boxes_of}
 use Rattle.box_format.specs.declared.version.Version.{Version}
-use Rattle.box_format.proofs.Layouts.{most_more}
 use Rattle.box_format.proofs.Lists.{sum_first}
 
 -- ---- plans and fields, both of all scans
@@ -129,11 +128,6 @@ scan_at v plans bytes j plan is below here =
     }
 
 -- ---- how many segments there are
-
-pub few_in : (v : Version) (scans : List BoxSeen) (bytes : List ℕ) → IsContainerIn v scans bytes
-    → segment_count scans ≤ most_segments
-few_in v scans bytes is =
-    let few = is.are.few in let more = most_more v in omega (arith, few, more)
 
 pub segments_next : (scans : List BoxSeen) (j : ℕ) (s : BoxSeen) → slice_get scans j ≡ Some s
     → segment_count (drop j scans) ≡ length s.parts.handovers + segment_count (drop (j + 1) scans)

@@ -43,19 +43,6 @@ trailer_short v ps given =
 
 -- ---- their counts and lengths
 
-high : (b : Bool) → (if b then 4 else 1) ≤ 4
-high true = omega arith
-high false = omega arith
-
-pub few_given : (v : Version) (ps : List Parts) → AreGiven v ps → length ps ≤ 4
-few_given v ps given =
-    let long = length-map ps parts_given in
-    let same = ap (λ (l : List BoxParts). length l) given.2 in
-    let boxes = length-map given.0 (λ (s : BoxSeen). s.parts) in
-    let most = given.1.most in
-    let few = high (layout_of v).several in
-    omega (arith, long, same, boxes, most, few)
-
 more_places : (n : ℕ) (places : Option (List ℕ)) → IfSome places (λ ps. length ps ≡ n + 1)
     → IfSome places (λ ps. n < length ps)
 more_places n None is = tt
@@ -101,9 +88,6 @@ said_is : (b : Bool) (n m : ℕ) (trailer t : List ℕ) → n ≡ m → trailer 
     → (if b then n ∷ big_bytes 4 (length trailer) else []) ≡ scans_said b m t
 said_is true n m trailer t e f = rw (e, f) refl
 said_is false n m trailer t e f = refl
-
-grouped : (m s f h t r : List ℕ) → [] ++ (m ++ s) ++ f ++ h ++ t ++ r ≡ (m ++ s) ++ f ++ h ++ t ++ r
-grouped m s f h t r = refl
 
 pub front_written : (v : Version) (ps : List Parts) (n : ℕ) (trailer b0 b1 b2 b3 b4 : List ℕ)
     → n ≡ length ps → trailer ≡ trailer_of (all_given ps) → b0 ≡ []

@@ -1,8 +1,8 @@
 -- What holds of pad bytes.
 use Rattle.std.proofs.Common.{◌≡◌, ◌≤◌, ◌==◌, ◌||◌, not, Bool, true, false, ℕ, zero, suc, List, [], ◌∷◌, length, nat_lt, if◌then◌else◌, refl, sym, ap, ◌∙◌, arith}
-use Rattle.std.proofs.lemmas.Bool.{ltb-false, lt-ltb, ne_eqb, or_parts, and_parts, false≢true}
+use Rattle.std.proofs.lemmas.Bool.{ltb-false, lt-ltb, ne_eqb, or_parts, false≢true}
 use Rattle.scan_spec.specs.Slots.{Shape}
-use Rattle.scan_spec.specs.Pads.{PadBits, Same, Listed, is_long_for, list_room}
+use Rattle.scan_spec.specs.Pads.{PadBits, Same, Listed}
 use Rattle.box_format.specs.Parts.{pad_byte, list_bytes, is_list, can_pad}
 use Rattle.box_format.specs.Raws.{pads_in}
 use Rattle.box_format.specs.Checks.{is_bad_pad}
@@ -84,9 +84,3 @@ pub none_listed : (listed : Bool) (shape : Shape) (pads : PadBits)
 none_listed listed shape (Same pad) e f = refl
 none_listed true shape (Listed bytes) e f = cc
 none_listed false shape (Listed bytes) e f = cc
-
-pub long_again : (listed : Bool) (shape : Shape) (pads : PadBits)
-    → can_pad listed shape pads ≡ true → is_long_for shape pads ≡ true
-long_again listed shape (Same pad) e = refl
-long_again true shape (Listed bytes) e = (and_parts (length bytes == list_room shape) _ e).0
-long_again false shape (Listed bytes) e = cc

@@ -1,5 +1,5 @@
 -- Bytes in parts of some lengths.
-use Rattle.std.proofs.Common.{◌≡◌, ◌<◌, ◌≤◌, ◌+◌, ℕ, zero, suc, List, [], ◌∷◌, ◌++◌, length, take, drop, map, flat_map, refl, ap, ◌∙◌, arith, take-append-drop, length-drop, subst}
+use Rattle.std.proofs.Common.{◌≡◌, ◌<◌, ◌≤◌, ◌+◌, ℕ, zero, suc, List, [], ◌∷◌, length, drop, map, refl, ap, arith, length-drop, subst}
 use Rattle.std.specs.Prelude.{sum}
 use Rattle.std.specs.List.{AllByRecursion}
 use Rattle.std.proofs.lemmas.List.{length-take-le}
@@ -22,17 +22,6 @@ parted_lengths (n ∷ ns) xs long =
     let here = length-take-le n xs (omega arith) in
     let later = parted_lengths ns (drop n xs) (omega (arith, length-drop n xs)) in
     rw (here, later) refl
-
--- which are the bytes
-pub parted_joined : (ns xs : List ℕ) → length xs ≤ sum ns
-    → flat_map (λ part. part) (parted ns xs) ≡ xs
-parted_joined [] [] short = refl
-parted_joined [] (x ∷ xs) short = absurd (omega arith)
-parted_joined (n ∷ ns) xs short =
-    let all = sum_first n ns in
-    ap (λ (l : List ℕ). take n xs ++ l)
-    (parted_joined ns (drop n xs) (omega (arith, length-drop n xs)))
-    ∙ take-append-drop n xs
 
 -- parts of bytes are bytes
 pub parted_bytes : (ns xs : List ℕ) → AllByRecursion IsByte xs

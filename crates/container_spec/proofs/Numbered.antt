@@ -3,10 +3,6 @@ use Rattle.std.proofs.Common.{◌≡◌, ℕ, zero, suc, ◌+◌, ◌<◌, ◌�
 use Rattle.std.specs.Prelude.{slice_get}
 use Rattle.box_format.specs.Raws.{numbers}
 
-pub numbers_long : (from count : ℕ) → length (numbers from count) ≡ count
-numbers_long from zero = refl
-numbers_long from (suc count) = ap suc (numbers_long (from + 1) count)
-
 pub mapped_long : {A : Type 0} (f : ℕ → A) (from count : ℕ)
     → length (map f (numbers from count)) ≡ count
 mapped_long f from zero = refl

@@ -1,6 +1,6 @@
 -- Segments with places kept for their bytes.
-use Rattle.std.proofs.Common.{◌≡◌, ℕ, ◌+◌, Bool, true, false, if◌then◌else◌, List, ◌++◌, length, Option, Some, None, inl, inr, refl, sym, ap, ap₂, subst, ◌∙◌, arith, length-append, zero-add}
-use Rattle.std.specs.Prelude.{◌==◌, ◌⊎◌}
+use Rattle.std.proofs.Common.{◌≡◌, ℕ, ◌+◌, Bool, true, false, if◌then◌else◌, List, ◌++◌, length, Option, Some, None, refl, sym, ap, ap₂, subst, ◌∙◌, arith, length-append, zero-add}
+use Rattle.std.specs.Prelude.{◌==◌}
 use Rattle.std.proofs.lemmas.Bool.{eq-eqb, eqb-true}
 use Rattle.handover.specs.declared.pads.PadSum.{PadSum}
 use Rattle.handover.specs.declared.outcome.Outcome.{Outcome}
@@ -87,45 +87,6 @@ pub place_is_good : (s : SegmentFields) (before : ℕ) (bytes : List ℕ) (padde
 place_is_good s before bytes padded are =
     ap (λ (o : Outcome). let output : Output = (bytes, o) in output)
     (good_if_many s (before + length bytes) padded s.kept are)
-
--- ---- a bad end
-
--- an output that ends well, but has another number of bytes than places
-pub record IsMisplaced (s : SegmentFields) (before : ℕ) (output : Output) (bytes : List ℕ)
-    (fault : StreamFault) : Type 0 where
-  pub padded : PadSum
-  pub places : ℕ
-  pub good : output ≡ (bytes, Good padded)
-  pub kept : s.kept ≡ Some places
-  pub is : fault ≡ record { segment = s.number; cause = PlaceBad (before + length bytes) places }
-
-bad_by : (t : Bool) (given : PadSum) (other fault : StreamFault)
-    → (if t then Good given else Bad other) ≡ Bad fault → fault ≡ other
-bad_by true given other fault e = absurd cc
-bad_by false given other fault e = cc
-
-misplaced_by : (s : SegmentFields) (before : ℕ) (made : List ℕ) (given : PadSum)
-    (fault : StreamFault) (kept : Option ℕ) → s.kept ≡ kept
-    → placed_ending s (before + length made) given kept ≡ Bad fault
-    → IsMisplaced s before (made, Good given) made fault
-misplaced_by s before made given fault None none e = absurd cc
-misplaced_by s before made given fault (Some places) some e = record {
-  padded = given;
-  places = places;
-  good = refl;
-  kept = some;
-  is = bad_by (before + length made == places) given _ fault e;
-}
-
--- an output that ends badly ends so without places too, or has another number of bytes
-pub bad_with_place : (s : SegmentFields) (before : ℕ) (output : Output) (bytes : List ℕ)
-    (fault : StreamFault) → with_place s before output ≡ (bytes, Bad fault)
-    → (output ≡ (bytes, Bad fault)) ⊎ IsMisplaced s before output bytes fault
-bad_with_place s before (made, Good given) bytes fault e =
-    inr (subst (λ (l : List ℕ). IsMisplaced s before (made, Good given) l fault)
-    (ap (λ (o : Output). o.0) e)
-    (misplaced_by s before made given fault s.kept refl (ap (λ (o : Output). o.1) e)))
-bad_with_place s before (made, Bad other) bytes fault e = inl e
 
 -- ---- segments
 

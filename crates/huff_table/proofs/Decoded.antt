@@ -1,5 +1,5 @@
 -- Taking bits until they are a code word, size by size.
-use Rattle.std.proofs.Common.{◌≡◌, ℕ, zero, suc, ◌+◌, ◌*◌, ◌^◌, ◌<◌, ◌≤◌, Bool, true, false, if◌then◌else◌, List, [], ◌∷◌, ◌++◌, length, take, drop, Option, Some, None, Result, Ok, Err, refl, sym, ap, ap₂, ◌∙◌, subst, arith, length-append, add-one, get_or, drop-cons, sum}
+use Rattle.std.proofs.Common.{◌≡◌, ℕ, zero, suc, ◌+◌, ◌*◌, ◌^◌, ◌<◌, ◌≤◌, Bool, if◌then◌else◌, List, [], ◌∷◌, ◌++◌, length, take, drop, Option, Some, None, Result, Ok, Err, refl, sym, ap, ap₂, ◌∙◌, subst, arith, length-append, add-one, get_or, drop-cons, sum}
 use Rattle.std.proofs.lemmas.List.{drop_all, length-drop}
 use Rattle.std.proofs.lemmas.List.Sums.{fold-append}
 use Rattle.bit_list.specs.Bits.{number_of}
@@ -20,10 +20,6 @@ use Rattle.huff_table.proofs.Found.{value_by, found_now, found_later, found_in_t
 -- a bit as a number
 abbrev pub number : Bool → ℕ
 number bit = if bit then 1 else 0
-
-number_below_two : (bit : Bool) → number bit < 2
-number_below_two true = omega arith
-number_below_two false = omega arith
 
 -- one more bit after some
 pub number_push : (prefix : List Bool) (bit : Bool) → number_of (prefix ++ bit ∷ []) ≡ 2 * number_of prefix + number bit
@@ -205,8 +201,3 @@ pub turns_end : {table : TableFields} {bytes : List ℕ} {from to : Cursor} {ind
     → Reaches table bytes from index code first (drop index counts) values to → value_at table bytes from ≡ Err (NoWord to.last)
 turns_end {table} {bytes} {from} {to} {index} {code} {first} {values} counts past at =
     reaches_end table bytes from to index code first values (subst (λ (l : List ℕ). Reaches table bytes from index code first l values to) (all_dropped counts index past) at)
-
--- what was taken is at most sixteen bits
-pub turns_few : {table : TableFields} {bytes : List ℕ} {from to : Cursor} {index code first : ℕ} {counts values : List ℕ}
-    → Reaches table bytes from index code first counts values to → (bits : List Bool) × (length bits ≤ 16) × (bits_at (length bits) bytes from ≡ Ok (bits, to))
-turns_few at = (at.prefix, omega (arith, at.size, at.room.sizes), at.taken)

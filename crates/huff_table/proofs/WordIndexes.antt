@@ -49,10 +49,6 @@ abbrev pub kept_or : Word → Option CodeWord → Word
 kept_or old None = old
 kept_or old (Some word) = kept word
 
-pub length-placed : (words : List Word) (more : List CodeWord) → length (placed words more) ≡ length words
-length-placed words [] = refl
-length-placed words (word ∷ more) = length-placed (set words word.value (kept word)) more ∙ length-set words word.value (kept word)
-
 placed_elsewhere : (words : List Word) (more : List CodeWord) (value : ℕ) (d : Word) → AllByRecursion (λ v. eqb value v ≡ false) (values_in more)
     → get_or (placed words more) value d ≡ get_or words value d
 placed_elsewhere words [] value d none = refl

@@ -1,7 +1,6 @@
 -- Components with their tables, one after the other.
-use Rattle.std.proofs.Common.{◌≡◌, ℕ, ◌+◌, ◌-◌, ◌<◌, ◌≤◌, List, [], ◌∷◌, ◌++◌, length, get_or, take, drop, set, replicate, drop-cons, add-one, eqb, true, refl, ap, sym, ◌∙◌, arith, append_assoc, Option, Some, None, option_map, map}
+use Rattle.std.proofs.Common.{◌≡◌, ℕ, ◌+◌, ◌-◌, ◌<◌, ◌≤◌, List, [], ◌∷◌, ◌++◌, length, get_or, take, drop, set, replicate, drop-cons, add-one, refl, ap, sym, ◌∙◌, arith, append_assoc, Option, Some, None, option_map, map}
 use Rattle.std.proofs.lemmas.List.{take-append-drop, take_more_set, take-set, drop-set, drop_at, drop-drop, drop-replicate, length-take, length-drop, map-append, take_more, append-nil, drop_all}
-use Rattle.std.proofs.lemmas.Bool.Decides.{nat_tests}
 use Rattle.jpeg_marker.specs.HuffmanTables.{TableFields}
 use Rattle.jpeg_marker.specs.Plans.{component_with, component_of, components_of, with_prefix, part_of, indexes_from}
 use Rattle.jpeg_marker.specs.declared.parameters.FrameComponent.{FrameComponent}
@@ -70,22 +69,6 @@ indexes_more indexes found i n p c dc ac below room so_far here =
     ∙ ap (λ prefix. prefix ++ c.index ∷ []) so_far
     ∙ ap (λ q. take i indexes ++ q ∷ []) (says_with (get_or indexes i n) p dc ac c here).at
     ∙ sym (take_more indexes i n below)
-
-index_moves : (prefix : List ℕ) (k : ℕ) (others : Option (List ℕ)) → option_map (λ xs. prefix ++ xs) (option_map (λ xs. k ∷ xs) others) ≡ option_map (λ xs. (prefix ++ k ∷ []) ++ xs) others
-index_moves prefix k None = refl
-index_moves prefix k (Some xs) = ap Some (sym (append_assoc prefix (k ∷ []) xs))
-
-equal : {a b : ℕ} → a ≡ b → eqb a b ≡ true
-equal {a = a} {b = b} h = grind (arith, nat_tests)
-
--- a step of the loop that looks for a scan's components: one that it names
-pub named_more : (selectors : List ScanComponent) (found : List ℕ) (parts : List FrameComponent) (i k : ℕ) (p : FrameComponent) (s : ScanComponent) → k < length parts → i < length selectors → i < length found → (get_or parts k p).id ≡ (get_or selectors i s).id → indexes_from 0 parts selectors ≡ option_map (λ others. take i found ++ others) (indexes_from k (drop k parts) (drop i selectors)) → indexes_from 0 parts selectors ≡ option_map (λ others. take (i + 1) (set found i k) ++ others) (indexes_from (k + 1) (drop (k + 1) parts) (drop (i + 1) selectors))
-named_more selectors found parts i k p s below some room same so_far =
-    let rest = indexes_from (k + 1) (drop (k + 1) parts) (drop (i + 1) selectors) in
-    let first : indexes_from k (drop k parts) (drop i selectors) ≡ option_map (λ others. k ∷ others) rest =
-    rw (drop-cons parts k p below, drop-cons selectors i s some, add-one k, add-one i, equal same) refl in
-    so_far ∙ ap (option_map (λ others. take i found ++ others)) first ∙ index_moves (take i found) k rest
-    ∙ ap (λ prefix. option_map (λ others. prefix ++ others) rest) (sym (take_more_set found i k room))
 
 -- at the end of that loop: it found all, or not all
 ended : (found : List ℕ) (n k : ℕ) (selectors : List ScanComponent) → length selectors ≤ n → n ≤ length selectors → option_map (λ others. take n found ++ others) (indexes_from k [] (drop n selectors)) ≡ Some (take (length selectors) found)

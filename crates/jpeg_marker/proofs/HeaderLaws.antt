@@ -153,8 +153,5 @@ never_both_next plan bytes place next r a b = never_stopped (next_walk plan.know
 pub one_plan : (bytes : List ℕ) (plan other : PlanFields) → Accepts bytes plan → Accepts bytes other → plan ≡ other
 one_plan bytes plan other a b = one_opening One bytes plan other a b
 
-pub one_refusal : (bytes : List ℕ) (refusal other : HeaderRefusal) → Refuses bytes refusal → Refuses bytes other → refusal ≡ other
-one_refusal bytes refusal other a b = one_opening_refusal One bytes refusal other a b
-
 pub never_both : (bytes : List ℕ) (plan : PlanFields) (refusal : HeaderRefusal) → Accepts bytes plan → Refuses bytes refusal → ⊥
 never_both bytes plan refusal a b = never_both_opening One bytes plan refusal a b

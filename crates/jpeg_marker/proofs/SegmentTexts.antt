@@ -1,5 +1,5 @@
 -- A segment's bytes, from the prefix of what is read.
-use Rattle.std.proofs.Common.{◌≡◌, ℕ, suc, ◌+◌, ◌-◌, ◌/◌, ◌%◌, ◌<◌, ◌≤◌, List, [], ◌∷◌, ◌++◌, length, get_or, take, drop, replicate, add-one, refl, ap, sym, ◌∙◌, arith, append_assoc}
+use Rattle.std.proofs.Common.{◌≡◌, ℕ, suc, ◌+◌, ◌-◌, ◌/◌, ◌%◌, ◌<◌, ◌≤◌, List, [], ◌∷◌, ◌++◌, length, get_or, take, drop, replicate, add-one, ap, sym, ◌∙◌, arith, append_assoc}
 use Rattle.std.proofs.lemmas.List.{take-append-drop, length-take-le, replicate_more, take_all, length-drop}
 use Rattle.jpeg_marker.specs.MarkerSegments.{two_bytes, number_at}
 use Rattle.jpeg_marker.specs.GoodSegments.{stuck_after}
@@ -8,12 +8,6 @@ use Rattle.jpeg_marker.specs.GoodSegments.{stuck_after}
 pub prefix_is : (bytes : List ℕ) → 1 ≤ length bytes → bytes ≡ get_or bytes 0 0 ∷ take (length bytes - 1) (drop 1 bytes)
 prefix_is [] some = absurd (omega arith)
 prefix_is (byte ∷ bytes) some = ap (λ rest. byte ∷ rest) (sym (take_all (suc (length bytes) - 1) bytes (omega arith)))
-
--- two first elements, and what follows them
-pub two_are : (bytes : List ℕ) (first second : ℕ) → 2 ≤ length bytes → get_or bytes 0 0 ≡ first → get_or bytes 1 0 ≡ second → bytes ≡ first ∷ second ∷ take (length bytes - 2) (drop 2 bytes)
-two_are [] first second some a b = absurd (omega arith)
-two_are (x ∷ []) first second some a b = absurd (omega arith)
-two_are (x ∷ y ∷ bytes) first second some a b = rw (a, b, take_all (suc (suc (length bytes)) - 2) bytes (omega arith)) refl
 
 -- one more byte of 0xff
 pub fill_more : (bytes rest tail : List ℕ) (place here : ℕ) → place ≤ here → rest ≡ 255 ∷ tail → bytes ≡ replicate (here - place) 255 ++ rest → bytes ≡ replicate (here + 1 - place) 255 ++ tail

@@ -1,5 +1,5 @@
 -- Steps of the walk over segments.
-use Rattle.std.proofs.Common.{◌≡◌, ◌≢◌, ℕ, ◌+◌, ◌-◌, ◌≤◌, false, not, cond, List, [], ◌∷◌, ◌++◌, length, take, drop, flat_map, fold, Option, Some, None, refl, ap, sym, ◌∙◌, arith, append_assoc, length-append, subst, eqb, IsTrue, inl, inr, Result, Ok, Err, IfOk, IfErr}
+use Rattle.std.proofs.Common.{◌≡◌, ◌≢◌, ℕ, ◌+◌, ◌-◌, ◌≤◌, false, not, cond, List, [], ◌∷◌, ◌++◌, length, take, drop, flat_map, fold, Option, Some, None, refl, ap, sym, ◌∙◌, arith, append_assoc, length-append, subst, eqb, IsTrue, inr, Result, Ok, Err, IfOk, IfErr}
 use Rattle.std.proofs.lemmas.List.{append-nil, take-append-drop, length-take-le}
 use Rattle.std.proofs.lemmas.List.Concat.{flat_map-append}
 use Rattle.std.proofs.lemmas.Bool.Decides.{nat_tests}
@@ -13,11 +13,11 @@ use Rattle.jpeg_marker.specs.HeldTables.{tables_kept}
 use Rattle.jpeg_marker.specs.Frames.{frames_in}
 use Rattle.jpeg_marker.specs.Plans.{PlanFields, scan_fault, plan_after}
 use Rattle.jpeg_marker.specs.Walks.{Walk, walk_text}
-use Rattle.jpeg_marker.specs.GoodSegments.{IsGood, AreGoodAfter, HaveNoScan, segment_fault, body_fault, fault_of, length_place, known_after, intervals_in, stuck_at}
+use Rattle.jpeg_marker.specs.GoodSegments.{IsGood, AreGoodAfter, HaveNoScan, segment_fault, body_fault, fault_of, length_place, known_after, intervals_in}
 use Rattle.jpeg_marker.specs.StandingSegments.{Stands}
 use Rattle.jpeg_marker.specs.HeaderWalks.{Walked}
 use Rattle.jpeg_marker.specs.HeaderPlan.{Begins, Stops}
-use Rattle.jpeg_marker.proofs.TableLists.{tables_kept-append, eight_of}
+use Rattle.jpeg_marker.proofs.TableLists.{tables_kept-append}
 
 -- what is known after segments and then others
 pub known_after-append : (before : Definitions) (segments more : List Segment) → known_after (known_after before segments) more ≡ known_after before (segments ++ more)
@@ -29,10 +29,6 @@ known_after-append before segments more =
     let intervals : fold (λ _ n. n) (fold (λ _ n. n) before.interval (flat_map intervals_in segments)) (flat_map intervals_in more) ≡ fold (λ _ n. n) before.interval (flat_map intervals_in (segments ++ more)) =
     sym (ap (fold (λ _ n. n) before.interval) (flat_map-append intervals_in segments more) ∙ fold-append (λ _ n. n) before.interval (flat_map intervals_in segments) (flat_map intervals_in more)) in
     rw (frames, tables, intervals) refl
-
--- what is known after none
-pub known_after-none : (before : Definitions) → length before.tables ≡ 8 → before ≡ known_after before []
-known_after-none before size = ap (λ tables. record before { tables = tables }) (eight_of before.tables size)
 
 not_equal : (a b : ℕ) → a ≢ b → IsTrue (not (eqb a b))
 not_equal a b h = grind (arith, nat_tests)
@@ -90,18 +86,9 @@ Walked-more w bytes rest after body place code at found new k s other checked ke
       knows = kept s.fill ∙ ap (λ known. known_after known (t ∷ [])) k.knows ∙ known_after-append w.known k.segments (t ∷ []);
     }
 
-pub stops_stuck : (w : Walk) (bytes rest : List ℕ) (place : ℕ) (found : Definitions) (r : HeaderRefusal) → Walked w bytes rest place found → stuck_at place rest ≡ Some r → Stops w bytes r
-stops_stuck w bytes rest place found r k stuck =
-    record { before = k.segments; rest = rest; passed = k.passed; text = k.text; stuck = inl (ap (λ p. stuck_at p rest) (sym k.here) ∙ stuck) }
-
 pub stops_checked : (w : Walk) (bytes rest after body : List ℕ) (place code at : ℕ) (found : Definitions) (r : HeaderRefusal) → Walked w bytes rest place found → Stands rest place code at body after → body_fault w.scans found at code body ≡ Some r → Stops w bytes r
 stops_checked w bytes rest after body place code at found r k s fault =
     record { before = k.segments; rest = rest; passed = k.passed; text = k.text; stuck = inr (stood rest place code at body after s, after, s.whole, s.text, sym (fault_here w bytes rest after body place code at found k s) ∙ fault) }
-
--- the same of a segment that isn't a scan's
-pub stops_other : (w : Walk) (bytes rest after body : List ℕ) (place code at : ℕ) (found : Definitions) (r : HeaderRefusal) → Walked w bytes rest place found → Stands rest place code at body after → code ≢ 218 → segment_fault found at code body ≡ Some r → Stops w bytes r
-stops_other w bytes rest after body place code at found r k s other fault =
-    stops_checked w bytes rest after body place code at found r k s (other_fault w found at code body other ∙ fault)
 
 pub begins_here : (w : Walk) (bytes rest after body : List ℕ) (place code at : ℕ) (found : Definitions) (plan : PlanFields) → Walked w bytes rest place found → Stands rest place code at body after → code ≡ 218 → scan_fault w.scans found found.frame at body ≡ None → plan_after found found.frame (length bytes - length after) body ≡ Some plan → Begins w bytes plan
 begins_here w bytes rest after body place code at found plan k s scan checked says =

@@ -3,7 +3,6 @@ use Rattle.std.proofs.Common.{◌≡◌, ℕ, ◌<◌, ◌≤◌, inl, inr, true
 use Rattle.std.specs.Io.KnownBytes.{Consumes, IsAtEnd}
 use Rattle.std.proofs.lemmas.Bool.{false≢true}
 use Rattle.command_words.specs.declared.command.Command.{Command}
-use Rattle.command_words.specs.declared.command.Command.TheVariants.{Sample}
 use Rattle.lepton_run.specs.Answers.{Answer, Answers, GaveUpTo, IsAllOf, IsInput, Took, TookAs, input_of, is_taken, limit_of, most_of, reads}
 use Rattle.lepton_run.specs.declared.input.Input.{Input}
 use Rattle.lepton_run.specs.declared.input.Input.TheVariants.{File, Container, Nothing}
@@ -85,8 +84,3 @@ none_taken Nothing old is = (refl, refl)
 pub took_none : (command : Command) (old : Option (List ℕ)) → reads command ≡ false
     → Took command old old []
 took_none command old is = none_taken (input_of command) old is
-
--- `sample` is one of these
-pub sample_reads : (command : Command) (seed columns rows : ℕ) → command ≡ Sample seed columns rows
-    → reads command ≡ false
-sample_reads command seed columns rows is = ap reads is

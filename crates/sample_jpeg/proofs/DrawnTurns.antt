@@ -92,24 +92,9 @@ pub record IsAt (n first : ℕ) (old : ScanWriter) (file : List ℕ) (k state : 
   pub left : mcus_put old.shape (λ n. true) old.spot (drawn_mcus n first).value
       ≡ prefixed_put text (mcus_put old.shape (λ n. true) now.spot (drawn_mcus (n - k) state).value)
 
-prefixed_none : (put : Put) → put ≡ prefixed_put [] put
-prefixed_none (Ok made) = refl
-prefixed_none (Err stop) = refl
-
 prefixed_twice : (a b : List ℕ) (put : Put) → prefixed_put a (prefixed_put b put) ≡ prefixed_put (a ++ b) put
 prefixed_twice a b (Ok made) = ap (λ (l : List ℕ). Ok (l, made.1)) (sym (append_assoc a b made.0))
 prefixed_twice a b (Err stop) = refl
-
-pub at_start : (n first : ℕ) (old : ScanWriter) (file : List ℕ) → IsUnderWay old → IsAt n first old file 0 first old file
-at_start n first old file way = record {
-  way = way;
-  shape = refl;
-  count = omega arith;
-  text = [];
-  appended = sym (append-nil file);
-  left = let all : n ≡ n - 0 = omega arith in
-      prefixed_none _ ∙ ap (λ m. prefixed_put [] (mcus_put old.shape (λ n. true) old.spot (drawn_mcus m first).value)) all;
-}
 
 pub at_next : (n first : ℕ) (old : ScanWriter) (file : List ℕ) (k state after : ℕ) (now new : ScanWriter) (longer more : List ℕ) → k < n
     → IsAt n first old file k state now longer → PutsMcu state now new longer more → after ≡ (drawn_blocks 3 state).state
@@ -145,15 +130,6 @@ at_end n first old file k state now longer over at =
     }
 
 -- ---- the file
-
-pub way_of : (e : Extent) → IsUnderWay (writer_of (shape_of (sample_plan e)) (Same true))
-way_of e = record {
-  slots = refl;
-  pads = refl;
-  begun = omega arith;
-  before = (omega arith, (omega arith, (omega arith, (omega arith, tt))));
-  stop = refl;
-}
 
 pub file_is : (seed columns rows : ℕ) (longer : List ℕ) → IsExtent (extent_of seed columns rows)
     → PutsMcus (columns * rows) seed (writer_of (shape_of (sample_plan (extent_of seed columns rows))) (Same true)) (sample_header (extent_of seed columns rows)) longer

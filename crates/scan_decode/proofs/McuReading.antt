@@ -23,9 +23,6 @@ pub coded_is_block : (slot : Slot) (before : List ℤ) (bytes : List ℕ) (curso
 unfolding block_at
 coded_is_block slot before bytes cursor = refl
 
-in_prefix : List ℤ → Read → Read
-in_prefix block r = and_then r (λ more. Ok (record more { blocks = block ∷ more.blocks }))
-
 prefix_twice : (prefix : List (List ℤ)) (block : List ℤ) (r : Read) → after_prefix prefix (and_then r (λ more. Ok (record more { blocks = block ∷ more.blocks }))) ≡ after_prefix (prefix ++ block ∷ []) r
 prefix_twice prefix block (Err e) = refl
 prefix_twice prefix block (Ok x) = ap (λ (l : List (List ℤ)). Ok (record x { blocks = l })) (sym (append_assoc prefix (block ∷ []) x.blocks))

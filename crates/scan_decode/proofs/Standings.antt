@@ -1,8 +1,7 @@
 -- An MCU by its blocks and what stands after them.
-use Rattle.std.proofs.Common.{◌≡◌, ℕ, ◌+◌, Bool, true, false, if◌then◌else◌, List, ℤ, None, Result, Ok, Err, refl, ap, ◌∙◌}
+use Rattle.std.proofs.Common.{◌≡◌, ℕ, List, ℤ, Result, Ok, Err, refl, ap, ◌∙◌}
 use Rattle.scan_spec.specs.Slots.{Shape}
-use Rattle.scan_spec.specs.Spots.{is_closed}
-use Rattle.scan_spec.specs.ScanReading.{and_then, blocks_at, BlocksRead, after_mcu, after_pads, pads_at, mcu_at, Standing}
+use Rattle.scan_spec.specs.ScanReading.{and_then, blocks_at, BlocksRead, after_mcu, mcu_at, Standing}
 use Rattle.scan_spec.specs.declared.refusal.ScanRefusal.{ScanRefusal}
 use Rattle.scan_decode.specs.ReadResults.{mcu_read, standing_read}
 
@@ -19,19 +18,6 @@ no_blocks shape bytes at refusal e = ap (λ (r : Result BlocksRead ScanRefusal).
 blocks_there : (shape : Shape) (bytes : List ℕ) (at : Standing) (read : BlocksRead) → Ok read ≡ blocks_at shape.slots at.before bytes at.cursor → dcs_after_read shape bytes at read ≡ mcu_at shape bytes at
 unfolding mcu_at
 blocks_there shape bytes at read e = ap (λ (r : Result BlocksRead ScanRefusal). and_then r (dcs_after_read shape bytes at)) e
-
--- what follows an MCU's blocks in its interval, or at its end
-abbrev by_closing : Shape → List ℕ → Standing → BlocksRead → Bool → Result Standing ScanRefusal
-by_closing shape bytes at read closed =
-    if closed then and_then (pads_at read.cursor) (after_pads shape bytes at.count) else Ok (record { cursor = read.cursor; before = read.before; count = at.count + 1; pad = None })
-
-pub goes_on : (shape : Shape) (bytes : List ℕ) (at : Standing) (read : BlocksRead) → false ≡ is_closed shape (at.count + 1)
-    → Ok (record { cursor = read.cursor; before = read.before; count = at.count + 1; pad = None }) ≡ after_mcu shape bytes at read
-goes_on shape bytes at read more = ap (by_closing shape bytes at read) more
-
-pub closes_here : (r : Result Standing ScanRefusal) (shape : Shape) (bytes : List ℕ) (at : Standing) (read : BlocksRead) → true ≡ is_closed shape (at.count + 1)
-    → r ≡ and_then (pads_at read.cursor) (after_pads shape bytes at.count) → r ≡ after_mcu shape bytes at read
-closes_here r shape bytes at read closed is = is ∙ ap (by_closing shape bytes at read) closed
 
 put_both : {A : Type 0} (r : Result A ScanRefusal) (blocks : List (List ℤ)) (next : Standing) → mcu_read r blocks next ≡ and_then (standing_read r next) (λ at. Ok (blocks, at))
 put_both (Ok x) blocks next = refl

@@ -6,7 +6,6 @@ use Rattle.bit_list.specs.Units.{Cursor, starting, bits_at}
 use Rattle.jpeg_marker.specs.HuffmanTables.{TableFields, IsTable}
 use Rattle.huff_table.specs.CodeWords.{word_of}
 use Rattle.huff_table.specs.Decoding.{value_at}
-use Rattle.huff_table.specs.declared.fault.CodeFault.{CodeFault}
 use Rattle.huff_table.proofs.WordReading.{word_is_read, fault_comes}
 use Rattle.scan_spec.specs.ValueBits.{extend}
 use Rattle.scan_spec.specs.Blocks.{last_dc}
@@ -97,12 +96,6 @@ good_next (Wrong refusal) (Coded bits) shape bytes run at next after is one all 
 good_next (Wrong refusal) Restart shape bytes run at next after is one all s = absurd s
 
 -- ---- one item
-
-abbrev found : ℕ → Cursor → Result (ℕ × Cursor) CodeFault
-found value next = Ok (value, next)
-
-abbrev lost : CodeFault → Result (ℕ × Cursor) CodeFault
-lost fault = Err fault
 
 pair_is : {A B : Type 0} (x y : A × B) → x ≡ y → (x.0 ≡ y.0) × (x.1 ≡ y.1)
 pair_is x y e = (ap (λ p. p.0) e, ap (λ p. p.1) e)

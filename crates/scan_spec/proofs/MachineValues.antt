@@ -76,10 +76,6 @@ ones_less bits size few under =
 pub sum_is : (a b : ℤ) → unsigned_abs a ≤ 32767 → unsigned_abs b ≤ 2047 → to_z w32 (of_z w32 (a +ℤ b)) ≡ a +ℤ b
 sum_is a b small few = let most : unsigned_abs (a +ℤ b) ≤ 65534 = omega (arith, ints) in kept_word (a +ℤ b) most
 
--- the first bit's weight, as the machine shifts
-pub weight : (size : ℕ) → size ≤ 11 → 1 * 2 ^ (size - 1) % 65536 ≡ 2 ^ (size - 1)
-weight size few = one_shl (size - 1) 16 (omega (arith, few))
-
 -- a DC after one before
 pub dc_sum : (before difference from : ℤ) → unsigned_abs before ≤ 32767 → unsigned_abs difference ≤ 2047 → from ≡ before
     → to_z w32 (of_z w32 (to_z w32 (of_z w32 from) +ℤ to_z w32 (of_z w32 difference))) ≡ before +ℤ difference

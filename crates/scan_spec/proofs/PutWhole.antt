@@ -23,9 +23,6 @@ use Rattle.scan_spec.proofs.Cuts.{text_in_parts}
 abbrev number : ℕ → ℕ → ℕ
 number interval count = if interval == 0 then 0 else count / interval
 
-no_end : (count : ℕ) → ends_interval 0 count ≡ false
-no_end count = refl
-
 quotient_next : (k c q r : ℕ) → 0 < k → r < k → q * k + r ≡ c → (c + 1) % k ≡ 0 → (c + 1) / k ≡ q + 1
 quotient_next k c q r some below is none = elim (cases_lt (r + 1) k) [
   | inl lt ↦

@@ -1,9 +1,8 @@
 -- Pad bits packed into bytes one by one, and their list.
-use Rattle.std.proofs.Common.{◌≡◌, ℕ, suc, ◌+◌, ◌-◌, ◌*◌, ◌%◌, ◌^◌, ◌<◌, ◌≤◌, Bool, true, false, if◌then◌else◌, List, [], ◌∷◌, ◌++◌, length, replicate, refl, ap, ap₂, ◌∙◌, sym, arith, append-nil, append_assoc}
+use Rattle.std.proofs.Common.{◌≡◌, ℕ, ◌+◌, ◌-◌, ◌*◌, ◌%◌, ◌^◌, ◌<◌, ◌≤◌, Bool, true, false, if◌then◌else◌, List, [], ◌∷◌, ◌++◌, length, replicate, refl, ap, ap₂, ◌∙◌, sym, arith, append-nil, append_assoc}
 use Rattle.std.specs.List.{AllByRecursion}
 use Rattle.std.proofs.lemmas.Grind.{flat_map-append}
 use Rattle.std.proofs.lemmas.Nat.{mul-add-lt, pow-add, pow_pos}
-use Rattle.std.proofs.Math.Nat.{pow-suc}
 use Rattle.bit_list.specs.Bits.{IsByte, bits_of, begun_after, bytes_after, low_bits, padding}
 use Rattle.bit_list.specs.NumbersOfBits.{length-low_bits, mod_small}
 use Rattle.bit_list.proofs.LowBits.{low_bits-join}
@@ -30,15 +29,6 @@ pub bit_after : (count number : ℕ) (bit : Bool)
 bit_after count number bit =
     low_bits-join count 1 number (number_of_bit bit) (below_two bit)
     ∙ ap (λ (l : List Bool). low_bits count number ++ l) (one_bit bit)
-
--- which fits
-pub bit_fits : (count number : ℕ) (bit : Bool) → number < 2 ^ count
-    → number * 2 + number_of_bit bit < 2 ^ (count + 1)
-bit_fits count number bit below =
-    let h = below_two bit in
-    let e : count + 1 ≡ suc count = omega arith in
-    let p : 2 ^ (count + 1) ≡ 2 ^ count * 2 = ap (λ (n : ℕ). 2 ^ n) e ∙ pow-suc 2 count in
-    omega (arith, h, p, below)
 
 -- a byte more
 pub byte_more : (bytes : List ℕ) (byte : ℕ)

@@ -19,10 +19,6 @@ made_twice a b (SomeOf bytes left at) =
     ap (λ (l : List ℕ). SomeOf l left at) (sym (append_assoc a b bytes))
 made_twice a b (AllOf output) = ap AllOf (prefix_twice a b output)
 
-made_once : (made : Made) → made ≡ made_with_prefix [] made
-made_once (SomeOf bytes left at) = refl
-made_once (AllOf output) = refl
-
 with_room : (t : Bool) (a b : Made) → t ≡ false → (if t then a else b) ≡ b
 with_room false a b e = refl
 with_room true a b e = cc
@@ -51,11 +47,6 @@ piece_next (suc left) used s at room some =
     less
 
 -- ---- what was made of it
-
-pub piece_begun : (d : DecoderSeen) (s : SegmentFields) (most : ℕ) (at : Progress)
-    → IsWithin d s most at → IsBegunPiece s most at [] d
-piece_begun d s most at is =
-    record { left = most; now = at; stands = is; bytes = made_once (piece most s at 0) }
 
 module _ (s : SegmentFields) (most : ℕ) (at : Progress) (out : List ℕ) (old : DecoderSeen)
     (begun : IsBegunPiece s most at out old) (on : goes_on old.left out ≡ true)

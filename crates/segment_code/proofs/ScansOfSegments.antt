@@ -1,5 +1,5 @@
 -- The scan that has a segment of a container, found by counting the segments of the scans before it.
-use Rattle.std.proofs.Common.{◌≡◌, ◌<◌, ◌≤◌, ◌+◌, ◌-◌, if◌then◌else◌, Bool, true, false, ℕ, zero, suc, List, [], ◌∷◌, length, drop, map, refl, sym, ap, ap₂, ◌∙◌, arith}
+use Rattle.std.proofs.Common.{◌≡◌, ◌<◌, ◌≤◌, ◌+◌, ◌-◌, if◌then◌else◌, Bool, true, false, ℕ, zero, suc, List, [], ◌∷◌, length, drop, map, sym, ap, ap₂, ◌∙◌, arith}
 use Rattle.std.specs.Prelude.{Some, nat_lt, slice_get}
 use Rattle.std.proofs.lemmas.Bool.{le-ltb, lt-ltb}
 use Rattle.box_format.specs.Parts.{BoxSeen}
@@ -101,21 +101,6 @@ segment_later scans segment scan before count s is e c past =
           ∙ ap (λ (t : Bool). if t then scan else scan_of (scan + 1) rest (i - k)) there
           ∙ ap (λ (m : ℕ). scan_of (scan + 1) rest m) left;
     }
-
-drop_past : (scans : List BoxSeen) (scan : ℕ) → length scans ≤ scan → drop scan scans ≡ []
-drop_past [] zero past = refl
-drop_past [] (suc n) past = refl
-drop_past (s ∷ scans) zero past = absurd (omega (arith, past))
-drop_past (s ∷ scans) (suc n) past = drop_past scans n (omega (arith, past))
-
--- some scan has it
-pub some_has : (scans : List BoxSeen) (segment scan before : ℕ) → IsBefore scans segment scan before
-    → segment < segment_count scans → length scans ≤ scan → ⊥
-some_has scans segment scan before is below past =
-    let none = ap segment_count (drop_past scans scan past) in
-    let counted = is.counted in
-    let within = is.within in
-    omega (arith, none, counted, within, below)
 
 -- the plan of a scan
 pub plan_of : (scans : List BoxSeen) (scan : ℕ) (s : BoxSeen) → slice_get scans scan ≡ Some s

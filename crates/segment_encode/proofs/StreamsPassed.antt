@@ -1,22 +1,19 @@
 -- Streams between two passes over a file's scan.
-use Rattle.std.proofs.Common.{◌≡◌, ℕ, ◌+◌, ◌++◌, ◌∷◌, Bool, List, [], length, map, refl, ap, ap₂, ◌∙◌, sym, subst, arith}
+use Rattle.std.proofs.Common.{◌≡◌, ℕ, ◌+◌, ◌++◌, ◌∷◌, Bool, List, [], length, map, ap, ap₂, ◌∙◌, sym, subst, arith}
 use Rattle.std.specs.Prelude.{IfOk, OnOk, Result, Ok, Err}
 use Rattle.std.proofs.lemmas.List.Elements.{All-push}
 use Rattle.scan_spec.specs.Scans.{Mcu}
-use Rattle.scan_spec.specs.Slots.{shape_of}
-use Rattle.scan_spec.specs.Items.{Refuses}
-use Rattle.scan_spec.specs.declared.refusal.ScanRefusal.{ScanRefusal}
 use Rattle.box_format.specs.Raws.{numbers}
 use Rattle.container_spec.specs.Files.{plan_cut, segment_mcus}
 use Rattle.container_spec.specs.ScanStream.{stream_of}
 use Rattle.jpeg_marker.specs.Plans.{PlanFields}
 use Rattle.segment_code.specs.ReadyParts.{ReadyFields}
-use Rattle.segment_code.specs.ScanPasses.{HasPassed, IsNextStream, IsNoPart, IsPartStream, IsPass, PassFields, pass_cut, passed, segments_left}
+use Rattle.segment_code.specs.ScanPasses.{HasPassed, IsNextStream, IsNoPart, IsPartStream, PassFields, pass_cut, passed, segments_left}
 use Rattle.segment_code.specs.Starting.{IsFileAt}
 use Rattle.segment_code.proofs.PassesOn.{has_ended}
 use Rattle.segment_encode.specs.Lanes.{AreMade, GiveEach, LaneMakes, LaneRefused, parts_in}
 use Rattle.segment_encode.specs.declared.lanes.Lane.{Lane}
-use Rattle.segment_encode.specs.StreamsFound.{ArePassed, AreStreams, HasPassedOn, PassRefuses}
+use Rattle.segment_encode.specs.StreamsFound.{ArePassed, AreStreams, HasPassedOn}
 use Rattle.segment_encode.proofs.StreamsMade.{each_on, give_more, given}
 
 -- what a pass keeps
@@ -51,10 +48,6 @@ file_on old new mcus pads trailer k file =
     subst (λ (b : List ℕ). IsFileAt b new.plan mcus pads trailer) (sym k.bytes)
     (subst (λ (plan : PlanFields). IsFileAt old.bytes plan mcus pads trailer) (sym k.plan) file)
 
--- no segment passed yet
-pub passed_none : (p : PassFields) → IsPass p → HasPassedOn 0 p p
-passed_none p is = record { is = is; more = omega arith; same = refl }
-
 -- and one more
 pub passed_more : (n : ℕ) (old mid new : PassFields) → HasPassedOn n old mid → HasPassed mid new
     → HasPassedOn (n + 1) old new
@@ -77,15 +70,6 @@ fewer_left n old new on =
     let more = on.more in
     let within = on.is.within in
     omega (arith, cut, more, within)
-
--- a refusal after segments is the scan's
-pub refused_on : (n : ℕ) (old mid : PassFields) (refusal : ScanRefusal) → HasPassedOn n old mid
-    → PassRefuses mid refusal → PassRefuses old refusal
-refused_on n old mid refusal on refuses =
-    let k = kept old mid on.same in
-    subst (λ (b : List ℕ). Refuses (shape_of old.plan) b old.plan.header_length refusal) k.bytes
-    (subst (λ (plan : PlanFields). Refuses (shape_of plan) mid.bytes plan.header_length refusal)
-    k.plan refuses)
 
 -- the stream of the next segment, by the pass before all of them
 next_is : (n : ℕ) (old mid : PassFields) (stream : List ℕ) → HasPassedOn n old mid

@@ -1,7 +1,7 @@
 -- Lists from an item on.
 use Rattle.std.proofs.Common.{◌≡◌, ℕ, zero, suc, ◌+◌, ◌≤◌, List, [], ◌∷◌, ◌++◌, length, take, drop, map, min, refl, sym, ap, ◌∙◌, arith, length-append}
 use Rattle.std.specs.Prelude.{slice_index_or}
-use lib.Seq.{take-append-le, take_all, take-append_seam, drop-append_seam, drop-drop, take-add}
+use lib.Seq.{take-append-le, take_all, take-append_seam, drop-append_seam, drop-drop}
 use lib.ListN.{length-drop, length-take}
 use Rattle.box_format.specs.Raws.{numbers}
 
@@ -31,11 +31,6 @@ rest_ends xs out from within e =
     let long = ap length e in
     let rest = length-drop from xs in
     omega (arith, long, rest, within)
-
--- the first items, and the next ones after them
-pub more_taken : (xs : List ℕ) (from n : ℕ)
-    → take (from + n) xs ≡ take from xs ++ take n (drop from xs)
-more_taken xs from n = take-add from n xs
 
 -- past the end of a list of lists nothing stands
 pub past_end : (xs : List (List ℕ)) (i : ℕ) → length xs ≤ i → slice_index_or xs i [] ≡ []

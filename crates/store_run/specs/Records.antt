@@ -1,6 +1,5 @@
 -- Statement: the records of an input, and the replies to them (docs/STORE.md, Records).
-use Rattle.std.specs.Prelude.{ℕ, ◌≡◌, ◌≢◌, ◌⊎◌, ◌<◌, ◌≤◌, ◌^◌, List, [], ◌∷◌, ◌++◌, length, flat_map, Option}
-use Rattle.std.specs.List.{AllByRecursion}
+use Rattle.std.specs.Prelude.{ℕ, ◌≡◌, ◌≢◌, ◌⊎◌, ◌<◌, ◌≤◌, ◌^◌, List, [], ◌∷◌, ◌++◌, length, Option}
 use Rattle.std.specs.Io.KnownBytes.{IsAtEnd}
 use Rattle.byteorder.specs.Endian.{big_bytes}
 use Rattle.container_spec.specs.Limits.{most_of_a_file}
@@ -35,11 +34,6 @@ abbrev pub IsWhole : FileCall → Type 0
 IsWhole (PutFile file) = length file ≤ most_of_a_file
 IsWhole (FindFile key) = length key ≡ key_length
 IsWhole (RemoveFile key) = length key ≡ key_length
-
--- bytes are those of whole records, one after another
-abbrev pub AreRecords : List ℕ → List FileCall → Type 0
-AreRecords bytes records =
-    (bytes ≡ flat_map record_bytes records) × AllByRecursion IsWhole records
 
 -- bytes with which no record begins: another first byte, or a length above the most
 abbrev pub IsForeign : List ℕ → Type 0
