@@ -1,12 +1,20 @@
 -- What the parts with a place in a slice give of it.
-use Rattle.std.proofs.Common.{◌≡◌, ℕ, ◌+◌, ◌-◌, ◌≤◌, min, max, length, take, drop, ap, ap₂, subst, ◌∙◌, arith, Some}
+use Rattle.std.proofs.Common.{◌≡◌, ℕ, ◌+◌, ◌-◌, ◌<◌, ◌≤◌, min, max, List, [], length, take, drop, ap, ap₂, subst, ◌∙◌, arith, Some}
 use Rattle.byte_window.specs.Windows.{window}
-use Rattle.byte_window.specs.Slices.{slice, has_place, cover_of}
-use Rattle.byte_window.specs.SliceLaws.{CoveredIsWindow, UncoveredIsNothing}
+use Rattle.byte_window.specs.Slices.{Rises, slice, has_place, cover_of}
 use Rattle.byte_window.proofs.SliceParts.{slice_is_window, slice_within}
 use Rattle.byte_window.proofs.Covers.{cover_is_exact, cover_has_slice, nothing_covered, rising}
 
-pub covered_is_window : CoveredIsWindow
+-- the slice of a list that has its parts at these places is a window on the parts that have a place in it
+pub covered_is_window : (starts : ℕ → ℕ) (count a b : ℕ) (xs : List ℕ) → Rises starts count
+    → starts count ≡ starts 0 + length xs
+    → (cover_of starts count a b).from < (cover_of starts count a b).to
+    → let c = cover_of starts count a b in
+    slice (a - starts 0) (b - starts 0) xs
+    ≡ window (record {
+      skip = a - starts c.from;
+      most = Some (min b (starts c.to) - max a (starts c.from));
+    }) (slice (starts c.from - starts 0) (starts c.to - starts 0) xs)
 covered_is_window starts count a b xs up end some =
     let h = starts 0 in
     let c = cover_of starts count a b in
@@ -32,7 +40,11 @@ covered_is_window starts count a b xs up end some =
     ∙ ap₂ (λ (s m : ℕ). window (record { skip = s; most = Some m })
     (slice (starts c.from - h) (starts c.to - h) xs)) skip most
 
-pub uncovered_is_nothing : UncoveredIsNothing
+-- and nothing if no part has one
+pub uncovered_is_nothing : (starts : ℕ → ℕ) (count a b : ℕ) (xs : List ℕ) → Rises starts count
+    → starts count ≡ starts 0 + length xs
+    → (cover_of starts count a b).from ≡ (cover_of starts count a b).to
+    → slice (a - starts 0) (b - starts 0) xs ≡ []
 uncovered_is_nothing starts count a b xs up end same =
     let h = starts 0 in
     let past = nothing_covered starts count a b up same in

@@ -4,7 +4,7 @@ use Rattle.std.specs.Prelude.{◌==◌, nat_lt, if◌then◌else◌}
 use Rattle.std.proofs.lemmas.Bool.{cases_lt}
 use Rattle.std.proofs.lemmas.Bool.Decides.{nat_tests}
 use Rattle.byte_window.specs.Slices.{Cover, Rises, has_place, with_part, cover, cover_of}
-use Rattle.byte_window.specs.SliceLaws.{IsCover, CoverIsExact, CoverHasSlice, NothingCovered}
+use Rattle.byte_window.specs.SliceLaws.{IsCover, CoverIsExact}
 
 -- one more part
 with_one : (met : ℕ → Bool) (count : ℕ) (c : Cover) (is : Bool) → met count ≡ is → IsCover met count c
@@ -168,7 +168,10 @@ high_ones starts a b to (suc n) none =
           → (min b (starts (to + suc n)) ≤ starts to) ⊎ (min b (starts (to + suc n)) ≤ a)
       later low = moved (inr (omega (arith, u, low)))
 
-pub nothing_covered : NothingCovered
+-- if no part has a place from a to before b, there is no place of the list in between
+pub nothing_covered : (starts : ℕ → ℕ) (count a b : ℕ) → Rises starts count
+    → (cover_of starts count a b).from ≡ (cover_of starts count a b).to
+    → min b (starts count) ≤ max a (starts 0)
 nothing_covered starts count a b up same =
     ⊎_elim (λ (low : starts count ≤ max a (starts 0)). omega (arith, low))
     (λ (past : b ≤ max a (starts 0)). omega (arith, past))
@@ -183,11 +186,18 @@ nothing_covered starts count a b up same =
           let x = in_it.0 in let y = in_it.1 in absurd (omega (arith, x, y, same)))
           (λ (un : has_place starts a b i ≡ false). un) (either (has_place starts a b i))
 
--- the same, by a cover's facts
-slice_in : (starts : ℕ → ℕ) (count a b : ℕ) (c : Cover) → Rises starts count
-    → IsCover (has_place starts a b) count c → c.from < c.to
-    → (starts c.from ≤ max a (starts 0)) × (min b (starts count) ≤ starts c.to)
-slice_in starts count a b c up k some = (low, high) where
+-- and if some have one, these hold all places of the list in between
+pub cover_has_slice : (starts : ℕ → ℕ) (count a b : ℕ) → Rises starts count
+    → (cover_of starts count a b).from < (cover_of starts count a b).to
+    → (starts (cover_of starts count a b).from ≤ max a (starts 0))
+    × (min b (starts count) ≤ starts (cover_of starts count a b).to)
+cover_has_slice starts count a b up some = (low, high) where
+  c : Cover
+  c = cover_of starts count a b
+
+  k : IsCover (has_place starts a b) count c
+  k = cover_is_exact (has_place starts a b) count
+
   ends : (has_place starts a b c.from ≡ true) × (has_place starts a b (c.to - 1) ≡ true)
       × (c.to ≤ count)
   ends = k.some some
@@ -236,8 +246,3 @@ slice_in starts count a b c up k some = (low, high) where
       absurd (omega (arith, last, under, rise)))
       (high_ones starts a b c.to (count - c.to)
       (λ i from h. unmet_there i (omega (arith, h, end)) (inr from)))
-
-pub cover_has_slice : CoverHasSlice
-cover_has_slice starts count a b up some =
-    slice_in starts count a b (cover_of starts count a b) up
-    (cover_is_exact (has_place starts a b) count) some

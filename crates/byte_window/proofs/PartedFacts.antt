@@ -106,7 +106,7 @@ between_long f i j p low high =
     omega (arith, long, all, first, order, last)
 
 pub bytes_are_enough : BytesAreEnough
-bytes_are_enough f a b p order =
+bytes_are_enough f a b p =
     some_or_none f a b (skip_within f a b + most_within f a b ≤ length (bytes_within f a b))
     (λ some.
     let c = parts_within f a b in

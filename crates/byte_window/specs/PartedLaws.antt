@@ -23,7 +23,7 @@ most_within f a b =
 -- the parts have as many bytes as the window skips and lets through
 abbrev pub BytesAreEnough : Type 0
 BytesAreEnough =
-    (f : PartedFile) (a b : ℕ) → IsPlaced f → a ≤ b
+    (f : PartedFile) (a b : ℕ) → IsPlaced f
     → skip_within f a b + most_within f a b ≤ length (bytes_within f a b)
 
 -- and as many go through as the slice has beside its part of the header and of the trailer

@@ -1,7 +1,7 @@
 -- Law: what holds of all slices (own).
-use Rattle.std.specs.Prelude.{ℕ, ◌≡◌, ◌+◌, ◌-◌, ◌<◌, ◌≤◌, max, min, Bool, true, List, [], ◌++◌, length, Some}
+use Rattle.std.specs.Prelude.{ℕ, ◌≡◌, ◌-◌, ◌<◌, ◌≤◌, min, Bool, true, List, ◌++◌, length, Some}
 use Rattle.byte_window.specs.Windows.{window}
-use Rattle.byte_window.specs.Slices.{Cover, Rises, slice, cover, cover_of}
+use Rattle.byte_window.specs.Slices.{Cover, slice, cover}
 
 -- a slice of two lists joined
 abbrev pub SliceOfParts : Type 0
@@ -32,45 +32,7 @@ pub record IsCover (met : ℕ → Bool) (count : ℕ) (c : Cover) : Type 0 where
 abbrev pub CoverIsExact : Type 0
 CoverIsExact = (met : ℕ → Bool) (count : ℕ) → IsCover met count (cover met count)
 
--- if some parts have a place from a to before b, they hold all places of the list in between
-abbrev pub CoverHasSlice : Type 0
-CoverHasSlice =
-    (starts : ℕ → ℕ) (count a b : ℕ) → Rises starts count
-    → (cover_of starts count a b).from < (cover_of starts count a b).to
-    → (starts (cover_of starts count a b).from ≤ max a (starts 0))
-    × (min b (starts count) ≤ starts (cover_of starts count a b).to)
-
--- and if no part has one, there is none
-abbrev pub NothingCovered : Type 0
-NothingCovered =
-    (starts : ℕ → ℕ) (count a b : ℕ) → Rises starts count
-    → (cover_of starts count a b).from ≡ (cover_of starts count a b).to
-    → min b (starts count) ≤ max a (starts 0)
-
 -- how long a slice is
 abbrev pub MostIsCounted : Type 0
 MostIsCounted =
     (a b : ℕ) (xs : List ℕ) → length (slice a b xs) ≡ min b (length xs) - a
-
--- the slice of a list that has its parts at these places is a window on the parts that have a place in it
-abbrev pub CoveredIsWindow : Type 0
-CoveredIsWindow =
-    (starts : ℕ → ℕ) (count a b : ℕ) (xs : List ℕ) → Rises starts count
-    → starts count ≡ starts 0 + length xs
-    → (cover_of starts count a b).from < (cover_of starts count a b).to
-    → slice (a - starts 0) (b - starts 0) xs
-    ≡ window (record {
-      skip = a - starts (cover_of starts count a b).from;
-      most = Some (min b (starts (cover_of starts count a b).to)
-          - max a (starts (cover_of starts count a b).from));
-    })
-    (slice (starts (cover_of starts count a b).from - starts 0)
-    (starts (cover_of starts count a b).to - starts 0) xs)
-
--- and nothing if no part has one
-abbrev pub UncoveredIsNothing : Type 0
-UncoveredIsNothing =
-    (starts : ℕ → ℕ) (count a b : ℕ) (xs : List ℕ) → Rises starts count
-    → starts count ≡ starts 0 + length xs
-    → (cover_of starts count a b).from ≡ (cover_of starts count a b).to
-    → slice (a - starts 0) (b - starts 0) xs ≡ []

@@ -1,6 +1,6 @@
 // What holds of all windows, slices and covers, and the definitions computed on worked ones.
 ghost use Rattle.byte_window.specs.WindowLaws.{AllPasses, ComesInPieces, StepsAdd, StepOfNothing, IsCounted, IsPrefix};
-ghost use Rattle.byte_window.specs.SliceLaws.{SliceOfParts, SliceIsWindow, SlicesJoin, CoverIsExact, CoverHasSlice, NothingCovered, MostIsCounted, CoveredIsWindow, UncoveredIsNothing};
+ghost use Rattle.byte_window.specs.SliceLaws.{SliceOfParts, SliceIsWindow, SlicesJoin, CoverIsExact, MostIsCounted};
 ghost use Rattle.byte_window.specs.PartedFiles.{IsPlaced};
 ghost use Rattle.byte_window.specs.PartedLaws.{BegunAreFirstToLast, BytesAreEnough, ChunksAreTheFile, ListIsPlaced, MostIsLeft, NoneIsBegun, OthersAreEmpty, OthersAreUnread, PartsAreInFile, RangesJoin, SliceOfFile};
 ghost use Rattle.byte_window.specs.PartedRows.{kept_places, on_the_seam, restart_on_the_seam, segments_without_a_byte};
@@ -16,17 +16,14 @@ pub fn windows_come_in_pieces()
     ensures prefix { IsPrefix }
 {}
 
-/// A slice of a list is a window on the parts that have a place in it.
+/// A slice of a list is a window on a longer one, slices one after another are one slice, and a cover is from the first
+/// to the last part that is met.
 pub fn slices_are_windows()
     ensures parts { SliceOfParts }
     ensures window { SliceIsWindow }
     ensures joined { SlicesJoin }
     ensures cover { CoverIsExact }
-    ensures slice { CoverHasSlice }
-    ensures nothing { NothingCovered }
     ensures most { MostIsCounted }
-    ensures covered { CoveredIsWindow }
-    ensures uncovered { UncoveredIsNothing }
 {}
 
 /// A slice of a file in parts is its part of the header, a window on the bytes of the parts with a place in it, and its

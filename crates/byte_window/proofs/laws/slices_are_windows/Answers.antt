@@ -1,6 +1,5 @@
 use Rattle.byte_window.proofs.SliceParts.{slice_of_parts, slice_is_window, slices_join, most_is_counted}
-use Rattle.byte_window.proofs.Covers.{cover_is_exact, cover_has_slice, nothing_covered}
-use Rattle.byte_window.proofs.Covered.{covered_is_window, uncovered_is_nothing}
+use Rattle.byte_window.proofs.Covers.{cover_is_exact}
 use Rattle.byte_window.proofs.laws.slices_are_windows.Goals as goal
 
 pub returns-clause-parts : goal.returns-clause-parts
@@ -15,17 +14,5 @@ returns-clause-joined c = slices_join
 pub returns-clause-cover : goal.returns-clause-cover
 returns-clause-cover c = cover_is_exact
 
-pub returns-clause-slice : goal.returns-clause-slice
-returns-clause-slice c = cover_has_slice
-
-pub returns-clause-nothing : goal.returns-clause-nothing
-returns-clause-nothing c = nothing_covered
-
 pub returns-clause-most : goal.returns-clause-most
 returns-clause-most c = most_is_counted
-
-pub returns-clause-covered : goal.returns-clause-covered
-returns-clause-covered c = covered_is_window
-
-pub returns-clause-uncovered : goal.returns-clause-uncovered
-returns-clause-uncovered c = uncovered_is_nothing
