@@ -13,7 +13,6 @@ use Rattle.scan_spec.specs.declared.slot.Slot.{Slot}
 use Rattle.scan_spec.specs.Slots.{slot_of, slots_of, shape_of}
 use Rattle.handover.specs.Handovers.{HandoverFields}
 use Rattle.handover.proofs.FieldBytes.{four_of}
-use Rattle.box_format.specs.Parts.{has_blocks}
 use Rattle.box_format.specs.Whole.{are_unused_zeros}
 
 -- a component has a block
@@ -81,7 +80,7 @@ sampled_in : (cs : List Component) → are_components (map part_of cs) ≡ true
 sampled_in cs e = middle _ (list_all is_sampled (map part_of cs)) _ e
 
 pub coded_is : (plan : PlanFields) (k : ℕ) → IsPlan plan
-    → has_blocks (shape_of plan) k ≡ has_index k plan.components
+    → list_any (is_of k) (shape_of plan).slots ≡ has_index k plan.components
 coded_is plan k is = coded_in plan.components k (sampled_in plan.components is.components)
 
 -- DCs, with zeros for these components
@@ -137,7 +136,8 @@ is_zero_or false dc = refl
 
 unused_at : (plan : PlanFields) (dcs : List ℤ) (k : ℕ) → IsPlan plan → k < length dcs
     → is_zero (get_or (zeroed dcs plan.components) k (pos 0))
-    ≡ (has_blocks (shape_of plan) k || is_zero (get_or dcs k (pos 0)))
+    ≡ (list_any (is_of k) (shape_of plan).slots
+    || is_zero (get_or dcs k (pos 0)))
 unused_at plan dcs k is within =
     ap is_zero (zeroed_at k dcs plan.components within)
     ∙ is_zero_or (has_index k plan.components) (get_or dcs k (pos 0))

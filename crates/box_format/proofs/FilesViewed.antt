@@ -14,6 +14,7 @@ use Rattle.box_format.specs.Fields.{scans_in, scan_raw, raws_as}
 use Rattle.box_format.specs.Checks.{HeadersPass, boxes_of}
 use Rattle.box_format.specs.declared.version.Version.{Version}
 use Rattle.box_format.proofs.Lists.{sum_first}
+use Rattle.box_format.proofs.Spelling.{some_is_one}
 
 -- ---- plans and fields, both of all scans
 
@@ -34,17 +35,14 @@ boxes_count (plan ∷ plans) (raw ∷ raws) e =
 abbrev pub seen_with : PlanFields → Raw → BoxSeen
 seen_with plan raw = record { plan = plan; parts = parts_of raw }
 
-same_some : {A : Type 0} (x y : A) → Some x ≡ Some y → x ≡ y
-same_some x y e = cc
-
 box_at : (plans : List PlanFields) (raws : List Raw) (j : ℕ) (plan : PlanFields) (raw : Raw)
     → slice_get plans j ≡ Some plan → slice_get raws j ≡ Some raw
     → slice_get (boxes_of plans raws) j ≡ Some (seen_with plan raw)
 box_at [] raws j plan raw e f = cc
 box_at (x ∷ plans) [] j plan raw e f = cc
 box_at (x ∷ plans) (y ∷ raws) zero plan raw e f =
-    ap₂ (λ (p : PlanFields) (r : Raw). Some (seen_with p r)) (same_some x plan e)
-    (same_some y raw f)
+    ap₂ (λ (p : PlanFields) (r : Raw). Some (seen_with p r)) (some_is_one x plan e)
+    (some_is_one y raw f)
 box_at (x ∷ plans) (y ∷ raws) (suc j) plan raw e f = box_at plans raws j plan raw e f
 
 value_got : {A : Type 0} (f : ℕ → A) (from j n : ℕ) → j < n
@@ -98,10 +96,10 @@ scan_is : (w : Walk) (scans : List BoxSeen) (j : ℕ) (s : BoxSeen) → AreBoxes
     → slice_get scans j ≡ Some s → IsScanBox s.plan s.parts
 scan_is w [] j s are e = absurd are
 scan_is w (x ∷ []) zero s are e =
-    subst (λ (s : BoxSeen). IsScanBox s.plan s.parts) (same_some x s e) (w, are.0)
+    subst (λ (s : BoxSeen). IsScanBox s.plan s.parts) (some_is_one x s e) (w, are.0)
 scan_is w (x ∷ []) (suc j) s are e = cc
 scan_is w (x ∷ y ∷ scans) zero s are e =
-    subst (λ (s : BoxSeen). IsScanBox s.plan s.parts) (same_some x s e) (w, are.0)
+    subst (λ (s : BoxSeen). IsScanBox s.plan s.parts) (some_is_one x s e) (w, are.0)
 scan_is w (x ∷ y ∷ scans) (suc j) s are e =
     scan_is (next_walk x.plan.known 0) (y ∷ scans) j s are.3 e
 
@@ -151,7 +149,7 @@ segments_end scans j past = ap segment_count (drop_all j scans past)
 one_trailer : (x s : BoxSeen) (j : ℕ) → slice_get (x ∷ []) j ≡ Some s
     → s.parts.trailer ≡ trailer_of (all_parts (x ∷ []))
 one_trailer x s zero e =
-    ap (λ (u : BoxSeen). u.parts.trailer) (sym (same_some x s e)) ∙ sym (append-nil x.parts.trailer)
+    ap (λ (u : BoxSeen). u.parts.trailer) (sym (some_is_one x s e)) ∙ sym (append-nil x.parts.trailer)
 one_trailer x s (suc j) e = cc
 
 pub last_trailer : (w : Walk) (scans : List BoxSeen) (j : ℕ) (s : BoxSeen) → AreBoxes w scans

@@ -30,7 +30,6 @@ last_has trailer (q ∷ r ∷ ps) p have is =
 pub last_given : (v : Version) (ps : List Parts) (p : Parts) → AreGiven v ps
     → p ≡ get_or ps (length ps - 1) p → p.trailer.now ≡ trailer_of (all_given ps)
 last_given v ps p given is =
-    let bs = all_parts given.0 in
     last_has (trailer_of (all_given ps)) ps p
     (subst (λ (l : List BoxParts). HaveTrailer (trailer_of l) l) given.2
     (have_trailer opening_walk given.0 given.1.each)) is

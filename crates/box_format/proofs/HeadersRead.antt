@@ -45,7 +45,7 @@ raws_all v bytes =
     let k : scans_in (layout_of v) bytes ≡ scans_in (layout_of v) bytes - 0 = omega arith in
     ap (λ (k : ℕ). map (scan_raw v bytes) (numbers 0 k)) k
 
-raw_header : (v : Version) (bytes : List ℕ) (j : ℕ) → header_at (layout_of v) bytes j ≡ (scan_raw v bytes j).header
+pub raw_header : (v : Version) (bytes : List ℕ) (j : ℕ) → header_at (layout_of v) bytes j ≡ (scan_raw v bytes j).header
 unfolding scan_raw
 raw_header v bytes j = refl
 

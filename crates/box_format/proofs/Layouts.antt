@@ -97,7 +97,7 @@ most_more Fifth = omega arith
 
 -- ---- the byte of a version
 
-false_not : (b : Bool) → not b ≡ false → b ≡ true
+pub false_not : (b : Bool) → not b ≡ false → b ≡ true
 false_not true e = refl
 false_not false e = cc
 
@@ -148,8 +148,4 @@ fields_low Fourth = omega arith
 fields_low Fifth = omega arith
 
 pub most_few : (v : Version) → (layout_of v).most ≤ 64
-most_few First = omega arith
-most_few Second = omega arith
-most_few Third = omega arith
-most_few Fourth = omega arith
-most_few Fifth = omega arith
+most_few v = most_more v

@@ -11,6 +11,7 @@ use Rattle.box_format.specs.Parts.{BoxParts, IsCut, IsChunkIn, header_part, rows
 use Rattle.box_format.specs.Checks.{are_wrong, is_bad_chunk}
 use Rattle.box_format.specs.declared.chunk.Chunk.{Chunk}
 use Rattle.box_format.specs.declared.version.Version.{Version}
+use Rattle.box_format.proofs.Layouts.{false_not}
 
 -- a chunk's numbers go into their fields
 pub record Fits (c : Chunk) : Type 0 where
@@ -24,13 +25,9 @@ pub record Fits (c : Chunk) : Type 0 where
 not_zero : (n : ℕ) → (n ≡ 0 → ⊥) → 0 < n
 not_zero n f = omega arith
 
-and_false : (a b : Bool) → (a && b) ≡ false → a ≡ true → b ≡ false
+pub and_false : (a b : Bool) → (a && b) ≡ false → a ≡ true → b ≡ false
 and_false true b e f = e
 and_false false b e f = cc
-
-not_true : (b : Bool) → not b ≡ false → b ≡ true
-not_true true e = refl
-not_true false e = cc
 
 pub cut_is : (most : ℕ) (cut : Cut) → cut.from ≤ cut.to → are_wrong most cut ≡ false
     → IsCut cut × (cut.segments ≤ most)
@@ -70,8 +67,8 @@ chunk_is down header trailer c fit e =
           let four = or_parts (not (rows_most c header trailer == 0)) (not (c.skip == 0))
           (and_false (c.from == c.to) other three.1 (eq-eqb c.from c.to same)) in (
             eqb-true (rows_most c header trailer) 0
-                (not_true (rows_most c header trailer == 0) four.0),
-            eqb-true c.skip 0 (not_true (c.skip == 0) four.1),
+                (false_not (rows_most c header trailer == 0) four.0),
+            eqb-true c.skip 0 (false_not (c.skip == 0) four.1),
           );
       place_fits = fit.place;
       length_fits = fit.long;

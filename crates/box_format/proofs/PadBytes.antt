@@ -6,10 +6,7 @@ use Rattle.scan_spec.specs.Pads.{PadBits, Same, Listed}
 use Rattle.box_format.specs.Parts.{pad_byte, list_bytes, is_list, can_pad}
 use Rattle.box_format.specs.Raws.{pads_in}
 use Rattle.box_format.specs.Checks.{is_bad_pad}
-
-false_not : (b : Bool) → not b ≡ false → b ≡ true
-false_not true e = refl
-false_not false e = cc
+use Rattle.box_format.proofs.Layouts.{false_not}
 
 -- but for a list in a version that has lists, the byte says one bit
 plain : (listed : Bool) (shape : Shape) (n : ℕ) (list : List ℕ)
@@ -36,7 +33,7 @@ pad_again listed shape (suc (suc zero)) list e = refl
 pad_again listed shape (suc (suc (suc n))) list e =
     absurd (no_more listed shape (suc (suc (suc n))) list (omega arith) e)
 
-nothing : (list : List ℕ) → nat_lt 0 (length list) ≡ false → list ≡ []
+pub nothing : (list : List ℕ) → nat_lt 0 (length list) ≡ false → list ≡ []
 nothing [] e = refl
 nothing (x ∷ list) e = absurd (let h = ltb-false 0 (length (x ∷ list)) e in omega (arith, h))
 

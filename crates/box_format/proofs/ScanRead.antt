@@ -1,16 +1,16 @@
 -- A scan's fields, looked up again.
 use Rattle.std.proofs.Common.{◌≡◌, ◌<◌, ◌+◌, ◌^◌, Bool, true, false, if◌then◌else◌, ℕ, suc, List, [], ◌∷◌, ◌++◌, length, drop, map, refl, sym, ap, ap₂, ◌∙◌, arith, subst, append_assoc}
-use Rattle.std.specs.Prelude.{slice_index, Option, Some, None, IfSome, is_some}
+use Rattle.std.specs.Prelude.{slice_index, Option, Some, None, IfSome, is_some, not}
 use Rattle.std.specs.List.{AllByRecursion}
 use Rattle.byteorder.specs.Endian.{big_bytes, big_number}
 use Rattle.handover.specs.Handovers.{HandoverFields, IsHandover}
 use Rattle.handover.specs.HandoverBytes.{handover_bytes, handover_in}
 use Rattle.handover.proofs.FieldBytes.{fields_again}
 use Rattle.box_format.specs.Versions.{layout_of}
-use Rattle.box_format.specs.Parts.{BoxParts, pad_byte, list_bytes, list_length as list_said, chunk_bytes, place_bytes, records}
-use Rattle.box_format.specs.Raws.{numbers}
-use Rattle.box_format.specs.Containers.{scan_fields, trailer_length as trailer_said}
-use Rattle.box_format.specs.Fields.{segments_at, header_length, list_length, chunk_at, record_place, handover_at, stream_length, stream_lengths, place_at, end_at, places_at}
+use Rattle.box_format.specs.Parts.{BoxParts, pad_byte, list_bytes, length_said, chunk_bytes, place_bytes, records}
+use Rattle.box_format.specs.Raws.{numbers, handover_from, length_from, place_from}
+use Rattle.box_format.specs.Containers.{scan_fields}
+use Rattle.box_format.specs.Fields.{segments_at, header_length, list_length, chunk_at, record_place, places_at, in_record, in_records}
 use Rattle.box_format.specs.declared.chunk.Chunk.{Chunk}
 use Rattle.box_format.specs.declared.version.Layout.{Layout}
 use Rattle.box_format.proofs.OneCuts.{Fits}
@@ -48,7 +48,7 @@ place_next (Some ps) i bytes place rest fit is =
 abbrev ArePlacesFrom : Layout → List ℕ → ℕ → Option (List ℕ) → ℕ → ℕ → Type 0
 ArePlacesFrom l bytes place places from n =
     IfSome places
-    (λ ps. map (place_at l bytes place) (numbers from n) ≡ map (slice_index ps) (numbers from n))
+    (λ ps. map (in_record place_from l bytes place) (numbers from n) ≡ map (slice_index ps) (numbers from n))
 
 none_from : (l : Layout) (bytes : List ℕ) (place : ℕ) (places : Option (List ℕ)) (from : ℕ)
     → ArePlacesFrom l bytes place places from 0
@@ -56,7 +56,7 @@ none_from l bytes place None from = tt
 none_from l bytes place (Some ps) from = refl
 
 more_from : (l : Layout) (bytes : List ℕ) (place : ℕ) (places : Option (List ℕ)) (from n : ℕ)
-    → IfSome places (λ ps. place_at l bytes place from ≡ slice_index ps from)
+    → IfSome places (λ ps. in_record place_from l bytes place from ≡ slice_index ps from)
     → ArePlacesFrom l bytes place places (from + 1) n
     → ArePlacesFrom l bytes place places from (suc n)
 more_from l bytes place None from n here later = tt
@@ -64,8 +64,8 @@ more_from l bytes place (Some ps) from n here later = both_first _ _ _ _ here la
 
 record RecordsRead (l : Layout) (bytes : List ℕ) (place from : ℕ) (places : Option (List ℕ))
     (handovers : List HandoverFields) (streams : List (List ℕ)) (tail : List ℕ) : Type 0 where
-  handovers_are : map (handover_at l bytes place) (numbers from (length handovers)) ≡ handovers
-  lengths_are : map (stream_length l bytes place) (numbers from (length handovers))
+  handovers_are : map (in_record handover_from l bytes place) (numbers from (length handovers)) ≡ handovers
+  lengths_are : map (in_record length_from l bytes place) (numbers from (length handovers))
       ≡ map (λ (s : List ℕ). length s) streams
   places_are : ArePlacesFrom l bytes place places from (length handovers)
   rest : Remains bytes (record_place l place (from + length handovers)) tail
@@ -156,18 +156,18 @@ pub record FieldsRead (l : Layout) (bytes : List ℕ) (place : ℕ) (b : BoxPart
   pub list : list_length l bytes place ≡ length (list_bytes b.pads)
   pub chunk : chunk_at l bytes place ≡ b.chunk
   pub places : places_at l bytes place ≡ b.places
-  pub handovers : map (handover_at l bytes place) (numbers 0 (segments_at bytes place))
+  pub handovers : map (in_record handover_from l bytes place) (numbers 0 (segments_at bytes place))
       ≡ b.handovers
-  pub lengths : stream_lengths l bytes place ≡ map (λ (s : List ℕ). length s) b.streams
+  pub lengths : in_records length_from l bytes place ≡ map (λ (s : List ℕ). length s) b.streams
 
 -- the trailer's length
 trailer_there : (several : Bool) (trailer : List ℕ)
-    → length (trailer_said several trailer) ≡ (if several then 0 else 4)
+    → length (length_said (not several) trailer) ≡ (if several then 0 else 4)
 trailer_there true trailer = refl
 trailer_there false trailer = refl
 
 trailer_next : (several : Bool) (bytes : List ℕ) (place : ℕ) (trailer rest : List ℕ)
-    → length trailer < 2 ^ 32 → Remains bytes place (trailer_said several trailer ++ rest)
+    → length trailer < 2 ^ 32 → Remains bytes place (length_said (not several) trailer ++ rest)
     → several ≡ false → big_number 4 (drop place bytes) ≡ length trailer
 trailer_next true bytes place trailer rest fits is e = cc
 trailer_next false bytes place trailer rest fits is e =
@@ -175,13 +175,13 @@ trailer_next false bytes place trailer rest fits is e =
 
 -- that of the pad list
 list_there : (listed : Bool) (list : List ℕ)
-    → length (list_said listed list) ≡ (if listed then 4 else 0)
+    → length (length_said listed list) ≡ (if listed then 4 else 0)
 list_there true list = refl
 list_there false list = refl
 
 list_next : (listed : Bool) (bytes : List ℕ) (place at : ℕ) (list rest : List ℕ)
     → (listed ≡ true → at ≡ place) → length list < 2 ^ 32 → (listed ≡ false → length list ≡ 0)
-    → Remains bytes place (list_said listed list ++ rest)
+    → Remains bytes place (length_said listed list ++ rest)
     → (if listed then big_number 4 (drop at bytes) else 0) ≡ length list
 list_next true bytes place at list rest same fits none is =
     ap (λ (p : ℕ). big_number 4 (drop p bytes)) (same refl)
@@ -247,9 +247,9 @@ places_next : (l : Layout) (bytes : List ℕ) (place n count : ℕ) (places : Op
     → is_some places ≡ l.placed → count ≡ n
     → IfSome places (λ ps. length ps ≡ n + 1)
     → ArePlacesFrom l bytes place places 0 n
-    → IfSome places (λ ps. end_at bytes place ≡ slice_index ps n)
-    → (if l.placed then Some (map (place_at l bytes place) (numbers 0 count)
-    ++ end_at bytes place ∷ []) else None) ≡ places
+    → IfSome places (λ ps. big_number 8 (drop (place + 14) bytes) ≡ slice_index ps n)
+    → (if l.placed then Some (map (in_record place_from l bytes place) (numbers 0 count)
+    ++ big_number 8 (drop (place + 14) bytes) ∷ []) else None) ≡ places
 places_next l bytes place n count None e same long from end = rw (sym e) refl
 places_next l bytes place n count (Some ps) e same long from end =
     rw (sym e, same) (ap₂ (λ (l : List ℕ) (e : ℕ). Some (l ++ e ∷ [])) from end
@@ -276,8 +276,8 @@ fields_read l bytes tail place b out can is =
     let count = length b.handovers in
     let put = records b.places 0 b.handovers b.streams in
     let four = big_bytes 4 (length b.header) in
-    let trailer = trailer_said l.several b.trailer in
-    let list = list_said l.listed (list_bytes b.pads) in
+    let trailer = length_said (not l.several) b.trailer in
+    let list = length_said l.listed (list_bytes b.pads) in
     let chunk = chunk_bytes b.chunk in
     let end = place_bytes b.places count in
     let after_end = put ++ tail in
@@ -287,11 +287,11 @@ fields_read l bytes tail place b out can is =
     let after_header = trailer ++ after_trailer in
     let whole : Remains bytes place (pad_byte b.pads ∷ count ∷ (four ++ after_header)) =
     subst (λ (m : Layout). Remains bytes place (pad_byte b.pads ∷ count ∷ (four
-    ++ (trailer_said m.several b.trailer ++ (list_said m.listed (list_bytes b.pads)
+    ++ (length_said (not m.several) b.trailer ++ (length_said m.listed (list_bytes b.pads)
     ++ after_list))))) (sym can.layout)
     (subst (λ (x : List ℕ). Remains bytes place (pad_byte b.pads ∷ count ∷ x))
-    (in_rows four (trailer_said (layout_of b.version).several b.trailer)
-    (list_said (layout_of b.version).listed (list_bytes b.pads)) chunk end put tail) is) in
+    (in_rows four (length_said (not (layout_of b.version).several) b.trailer)
+    (length_said (layout_of b.version).listed (list_bytes b.pads)) chunk end put tail) is) in
     let second = part_after bytes place 1 (place + 1) (pad_byte b.pads ∷ [])
     (count ∷ (four ++ after_header)) refl refl whole in
     let p2 : place + 2 ≡ place + 1 + 1 = omega arith in
@@ -337,9 +337,9 @@ fields_read l bytes tail place b out can is =
             (moved b.places bytes count at_end (place + 14) l.placed can.placed
             (λ e. let there = out.end e in omega (arith, there, trailer_is, list_is, chunk_is))
             (place_next b.places count bytes at_end after_end (can.places count) seventh));
-        handovers = ap (λ (k : ℕ). map (handover_at l bytes place) (numbers 0 k)) segments
+        handovers = ap (λ (k : ℕ). map (in_record handover_from l bytes place) (numbers 0 k)) segments
             ∙ read.handovers_are;
-        lengths = ap (λ (k : ℕ). map (stream_length l bytes place) (numbers 0 k)) segments
+        lengths = ap (λ (k : ℕ). map (in_record length_from l bytes place) (numbers 0 k)) segments
             ∙ read.lengths_are;
       },
       subst (λ (k : ℕ). Remains bytes (record_place l place k) tail) (z ∙ sym segments) read.rest,

@@ -1,6 +1,6 @@
 -- A scan's fields as their bytes.
 use Rattle.std.proofs.Common.{◌≡◌, ◌<◌, ◌≤◌, ◌+◌, Bool, true, false, if◌then◌else◌, ℕ, zero, suc, List, [], ◌∷◌, ◌++◌, length, take, drop, map, refl, sym, ap, ap₂, ◌∙◌, arith, append_assoc, length-drop}
-use Rattle.std.specs.Prelude.{slice_index, Option, Some, None}
+use Rattle.std.specs.Prelude.{slice_index, Option, Some, None, not}
 use Rattle.std.specs.List.{AllByRecursion}
 use Rattle.std.proofs.Math.Nat.{mul-le-mul_right}
 use Rattle.std.proofs.lemmas.List.{drop_more, length-take-le}
@@ -9,10 +9,9 @@ use Rattle.bit_list.specs.Bits.{IsByte}
 use Rattle.handover.specs.Handovers.{HandoverFields}
 use Rattle.handover.specs.HandoverBytes.{handover_bytes}
 use Rattle.handover.proofs.FieldBytes.{bytes_again}
-use Rattle.box_format.specs.Parts.{list_length as list_said, chunk_bytes, place_bytes, records}
-use Rattle.box_format.specs.Raws.{numbers}
-use Rattle.box_format.specs.Containers.{trailer_length as trailer_said}
-use Rattle.box_format.specs.Fields.{segments_at, header_length, list_length, chunk_at, record_place, handover_at, stream_length, stream_lengths, place_at, end_at, places_at}
+use Rattle.box_format.specs.Parts.{length_said, chunk_bytes, place_bytes, records}
+use Rattle.box_format.specs.Raws.{numbers, handover_from, length_from, place_from}
+use Rattle.box_format.specs.Fields.{segments_at, header_length, list_length, chunk_at, record_place, places_at, in_record, in_records}
 use Rattle.box_format.specs.declared.chunk.Chunk.{Chunk}
 use Rattle.box_format.specs.declared.version.Layout.{Layout}
 use Rattle.box_format.proofs.ByteParts.{all_take, all_drop, peel, four_at, eight_at}
@@ -31,7 +30,7 @@ byte_at bytes place below = drop_more bytes place 0 below
 -- the handover of a record
 handover_spelled : (l : Layout) (bytes : List ℕ) (place i : ℕ) → AllByRecursion IsByte bytes
     → record_place l place i + 14 ≤ length bytes
-    → take 14 (drop (record_place l place i) bytes) ≡ handover_bytes (handover_at l bytes place i)
+    → take 14 (drop (record_place l place i) bytes) ≡ handover_bytes (in_record handover_from l bytes place i)
 handover_spelled l bytes place i are long =
     let here = record_place l place i in
     sym (bytes_again (take 14 (drop here bytes))
@@ -69,9 +68,9 @@ together a b p c d = simp append_assoc
 records_spelled : (l : Layout) (bytes : List ℕ) (place from n : ℕ) (streams : List (List ℕ))
     → IsLaidOut l → AllByRecursion IsByte bytes → from + n ≤ segments_at bytes place
     → record_place l place (segments_at bytes place) ≤ length bytes
-    → map (λ (s : List ℕ). length s) streams ≡ map (stream_length l bytes place) (numbers from n)
+    → map (λ (s : List ℕ). length s) streams ≡ map (in_record length_from l bytes place) (numbers from n)
     → drop (record_place l place from) bytes
-    ≡ records (places_at l bytes place) from (map (handover_at l bytes place) (numbers from n))
+    ≡ records (places_at l bytes place) from (map (in_record handover_from l bytes place) (numbers from n))
     streams ++ drop (record_place l place (from + n)) bytes
 records_spelled l bytes place from zero [] out are within long e =
     let z : from + 0 ≡ from = omega arith in
@@ -80,9 +79,9 @@ records_spelled l bytes place from zero (s ∷ streams) out are within long e = 
 records_spelled l bytes place from (suc n) [] out are within long e = cc
 records_spelled l bytes place from (suc n) (s ∷ streams) out are within long e =
     let count = segments_at bytes place in
-    let parts = first_same (length s) (stream_length l bytes place from)
+    let parts = first_same (length s) (in_record length_from l bytes place from)
     (map (λ (s : List ℕ). length s) streams)
-    (map (stream_length l bytes place) (numbers (from + 1) n)) e in
+    (map (in_record length_from l bytes place) (numbers (from + 1) n)) e in
     let k : from + suc n ≡ from + 1 + n = omega arith in
     let below : from < count = omega arith in
     let here = record_place l place from in
@@ -93,13 +92,13 @@ records_spelled l bytes place from (suc n) (s ∷ streams) out are within long e
     let later = records_spelled l bytes place (from + 1) n streams out are (omega arith) long parts.1
     in
     let field : here + 14 + 8 ≡ here + 22 = omega arith in
-    let handover = handover_at l bytes place from in
+    let handover = in_record handover_from l bytes place from in
     let kept = place_bytes (places_at l bytes place) from in
     let others = records (places_at l bytes place) (from + 1)
-    (map (handover_at l bytes place) (numbers (from + 1) n)) streams in
+    (map (in_record handover_from l bytes place) (numbers (from + 1) n)) streams in
     let tail = drop (record_place l place (from + 1 + n)) bytes in
     let number = big_bytes 8 (length s) in
-    let ended = place_spelled l.placed bytes (place_at l bytes place) count (end_at bytes place) from
+    let ended = place_spelled l.placed bytes (in_record place_from l bytes place) count (big_number 8 (drop (place + 14) bytes)) from
     (here + 22) next are below refl (omega (arith, step, room)) fits in
     rw k (peel 14 here bytes
     ∙ ap₂ (λ (l m : List ℕ). l ++ m)
@@ -115,7 +114,7 @@ trailer_spelled : (several : Bool) (bytes trailer : List ℕ) (here next : ℕ)
     → AllByRecursion IsByte bytes → next ≡ here + (if several then 0 else 4)
     → next ≤ length bytes
     → (several ≡ false → big_number 4 (drop here bytes) ≡ length trailer)
-    → drop here bytes ≡ trailer_said several trailer ++ drop next bytes
+    → drop here bytes ≡ length_said (not several) trailer ++ drop next bytes
 trailer_spelled true bytes trailer here next are e long value =
     let z : here ≡ next = omega (arith, e) in
     ap (λ (p : ℕ). drop p bytes) z
@@ -127,7 +126,7 @@ list_spelled : (listed : Bool) (bytes list : List ℕ) (here at next : ℕ)
     → AllByRecursion IsByte bytes → next ≡ here + (if listed then 4 else 0)
     → next ≤ length bytes → (listed ≡ true → at ≡ here)
     → (if listed then big_number 4 (drop at bytes) else 0) ≡ length list
-    → drop here bytes ≡ list_said listed list ++ drop next bytes
+    → drop here bytes ≡ length_said listed list ++ drop next bytes
 list_spelled true bytes list here at next are e long same value =
     four_at bytes here are (omega (arith, e, long))
     ∙ ap₂ (λ (v p : ℕ). big_bytes 4 v ++ drop p bytes)
@@ -202,13 +201,13 @@ end_spelled : (placed : Bool) (bytes : List ℕ) (f : ℕ → ℕ) (n place here
     → AllByRecursion IsByte bytes → next ≡ here + (if placed then 8 else 0)
     → next ≤ length bytes → (placed ≡ true → place + 14 ≡ here)
     → drop here bytes
-    ≡ place_bytes (if placed then Some (map f (numbers 0 n) ++ end_at bytes place ∷ []) else None) n
+    ≡ place_bytes (if placed then Some (map f (numbers 0 n) ++ big_number 8 (drop (place + 14) bytes) ∷ []) else None) n
     ++ drop next bytes
 end_spelled true bytes f n place here next are e long same =
     eight_at bytes here are (omega (arith, e, long))
     ∙ ap₂ (λ (v p : ℕ). big_bytes 8 v ++ drop p bytes)
     (ap (λ (p : ℕ). big_number 8 (drop p bytes)) (sym (same refl))
-    ∙ sym (ended_last f n (end_at bytes place))) (sym e)
+    ∙ sym (ended_last f n (big_number 8 (drop (place + 14) bytes)))) (sym e)
 end_spelled false bytes f n place here next are e long same =
     let z : here ≡ next = omega (arith, e) in
     ap (λ (p : ℕ). drop p bytes) z
@@ -224,20 +223,20 @@ pub fields_spelled : (l : Layout) (bytes : List ℕ) (place pad : ℕ) (list hea
     → slice_index bytes place ≡ pad → list_length l bytes place ≡ length list
     → header_length bytes place ≡ length header
     → (l.several ≡ false → big_number 4 (drop (place + 6) bytes) ≡ length trailer)
-    → map (λ (s : List ℕ). length s) streams ≡ stream_lengths l bytes place
+    → map (λ (s : List ℕ). length s) streams ≡ in_records length_from l bytes place
     → let handovers : List HandoverFields =
-    map (handover_at l bytes place) (numbers 0 (segments_at bytes place)) in
+    map (in_record handover_from l bytes place) (numbers 0 (segments_at bytes place)) in
     drop place bytes
-    ≡ (pad ∷ length handovers ∷ big_bytes 4 (length header) ++ trailer_said l.several trailer
-    ++ list_said l.listed list ++ chunk_bytes (chunk_at l bytes place)
+    ≡ (pad ∷ length handovers ∷ big_bytes 4 (length header) ++ length_said (not l.several) trailer
+    ++ length_said l.listed list ++ chunk_bytes (chunk_at l bytes place)
     ++ place_bytes (places_at l bytes place) (length handovers)
     ++ records (places_at l bytes place) 0 handovers streams)
     ++ drop (record_place l place (segments_at bytes place)) bytes
 unfolding chunk_by
 fields_spelled l bytes place pad list header trailer streams out are long p s h t lengths =
     let n = segments_at bytes place in
-    let handovers : List HandoverFields = map (handover_at l bytes place) (numbers 0 n) in
-    let count = length_values (handover_at l bytes place) 0 n in
+    let handovers : List HandoverFields = map (in_record handover_from l bytes place) (numbers 0 n) in
+    let count = length_values (in_record handover_from l bytes place) 0 n in
     let z : 0 + n ≡ n = omega arith in
     let at_list = place + 6 + trailer_room l in
     let at_chunk = at_list + list_room l in
@@ -250,14 +249,14 @@ fields_spelled l bytes place pad list header trailer streams out are long p s h 
     let two : place + 2 + 4 ≡ place + 6 = omega arith in
     let put = records (places_at l bytes place) 0 handovers streams in
     let four = big_bytes 4 (length header) in
-    let said = trailer_said l.several trailer in
-    let listed = list_said l.listed list in
+    let said = length_said (not l.several) trailer in
+    let listed = length_said l.listed list in
     let chunk = chunk_bytes (chunk_at l bytes place) in
     let end = place_bytes (places_at l bytes place) (length handovers) in
     let tail = drop (record_place l place n) bytes in
     let sixth = records_spelled l bytes place 0 n streams out are (omega arith) long lengths
     ∙ ap (λ (k : ℕ). put ++ drop (record_place l place k) bytes) z in
-    let fifth = end_spelled l.placed bytes (place_at l bytes place) n place at_end first are after
+    let fifth = end_spelled l.placed bytes (in_record place_from l bytes place) n place at_end first are after
     (omega (arith, rows, long)) (λ e. let there = out.end e in omega (arith, there))
     ∙ ap₂ (λ (k : ℕ) (m : List ℕ). place_bytes (places_at l bytes place) k ++ m) (sym count) sixth in
     let fourth = chunk_spelled l.chunked bytes place at_chunk at_end are refl

@@ -1,7 +1,9 @@
 -- The checks on the scans of a container, one by one.
 use Rattle.std.proofs.Common.{◌≡◌, ◌<◌, ◌≤◌, ◌+◌, ◌-◌, ◌*◌, ◌||◌, ◌&&◌, ◌==◌, not, Bool, true, false, if◌then◌else◌, ℕ, List, [], ◌∷◌, ◌++◌, length, drop, map, nat_lt, get_or, refl, sym, ap, ap₂, ◌∙◌, arith, drop-cons, add-one, length-drop, inl, inr}
 use Rattle.std.specs.Prelude.{◌⊎◌, slice_index, Option, Some, None, option_map}
+use Rattle.std.specs.Bool.{then_some}
 use Rattle.std.specs.List.{list_any}
+use Rattle.std.specs.Option.{option_or}
 use Rattle.std.proofs.lemmas.Bool.{le-ltb, lt-ltb, ltb-false, or_parts}
 use Rattle.std.proofs.lemmas.Bool.Decides.{nat_tests}
 use Rattle.std.proofs.lemmas.List.{length-take-le}
@@ -9,11 +11,11 @@ use Rattle.jpeg_marker.specs.Plans.{PlanFields}
 use Rattle.scan_spec.specs.FileParts.{is_last}
 use Rattle.scan_spec.specs.Slots.{shape_of}
 use Rattle.box_format.specs.Parts.{box_cut, bad_start, are_rising}
-use Rattle.box_format.specs.Raws.{Raw}
+use Rattle.box_format.specs.Raws.{Raw, handover_from}
 use Rattle.box_format.specs.Slices.{handovers_in}
 use Rattle.box_format.specs.Versions.{layout_of, fewest_scans, most_scans, most_segments}
-use Rattle.box_format.specs.Fields.{scans_in, segments_at, header_length, chunk_at, fields_place, header_place, handover_at, named_end, trailer_at, scan_raw, raws_as}
-use Rattle.box_format.specs.Checks.{late_fault, or_else, where_failed, are_wrong, is_bad_chunk, is_bad_pad, are_bad_places, are_complete, some_are_wrong, segments_of, are_wrong_scans, scan_fault, scans_fault}
+use Rattle.box_format.specs.Fields.{scans_in, segments_at, header_length, chunk_at, fields_place, header_place, named_end, trailer_at, scan_raw, raws_as, in_record}
+use Rattle.box_format.specs.Checks.{late_fault, are_wrong, is_bad_chunk, is_bad_pad, are_bad_places, are_complete, some_are_wrong, segments_of, are_wrong_scans, scan_fault, scans_fault}
 use Rattle.box_format.specs.Whole.{IsWhole, list_at, header_at, records_at, raws_from, are_not_all, record_fault, listed_at}
 use Rattle.box_format.specs.declared.chunk.Chunk.{Chunk}
 use Rattle.box_format.specs.declared.version.Version.{Version}
@@ -22,7 +24,7 @@ use Rattle.box_format.specs.declared.refusal.BoxRefusal.TheVariants.{BoxSegments
 use Rattle.box_format.proofs.Lists.{length_values, sum_first}
 use Rattle.box_format.proofs.Layouts.{most_more}
 use Rattle.box_format.proofs.Sliced.{handovers_same}
-use Rattle.box_format.proofs.HeadersRead.{raws_first}
+use Rattle.box_format.proofs.HeadersRead.{raws_first, raw_header}
 use Rattle.box_format.proofs.ScansSliced.{fields_there, header_ends}
 
 -- ---- one scan
@@ -42,7 +44,7 @@ pub handover_count : (v : Version) (bytes : List ℕ) (j : ℕ)
 unfolding scan_raw
 handover_count v bytes j =
     let place = fields_place (layout_of v) bytes j in
-    length_values (handover_at (layout_of v) bytes place) 0 (segments_at bytes place)
+    length_values (in_record handover_from (layout_of v) bytes place) 0 (segments_at bytes place)
 
 pub chunk_is : (v : Version) (bytes : List ℕ) (j place : ℕ)
     → place ≡ fields_place (layout_of v) bytes j
@@ -61,12 +63,6 @@ records_there v bytes j whole below =
     length-take-le (l.room * segments_at bytes place) (drop (place + l.fields) bytes)
     (omega (arith, fields, length-drop (place + l.fields) bytes))
 
--- its header, its trailer, its pad byte and its pad list
-pub header_is : (v : Version) (bytes : List ℕ) (j : ℕ)
-    → header_at (layout_of v) bytes j ≡ (scan_raw v bytes j).header
-unfolding scan_raw
-header_is v bytes j = refl
-
 pub trailer_is : (v : Version) (bytes : List ℕ) (j : ℕ)
     → trailer_at (layout_of v) bytes j ≡ (scan_raw v bytes j).trailer
 unfolding scan_raw
@@ -82,7 +78,7 @@ pub bad_chunk_is : (v : Version) (bytes : List ℕ) (j place : ℕ) (plan : Plan
 bad_chunk_is v bytes j place plan header trailer c bad h t k e f =
     rw (
       sym (chunk_is v bytes j place e),
-      sym (header_is v bytes j),
+      sym (raw_header v bytes j),
       sym (trailer_is v bytes j),
       sym h,
       sym t,
@@ -105,7 +101,7 @@ bad_pad_is v bytes j pad list plan listed bad d e f g =
 pub fault_is : (first : ℕ) (plan : PlanFields) (raw : Raw) (wrong bad : Bool)
     → is_bad_chunk plan.down raw.header raw.trailer raw.chunk ≡ wrong
     → is_bad_pad (layout_of raw.version).listed (shape_of plan) raw.pad raw.list ≡ bad
-    → or_else (where_failed wrong BoxChunk) (or_else (where_failed bad BoxPad)
+    → option_or (then_some wrong BoxChunk) (option_or (then_some bad BoxPad)
     (record_fault first plan raw))
     ≡ scan_fault first plan raw
 fault_is first plan raw wrong bad e f = rw (sym e, sym f) refl
@@ -113,7 +109,7 @@ fault_is first plan raw wrong bad e f = rw (sym e, sym f) refl
 pub records_fault_is : (first : ℕ) (plan : PlanFields) (raw : Raw) (o : Option ℕ) (bad : Bool)
     → bad_start (shape_of plan) (box_cut plan raw.chunk (length raw.handovers)) 0 raw.handovers ≡ o
     → are_bad_places (length raw.header) raw.places ≡ bad
-    → or_else (option_map (λ i. HandoverBad (first + i)) o) (where_failed bad BoxPlaces)
+    → option_or (option_map (λ i. HandoverBad (first + i)) o) (then_some bad BoxPlaces)
     ≡ record_fault first plan raw
 records_fault_is first plan raw o bad e f = rw (sym e, sym f) refl
 
@@ -196,7 +192,7 @@ wrong_next v bytes plan plans rest j below e = rw (e, raws_first v bytes j below
 pub fault_next : (v : Version) (bytes : List ℕ) (plan : PlanFields) (plans rest : List PlanFields)
     (first j : ℕ) → j < scans_in (layout_of v) bytes → plans ≡ plan ∷ rest
     → scans_fault first plans (raws_from v bytes j)
-    ≡ or_else (scan_fault first plan (scan_raw v bytes j))
+    ≡ option_or (scan_fault first plan (scan_raw v bytes j))
     (scans_fault (first + length (scan_raw v bytes j).handovers) rest (raws_from v bytes (j + 1)))
 fault_next v bytes plan plans rest first j below e = rw (e, raws_first v bytes j below) refl
 
@@ -216,7 +212,7 @@ none_last : (plan : PlanFields) (plans : List PlanFields) (last : PlanFields)
 none_last plan [] last = refl
 none_last plan (next ∷ plans) last = refl
 
-and_true : (a : Bool) → (a && true) ≡ a
+pub and_true : (a : Bool) → (a && true) ≡ a
 and_true true = refl
 and_true false = refl
 
@@ -280,12 +276,12 @@ pub record IsInside (v : Version) (bytes : List ℕ) : Type 0 where
   pub few : scans_in (layout_of v) bytes ≤ most_scans (layout_of v)
 
 abbrev long_fault : Version → List ℕ → Option BoxRefusal
-long_fault v bytes = where_failed (nat_lt (named_end (layout_of v) bytes) (length bytes)) BoxLong
+long_fault v bytes = then_some (nat_lt (named_end (layout_of v) bytes) (length bytes)) BoxLong
 
 late_inside : (v : Version) (plans : List PlanFields) (bytes : List ℕ) → IsInside v bytes
     → late_fault v plans bytes
-    ≡ or_else (where_failed (are_not_all (layout_of v).most plans (raws_as v bytes)) BoxSegments)
-    (or_else (scans_fault 0 plans (raws_as v bytes)) (long_fault v bytes))
+    ≡ option_or (then_some (are_not_all (layout_of v).most plans (raws_as v bytes)) BoxSegments)
+    (option_or (scans_fault 0 plans (raws_as v bytes)) (long_fault v bytes))
 unfolding late_fault
 late_inside v plans bytes within =
     let l = layout_of v in
@@ -305,19 +301,19 @@ pub late_wrong : (v : Version) (plans : List PlanFields) (bytes : List ℕ) → 
     → Some BoxSegments ≡ late_fault v plans bytes
 late_wrong v plans bytes within wrong =
     sym (late_inside v plans bytes within
-    ∙ ap (λ (b : Bool). or_else (where_failed b BoxSegments)
-    (or_else (scans_fault 0 plans (raws_as v bytes)) (long_fault v bytes))) wrong)
+    ∙ ap (λ (b : Bool). option_or (then_some b BoxSegments)
+    (option_or (scans_fault 0 plans (raws_as v bytes)) (long_fault v bytes))) wrong)
 
 pub late_faulty : (v : Version) (plans : List PlanFields) (bytes : List ℕ)
     (fault : Option BoxRefusal) → IsInside v bytes
     → are_not_all (layout_of v).most plans (raws_as v bytes) ≡ false
     → scans_fault 0 plans (raws_as v bytes) ≡ fault
-    → or_else fault (long_fault v bytes) ≡ late_fault v plans bytes
+    → option_or fault (long_fault v bytes) ≡ late_fault v plans bytes
 late_faulty v plans bytes fault within right e =
     sym (late_inside v plans bytes within
-    ∙ ap (λ (b : Bool). or_else (where_failed b BoxSegments)
-    (or_else (scans_fault 0 plans (raws_as v bytes)) (long_fault v bytes))) right
-    ∙ ap (λ (o : Option BoxRefusal). or_else o (long_fault v bytes)) e)
+    ∙ ap (λ (b : Bool). option_or (then_some b BoxSegments)
+    (option_or (scans_fault 0 plans (raws_as v bytes)) (long_fault v bytes))) right
+    ∙ ap (λ (o : Option BoxRefusal). option_or o (long_fault v bytes)) e)
 
 -- scans of a right number have few segments
 pub few_segments : (v : Version) (plans : List PlanFields) (raws : List Raw)

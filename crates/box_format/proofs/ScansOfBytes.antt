@@ -11,25 +11,25 @@ use Rattle.jpeg_marker.proofs.HeadersTaken.{none_known}
 use Rattle.handover.specs.Handovers.{HandoverFields, IsHandover}
 use Rattle.handover.specs.HandoverBytes.{is_handover, handover_in}
 use Rattle.box_format.specs.Versions.{layout_of, version_in, fewest_scans, most_scans}
-use Rattle.box_format.specs.Raws.{Raw, numbers, parted, parts_of}
+use Rattle.box_format.specs.Raws.{Raw, numbers, parted, parts_of, handover_from, length_from, place_from}
 use Rattle.box_format.specs.Containers.{container_bytes}
-use Rattle.box_format.specs.Fields.{scans_in, segments_at, header_length, list_length, chunk_at, record_place, handover_at, stream_length, stream_lengths, place_at, end_at, fields_place, list_place, header_place, trailer_length, trailer_place, streams_place, scan_raw, raws_as}
+use Rattle.box_format.specs.Fields.{scans_in, segments_at, header_length, list_length, chunk_at, record_place, fields_place, list_place, header_place, trailer_length, trailer_place, streams_place, scan_raw, raws_as, in_record, in_records}
 use Rattle.box_format.specs.Checks.{are_complete, some_are_wrong, segments_of}
 use Rattle.box_format.specs.Laws.{PassedIsContainer}
 use Rattle.box_format.specs.declared.version.Layout.{Layout}
 use Rattle.box_format.specs.declared.version.Version.{Version}
-use Rattle.box_format.specs.declared.version.Version.TheVariants.{First, Second, Third, Fourth, Fifth}
 use Rattle.box_format.proofs.ByteParts.{all_take, all_drop, all_at, four_small, eight_small}
 use Rattle.box_format.proofs.Lists.{length_values}
 use Rattle.box_format.proofs.PartedLists.{parted_count, parted_bytes, all_values}
 use Rattle.box_format.proofs.PlaceLists.{ended_long, all_ended}
 use Rattle.box_format.proofs.OneCuts.{Fits, all_lengths}
 use Rattle.box_format.proofs.Sound.{handover_of_test}
-use Rattle.box_format.proofs.Layouts.{laid_out, version_is}
+use Rattle.box_format.proofs.Layouts.{laid_out, version_is, false_not as not_false}
 use Rattle.box_format.proofs.ScansWalked.{HaveTrailer, trailer_in}
-use Rattle.box_format.proofs.ScansPlaced.{IsEarly, IsLate, early_of, late_of, lengths_at, trailer_long, not_false}
+use Rattle.box_format.proofs.ScansPlaced.{IsEarly, IsLate, early_of, late_of, lengths_at, trailer_long}
 use Rattle.box_format.proofs.ScansSpelled.{raws_from, parts_from, has_trailer, text_is}
 use Rattle.box_format.proofs.ScansSound.{IsPlain, all_padded, are_boxes, parts_same, count_same, segments_same, all_said}
+use Rattle.box_format.proofs.ScansPassed.{least}
 
 -- ---- the fields of a scan are as they can be in bytes
 
@@ -45,10 +45,10 @@ is_handover_in bytes are e = handover_of_test (handover_in bytes) e refl (all_at
 
 each_plain : (l : Layout) (bytes : List ℕ) (place n : ℕ) → AllByRecursion IsByte bytes
     → AllByRecursion (λ (h : HandoverFields). is_handover h ≡ true → IsHandover h)
-    (map (handover_at l bytes place) (numbers 0 n))
+    (map (in_record handover_from l bytes place) (numbers 0 n))
 each_plain l bytes place n are =
     all_values (λ (h : HandoverFields). is_handover h ≡ true → IsHandover h)
-    (handover_at l bytes place) 0 n
+    (in_record handover_from l bytes place) 0 n
     (λ i below e.
     let from = drop (record_place l place (0 + i)) bytes in
     is_handover_in (take 14 from)
@@ -97,38 +97,38 @@ one_plain versions v bytes j n are early e =
     let small_trailer = four_small (drop l.trailer bytes) (all_drop IsByte l.trailer bytes are) in
     let trailer = trailer_long l versions bytes early in
     let count = segments_at bytes place in
-    let fits : AllByRecursion (λ n. n < 2 ^ 64) (stream_lengths l bytes place) =
-    all_values (λ n. n < 2 ^ 64) (stream_length l bytes place) 0 count
+    let fits : AllByRecursion (λ n. n < 2 ^ 64) (in_records length_from l bytes place) =
+    all_values (λ n. n < 2 ^ 64) (in_record length_from l bytes place) 0 count
     (λ i below. eight_small (drop (record_place l place (0 + i) + 14) bytes)
     (all_drop IsByte (record_place l place (0 + i) + 14) bytes are)) in
-    let handovers = length_values (handover_at l bytes place) 0 count in
+    let handovers = length_values (in_record handover_from l bytes place) 0 count in
     record {
       version = refl;
       chunked = there_is l.chunked _;
       chunk = chunk_small l bytes place are;
       placed = there_is l.placed _;
       places = if_there (λ ps. (length ps
-          ≡ length (map (handover_at l bytes place) (numbers 0 count)) + 1)
+          ≡ length (map (in_record handover_from l bytes place) (numbers 0 count)) + 1)
           × AllByRecursion (λ p. p < 2 ^ 64) ps) l.placed _ (
-            ended_long (place_at l bytes place) count (end_at bytes place)
+            ended_long (in_record place_from l bytes place) count (big_number 8 (drop (place + 14) bytes))
                 ∙ ap (λ (k : ℕ). k + 1) (sym handovers),
-            all_ended (λ p. p < 2 ^ 64) (map (place_at l bytes place) (numbers 0 count))
-                (end_at bytes place)
-                (all_values (λ p. p < 2 ^ 64) (place_at l bytes place) 0 count
+            all_ended (λ p. p < 2 ^ 64) (map (in_record place_from l bytes place) (numbers 0 count))
+                (big_number 8 (drop (place + 14) bytes))
+                (all_values (λ p. p < 2 ^ 64) (in_record place_from l bytes place) 0 count
                 (λ i below. eight_small (drop (record_place l place (0 + i) + 22) bytes)
                 (all_drop IsByte (record_place l place (0 + i) + 22) bytes are)))
                 (eight_small (drop (place + 14) bytes) (all_drop IsByte (place + 14) bytes are)),
           );
-      streams = parted_count (stream_lengths l bytes place)
+      streams = parted_count (in_records length_from l bytes place)
           (drop (streams_place l bytes j) bytes)
-          ∙ length_values (stream_length l bytes place) 0 count ∙ sym handovers;
+          ∙ length_values (in_record length_from l bytes place) 0 count ∙ sym handovers;
       each = each_plain l bytes place count are;
       header_fits = omega (arith, here, small);
       trailer_fits = chosen (λ (l : List ℕ). length l < 2 ^ 32) (j + 1 == scans_in l bytes)
           (trailer_in l bytes) (omega (arith, trailer, small_trailer)) (omega arith);
       list_fits = omega (arith, list, small_list);
       streams_fit = all_lengths (λ n. n < 2 ^ 64)
-          (parted (stream_lengths l bytes place) (drop (streams_place l bytes j) bytes))
+          (parted (in_records length_from l bytes place) (drop (streams_place l bytes j) bytes))
           (subst (AllByRecursion (λ n. n < 2 ^ 64)) (sym lengths.streams) fits);
       list_bytes_are = all_take IsByte (list_length l bytes place)
           (drop (list_place l bytes j) bytes) (all_drop IsByte (list_place l bytes j) bytes are);
@@ -138,7 +138,7 @@ one_plain versions v bytes j n are early e =
           (trailer_in l bytes)
           (all_take IsByte (trailer_length l bytes) (drop (trailer_place l bytes) bytes)
           (all_drop IsByte (trailer_place l bytes) bytes are)) tt;
-      stream_bytes = parted_bytes (stream_lengths l bytes place)
+      stream_bytes = parted_bytes (in_records length_from l bytes place)
           (drop (streams_place l bytes j) bytes)
           (all_drop IsByte (streams_place l bytes j) bytes are);
     }
@@ -183,13 +183,6 @@ counted v plans bytes late =
       right = four.0;
       few = ltb-false l.most (segments_of raws) four.1;
     }
-
-least : (v : Version) → 1 ≤ fewest_scans (layout_of v)
-least First = omega arith
-least Second = omega arith
-least Third = omega arith
-least Fourth = omega arith
-least Fifth = omega arith
 
 pub passed_is_container : PassedIsContainer
 passed_is_container versions plans bytes are passes =

@@ -1,7 +1,9 @@
 -- A container's bytes pass the checks.
 use Rattle.std.proofs.Common.{◌≡◌, ◌≤◌, ◌+◌, ◌||◌, ◌&&◌, not, cond, Bool, false, ℕ, List, [], ◌∷◌, length, take, drop, nat_lt, refl, sym, ap, ◌∙◌, arith, subst}
 use Rattle.std.specs.Prelude.{slice_index, bytes_eq, Option, Some, None, option_map}
+use Rattle.std.specs.Bool.{then_some}
 use Rattle.std.specs.List.{AllByRecursion}
+use Rattle.std.specs.Option.{option_or}
 use Rattle.std.proofs.lemmas.Bool.{le-ltb, or_from, and_right}
 use Rattle.jpeg_marker.specs.FirstWalks.{opening_walk}
 use Rattle.scan_spec.specs.Slots.{shape_of}
@@ -10,7 +12,7 @@ use Rattle.box_format.specs.Raws.{Raw}
 use Rattle.box_format.specs.Versions.{layout_of, version_in, is_version, fewest_scans, most_scans, IsRead}
 use Rattle.box_format.specs.Containers.{container_bytes, AreScans, all_parts, all_plans}
 use Rattle.box_format.specs.Fields.{raws_as, scans_in, fields_place, named_end}
-use Rattle.box_format.specs.Checks.{PassesAs, HeadersPass, early_fault, late_fault, is_cut, or_else, where_failed, is_bad_chunk, is_bad_pad, are_bad_places, are_complete, some_are_wrong, segments_of, are_wrong_scans, scans_fault, boxes_of}
+use Rattle.box_format.specs.Checks.{PassesAs, HeadersPass, early_fault, late_fault, is_cut, is_bad_chunk, is_bad_pad, are_bad_places, are_complete, some_are_wrong, segments_of, are_wrong_scans, scans_fault, boxes_of}
 use Rattle.box_format.specs.Laws.{ContainerPasses}
 use Rattle.box_format.specs.declared.version.Version.{Version}
 use Rattle.box_format.specs.declared.version.Version.TheVariants.{First, Second, Third, Fourth, Fifth}
@@ -52,8 +54,8 @@ early_none versions v bytes bs known read =
 one_none : (bad_chunk bad_pad bad_places : Bool) (o : Option ℕ) (first : ℕ)
     (later : Option BoxRefusal) → bad_chunk ≡ false → bad_pad ≡ false → o ≡ None
     → bad_places ≡ false → later ≡ None
-    → or_else (or_else (where_failed bad_chunk BoxChunk) (or_else (where_failed bad_pad BoxPad)
-    (or_else (option_map (λ i. HandoverBad (first + i)) o) (where_failed bad_places BoxPlaces))))
+    → option_or (option_or (then_some bad_chunk BoxChunk) (option_or (then_some bad_pad BoxPad)
+    (option_or (option_map (λ i. HandoverBad (first + i)) o) (then_some bad_places BoxPlaces))))
     later ≡ None
 one_none c p k o first later e f g h i = rw (e, f, g, h, i) refl
 
@@ -96,7 +98,7 @@ not_wrong_scans v scans are all =
     (le-ltb l.most (segments_of (raws_like scans)) (omega (arith, segments, few))))))
 
 late_three : (a d : Bool) (o : Option BoxRefusal) (r u : BoxRefusal) → a ≡ false → o ≡ None
-    → d ≡ false → or_else (where_failed a r) (or_else o (where_failed d u)) ≡ None
+    → d ≡ false → option_or (then_some a r) (option_or o (then_some d u)) ≡ None
 late_three a d o r u e f g = rw (e, f, g) refl
 
 late_none : (v : Version) (scans : List BoxSeen) (bytes : List ℕ) → AreScans v scans
@@ -142,7 +144,7 @@ most_one Third e = omega arith
 most_one Fourth e = cc
 most_one Fifth e = omega arith
 
-least : (v : Version) → 1 ≤ fewest_scans (layout_of v)
+pub least : (v : Version) → 1 ≤ fewest_scans (layout_of v)
 least First = omega arith
 least Second = omega arith
 least Third = omega arith

@@ -1,23 +1,26 @@
 -- The places of a container's parts, none below the one before, and the lengths of the parts.
-use Rattle.std.proofs.Common.{◌≡◌, ◌≤◌, ◌+◌, ◌&&◌, not, Bool, true, false, cond, ◌<◌, ℕ, zero, suc, List, [], ◌∷◌, length, take, drop, map, nat_lt, refl, sym, arith, length-drop}
+use Rattle.std.proofs.Common.{◌≡◌, ◌≤◌, ◌+◌, ◌&&◌, not, Bool, true, false, cond, ◌<◌, ℕ, zero, suc, List, [], length, take, drop, map, nat_lt, refl, sym, arith, length-drop}
 use Rattle.std.specs.Prelude.{slice_index, sum, bytes_eq, Option, Some, None}
+use Rattle.std.specs.Bool.{then_some}
 use Rattle.std.specs.Cmp.Lexicographic.{same_text}
+use Rattle.std.specs.Option.{option_or}
 use Rattle.std.proofs.lemmas.Bool.{ltb-false, lt-ltb, or_parts}
 use Rattle.std.proofs.lemmas.List.{length-take-le}
 use Rattle.jpeg_marker.specs.Plans.{PlanFields}
 use Rattle.box_format.specs.Versions.{layout_of, is_version}
 use Rattle.box_format.specs.Parts.{magic}
-use Rattle.box_format.specs.Raws.{parted}
-use Rattle.box_format.specs.Checks.{or_else, where_failed}
+use Rattle.box_format.specs.Raws.{parted, length_from}
 use Rattle.box_format.specs.declared.refusal.BoxRefusal.{BoxRefusal}
 use Rattle.box_format.specs.declared.refusal.BoxRefusal.TheVariants.{BoxMagic, BoxVersion, BoxCut, BoxSegments, BoxLong}
 use Rattle.box_format.proofs.PartedLists.{parted_lengths}
-use Rattle.box_format.specs.Fields.{scans_in, header_length, list_length, stream_lengths, fields_place, list_place, header_place, trailer_length, trailer_place, streams_place, named_end, raws_as}
+use Rattle.box_format.specs.Fields.{scans_in, header_length, list_length, fields_place, list_place, header_place, trailer_length, trailer_place, streams_place, named_end, raws_as, in_records}
 use Rattle.box_format.specs.Checks.{early_fault, late_fault, is_cut, are_wrong_scans, scans_fault}
 use Rattle.box_format.specs.declared.version.Layout.{Layout}
 use Rattle.box_format.specs.declared.version.Version.{Version}
-use Rattle.box_format.proofs.Layouts.{IsLaidOut}
+use Rattle.box_format.proofs.Layouts.{IsLaidOut, false_not}
 use Rattle.box_format.proofs.ScansWalked.{next_fields, next_list, next_streams, trailer_in}
+use Rattle.box_format.proofs.OneCuts.{and_false}
+use Rattle.box_format.proofs.PadBytes.{nothing}
 
 -- ---- places
 
@@ -66,14 +69,6 @@ three_passed false true c r s t e = cc
 three_passed false false true r s t e = cc
 three_passed false false false r s t e = (refl, refl, refl)
 
-pub not_false : (b : Bool) → not b ≡ false → b ≡ true
-not_false true e = refl
-not_false false e = cc
-
-second_false : (a b : Bool) → (a && b) ≡ false → a ≡ true → b ≡ false
-second_false true b e f = e
-second_false false b e f = cc
-
 pub early_of : (l : Layout) (versions : List Version) (bytes : List ℕ) → IsLaidOut l
     → early_fault versions l bytes ≡ None → IsEarly l versions bytes
 unfolding early_fault
@@ -91,9 +86,9 @@ early_of l versions bytes out e =
     let more : nat_lt 4 (length bytes) ≡ true = lt-ltb 4 (length bytes) there in
     record {
       begins = same_text (take 4 bytes) magic
-          (sym (not_false (bytes_eq (take 4 bytes) magic) parts.0));
-      version = not_false (is_version versions (slice_index bytes 4))
-          (second_false (nat_lt 4 (length bytes)) other parts.1 more);
+          (sym (false_not (bytes_eq (take 4 bytes) magic) parts.0));
+      version = false_not (is_version versions (slice_index bytes 4))
+          (and_false (nat_lt 4 (length bytes)) other parts.1 more);
       fields = fields;
       ends = ltb-false (length bytes) (named_end l bytes) ends.1;
       there = there;
@@ -101,11 +96,11 @@ early_of l versions bytes out e =
 
 -- ---- and those after them
 
-pub or_none : (a b : Option BoxRefusal) → or_else a b ≡ None → (a ≡ None) × (b ≡ None)
+pub or_none : (a b : Option BoxRefusal) → option_or a b ≡ None → (a ≡ None) × (b ≡ None)
 or_none (Some r) b e = cc
 or_none None b e = (refl, e)
 
-pub check_passes : (failed : Bool) (r : BoxRefusal) → where_failed failed r ≡ None → failed ≡ false
+pub check_passes : (failed : Bool) (r : BoxRefusal) → then_some failed r ≡ None → failed ≡ false
 check_passes true r e = cc
 check_passes false r e = refl
 
@@ -114,19 +109,15 @@ pub record IsLate (v : Version) (plans : List PlanFields) (bytes : List ℕ) : T
   pub faults : scans_fault 0 plans (raws_as v bytes) ≡ None
   pub rest : drop (named_end (layout_of v) bytes) bytes ≡ []
 
-nothing : (xs : List ℕ) → nat_lt 0 (length xs) ≡ false → xs ≡ []
-nothing [] e = refl
-nothing (x ∷ xs) e = absurd (let h = ltb-false 0 (length (x ∷ xs)) e in omega (arith, h))
-
 pub late_of : (v : Version) (plans : List PlanFields) (bytes : List ℕ)
     → late_fault v plans bytes ≡ None → IsLate v plans bytes
 unfolding late_fault
 late_of v plans bytes e =
     let l = layout_of v in
     let raws = raws_as v bytes in
-    let long = where_failed (nat_lt 0 (length (drop (named_end l bytes) bytes))) BoxLong in
-    let one = or_none (where_failed (are_wrong_scans l plans raws) BoxSegments)
-    (or_else (scans_fault 0 plans raws) long) e in
+    let long = then_some (nat_lt 0 (length (drop (named_end l bytes) bytes))) BoxLong in
+    let one = or_none (then_some (are_wrong_scans l plans raws) BoxSegments)
+    (option_or (scans_fault 0 plans raws) long) e in
     let two = or_none (scans_fault 0 plans raws) long one.1 in
     record {
       wrong = check_passes (are_wrong_scans l plans raws) BoxSegments one.0;
@@ -143,8 +134,8 @@ pub record HasLengths (l : Layout) (bytes : List ℕ) (j : ℕ) : Type 0 where
   pub header : length (take (header_length bytes (fields_place l bytes j))
       (drop (header_place l bytes j) bytes)) ≡ header_length bytes (fields_place l bytes j)
   pub streams : map (λ (s : List ℕ). length s)
-      (parted (stream_lengths l bytes (fields_place l bytes j)) (drop (streams_place l bytes j) bytes))
-      ≡ stream_lengths l bytes (fields_place l bytes j)
+      (parted (in_records length_from l bytes (fields_place l bytes j)) (drop (streams_place l bytes j) bytes))
+      ≡ in_records length_from l bytes (fields_place l bytes j)
 
 pub trailer_ends : (l : Layout) (versions : List Version) (bytes : List ℕ) → IsEarly l versions bytes
     → trailer_place l bytes + trailer_length l bytes ≤ length bytes
@@ -173,13 +164,13 @@ lengths_at l versions bytes j n early e =
     let ends = early.ends in
     let all : list_place l bytes j + list_length l bytes place + header_length bytes place
     ≤ length bytes = omega (arith, here, next, last) in
-    let streams : streams_place l bytes j + sum (stream_lengths l bytes place) ≤ length bytes =
+    let streams : streams_place l bytes j + sum (in_records length_from l bytes place) ≤ length bytes =
     omega (arith, there, after, ends) in
     record {
       list = length-take-le (list_length l bytes place) (drop (list_place l bytes j) bytes)
           (omega (arith, all, length-drop (list_place l bytes j) bytes));
       header = length-take-le (header_length bytes place) (drop (header_place l bytes j) bytes)
           (omega (arith, all, length-drop (header_place l bytes j) bytes));
-      streams = parted_lengths (stream_lengths l bytes place) (drop (streams_place l bytes j) bytes)
+      streams = parted_lengths (in_records length_from l bytes place) (drop (streams_place l bytes j) bytes)
           (omega (arith, streams, length-drop (streams_place l bytes j) bytes));
     }

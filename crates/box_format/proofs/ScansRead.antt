@@ -144,7 +144,7 @@ read_after v bytes bs can said trailer one front =
       byte = front.version;
       version = ap version_of front.version ∙ same_version v;
       raws = ap (λ (k : ℕ). map (scan_raw v bytes) (numbers 0 k)) front.scans
-          ∙ raws_walked v bytes 0 bs at_end.are said fields.0 headers.0 streams.0 trailers;
+          ∙ raws_walked v bytes 0 bs said fields.0 headers.0 streams.0 trailers;
       fields = let far = at_list.long in omega (arith, far);
       end = let far = at_end.long in omega (arith, far);
       rest = at_end.are;

@@ -1,6 +1,7 @@
 -- A scan's parts are in bytes that have every part that their fields name.
 use Rattle.std.proofs.Common.{◌∙◌, Bool, ◌≤◌, ap₂, ℕ, length, arith, map, ap, length-drop, ◌≡◌, drop, List, false, refl, ◌<◌, ◌+◌, ◌*◌, suc, ◌-◌, if◌then◌else◌}
 use Rattle.std.specs.Prelude.{sum, slice_index, Option}
+use Rattle.byteorder.specs.Endian.{big_number}
 use Rattle.box_format.specs.Versions.{layout_of}
 use Rattle.box_format.specs.declared.version.Layout.{Layout}
 use Rattle.box_format.specs.declared.version.Version.{Version}
@@ -11,10 +12,10 @@ use Rattle.handover.specs.Handovers.{HandoverFields}
 use Rattle.scan_spec.specs.Pads.{PadBits}
 use Rattle.std.proofs.lemmas.List.{length-take-le}
 use Rattle.box_format.specs.Parts.{BoxParts}
-use Rattle.box_format.specs.Raws.{numbers, parted, parts_of, pads_in}
+use Rattle.box_format.specs.Raws.{numbers, parted, parts_of, pads_in, length_from}
 use Rattle.box_format.specs.Slices.{HasSegments, handovers_in, lengths_in, places_with, scan_parts}
 use Rattle.box_format.specs.Whole.{IsWhole, list_at, header_at, records_at, streams_at}
-use Rattle.box_format.specs.Fields.{scans_in, segments_at, header_length, list_length, chunk_at, end_at, record_place, stream_lengths, fields_place, list_place, trailer_length, trailer_place, streams_place, trailer_at, scan_raw}
+use Rattle.box_format.specs.Fields.{scans_in, segments_at, header_length, list_length, chunk_at, record_place, fields_place, list_place, trailer_length, trailer_place, streams_place, trailer_at, scan_raw, in_records}
 use Rattle.box_format.specs.declared.chunk.Chunk.{Chunk}
 use Rattle.box_format.proofs.Sliced.{handovers_same, lengths_same, places_same}
 use Rattle.box_format.proofs.ScansWalked.{next_fields, next_list, next_streams}
@@ -93,7 +94,7 @@ trailer_ends l bytes whole =
 
 -- its streams
 pub streams_end : (l : Layout) (bytes : List ℕ) (j : ℕ) → IsWhole l bytes → j < scans_in l bytes
-    → streams_place l bytes j + sum (stream_lengths l bytes (fields_place l bytes j)) ≤ length bytes
+    → streams_place l bytes j + sum (in_records length_from l bytes (fields_place l bytes j)) ≤ length bytes
 streams_end l bytes j whole below =
     let n = scans_in l bytes in
     let up = streams_up l bytes (j + 1) n (n - (j + 1)) (later j n below) in
@@ -133,7 +134,7 @@ pub scan_sliced : (v : Version) (bytes : List ℕ) (j place : ℕ) (c : Option C
     → list ≡ list_at (layout_of v) bytes j → header ≡ header_at (layout_of v) bytes j
     → trailer ≡ trailer_at (layout_of v) bytes j
     → n ≡ segments_at bytes place → records ≡ records_at (layout_of v) bytes j
-    → end ≡ (if (layout_of v).placed then end_at bytes place else 0)
+    → end ≡ (if (layout_of v).placed then big_number 8 (drop (place + 14) bytes) else 0)
     → streams ≡ streams_at (layout_of v) bytes j
     → scan_parts v c pad list header trailer n records end streams ≡ parts_of (scan_raw v bytes j)
 unfolding scan_raw
@@ -142,7 +143,7 @@ scan_sliced v bytes j place c pad list header trailer n records end streams a b 
     let p = fields_place l bytes j in
     let s = segments_at bytes p in
     let hs = h ∙ ap (segments_at bytes) a in
-    let ends = m ∙ ap (λ (q : ℕ). if l.placed then end_at bytes q else 0) a in
+    let ends = m ∙ ap (λ (q : ℕ). if l.placed then big_number 8 (drop (q + 14) bytes) else 0) a in
     same_parts v _ _ _ _ _ _ _ _ _ _ _ _ _ _
     (b ∙ ap (chunk_at l bytes) a)
     (ap₂ (λ (x : ℕ) (y : List ℕ). places_with v x y end) hs i

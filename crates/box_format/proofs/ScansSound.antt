@@ -1,7 +1,9 @@
 -- Scans whose checks pass are a container's.
 use Rattle.std.proofs.Common.{◌≡◌, ◌<◌, ◌+◌, ◌^◌, not, cond, Bool, true, false, ℕ, List, [], ◌∷◌, length, map, refl, ap, ◌∙◌, arith, subst}
 use Rattle.std.specs.Prelude.{sum, Option, Some, None, option_map, is_some, IfSome}
+use Rattle.std.specs.Bool.{then_some}
 use Rattle.std.specs.List.{AllByRecursion}
+use Rattle.std.specs.Option.{option_or}
 use Rattle.std.proofs.lemmas.Bool.{or_parts, and_parts, false≢true}
 use Rattle.bit_list.specs.Bits.{IsByte}
 use Rattle.jpeg_marker.specs.Plans.{PlanFields}
@@ -18,7 +20,7 @@ use Rattle.box_format.specs.Versions.{layout_of}
 use Rattle.box_format.specs.Parts.{BoxParts, BoxSeen, IsBoxIn, ArePlaces, bad_start, can_start, box_cut}
 use Rattle.box_format.specs.Raws.{Raw, parts_of}
 use Rattle.box_format.specs.Containers.{AreBoxes, all_parts, segment_count}
-use Rattle.box_format.specs.Checks.{or_else, where_failed, are_wrong, is_bad_chunk, is_bad_pad, are_bad_places, HeadersPass, are_complete, some_are_wrong, segments_of, scan_fault, scans_fault, boxes_of}
+use Rattle.box_format.specs.Checks.{are_wrong, is_bad_chunk, is_bad_pad, are_bad_places, HeadersPass, are_complete, some_are_wrong, segments_of, scan_fault, scans_fault, boxes_of}
 use Rattle.box_format.specs.declared.version.Version.{Version}
 use Rattle.box_format.specs.declared.refusal.BoxRefusal.TheVariants.{BoxChunk, BoxPad, HandoverBad, BoxPlaces}
 use Rattle.box_format.proofs.PadBytes.{pad_again, list_again, pad_can}
@@ -138,12 +140,12 @@ has_passed first plan raw e =
     let o = bad_start (shape_of plan) (box_cut plan raw.chunk (length raw.handovers)) 0
     raw.handovers in
     let places = are_bad_places (length raw.header) raw.places in
-    let later = or_else (option_map (λ i. HandoverBad (first + i)) o)
-    (where_failed places BoxPlaces) in
-    let one = or_none (where_failed wrong BoxChunk) (or_else (where_failed bad BoxPad) later) e in
-    let two = or_none (where_failed bad BoxPad) later one.1 in
+    let later = option_or (option_map (λ i. HandoverBad (first + i)) o)
+    (then_some places BoxPlaces) in
+    let one = or_none (then_some wrong BoxChunk) (option_or (then_some bad BoxPad) later) e in
+    let two = or_none (then_some bad BoxPad) later one.1 in
     let three = or_none (option_map (λ i. HandoverBad (first + i)) o)
-    (where_failed places BoxPlaces) two.1 in
+    (then_some places BoxPlaces) two.1 in
     record {
       chunk = check_passes wrong BoxChunk one.0;
       pad = check_passes bad BoxPad two.0;
@@ -199,7 +201,7 @@ known_after v w plan raw plain passes =
     next_known plan.known
     (begun_has_plan w raw.header plan plain.header_bytes passes.known passes.header).known
 
-not_true : (b : Bool) → not b ≡ true → b ≡ false
+pub not_true : (b : Bool) → not b ≡ true → b ≡ false
 not_true true e = cc
 not_true false e = refl
 

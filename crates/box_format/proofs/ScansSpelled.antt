@@ -8,9 +8,9 @@ use Rattle.byteorder.specs.Endian.{big_bytes, big_number}
 use Rattle.bit_list.specs.Bits.{IsByte}
 use Rattle.box_format.specs.Versions.{layout_of}
 use Rattle.box_format.specs.Parts.{BoxParts, magic, pad_byte, list_bytes}
-use Rattle.box_format.specs.Raws.{Raw, numbers, parted, pads_in, parts_of}
+use Rattle.box_format.specs.Raws.{Raw, numbers, parted, pads_in, parts_of, length_from}
 use Rattle.box_format.specs.Containers.{scans_said, scan_fields, scan_header, scan_streams, trailer_of, container_bytes}
-use Rattle.box_format.specs.Fields.{scans_in, header_length, list_length, stream_lengths, fields_place, list_place, header_place, trailer_length, trailer_place, streams_place, named_end, trailer_at, scan_raw, raws_as}
+use Rattle.box_format.specs.Fields.{scans_in, header_length, list_length, fields_place, list_place, header_place, trailer_length, trailer_place, streams_place, named_end, trailer_at, scan_raw, raws_as, in_records}
 use Rattle.box_format.specs.declared.version.Layout.{Layout}
 use Rattle.box_format.specs.declared.version.Version.{Version}
 use Rattle.box_format.specs.declared.version.Version.TheVariants.{First, Second, Third, Fourth, Fifth}
@@ -57,7 +57,7 @@ one_fields v bytes j are long lengths padded trailer =
     let list = take (list_length l bytes place) (drop (list_place l bytes j) bytes) in
     fields_spelled l bytes place (pad_byte (pads_in pad list)) (list_bytes (pads_in pad list))
     (take (header_length bytes place) (drop (header_place l bytes j) bytes)) (trailer_at l bytes j)
-    (parted (stream_lengths l bytes place) (drop (streams_place l bytes j) bytes)) (laid_out v) are
+    (parted (in_records length_from l bytes place) (drop (streams_place l bytes j) bytes)) (laid_out v) are
     (omega (arith, next, long)) padded.byte
     (sym lengths.list ∙ ap (λ (l : List ℕ). length l) padded.list) (sym lengths.header) trailer
     lengths.streams
@@ -148,7 +148,7 @@ one_streams : (v : Version) (bytes : List ℕ) (j : ℕ)
 unfolding scan_raw
 one_streams v bytes j =
     let l = layout_of v in
-    let ns = stream_lengths l bytes (fields_place l bytes j) in
+    let ns = in_records length_from l bytes (fields_place l bytes j) in
     let streams = scan_streams (parts_of (scan_raw v bytes j)) in
     parts_joined ns (drop (streams_place l bytes j) bytes)
     ∙ ap (λ (l : List ℕ). streams ++ l) (drop-drop (sum ns) (streams_place l bytes j) bytes

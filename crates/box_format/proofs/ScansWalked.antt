@@ -7,14 +7,14 @@ use Rattle.std.proofs.lemmas.List.{take_at, drop_at, append-nil}
 use Rattle.handover.specs.Handovers.{HandoverFields}
 use Rattle.box_format.specs.Versions.{layout_of}
 use Rattle.box_format.specs.Parts.{BoxParts, pad_byte, list_bytes}
-use Rattle.box_format.specs.Raws.{Raw, numbers, parted}
+use Rattle.box_format.specs.Raws.{Raw, numbers, parted, length_from}
 use Rattle.box_format.specs.declared.chunk.Chunk.{Chunk}
 use Rattle.box_format.specs.declared.version.Layout.{Layout}
 use Rattle.box_format.specs.declared.version.Version.{Version}
 use Rattle.box_format.proofs.Lists.{sum_first}
 use Rattle.box_format.proofs.Layouts.{IsLaidOut}
 use Rattle.box_format.specs.Containers.{scan_fields, scan_header, scan_streams, trailer_of}
-use Rattle.box_format.specs.Fields.{scans_in, segments_at, header_length, list_length, record_place, stream_lengths, fields_place, list_place, header_place, trailer_length, trailer_place, streams_place, named_end, trailer_at, chunk_at, places_at, scan_raw}
+use Rattle.box_format.specs.Fields.{scans_in, segments_at, header_length, list_length, record_place, fields_place, list_place, header_place, trailer_length, trailer_place, streams_place, trailer_at, chunk_at, places_at, scan_raw, in_records}
 use Rattle.box_format.proofs.Remaining.{Remains, part_after, part_next}
 use Rattle.box_format.proofs.ScanRead.{CanPut, FieldsRead, fields_read}
 
@@ -31,7 +31,7 @@ next_list l bytes j = ap (list_place l bytes) (add-one j)
 
 pub next_streams : (l : Layout) (bytes : List ℕ) (j : ℕ)
     → streams_place l bytes (j + 1)
-    ≡ streams_place l bytes j + sum (stream_lengths l bytes (fields_place l bytes j))
+    ≡ streams_place l bytes j + sum (in_records length_from l bytes (fields_place l bytes j))
 next_streams l bytes j = ap (streams_place l bytes) (add-one j)
 
 pub streams_long : (streams : List (List ℕ))
@@ -116,7 +116,7 @@ headers_walked l bytes tail j (b ∷ bs) has is =
 -- all streams
 abbrev pub HasStreams : Layout → List ℕ → ℕ → BoxParts → Type 0
 HasStreams l bytes j b =
-    parted (stream_lengths l bytes (fields_place l bytes j)) (drop (streams_place l bytes j) bytes)
+    parted (in_records length_from l bytes (fields_place l bytes j)) (drop (streams_place l bytes j) bytes)
     ≡ b.streams
 
 parts_again : (streams : List (List ℕ)) (tail : List ℕ)
@@ -147,7 +147,7 @@ streams_walked l bytes tail j (b ∷ bs) has is =
     let split : Remains bytes (streams_place l bytes j) (scan_streams b ++ (others ++ tail)) =
     subst (Remains bytes (streams_place l bytes j)) (append_assoc (scan_streams b) others tail) is in
     let long = ap sum lengths ∙ sym (streams_long b.streams) in
-    let second = part_after bytes (streams_place l bytes j) (sum (stream_lengths l bytes place))
+    let second = part_after bytes (streams_place l bytes j) (sum (in_records length_from l bytes place))
     (streams_place l bytes (j + 1)) (scan_streams b) (others ++ tail) long (next_streams l bytes j)
     split in
     let later = streams_walked l bytes tail (j + 1) bs has.1 second in
@@ -201,15 +201,14 @@ raw_like b = record {
   header = b.header;
   trailer = b.trailer;
   streams = b.streams;
-  rest = [];
 }
 
 raw_same : (b : BoxParts) (version : Version) (chunk : Option Chunk) (places : Option (List ℕ))
-    (pad : ℕ) (list header trailer rest : List ℕ)
+    (pad : ℕ) (list header trailer : List ℕ)
     (handovers : List HandoverFields) (streams : List (List ℕ))
     → version ≡ b.version → chunk ≡ b.chunk → places ≡ b.places
     → pad ≡ pad_byte b.pads → list ≡ list_bytes b.pads → header ≡ b.header
-    → trailer ≡ b.trailer → rest ≡ [] → handovers ≡ b.handovers → streams ≡ b.streams
+    → trailer ≡ b.trailer → handovers ≡ b.handovers → streams ≡ b.streams
     → ◌≡◌ {A = Raw} (record {
       version = version;
       chunk = chunk;
@@ -220,33 +219,30 @@ raw_same : (b : BoxParts) (version : Version) (chunk : Option Chunk) (places : O
       header = header;
       trailer = trailer;
       streams = streams;
-      rest = rest;
     }) (raw_like b)
-raw_same b version chunk places pad list header trailer rest handovers streams v c q p l h t r hs
-    ss =
-    rw (v, c, q, p, l, h, t, r, hs, ss) refl
+raw_same b version chunk places pad list header trailer handovers streams v c q p l h t hs ss =
+    rw (v, c, q, p, l, h, t, hs, ss) refl
 
 raw_is : (v : Version) (bytes : List ℕ) (j : ℕ) (b : BoxParts)
-    → drop (named_end (layout_of v) bytes) bytes ≡ [] → b.version ≡ v
+    → b.version ≡ v
     → HasFields (layout_of v) bytes j b → HasHeader (layout_of v) bytes j b
     → HasStreams (layout_of v) bytes j b → HasTrailer (layout_of v) bytes j b
     → scan_raw v bytes j ≡ raw_like b
 unfolding scan_raw
-raw_is v bytes j b end said fields header streams trailer =
+raw_is v bytes j b said fields header streams trailer =
     let l = layout_of v in
     raw_same b v (chunk_at l bytes (fields_place l bytes j)) (places_at l bytes (fields_place l bytes j))
-    (slice_index bytes (fields_place l bytes j)) _ _ (trailer_at l bytes j) _ _ _
+    (slice_index bytes (fields_place l bytes j)) _ _ (trailer_at l bytes j) _ _
     (sym said) fields.chunk fields.places
-    fields.pad header.list header.header trailer end fields.handovers streams
+    fields.pad header.list header.header trailer fields.handovers streams
 
 pub raws_walked : (v : Version) (bytes : List ℕ) (j : ℕ) (bs : List BoxParts)
-    → drop (named_end (layout_of v) bytes) bytes ≡ []
     → AllByRecursion (λ (b : BoxParts). b.version ≡ v) bs
     → From (HasFields (layout_of v) bytes) j bs → From (HasHeader (layout_of v) bytes) j bs
     → From (HasStreams (layout_of v) bytes) j bs → From (HasTrailer (layout_of v) bytes) j bs
     → map (scan_raw v bytes) (numbers j (length bs)) ≡ map raw_like bs
-raws_walked v bytes j [] end said fields headers streams trailers = refl
-raws_walked v bytes j (b ∷ bs) end said fields headers streams trailers =
+raws_walked v bytes j [] said fields headers streams trailers = refl
+raws_walked v bytes j (b ∷ bs) said fields headers streams trailers =
     ap₂ (λ (r : Raw) (rs : List Raw). r ∷ rs)
-    (raw_is v bytes j b end said.0 fields.0 headers.0 streams.0 trailers.0)
-    (raws_walked v bytes (j + 1) bs end said.1 fields.1 headers.1 streams.1 trailers.1)
+    (raw_is v bytes j b said.0 fields.0 headers.0 streams.0 trailers.0)
+    (raws_walked v bytes (j + 1) bs said.1 fields.1 headers.1 streams.1 trailers.1)

@@ -1,5 +1,5 @@
 -- The bytes of a container of one scan, part by part, and as they are put in the second version.
-use Rattle.std.proofs.Common.{◌≡◌, ◌≤◌, ◌+◌, Bool, true, false, ℕ, List, [], ◌∷◌, ◌++◌, length, flat_map, refl, sym, ap, ◌∙◌, arith, append_assoc}
+use Rattle.std.proofs.Common.{◌≡◌, ◌≤◌, Bool, true, false, ℕ, List, [], ◌∷◌, ◌++◌, length, flat_map, refl, sym, ap, ◌∙◌, arith, append_assoc}
 use Rattle.std.specs.Prelude.{Option, Some, None, is_some}
 use Rattle.std.proofs.lemmas.List.{append-nil}
 use Rattle.byteorder.specs.Endian.{big_bytes}
@@ -7,7 +7,7 @@ use Rattle.jpeg_marker.specs.Plans.{PlanFields}
 use Rattle.scan_spec.specs.Slots.{Shape, shape_of}
 use Rattle.scan_spec.specs.Pads.{PadBits, Same, Listed}
 use Rattle.box_format.specs.Versions.{layout_of}
-use Rattle.box_format.specs.Parts.{BoxParts, can_pad, magic, pad_byte, list_bytes, list_length, chunk_bytes, place_bytes, records, migrated}
+use Rattle.box_format.specs.Parts.{BoxParts, can_pad, magic, pad_byte, list_bytes, length_said, chunk_bytes, place_bytes, records, migrated}
 use Rattle.box_format.specs.Containers.{container_bytes}
 use Rattle.box_format.specs.Single.{IsBox, IsBoxOf, box_bytes, relaid}
 use Rattle.box_format.specs.SingleLaws.{MigratedIsBox, RelaidIsMigrated, SecondStays}
@@ -27,7 +27,7 @@ abbrev pub nested : Version → Option Chunk → Option (List ℕ) → PadBits �
     → List ℕ
 nested v c places pads count header trailer after =
     magic ++ (layout_of v).byte ∷ pad_byte pads ∷ count ∷ (big_bytes 4 header ++ (big_bytes 4 trailer
-    ++ (list_length (layout_of v).listed (list_bytes pads)
+    ++ (length_said (layout_of v).listed (list_bytes pads)
     ++ (chunk_bytes c ++ (place_bytes places count ++ after)))))
 
 joined : (h t l c e r ls hd tr ss : List ℕ)
@@ -42,7 +42,7 @@ unfolding container_bytes
 nested_is b one = rw one
     (ap (λ (l : List ℕ). magic ++ (layout_of b.version).byte ∷ pad_byte b.pads ∷ length b.handovers ∷ l)
     (joined (big_bytes 4 (length b.header)) (big_bytes 4 (length b.trailer))
-    (list_length (layout_of b.version).listed (list_bytes b.pads)) (chunk_bytes b.chunk)
+    (length_said (layout_of b.version).listed (list_bytes b.pads)) (chunk_bytes b.chunk)
     (place_bytes b.places (length b.handovers)) (records b.places 0 b.handovers b.streams)
     (list_bytes b.pads) b.header b.trailer (flat_map (λ stream. stream) b.streams)))
 
@@ -62,13 +62,13 @@ front_there plan b bytes is =
 
 -- ---- the second version says all that the first one does
 
-pads_more : (listed : Bool) (shape : Shape) (pads : PadBits) → can_pad listed shape pads ≡ true
+pub pads_more : (listed : Bool) (shape : Shape) (pads : PadBits) → can_pad listed shape pads ≡ true
     → can_pad true shape pads ≡ true
 pads_more listed shape (Same pad) e = refl
 pads_more true shape (Listed bytes) e = e
 pads_more false shape (Listed bytes) e = cc
 
-none_of : {A : Type 0} (o : Option A) → is_some o ≡ false → o ≡ None
+pub none_of : {A : Type 0} (o : Option A) → is_some o ≡ false → o ≡ None
 none_of None e = refl
 none_of (Some x) e = cc
 

@@ -3,7 +3,10 @@ use Rattle.std.proofs.Common.{◌≡◌, ◌≤◌, ℕ, Bool, true, false, not,
 use Rattle.std.specs.Prelude.{◌⊎◌, ◌==◌, slice_index}
 use Rattle.std.proofs.lemmas.Bool.{eqb-true, false≢true, or_cases}
 use Rattle.jpeg_marker.specs.Plans.{PlanFields}
-use Rattle.jpeg_marker.specs.FirstWalks.{opening_walk}
+use Rattle.jpeg_marker.specs.FirstWalks.{only_walk, opening_walk}
+use Rattle.jpeg_marker.specs.HeaderPlan.{Begins}
+use Rattle.jpeg_marker.specs.KnownBefore.{AreKnown}
+use Rattle.jpeg_marker.specs.Walks.{Walk}
 use Rattle.jpeg_marker.proofs.OneScans.{one_is_several, one_is_last, several_is_one}
 use Rattle.scan_spec.specs.FileParts.{is_last}
 use Rattle.box_format.specs.Versions.{layout_of, version_of, version_in, fewest_scans, most_scans, is_version, are_single, IsRead}
@@ -21,10 +24,12 @@ use Rattle.box_format.proofs.Spelling.{one_list_of_scans, never_both}
 
 -- ---- the walk of a file of one scan
 
-to_opening : (plan : PlanFields) (b : BoxParts) → IsBox plan b → IsBoxIn opening_walk plan b
-to_opening plan b is = record {
-  known = is.known;
-  header = one_is_several b.header plan is.header;
+-- the parts are those of any walk that the header is read by
+read_by : (w o : Walk) (plan : PlanFields) (b : BoxParts) → IsBoxIn w plan b → AreKnown o.known
+    → Begins o b.header plan → IsBoxIn o plan b
+read_by w o plan b is known header = record {
+  known = known;
+  header = header;
   whole = is.whole;
   few = is.few;
   cut = is.cut;
@@ -46,31 +51,15 @@ to_opening plan b is = record {
   stream_bytes = is.stream_bytes;
 }
 
+to_opening : (plan : PlanFields) (b : BoxParts) → IsBox plan b → IsBoxIn opening_walk plan b
+to_opening plan b is =
+    read_by only_walk opening_walk plan b is is.known (one_is_several b.header plan is.header)
+
 to_only : (plan : PlanFields) (b : BoxParts) → IsBoxIn opening_walk plan b
     → is_last plan ≡ true → IsBox plan b
-to_only plan b is last = record {
-  known = is.known;
-  header = several_is_one b.header plan is.header_bytes is.header last;
-  whole = is.whole;
-  few = is.few;
-  cut = is.cut;
-  chunked = is.chunked;
-  chunk = is.chunk;
-  placed = is.placed;
-  places = is.places;
-  pads = is.pads;
-  streams = is.streams;
-  each = is.each;
-  starts = is.starts;
-  header_fits = is.header_fits;
-  trailer_fits = is.trailer_fits;
-  list_fits = is.list_fits;
-  streams_fit = is.streams_fit;
-  list_bytes_are = is.list_bytes_are;
-  header_bytes = is.header_bytes;
-  trailer_bytes = is.trailer_bytes;
-  stream_bytes = is.stream_bytes;
-}
+to_only plan b is last =
+    read_by opening_walk only_walk plan b is is.known
+    (several_is_one b.header plan is.header_bytes is.header last)
 
 -- ---- the byte of the version
 
@@ -91,7 +80,7 @@ version_is_in v scans bytes is = ap version_in is.text ∙ version_said v _
 one_sum : (n : ℕ) → sum (n ∷ []) ≡ n
 one_sum n = let e = sum_first n [] in omega (arith, e)
 
-fewest_one : (v : Version) → (layout_of v).several ≡ false
+pub fewest_one : (v : Version) → (layout_of v).several ≡ false
     → (fewest_scans (layout_of v) ≤ 1) × (1 ≤ most_scans (layout_of v))
     × (most_scans (layout_of v) ≤ 1)
 fewest_one First e = (omega arith, omega arith, omega arith)

@@ -8,7 +8,7 @@ use Rattle.byteorder.specs.Numbers.{big_from-take}
 use Rattle.handover.specs.Handovers.{HandoverFields}
 use Rattle.handover.specs.HandoverBytes.{handover_in}
 use Rattle.box_format.specs.Raws.{parted, handover_from, numbers, place_from, length_from}
-use Rattle.box_format.specs.Fields.{segments_at, place_at, end_at, places_at}
+use Rattle.box_format.specs.Fields.{segments_at, places_at, in_record}
 use Rattle.box_format.specs.Slices.{places_with, lengths_in, handovers_in, place_among, HasSegments}
 use Rattle.box_format.specs.Versions.{layout_of}
 use Rattle.box_format.specs.declared.version.Version.{Version}
@@ -197,7 +197,7 @@ placed_low Fourth e = cc
 placed_low Fifth e = omega arith
 
 pub places_same : (v : Version) (n place end : ℕ) (bytes : List ℕ)
-    → end ≡ (if (layout_of v).placed then end_at bytes place else 0)
+    → end ≡ (if (layout_of v).placed then big_number 8 (drop (place + 14) bytes) else 0)
     → n ≡ segments_at bytes place
     → places_with v n (records_at v n (place + (layout_of v).fields) bytes) end
     ≡ places_at (layout_of v) bytes place
@@ -205,9 +205,9 @@ places_same v n place end bytes e m =
     let start = place + (layout_of v).fields in
     places_sliced (layout_of v).placed bytes
     (λ i. place_from (records_at v n start bytes) (place_among v i))
-    (place_at (layout_of v) bytes place) n end (end_at bytes place)
+    (in_record place_from (layout_of v) bytes place) n end (big_number 8 (drop (place + 14) bytes))
     (λ placed. same_values (λ i. place_from (records_at v n start bytes) (place_among v i))
-    (place_at (layout_of v) bytes place) 0 n
+    (in_record place_from (layout_of v) bytes place) 0 n
     (λ i below.
     let room = record_among v (0 + i) n (omega arith) in
     let low = placed_low v placed in
@@ -215,5 +215,5 @@ places_same v n place end bytes e m =
     let k : start + (p + 22) ≡ start + p + 22 = omega arith in
     number_from (p + 22) (place_among v n) start bytes (omega (arith, room, low))
     ∙ ap (λ (k : ℕ). big_number 8 (drop k bytes)) k)) e
-    ∙ ap (λ (k : ℕ). if (layout_of v).placed then Some (map (place_at (layout_of v) bytes place)
-    (numbers 0 k) ++ end_at bytes place ∷ []) else None) m
+    ∙ ap (λ (k : ℕ). if (layout_of v).placed then Some (map (in_record place_from (layout_of v) bytes place)
+    (numbers 0 k) ++ big_number 8 (drop (place + 14) bytes) ∷ []) else None) m

@@ -32,7 +32,7 @@ one_list_of_scans scans others bytes p q =
     x.0.headers y.0.headers in
     sym x.1 ∙ ap (λ (l : List PlanFields). boxes_of l (raws_of bytes)) plans ∙ y.1
 
-some_is_one : {A : Type 0} (x y : A) → Some x ≡ Some y → x ≡ y
+pub some_is_one : {A : Type 0} (x y : A) → Some x ≡ Some y → x ≡ y
 some_is_one x y e = cc
 
 -- a header that is refused, or a check after them that fails

@@ -1,5 +1,7 @@
 -- Statement: why bytes are no container: the first check that fails (docs/FORMAT.md, The container).
 use Rattle.std.specs.Prelude.{ℕ, ◌+◌, ◌-◌, ◌≡◌, ◌⊎◌, Bool, true, false, ◌&&◌, ◌||◌, not, ◌==◌, nat_lt, if◌then◌else◌, List, [], ◌∷◌, length, take, drop, map, sum, slice_index, bytes_eq, Option, Some, None, option_map}
+use Rattle.std.specs.Bool.{then_some}
+use Rattle.std.specs.Option.{option_or}
 use Rattle.jpeg_marker.specs.Plans.{PlanFields}
 use Rattle.jpeg_marker.specs.Walks.{Walk, next_walk}
 use Rattle.jpeg_marker.specs.FirstWalks.{opening_walk}
@@ -52,15 +54,6 @@ HeadersFail w (raw ∷ raws) refusal =
     × (refusal ≡ HeaderLong plan.header_length))
     ⊎ ((plan.header_length ≡ length raw.header)
     × HeadersFail (next_walk plan.known 0) raws refusal)))
-
--- the first of two
-abbrev pub or_else : Option BoxRefusal → Option BoxRefusal → Option BoxRefusal
-or_else (Some refusal) later = Some refusal
-or_else None later = later
-
--- a refusal where a check fails
-abbrev pub where_failed : Bool → BoxRefusal → Option BoxRefusal
-where_failed failed refusal = if failed then Some refusal else None
 
 -- whether the last of these scans is the last one of a file, and no other is
 abbrev pub are_complete : List PlanFields → Bool
@@ -121,28 +114,28 @@ are_bad_places header (Some places) =
 -- segments starts from, or its places
 abbrev pub scan_fault : ℕ → PlanFields → Raw → Option BoxRefusal
 scan_fault first plan raw =
-    or_else (where_failed (is_bad_chunk plan.down raw.header raw.trailer raw.chunk) BoxChunk)
-    (or_else (where_failed (is_bad_pad (layout_of raw.version).listed (shape_of plan) raw.pad
+    option_or (then_some (is_bad_chunk plan.down raw.header raw.trailer raw.chunk) BoxChunk)
+    (option_or (then_some (is_bad_pad (layout_of raw.version).listed (shape_of plan) raw.pad
     raw.list) BoxPad)
-    (or_else (option_map (λ i. HandoverBad (first + i))
+    (option_or (option_map (λ i. HandoverBad (first + i))
     (bad_start (shape_of plan) (box_cut plan raw.chunk (length raw.handovers)) 0 raw.handovers))
-    (where_failed (are_bad_places (length raw.header) raw.places) BoxPlaces)))
+    (then_some (are_bad_places (length raw.header) raw.places) BoxPlaces)))
 
 -- scan by scan
 abbrev pub scans_fault : ℕ → List PlanFields → List Raw → Option BoxRefusal
 scans_fault first [] raws = None
 scans_fault first (plan ∷ plans) [] = None
 scans_fault first (plan ∷ plans) (raw ∷ raws) =
-    or_else (scan_fault first plan raw) (scans_fault (first + length raw.handovers) plans raws)
+    option_or (scan_fault first plan raw) (scans_fault (first + length raw.handovers) plans raws)
 
 -- the checks after the headers, in their order
 unfoldable pub late_fault : Version → List PlanFields → List ℕ → Option BoxRefusal
 late_fault version plans bytes =
     let l = layout_of version in
     let raws = raws_as version bytes in
-    or_else (where_failed (are_wrong_scans l plans raws) BoxSegments)
-    (or_else (scans_fault 0 plans raws)
-    (where_failed (nat_lt 0 (length (drop (named_end l bytes) bytes))) BoxLong))
+    option_or (then_some (are_wrong_scans l plans raws) BoxSegments)
+    (option_or (scans_fault 0 plans raws)
+    (then_some (nat_lt 0 (length (drop (named_end l bytes) bytes))) BoxLong))
 
 -- no check fails, of who reads these versions, on bytes laid out as in one
 pub record PassesAs (version : Version) (versions : List Version) (plans : List PlanFields)

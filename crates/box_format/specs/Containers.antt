@@ -1,5 +1,5 @@
 -- Statement: a container by the parts of its scans, and its bytes (docs/FORMAT.md, The container).
-use Rattle.std.specs.Prelude.{ℕ, ◌≡◌, ◌≤◌, Bool, true, false, if◌then◌else◌, List, [], ◌∷◌, ◌++◌, length, map, flat_map, sum}
+use Rattle.std.specs.Prelude.{ℕ, ◌≡◌, ◌≤◌, Bool, true, false, if◌then◌else◌, List, [], ◌∷◌, ◌++◌, length, map, flat_map, sum, not}
 use Rattle.std.specs.List.{AllByRecursion}
 use Rattle.byteorder.specs.Endian.{big_bytes}
 use Rattle.jpeg_marker.specs.Plans.{PlanFields}
@@ -7,22 +7,18 @@ use Rattle.jpeg_marker.specs.Walks.{Walk, next_walk}
 use Rattle.jpeg_marker.specs.FirstWalks.{opening_walk}
 use Rattle.scan_spec.specs.FileParts.{is_last}
 use Rattle.box_format.specs.Versions.{layout_of, fewest_scans, most_scans}
-use Rattle.box_format.specs.Parts.{BoxParts, BoxSeen, IsBoxIn, magic, pad_byte, list_bytes, list_length, chunk_bytes, place_bytes, records}
+use Rattle.box_format.specs.Parts.{BoxParts, BoxSeen, IsBoxIn, magic, pad_byte, list_bytes, length_said, chunk_bytes, place_bytes, records}
 use Rattle.box_format.specs.declared.version.Version.{Version}
 
 -- A container has one scan or several, all in its version. The trailer is the last one's, and those before have none.
-
--- the length of the trailer among the fields of a scan, where it is there
-abbrev pub trailer_length : Bool → List ℕ → List ℕ
-trailer_length several trailer = if several then [] else big_bytes 4 (length trailer)
 
 -- a scan's fields: its pad byte, how many segments it has, the lengths of its header, of the trailer and of its pad
 -- list, the chunk, the place of the scan's end, and a record for each segment
 abbrev pub scan_fields : BoxParts → List ℕ
 scan_fields b =
     pad_byte b.pads ∷ length b.handovers
-    ∷ big_bytes 4 (length b.header) ++ trailer_length (layout_of b.version).several b.trailer
-    ++ list_length (layout_of b.version).listed (list_bytes b.pads) ++ chunk_bytes b.chunk
+    ∷ big_bytes 4 (length b.header) ++ length_said (not (layout_of b.version).several) b.trailer
+    ++ length_said (layout_of b.version).listed (list_bytes b.pads) ++ chunk_bytes b.chunk
     ++ place_bytes b.places (length b.handovers)
     ++ records b.places 0 b.handovers b.streams
 

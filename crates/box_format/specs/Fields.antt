@@ -2,7 +2,6 @@
 -- container).
 use Rattle.std.specs.Prelude.{ℕ, zero, suc, ◌+◌, ◌*◌, ◌==◌, if◌then◌else◌, List, [], ◌∷◌, ◌++◌, take, drop, map, sum, slice_index, Option, Some, None}
 use Rattle.byteorder.specs.Endian.{big_number}
-use Rattle.handover.specs.Handovers.{HandoverFields}
 use Rattle.box_format.specs.Versions.{layout_of, version_in}
 use Rattle.box_format.specs.Raws.{Raw, numbers, handover_from, length_from, place_from, parted}
 use Rattle.box_format.specs.declared.chunk.Chunk.{Chunk}
@@ -47,32 +46,20 @@ chunk_at l bytes place =
 abbrev pub record_place : Layout → ℕ → ℕ → ℕ
 record_place l place i = place + l.fields + l.room * i
 
--- what its segment i starts from
-abbrev pub handover_at : Layout → List ℕ → ℕ → ℕ → HandoverFields
-handover_at l bytes place i = handover_from bytes (record_place l place i)
+-- a part of that record: what the segment starts from, the length of its stream, or the place of its first byte
+abbrev pub in_record : {A : Type 0} → (List ℕ → ℕ → A) → Layout → List ℕ → ℕ → ℕ → A
+in_record part l bytes place i = part bytes (record_place l place i)
 
--- the length of that segment's stream
-abbrev pub stream_length : Layout → List ℕ → ℕ → ℕ → ℕ
-stream_length l bytes place i = length_from bytes (record_place l place i)
+-- those of all its segments
+abbrev pub in_records : {A : Type 0} → (List ℕ → ℕ → A) → Layout → List ℕ → ℕ → List A
+in_records part l bytes place =
+    map (in_record part l bytes place) (numbers 0 (segments_at bytes place))
 
--- the lengths of its streams
-abbrev pub stream_lengths : Layout → List ℕ → ℕ → List ℕ
-stream_lengths l bytes place =
-    map (stream_length l bytes place) (numbers 0 (segments_at bytes place))
-
--- the place in the file of that segment's first byte, and of the scan's end, in a version that has places
-abbrev pub place_at : Layout → List ℕ → ℕ → ℕ → ℕ
-place_at l bytes place i = place_from bytes (record_place l place i)
-
-abbrev pub end_at : List ℕ → ℕ → ℕ
-end_at bytes place = big_number 8 (drop (place + 14) bytes)
-
--- all of them
+-- the places in the file of each segment's first byte and of the scan's end, in a version that has places
 abbrev pub places_at : Layout → List ℕ → ℕ → Option (List ℕ)
 places_at l bytes place =
     if l.placed
-    then Some (map (place_at l bytes place) (numbers 0 (segments_at bytes place))
-    ++ end_at bytes place ∷ [])
+    then Some (in_records place_from l bytes place ++ big_number 8 (drop (place + 14) bytes) ∷ [])
     else None
 
 -- Where the parts of scan j start; after those of the last scan starts what follows them.
@@ -102,7 +89,7 @@ trailer_place l bytes = list_place l bytes (scans_in l bytes)
 abbrev pub streams_place : Layout → List ℕ → ℕ → ℕ
 streams_place l bytes zero = trailer_place l bytes + trailer_length l bytes
 streams_place l bytes (suc j) =
-    streams_place l bytes j + sum (stream_lengths l bytes (fields_place l bytes j))
+    streams_place l bytes j + sum (in_records length_from l bytes (fields_place l bytes j))
 
 -- the end that the fields name
 abbrev pub named_end : Layout → List ℕ → ℕ
@@ -111,9 +98,8 @@ named_end l bytes = streams_place l bytes (scans_in l bytes)
 -- the trailer of a scan: that of the container if it is the last one, else none
 abbrev pub trailer_at : Layout → List ℕ → ℕ → List ℕ
 trailer_at l bytes j =
-    if j + 1 == scans_in l bytes
-    then take (trailer_length l bytes) (drop (trailer_place l bytes) bytes)
-    else []
+    let trailer = take (trailer_length l bytes) (drop (trailer_place l bytes) bytes) in
+    if j + 1 == scans_in l bytes then trailer else []
 
 -- the fields of scan j
 unfoldable pub scan_raw : Version → List ℕ → ℕ → Raw
@@ -126,11 +112,10 @@ scan_raw version bytes j =
       places = places_at l bytes place;
       pad = slice_index bytes place;
       list = take (list_length l bytes place) (drop (list_place l bytes j) bytes);
-      handovers = map (handover_at l bytes place) (numbers 0 (segments_at bytes place));
+      handovers = in_records handover_from l bytes place;
       header = take (header_length bytes place) (drop (header_place l bytes j) bytes);
       trailer = trailer_at l bytes j;
-      streams = parted (stream_lengths l bytes place) (drop (streams_place l bytes j) bytes);
-      rest = drop (named_end l bytes) bytes;
+      streams = parted (in_records length_from l bytes place) (drop (streams_place l bytes j) bytes);
     }
 
 -- of all scans, laid out as in a version

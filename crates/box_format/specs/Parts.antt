@@ -41,13 +41,9 @@ pub record BoxSeen : Type 0 where
 abbrev pub magic : List ℕ
 magic = 0x4c ∷ 0x50 ∷ 0x53 ∷ 0x47 ∷ []
 
--- the byte of one pad bit
-abbrev pub bit_byte : Bool → ℕ
-bit_byte pad = if pad then 1 else 0
-
--- the byte of pad bits: 2 says that there is a list
+-- the byte of pad bits: the one bit, or 2, which says that there is a list
 abbrev pub pad_byte : PadBits → ℕ
-pad_byte (Same pad) = bit_byte pad
+pad_byte (Same pad) = if pad then 1 else 0
 pad_byte (Listed bytes) = 2
 
 -- the pad list, if there is one
@@ -55,9 +51,9 @@ abbrev pub list_bytes : PadBits → List ℕ
 list_bytes (Same pad) = []
 list_bytes (Listed bytes) = bytes
 
--- its length, in the versions that have one
-abbrev pub list_length : Bool → List ℕ → List ℕ
-list_length listed list = if listed then big_bytes 4 (length list) else []
+-- the length of bytes, in the versions that say it here
+abbrev pub length_said : Bool → List ℕ → List ℕ
+length_said said bytes = if said then big_bytes 4 (length bytes) else []
 
 -- a chunk's fields, if there is a chunk
 abbrev pub chunk_bytes : Option Chunk → List ℕ
@@ -79,14 +75,11 @@ records places i (h ∷ handovers) (stream ∷ streams) =
     handover_bytes h ++ (big_bytes 8 (length stream) ++ place_bytes places i)
     ++ records places (i + 1) handovers streams
 
--- whether a component has blocks in the scan
-abbrev pub has_blocks : Shape → ℕ → Bool
-has_blocks shape component = list_any (λ slot. slot.component == component) shape.slots
-
--- the last DC of a component without blocks is 0
+-- the last DC of a component is 0, if it has no blocks in the scan
 abbrev pub is_unused_zero : Shape → HandoverFields → ℕ → Bool
 is_unused_zero shape h component =
-    has_blocks shape component || unsigned_abs (slice_index_or h.preds component (pos 0)) == 0
+    list_any (λ slot. slot.component == component) shape.slots
+    || unsigned_abs (slice_index_or h.preds component (pos 0)) == 0
 
 -- nothing but zeros, as at the start of a scan
 abbrev pub is_start : HandoverFields → Bool

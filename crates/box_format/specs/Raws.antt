@@ -8,7 +8,7 @@ use Rattle.box_format.specs.Parts.{BoxParts}
 use Rattle.box_format.specs.declared.chunk.Chunk.{Chunk}
 use Rattle.box_format.specs.declared.version.Version.{Version}
 
--- the version, the chunk, the places, the pad byte, the pad list, the parts, and what follows them
+-- the version, the chunk, the places, the pad byte, the pad list, and the parts
 pub record Raw : Type 0 where
   pub version : Version
   pub chunk : Option Chunk
@@ -19,7 +19,6 @@ pub record Raw : Type 0 where
   pub header : List ℕ
   pub trailer : List ℕ
   pub streams : List (List ℕ)
-  pub rest : List ℕ
 
 -- `count` numbers, from one on
 abbrev pub numbers : ℕ → ℕ → List ℕ

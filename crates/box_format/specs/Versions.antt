@@ -5,30 +5,30 @@ use Rattle.box_format.specs.declared.version.Layout.{Layout}
 use Rattle.box_format.specs.declared.version.Version.{Version}
 use Rattle.box_format.specs.declared.version.Version.TheVariants.{First, Second, Third, Fourth, Fifth}
 
--- a row of the table of versions. Places are from the start of the container (first, trailer) or of a scan's fields
--- (list)
-abbrev pub row : ℕ → Bool → ℕ → ℕ → Bool → ℕ → Bool → Bool → ℕ → ℕ → ℕ → Layout
-row byte several first trailer listed list chunked placed fields room most = record {
-  byte = byte;
-  several = several;
-  first = first;
-  trailer = trailer;
-  listed = listed;
-  list = list;
-  chunked = chunked;
-  placed = placed;
-  fields = fields;
-  room = room;
-  most = most;
+-- the layout of version 2. Places are from the start of the container (first, trailer) or of a scan's fields (list)
+abbrev pub second : Layout
+second = record {
+  byte = 2;
+  several = false;
+  first = 5;
+  trailer = 11;
+  listed = true;
+  list = 10;
+  chunked = false;
+  placed = false;
+  fields = 14;
+  room = 22;
+  most = 64;
 }
 
--- the layouts of all versions
+-- the layouts of all versions, by how they differ from it
 abbrev pub layout_of : Version → Layout
-layout_of First = row 1 false 5 11 false 0 false false 10 22 16
-layout_of Second = row 2 false 5 11 true 10 false false 14 22 64
-layout_of Third = row 3 false 5 11 true 10 true false 46 22 64
-layout_of Fourth = row 4 true 10 6 true 6 false false 10 22 64
-layout_of Fifth = row 5 false 5 11 true 10 false true 22 30 64
+layout_of First = record second { byte = 1; listed = false; list = 0; fields = 10; most = 16 }
+layout_of Second = second
+layout_of Third = record second { byte = 3; chunked = true; fields = 46 }
+layout_of Fourth =
+    record second { byte = 4; several = true; first = 10; trailer = 6; list = 6; fields = 10 }
+layout_of Fifth = record second { byte = 5; placed = true; fields = 22; room = 30 }
 
 -- how many scans there are, at least and at most
 abbrev pub fewest_scans : Layout → ℕ

@@ -1,5 +1,6 @@
 -- Steps: the parts of bytes that have every part that their fields name, and headers read one by one (own).
 use Rattle.std.specs.Prelude.{Option, option_map, ℕ, ◌+◌, ◌*◌, ◌-◌, ◌≤◌, ◌≡◌, ◌⊎◌, ◌||◌, Bool, true, not, nat_lt, List, [], ◌∷◌, ◌++◌, length, take, drop, map}
+use Rattle.std.specs.Bool.{then_some}
 use Rattle.jpeg_marker.specs.KnownBefore.{AreKnown}
 use Rattle.jpeg_marker.specs.Plans.{PlanFields}
 use Rattle.jpeg_marker.specs.Walks.{Walk}
@@ -7,17 +8,19 @@ use Rattle.jpeg_marker.specs.FirstWalks.{opening_walk}
 use Rattle.jpeg_marker.specs.HeaderPlan.{Begins, BeginsNot}
 use Rattle.jpeg_marker.specs.declared.refusal.HeaderRefusal.{HeaderRefusal}
 use Rattle.std.specs.List.{list_all}
+use Rattle.std.specs.Option.{option_or}
 use Rattle.handover.specs.Handovers.{HandoverFields}
 use Rattle.scan_spec.specs.Slots.{Shape, shape_of}
+use Rattle.byteorder.specs.Endian.{big_number}
 use Rattle.box_format.specs.Parts.{is_unused_zero, bad_start, box_cut}
-use Rattle.box_format.specs.Raws.{Raw, numbers}
+use Rattle.box_format.specs.Raws.{Raw, numbers, place_from}
 use Rattle.box_format.specs.Versions.{layout_of}
 use Rattle.box_format.specs.declared.version.Layout.{Layout}
 use Rattle.box_format.specs.declared.version.Version.{Version}
 use Rattle.box_format.specs.declared.refusal.BoxRefusal.{BoxRefusal}
 use Rattle.box_format.specs.declared.refusal.BoxRefusal.TheVariants.{BoxHeader, HeaderLong, HandoverBad, BoxPlaces}
-use Rattle.box_format.specs.Fields.{place_at, end_at, scans_in, segments_at, header_length, list_length, fields_place, list_place, header_place, streams_place, named_end, scan_raw, raws_as}
-use Rattle.box_format.specs.Checks.{HeadersPass, or_else, where_failed, are_bad_places, are_complete, some_are_wrong, segments_of}
+use Rattle.box_format.specs.Fields.{scans_in, segments_at, header_length, list_length, fields_place, list_place, header_place, streams_place, named_end, scan_raw, raws_as, in_record}
+use Rattle.box_format.specs.Checks.{HeadersPass, are_bad_places, are_complete, some_are_wrong, segments_of}
 
 -- no part ends after the bytes
 pub record IsWhole (l : Layout) (bytes : List ℕ) : Type 0 where
@@ -82,11 +85,11 @@ are_unused_zeros shape h = list_all (is_unused_zero shape h) (0 ∷ 1 ∷ 2 ∷ 
 -- the checks on what is in the records of a scan
 abbrev pub record_fault : ℕ → PlanFields → Raw → Option BoxRefusal
 record_fault first plan raw =
-    or_else (option_map (λ i. HandoverBad (first + i))
+    option_or (option_map (λ i. HandoverBad (first + i))
     (bad_start (shape_of plan) (box_cut plan raw.chunk (length raw.handovers)) 0 raw.handovers))
-    (where_failed (are_bad_places (length raw.header) raw.places) BoxPlaces)
+    (then_some (are_bad_places (length raw.header) raw.places) BoxPlaces)
 
 -- the places of a scan's segments and of its end, whether the version keeps them or not
 abbrev pub listed_at : Layout → List ℕ → ℕ → List ℕ
 listed_at l bytes place =
-    map (place_at l bytes place) (numbers 0 (segments_at bytes place)) ++ end_at bytes place ∷ []
+    map (in_record place_from l bytes place) (numbers 0 (segments_at bytes place)) ++ big_number 8 (drop (place + 14) bytes) ∷ []

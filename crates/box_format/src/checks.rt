@@ -1,12 +1,13 @@
 // The checks on bytes that may be a container, but for those on the headers.
 ghost use Rattle.std.specs.Prelude.{◌≡◌, ◌+◌, ◌^◌, ◌≤◌, ◌<◌, ◌&&◌, nat_lt, not, true, length, take, drop, slice_index, bytes_eq, IfSome};
+ghost use Rattle.std.specs.Bool.{then_some};
 ghost use Rattle.std.specs.List.{list_any};
 ghost use Rattle.scan_spec.specs.FileParts.{is_last};
 ghost use Rattle.scan_spec.specs.Slots.{shape_of};
 ghost use Rattle.box_format.specs.Parts.{magic, bad_start, box_cut, header_part, are_rising};
 ghost use Rattle.box_format.specs.Versions.{layout_of, version_in, is_version, fewest_scans, most_scans, most_segments};
 ghost use Rattle.box_format.specs.Fields.{scans_in, segments_at, record_place, scan_raw, raws_as, named_end};
-ghost use Rattle.box_format.specs.Checks.{early_fault, late_fault, is_cut, are_complete, some_are_wrong, segments_of, scan_fault, scans_fault, are_wrong, is_bad_chunk, are_bad_places, where_failed};
+ghost use Rattle.box_format.specs.Checks.{early_fault, late_fault, is_cut, are_complete, some_are_wrong, segments_of, scan_fault, scans_fault, are_wrong, is_bad_chunk, are_bad_places};
 ghost use Rattle.box_format.specs.Whole.{IsWhole, are_not_all, record_fault, listed_at};
 ghost use Rattle.box_format.specs.declared.refusal.BoxRefusal.TheVariants.{BoxLong};
 
@@ -366,7 +367,7 @@ fn are_rising(version: Version, bytes: &[u8], fields: usize) -> bool
 // That bytes follow the last stream, if they do.
 fn after_end(version: Version, bytes: &[u8]) -> Option<BoxRefusal>
     requires { IsWhole (layout_of version) bytes.now }
-    ensures { result ≡ where_failed
+    ensures { result ≡ then_some
         (nat_lt (named_end (layout_of version) bytes.now) (length bytes.now)) BoxLong }
 {
     if (bytes.len() as u128) > named_end(version, bytes) {

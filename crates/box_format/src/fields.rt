@@ -3,7 +3,7 @@ ghost use Rattle.std.specs.Prelude.{if◌then◌else◌, ◌≡◌, ◌+◌, ◌
 ghost use Rattle.byteorder.specs.Endian.{big_number};
 ghost use Rattle.box_format.specs.Versions.{layout_of, version_in};
 ghost use Rattle.box_format.specs.Raws.{length_from, place_from};
-ghost use Rattle.box_format.specs.Fields.{scans_in, trailer_length, segments_at, header_length, list_length, chunk_at, end_at, record_place, stream_lengths, fields_place, list_place, streams_place, named_end};
+ghost use Rattle.box_format.specs.Fields.{scans_in, trailer_length, segments_at, header_length, list_length, chunk_at, record_place, fields_place, list_place, streams_place, named_end, in_records};
 
 use crate::chunk::Chunk;
 use crate::version::Version;
@@ -119,7 +119,7 @@ pub(crate) fn chunk_at(version: Version, bytes: &[u8], place: usize) -> Option<C
 pub(crate) fn end_at(version: Version, bytes: &[u8], place: usize) -> u64
     requires placed { (layout_of version).placed ≡ true }
     requires fields { place + (layout_of version).fields ≤ length bytes.now }
-    ensures { result ≡ end_at bytes.now place }
+    ensures { result ≡ big_number 8 (drop (place + 14) bytes.now) }
 {
     let _placed = version.layout().placed;
     long_at(bytes, place + 14)
@@ -128,7 +128,8 @@ pub(crate) fn end_at(version: Version, bytes: &[u8], place: usize) -> u64
 /// The place of the scan's end, 0 in a version that has no places.
 pub(crate) fn end_in(version: Version, bytes: &[u8], place: usize) -> u64
     requires { place + (layout_of version).fields ≤ length bytes.now }
-    ensures { result ≡ (if (layout_of version).placed then end_at bytes.now place else 0) }
+    ensures { result ≡ (if (layout_of version).placed
+        then big_number 8 (drop (place + 14) bytes.now) else 0) }
 {
     if version.layout().placed {
         end_at(version, bytes, place)
@@ -167,7 +168,7 @@ fn streams_room(version: Version, bytes: &[u8], place: usize) -> u128
     requires small { place < 2 ^ 32 }
     requires fields { record_place (layout_of version) place (segments_at bytes.now place)
         ≤ length bytes.now }
-    ensures value { result ≡ sum (stream_lengths (layout_of version) bytes.now place) }
+    ensures value { result ≡ sum (in_records length_from (layout_of version) bytes.now place) }
     ensures few { result ≤ 2 ^ 72 }
 {
     let layout = version.layout();

@@ -1,15 +1,15 @@
 -- How long the container of a file can be.
 use Rattle.std.proofs.Common.{ℕ, ◌+◌, ◌*◌, ◌≤◌, Bool, true, false, List, [], ◌∷◌, ◌++◌, length, arith, length-append}
-use Rattle.std.specs.Prelude.{flat_map, Option, Some, None}
+use Rattle.std.specs.Prelude.{flat_map, not, Option, Some, None}
 use Rattle.std.specs.List.{AllByRecursion}
 use Rattle.byteorder.specs.Endian.{big_bytes}
 use Rattle.handover.specs.Handovers.{HandoverFields, IsHandover}
 use Rattle.handover.specs.HandoverBytes.{handover_bytes}
 use Rattle.handover.proofs.FieldBytes.{fields_again}
 use Rattle.box_format.specs.declared.chunk.Chunk.{Chunk}
-use Rattle.box_format.specs.Parts.{BoxParts, chunk_bytes, place_bytes, records, list_bytes, list_length}
+use Rattle.box_format.specs.Parts.{BoxParts, chunk_bytes, place_bytes, records, length_said, list_bytes}
 use Rattle.box_format.specs.Single.{box_bytes}
-use Rattle.box_format.specs.Containers.{container_bytes, scan_fields, scan_header, scan_streams, scans_said, trailer_length, trailer_of}
+use Rattle.box_format.specs.Containers.{container_bytes, scan_fields, scan_header, scan_streams, scans_said, trailer_of}
 use Rattle.box_format.specs.declared.version.Version.{Version}
 use Rattle.box_format.specs.Versions.{layout_of}
 
@@ -35,17 +35,13 @@ records_long places i (h ∷ hs) (s ∷ ss) each =
     length-append (handover_bytes h ++ (big_bytes 8 (length s) ++ place_bytes places i)) tail in
     omega (arith, fourteen, rest, place, numbers, fields, all)
 
-named_long : (listed : Bool) (list : List ℕ) → length (list_length listed list) ≤ 4
-named_long true list = omega arith
-named_long false list = omega arith
+named_long : (said : Bool) (bytes : List ℕ) → length (length_said said bytes) ≤ 4
+named_long true bytes = omega arith
+named_long false bytes = omega arith
 
 chunk_long : (c : Option Chunk) → length (chunk_bytes c) ≤ 32
 chunk_long None = omega arith
 chunk_long (Some c) = omega arith
-
-trailer_named : (several : Bool) (trailer : List ℕ) → length (trailer_length several trailer) ≤ 4
-trailer_named true trailer = omega arith
-trailer_named false trailer = omega arith
 
 -- a scan's fields
 pub fields_long : (b : BoxParts) → AllByRecursion IsHandover b.handovers
@@ -54,7 +50,7 @@ fields_long b each =
     let few = records_long b.places 0 b.handovers b.streams each in
     let end = place_long b.places (length b.handovers) in
     let named = named_long (layout_of b.version).listed (list_bytes b.pads) in
-    let trailer = trailer_named (layout_of b.version).several b.trailer in
+    let trailer = named_long (not (layout_of b.version).several) b.trailer in
     let chunk = chunk_long b.chunk in
     simp length-append (omega (arith, few, end, named, trailer, chunk))
 

@@ -1,7 +1,7 @@
 -- What a scan hands over is what a segment can start from.
 use Rattle.std.proofs.Common.{◌≡◌, ℕ, zero, suc, ◌+◌, ◌-◌, ◌/◌, ◌^◌, ◌<◌, ◌≤◌, Bool, true, false, if◌then◌else◌, List, [], ◌∷◌, length, take, map, inl, inr, Ok, Some, None, refl, ap, ap₂, ◌∙◌, arith, ℤ, pos, unsigned_abs, zero-add}
 use Rattle.std.specs.Prelude.{slice_index_or, min, not, ◌&&◌, ◌||◌, ◌==◌}
-use Rattle.std.specs.List.{AllByRecursion, list_all}
+use Rattle.std.specs.List.{AllByRecursion, list_all, list_any}
 use Rattle.std.proofs.lemmas.Bool.{cases_eq, eq-eqb, false_from_ne_true, eqb-true}
 use Rattle.std.proofs.lemmas.List.{length-take-le}
 use Rattle.std.proofs.Math.Nat.{zero-div}
@@ -16,11 +16,11 @@ use Rattle.handover.proofs.FieldBytes.{test_is_exact}
 use Rattle.cut_spec.specs.Cuts.{Cut, first_mcu}
 use Rattle.cut_spec.specs.RowHandovers.{handover_of, handover_at, markers_before}
 use Rattle.cut_spec.proofs.SpotsBegun.{spots_are_begun}
-use Rattle.box_format.specs.Parts.{has_blocks, is_unused_zero, is_start, can_start, bad_start}
+use Rattle.box_format.specs.Parts.{is_unused_zero, is_start, can_start, bad_start}
 use Rattle.box_format.specs.Raws.{numbers}
 use Rattle.container_spec.specs.SegmentLaws.{IsSpot}
-use Rattle.container_spec.proofs.SlicesMeant.{all_take}
 use Rattle.container_spec.proofs.SpotsKept.{kept_put, unused_are_kept, spot_kept, first_is_spot, handover_is}
+use Rattle.box_format.proofs.ByteParts.{all_take}
 
 -- no marker is put before the first MCU
 no_marker : (shape : Shape) → markers_before shape 0 ≡ 0
@@ -78,7 +78,7 @@ module _ (shape : Shape) (pads : ℕ → Bool) (mcus : List Mcu) (scan : List �
   unused_is : (n c : ℕ) → is_unused_zero shape (handover_at shape pads mcus n) c ≡ true
   unused_is n c =
       let dcs = (spot_at shape pads mcus n).before in
-      unused_by (has_blocks shape c) (slice_index_or dcs c (pos 0)) (λ none.
+      unused_by (list_any (λ slot. slot.component == c) shape.slots) (slice_index_or dcs c (pos 0)) (λ none.
       let kept = unused_are_kept shape.slots c none in
       kept_put (λ l. slice_index_or l c (pos 0) ≡ pos 0) shape pads (take n mcus) first_spot
       (spot_at shape pads mcus n) (take (bytes_done shape pads mcus n) scan) kept

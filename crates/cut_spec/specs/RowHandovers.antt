@@ -26,11 +26,8 @@ handover_of shape spot = record {
 
 -- and the spot of a handover after `count` MCUs (own)
 abbrev pub spot_of : HandoverFields → ℕ → Spot
-spot_of h count = record {
-  begun = take h.bits (low_bits 8 h.partial);
-  before = h.preds;
-  count = count;
-}
+spot_of h count =
+    record { begun = take h.bits (low_bits 8 h.partial); before = h.preds; count = count }
 
 -- what a scan's first n MCUs hand over (own)
 abbrev pub handover_at : Shape → (ℕ → Bool) → List Mcu → ℕ → HandoverFields

@@ -1,7 +1,7 @@
 -- Some of a frame's components, in its order.
-use Rattle.std.proofs.Common.{◌≡◌, ℕ, zero, suc, ◌+◌, ◌<◌, ◌≤◌, Bool, true, false, ◌&&◌, ◌||◌, not, List, [], ◌∷◌, length, get_or, drop, map, fold, max, Option, Some, None, option_map, refl, ap, sym, ◌∙◌, arith, cond, eqb, leb, ltb, inl, inr, drop-cons, add-one, subst, ◌⊎◌, sum_by}
+use Rattle.std.proofs.Common.{◌≡◌, ℕ, zero, suc, ◌+◌, ◌<◌, ◌≤◌, Bool, true, false, ◌&&◌, not, List, [], ◌∷◌, length, get_or, drop, map, fold, max, Option, Some, None, option_map, refl, ap, sym, ◌∙◌, arith, cond, eqb, leb, ltb, inl, inr, drop-cons, add-one, subst, ◌⊎◌, sum_by}
 use Rattle.std.specs.List.{list_all, list_any, AllByRecursion}
-use Rattle.std.proofs.lemmas.Bool.{leb-true, ltb-true, eqb-true, le-leb, lt-ltb, false≢true}
+use Rattle.std.proofs.lemmas.Bool.{leb-true, ltb-true, eqb-true, le-leb, lt-ltb}
 use Rattle.std.proofs.lemmas.Bool.Decides.{nat_tests}
 use Rattle.std.proofs.lemmas.List.{length-drop, length-map}
 use Rattle.std.proofs.lemmas.List.Sums.{sum_by-cons}
@@ -10,7 +10,7 @@ use Rattle.jpeg_marker.specs.declared.parameters.ScanComponent.{ScanComponent}
 use Rattle.jpeg_marker.specs.HuffmanTables.{distinct}
 use Rattle.jpeg_marker.specs.Frames.{no_part, area, is_sampled, fit_an_mcu, are_components}
 use Rattle.jpeg_marker.specs.Plans.{indexes_from, are_indexes, parts_at, largest, IsWithin}
-use Rattle.jpeg_marker.proofs.Repeats.{both_hold}
+use Rattle.jpeg_marker.proofs.Repeats.{both_hold, not_holds, neither}
 
 -- indexes in their order, from one on and below another
 abbrev pub Rising : ℕ → ℕ → List ℕ → Type 0
@@ -47,7 +47,7 @@ pub rising_few : (from below : ℕ) (is : List ℕ) → from ≤ below → Risin
 rising_few from below [] le h = omega arith
 rising_few from below (i ∷ is) le h = let a = h.0 in let b = h.1 in let c = rising_few (i + 1) below is (omega arith) h.2 in omega arith
 
-some_is_one : {A : Type 0} (x y : A) → Some x ≡ Some y → x ≡ y
+pub some_is_one : {A : Type 0} (x y : A) → Some x ≡ Some y → x ≡ y
 some_is_one x y e = cc
 
 -- the indexes that a scan names
@@ -160,10 +160,6 @@ sub_sum (x ∷ xs) (y ∷ ys) (inr s) = let h = sub_sum (x ∷ xs) ys s in omega
 abbrev ids : List FrameComponent → List ℕ
 ids xs = map (λ (p : FrameComponent). p.id) xs
 
-neither : (a b : Bool) → a || b ≡ false → (a ≡ false) × (b ≡ false)
-neither true b h = cc
-neither false b h = (refl, h)
-
 sub_none : (n : ℕ) (xs ys : List FrameComponent) → Sub xs ys → list_any (eqb n) (ids ys) ≡ false → list_any (eqb n) (ids xs) ≡ false
 sub_none n [] ys sub none = refl
 sub_none n (x ∷ xs) [] sub none = absurd sub
@@ -174,16 +170,12 @@ sub_none n (x ∷ xs) (y ∷ ys) (inr s) none =
     let both = neither (eqb n y.id) (list_any (eqb n) (ids ys)) none in
     sub_none n (x ∷ xs) ys s both.1
 
-not_any : (b : Bool) → not b ≡ true → b ≡ false
-not_any true h = absurd (false≢true h)
-not_any false h = refl
-
 sub_distinct : (xs ys : List FrameComponent) → Sub xs ys → distinct (ids ys) ≡ true → distinct (ids xs) ≡ true
 sub_distinct [] ys sub once = refl
 sub_distinct (x ∷ xs) [] sub once = absurd sub
 sub_distinct (x ∷ xs) (y ∷ ys) (inl s) once =
     let both = both_hold (not (list_any (eqb y.id) (ids ys))) (distinct (ids ys)) once in
-    let none : list_any (eqb x.id) (ids xs) ≡ false = sub_none x.id xs ys s.1 (ap (λ (p : FrameComponent). list_any (eqb p.id) (ids ys)) s.0 ∙ not_any _ both.0) in
+    let none : list_any (eqb x.id) (ids xs) ≡ false = sub_none x.id xs ys s.1 (ap (λ (p : FrameComponent). list_any (eqb p.id) (ids ys)) s.0 ∙ not_holds _ both.0) in
     rw (none, sub_distinct xs ys s.1 both.1) refl
 sub_distinct (x ∷ xs) (y ∷ ys) (inr s) once =
     let both = both_hold (not (list_any (eqb y.id) (ids ys))) (distinct (ids ys)) once in

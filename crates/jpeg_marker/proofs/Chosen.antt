@@ -6,6 +6,7 @@ use Rattle.jpeg_marker.specs.Plans.{component_with, component_of, components_of,
 use Rattle.jpeg_marker.specs.declared.parameters.FrameComponent.{FrameComponent}
 use Rattle.jpeg_marker.specs.declared.parameters.ScanComponent.{ScanComponent}
 use Rattle.jpeg_marker.specs.declared.component.Component.{Component}
+use Rattle.jpeg_marker.proofs.Choices.{some_is_one}
 
 -- the first of the rest, and what is after it
 pub components_of-drop : (table : ℕ → ℕ → Option TableFields) (indexes : List ℕ) (parts : List FrameComponent) (selectors : List ScanComponent) (i n : ℕ) (p : FrameComponent) (s : ScanComponent) → i < length indexes → i < length parts → i < length selectors → components_of table (drop i indexes) (drop i parts) (drop i selectors) ≡ with_prefix (component_of table (get_or indexes i n) (get_or parts i p) (get_or selectors i s)) (components_of table (drop (i + 1) indexes) (drop (i + 1) parts) (drop (i + 1) selectors))
@@ -40,9 +41,6 @@ components_more table indexes parts selectors found i n p s c one below same roo
 pub components_none : (table : ℕ → ℕ → Option TableFields) (indexes : List ℕ) (parts : List FrameComponent) (selectors : List ScanComponent) (found : List Component) (i n : ℕ) (p : FrameComponent) (s : ScanComponent) → i < length indexes → i < length parts → i < length selectors → components_of table indexes parts selectors ≡ option_map (λ others. take i found ++ others) (components_of table (drop i indexes) (drop i parts) (drop i selectors)) → component_of table (get_or indexes i n) (get_or parts i p) (get_or selectors i s) ≡ None → components_of table indexes parts selectors ≡ None
 components_none table indexes parts selectors found i n p s one below same so_far here =
     so_far ∙ ap (option_map (λ others. take i found ++ others)) (components_of-drop table indexes parts selectors i n p s one below same ∙ ap (λ first. with_prefix first (components_of table (drop (i + 1) indexes) (drop (i + 1) parts) (drop (i + 1) selectors))) here)
-
-some_is_one : {A : Type 0} (x y : A) → Some x ≡ Some y → x ≡ y
-some_is_one x y e = cc
 
 -- a component says what its part does, and has its index
 record Says (index : ℕ) (p : FrameComponent) (c : Component) : Type 0 where

@@ -1,5 +1,6 @@
 -- The frame of segments that passed their checks.
 use Rattle.std.proofs.Common.{◌≡◌, ℕ, zero, suc, ◌+◌, ◌-◌, ◌*◌, ◌≤◌, Bool, true, false, List, [], ◌∷◌, ◌++◌, length, get_or, drop, flat_map, fold, Option, Some, None, IfSome, refl, ap, sym, ◌∙◌, arith, subst, cond, eqb, max}
+use Rattle.std.specs.Option.{option_or}
 use Rattle.std.specs.List.{AllByRecursion}
 use Rattle.std.proofs.Math.Nat.{le-div_iff_mul-le, one-le-mul}
 use Rattle.std.proofs.lemmas.List.{length-drop}
@@ -7,7 +8,6 @@ use Rattle.std.proofs.lemmas.Bool.{eqb-true}
 use Rattle.std.proofs.lemmas.Bool.Decides.{nat_tests}
 use Rattle.jpeg_marker.specs.declared.refusal.HeaderRefusal.{HeaderRefusal}
 use Rattle.jpeg_marker.specs.declared.parameters.FrameComponent.{FrameComponent}
-use Rattle.jpeg_marker.specs.HeaderRefusals.{or_else}
 use Rattle.jpeg_marker.specs.MarkerSegments.{Segment, number_at, last_of}
 use Rattle.jpeg_marker.specs.Frames.{FrameFields, IsFrame, no_part, parts_of, frame_at, frames_in, are_components, numbers_fault, components_fault, frame_fault}
 use Rattle.jpeg_marker.specs.Plans.{IsWithin, largest, sampled, cover, mcus_of}
@@ -26,11 +26,11 @@ parts_all (suc n) (a ∷ []) e = absurd (omega arith)
 parts_all (suc n) (a ∷ b ∷ []) e = absurd (omega arith)
 parts_all (suc n) (a ∷ b ∷ c ∷ bytes) e = ap suc (parts_all n bytes (omega arith))
 
-no_fault : (a b : Option HeaderRefusal) → or_else a b ≡ None → (a ≡ None) × (b ≡ None)
+pub no_fault : (a b : Option HeaderRefusal) → option_or a b ≡ None → (a ≡ None) × (b ≡ None)
 no_fault None b h = (refl, h)
 no_fault (Some r) b h = cc
 
-no_frame : (frame : Option FrameFields) (at : ℕ) (body : List ℕ) → frame_fault frame at body ≡ None → or_else (numbers_fault at body) (components_fault (parts_of (drop 6 body))) ≡ None
+no_frame : (frame : Option FrameFields) (at : ℕ) (body : List ℕ) → frame_fault frame at body ≡ None → option_or (numbers_fault at body) (components_fault (parts_of (drop 6 body))) ≡ None
 no_frame (Some f) at body h = cc
 no_frame None at body h = h
 

@@ -13,6 +13,7 @@ use Rattle.jpeg_marker.specs.HeaderPlan.{IsHeader, Begins, BeginsNot, Stops, Acc
 use Rattle.jpeg_marker.specs.OneHeader.{OneList, OnePlan, OneRefusal, NeverBoth, OneNextPlan, OneNextRefusal, NeverBothNext}
 use Rattle.jpeg_marker.proofs.OneSegment.{one_segment, whole_not_stuck}
 use Rattle.jpeg_marker.proofs.Walking.{walk_text-push}
+use Rattle.jpeg_marker.proofs.Choices.{some_is_one}
 
 -- after these segments no other good one stands but a scan's
 record Ends (w : Walk) (before : List Segment) (rest : List ℕ) : Type 0 where
@@ -72,9 +73,6 @@ one_list w bytes rest more before others scan end p q e f =
     let same = same_reading w bytes (segment_text scan ++ rest) (segment_text end ++ more) before others p.passed q.passed (scan_ends w before scan rest p) (scan_ends w others end more q) (header_split w bytes rest before scan e) (header_split w bytes more others end f) in
     let last = one_segment scan end rest more p.good.whole q.good.whole same.1 in
     (same.0, last.0, last.1)
-
-some_is_one : {A : Type 0} (x y : A) → Some x ≡ Some y → x ≡ y
-some_is_one x y e = cc
 
 pub one_begins : (w : Walk) (bytes : List ℕ) (plan other : PlanFields) → Begins w bytes plan → Begins w bytes other → plan ≡ other
 one_begins w bytes plan other a b =

@@ -12,7 +12,6 @@ use Rattle.jpeg_marker.specs.declared.component.Component.{Component}
 use Rattle.jpeg_marker.specs.declared.definitions.Definitions.{Definitions}
 use Rattle.jpeg_marker.specs.declared.scans.Scans.{Scans}
 use Rattle.jpeg_marker.specs.declared.scans.Scans.TheVariants.{One}
-use Rattle.jpeg_marker.specs.HeaderRefusals.{or_else}
 use Rattle.jpeg_marker.specs.MarkerSegments.{Segment, segment_text}
 use Rattle.jpeg_marker.specs.HuffmanTables.{TableFields}
 use Rattle.jpeg_marker.specs.HeldTables.{table_in}
@@ -23,17 +22,10 @@ use Rattle.jpeg_marker.specs.GoodSegments.{length_place, body_fault, known_after
 use Rattle.jpeg_marker.specs.HeaderPlan.{Begins, Accepts, Opens}
 use Rattle.jpeg_marker.specs.AcceptedPlans.{HasTables, IsKnown, CanScan, HasPlan, BegunHasPlan, AcceptedHasPlan, NextHasPlan}
 use Rattle.jpeg_marker.specs.KnownBefore.{AreBytes, IsSound, AreKnown}
-use Rattle.jpeg_marker.proofs.Choices.{rising_is, rising_test, rising_more, rising_few, named_rising, named_long, Rising, chosen_are, chosen_within}
+use Rattle.jpeg_marker.proofs.Choices.{rising_is, rising_test, rising_more, rising_few, named_rising, named_long, Rising, chosen_are, chosen_within, some_is_one}
 use Rattle.jpeg_marker.proofs.TablesTaken.{table_sound, known_sound, bytes_first, bytes_last, bodies_are_bytes}
-use Rattle.jpeg_marker.proofs.FramesTaken.{frame_passed, frame_stays, mcus_some, first_within}
+use Rattle.jpeg_marker.proofs.FramesTaken.{frame_passed, frame_stays, mcus_some, first_within, no_fault}
 use Rattle.jpeg_marker.proofs.MovedHeaders.{good_moves, passed_moves}
-
-some_is_one : {A : Type 0} (x y : A) → Some x ≡ Some y → x ≡ y
-some_is_one x y e = cc
-
-no_fault : (a b : Option HeaderRefusal) → or_else a b ≡ None → (a ≡ None) × (b ≡ None)
-no_fault None b h = (refl, h)
-no_fault (Some r) b h = cc
 
 -- each table that there is, is one
 abbrev AreTables : (ℕ → ℕ → Option TableFields) → Type 0

@@ -1,11 +1,11 @@
 -- A header that passes its checks passes them at any place.
 use Rattle.std.proofs.Common.{◌≡◌, ℕ, zero, suc, ◌+◌, ◌*◌, Bool, true, false, not, ◌||◌, List, [], ◌∷◌, ◌++◌, length, get_or, take, drop, sum, Option, Some, None, refl, cond, eqb, ltb, ◌/◌, ◌%◌}
+use Rattle.std.specs.Option.{option_or}
 use Rattle.jpeg_marker.specs.declared.refusal.HeaderRefusal.{HeaderRefusal}
 use Rattle.jpeg_marker.specs.declared.refusal.HeaderRefusal.TheVariants.{LengthBad, TableBad, PrecisionBad, SizeZero, ComponentsBad, MultiScan, ScanParams}
 use Rattle.jpeg_marker.specs.declared.parameters.FrameComponent.{FrameComponent}
 use Rattle.jpeg_marker.specs.declared.definitions.Definitions.{Definitions}
 use Rattle.jpeg_marker.specs.declared.scans.Scans.{Scans}
-use Rattle.jpeg_marker.specs.HeaderRefusals.{or_else}
 use Rattle.jpeg_marker.specs.MarkerSegments.{Segment, number_at}
 use Rattle.jpeg_marker.specs.HuffmanTables.{fields_at}
 use Rattle.jpeg_marker.specs.TableFaults.{is_table, table_fault, tables_fault}
@@ -19,7 +19,7 @@ moved : (b : Bool) (x y : HeaderRefusal) (rest other : Option HeaderRefusal) →
 moved true x y rest other f h = cc
 moved false x y rest other f h = f h
 
-both_moved : (a b c d : Option HeaderRefusal) → (a ≡ None → c ≡ None) → (b ≡ None → d ≡ None) → or_else a b ≡ None → or_else c d ≡ None
+both_moved : (a b c d : Option HeaderRefusal) → (a ≡ None → c ≡ None) → (b ≡ None → d ≡ None) → option_or a b ≡ None → option_or c d ≡ None
 both_moved (Some r) b c d f g h = cc
 both_moved None b c d f g h = rw (f refl) (g h)
 
@@ -70,8 +70,8 @@ names_fault scans coded parts body =
 scan_moves : (scans : Scans) (known : Definitions) (frame : Option FrameFields) (at by : ℕ) (body : List ℕ) → scan_fault scans known frame at body ≡ None → scan_fault scans known frame by body ≡ None
 scan_moves scans known None at by body h = cc
 scan_moves scans known (Some f) at by body h =
-    both_moved (order_fault scans known.coded f.parts at body) (or_else (range_fault body) (plan_fault known.blocks f (scan_components known f body))) (order_fault scans known.coded f.parts by body) (or_else (range_fault body) (plan_fault known.blocks f (scan_components known f body)))
-    (moved (ltb (length body) 1 || not (eqb (length body) (4 + 2 * scan_count body))) (LengthBad at) (LengthBad by) (names_fault scans known.coded f.parts body) (names_fault scans known.coded f.parts body) (same (names_fault scans known.coded f.parts body))) (same (or_else (range_fault body) (plan_fault known.blocks f (scan_components known f body)))) h
+    both_moved (order_fault scans known.coded f.parts at body) (option_or (range_fault body) (plan_fault known.blocks f (scan_components known f body))) (order_fault scans known.coded f.parts by body) (option_or (range_fault body) (plan_fault known.blocks f (scan_components known f body)))
+    (moved (ltb (length body) 1 || not (eqb (length body) (4 + 2 * scan_count body))) (LengthBad at) (LengthBad by) (names_fault scans known.coded f.parts body) (names_fault scans known.coded f.parts body) (same (names_fault scans known.coded f.parts body))) (same (option_or (range_fault body) (plan_fault known.blocks f (scan_components known f body)))) h
 
 body_moves : (scans : Scans) (known : Definitions) (at by code : ℕ) (body : List ℕ) → body_fault scans known at code body ≡ None → body_fault scans known by code body ≡ None
 body_moves scans known at by code body h =

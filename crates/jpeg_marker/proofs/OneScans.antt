@@ -1,5 +1,6 @@
 -- A file of one scan as one of several.
 use Rattle.std.proofs.Common.{◌≡◌, ℕ, zero, suc, ◌+◌, ◌*◌, ◌≤◌, zero-add, Bool, true, false, ◌||◌, not, List, [], ◌∷◌, ◌++◌, length, map, take, replicate, Option, Some, None, refl, ap, sym, ◌∙◌, arith, subst, cond, eqb, ltb}
+use Rattle.std.specs.Option.{option_or}
 use Rattle.std.specs.List.{list_all}
 use Rattle.jpeg_marker.specs.declared.refusal.HeaderRefusal.{HeaderRefusal}
 use Rattle.jpeg_marker.specs.declared.refusal.HeaderRefusal.TheVariants.{LengthBad, MultiScan, ScanParams}
@@ -7,7 +8,6 @@ use Rattle.jpeg_marker.specs.declared.parameters.FrameComponent.{FrameComponent}
 use Rattle.jpeg_marker.specs.declared.component.Component.{Component}
 use Rattle.jpeg_marker.specs.declared.definitions.Definitions.{Definitions}
 use Rattle.jpeg_marker.specs.declared.scans.Scans.TheVariants.{One, Several}
-use Rattle.jpeg_marker.specs.HeaderRefusals.{or_else}
 use Rattle.jpeg_marker.specs.MarkerSegments.{Segment}
 use Rattle.jpeg_marker.specs.Frames.{FrameFields}
 use Rattle.jpeg_marker.specs.Plans.{order_fault, range_fault, plan_fault, scan_components, scan_fault, scan_count, scan_selectors, indexes_from, indexes_fault, leaves_out, coded_after, are_all_coded}
@@ -19,7 +19,7 @@ use Rattle.jpeg_marker.proofs.HeadersTaken.{accepted_has_all, opened_has_some}
 use Rattle.jpeg_marker.proofs.CodedComponents.{after_long, after_most, all_trues}
 use Rattle.std.proofs.lemmas.Bool.Decides.{nat_tests}
 
-or_else_more : (a b c : Option HeaderRefusal) → (a ≡ None → b ≡ None) → or_else a c ≡ None → or_else b c ≡ None
+or_else_more : (a b c : Option HeaderRefusal) → (a ≡ None → b ≡ None) → option_or a c ≡ None → option_or b c ≡ None
 or_else_more (Some r) b c f h = cc
 or_else_more None b c f h = rw (f refl) h
 
@@ -36,7 +36,7 @@ order_more coded parts at body h =
 scan_more : (known : Definitions) (frame : Option FrameFields) (at : ℕ) (body : List ℕ) → scan_fault One known frame at body ≡ None → scan_fault Several known frame at body ≡ None
 scan_more known None at body h = cc
 scan_more known (Some f) at body h =
-    or_else_more (order_fault One known.coded f.parts at body) (order_fault Several known.coded f.parts at body) (or_else (range_fault body) (plan_fault known.blocks f (scan_components known f body))) (order_more known.coded f.parts at body) h
+    or_else_more (order_fault One known.coded f.parts at body) (order_fault Several known.coded f.parts at body) (option_or (range_fault body) (plan_fault known.blocks f (scan_components known f body))) (order_more known.coded f.parts at body) h
 
 chosen : (b : Bool) (x u y : Option HeaderRefusal) → (x ≡ None → u ≡ None) → cond b x y ≡ None → cond b u y ≡ None
 chosen true x u y f h = f h
@@ -116,7 +116,7 @@ scan_less : (known : Definitions) (frame : Option FrameFields) (f : FrameFields)
 scan_less known None f at body there whole h = cc
 scan_less known (Some g) f at body there whole h =
     let same : leaves_out One (scan_count body) (length g.parts) ≡ false = ap (λ (o : Option FrameFields). leaves_out One (scan_count body) (length (parts_in o))) there ∙ whole in
-    or_else_more (order_fault Several known.coded g.parts at body) (order_fault One known.coded g.parts at body) (or_else (range_fault body) (plan_fault known.blocks g (scan_components known g body))) (order_less known.coded g.parts at body same) h
+    or_else_more (order_fault Several known.coded g.parts at body) (order_fault One known.coded g.parts at body) (option_or (range_fault body) (plan_fault known.blocks g (scan_components known g body))) (order_less known.coded g.parts at body same) h
 
 other_segment : (b : Bool) (x u y : Option HeaderRefusal) → not b ≡ true → cond b x y ≡ None → cond b u y ≡ None
 other_segment true x u y no_scan h = cc

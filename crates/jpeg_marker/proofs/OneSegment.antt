@@ -1,9 +1,9 @@
 -- The bytes of a whole segment tell the segment, whatever follows it.
 use Rattle.std.proofs.Common.{◌≡◌, ◌≢◌, ℕ, zero, suc, ◌+◌, ◌/◌, ◌%◌, true, false, List, ◌∷◌, ◌++◌, length, take, drop, replicate, None, add-one, add-zero, refl, ap, sym, ◌∙◌, arith, append_assoc, length-append, subst, eqb, IsTrue}
+use Rattle.std.specs.Option.{option_or}
 use Rattle.std.proofs.lemmas.List.{take_at, drop_at}
 use Rattle.std.proofs.lemmas.Bool.{false≢true}
 use Rattle.std.proofs.lemmas.Bool.Decides.{nat_tests}
-use Rattle.jpeg_marker.specs.HeaderRefusals.{or_else}
 use Rattle.jpeg_marker.specs.MarkerSegments.{Segment, IsWhole, segment_text, is_known}
 use Rattle.jpeg_marker.specs.GoodSegments.{stuck_at, stuck_after, code_fault, length_fault}
 
@@ -38,9 +38,9 @@ one_segment s t x y p q e =
     (rw (fill, parts.1, bodies.0) refl, bodies.1)
 
 -- nothing keeps a whole segment from standing anywhere
-stuck_after-fill : (fill place code : ℕ) (bytes : List ℕ) → eqb code 255 ≡ false → stuck_after place (replicate fill 255 ++ code ∷ bytes) ≡ or_else (code_fault (place + fill) code) (length_fault (place + fill + 1) bytes)
+stuck_after-fill : (fill place code : ℕ) (bytes : List ℕ) → eqb code 255 ≡ false → stuck_after place (replicate fill 255 ++ code ∷ bytes) ≡ option_or (code_fault (place + fill) code) (length_fault (place + fill + 1) bytes)
 stuck_after-fill zero place code bytes other = rw (other, add-zero) refl
-stuck_after-fill (suc fill) place code bytes other = stuck_after-fill fill (place + 1) code bytes other ∙ ap (λ p. or_else (code_fault p code) (length_fault (p + 1) bytes)) (omega arith)
+stuck_after-fill (suc fill) place code bytes other = stuck_after-fill fill (place + 1) code bytes other ∙ ap (λ p. option_or (code_fault p code) (length_fault (p + 1) bytes)) (omega arith)
 
 no_code_fault : (place code : ℕ) → IsTrue (is_known code) → code_fault place code ≡ None
 no_code_fault place code known = grind (arith, nat_tests)

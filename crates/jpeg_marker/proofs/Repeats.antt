@@ -22,11 +22,11 @@ pub both_hold : (a b : Bool) → a && b ≡ true → (a ≡ true) × (b ≡ true
 both_hold true b h = (refl, h)
 both_hold false b h = absurd (false≢true h)
 
-not_holds : (a : Bool) → not a ≡ true → a ≡ false
+pub not_holds : (a : Bool) → not a ≡ true → a ≡ false
 not_holds true h = absurd (false≢true h)
 not_holds false h = refl
 
-neither : (a b : Bool) → a || b ≡ false → (a ≡ false) × (b ≡ false)
+pub neither : (a b : Bool) → a || b ≡ false → (a ≡ false) × (b ≡ false)
 neither true b h = cc
 neither false b h = (refl, h)
 

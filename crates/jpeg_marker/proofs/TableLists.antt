@@ -1,10 +1,10 @@
 -- Tables that come one after the other, in a segment and over segments.
 use Rattle.std.proofs.Common.{◌≡◌, ℕ, zero, suc, ◌+◌, ◌*◌, ◌/◌, ◌%◌, ◌<◌, ◌≤◌, Bool, true, false, List, [], ◌∷◌, ◌++◌, length, take, drop, set, sum, filter, map, Option, Some, None, refl, ap, sym, ◌∙◌, arith, append_assoc, cond}
+use Rattle.std.specs.Option.{option_or}
 use Rattle.std.proofs.lemmas.List.{get_or-set_other, length-set, append-nil, map-append}
 use Rattle.std.proofs.lemmas.List.Elements.{filter-append}
 use Rattle.std.proofs.lemmas.Bool.Decides.{nat_tests}
 use Rattle.std.proofs.lemmas.Grind.{get_or-set_at, fold-append}
-use Rattle.jpeg_marker.specs.HeaderRefusals.{or_else}
 use Rattle.jpeg_marker.specs.MarkerSegments.{last_of}
 use Rattle.jpeg_marker.specs.HuffmanTables.{Table, TableFields, fields_at, tables_after, is_of, latest}
 use Rattle.jpeg_marker.specs.TableFaults.{table_fault, tables_fault}
@@ -27,7 +27,7 @@ tables_fault-more at place byte n bytes passed is within =
     ap (λ p. tables_fault at p 0 (drop n bytes)) (omega arith)
     ∙ sym (tables_fault-drop at (place + 1) n bytes within)
     ∙ ap (λ k. tables_fault at (place + 1) k bytes) is
-    ∙ sym (ap (λ first. or_else first (tables_fault at (place + 1) (16 + sum (take 16 bytes)) bytes)) passed)
+    ∙ sym (ap (λ first. option_or first (tables_fault at (place + 1) (16 + sum (take 16 bytes)) bytes)) passed)
 
 pub tables_after-more : (byte n : ℕ) (bytes : List ℕ) → n ≡ 16 + sum (take 16 bytes) → tables_after 0 (byte ∷ bytes) ≡ record { class = byte / 16; number = byte % 16; fields = fields_at bytes } ∷ tables_after 0 (drop n bytes)
 tables_after-more byte n bytes is =

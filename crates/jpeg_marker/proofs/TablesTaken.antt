@@ -4,8 +4,6 @@ use Rattle.std.specs.List.{AllByRecursion}
 use Rattle.std.proofs.lemmas.List.{length-take-le, length-drop}
 use Rattle.std.proofs.lemmas.Bool.{leb-true, eqb-true}
 use Rattle.std.proofs.lemmas.Bool.Decides.{nat_tests}
-use Rattle.jpeg_marker.specs.declared.refusal.HeaderRefusal.{HeaderRefusal}
-use Rattle.jpeg_marker.specs.HeaderRefusals.{or_else}
 use Rattle.jpeg_marker.specs.MarkerSegments.{Segment, two_bytes, segment_text, last_of}
 use Rattle.jpeg_marker.specs.HuffmanTables.{Table, TableFields, fields_at, tables_after, tables_in, tables_of, is_of, distinct, code_space}
 use Rattle.jpeg_marker.specs.HeldTables.{table_in}
@@ -16,6 +14,8 @@ use Rattle.jpeg_marker.specs.TableFaults.{is_table, table_fault, tables_fault}
 use Rattle.jpeg_marker.specs.GoodSegments.{IsGood, AreGoodAfter, length_place, body_fault, known_after}
 use Rattle.jpeg_marker.specs.KnownBefore.{AreBytes, IsSound}
 use Rattle.jpeg_marker.proofs.Repeats.{both_hold, IsDistinct-from_distinct}
+use Rattle.jpeg_marker.proofs.FramesTaken.{no_fault}
+use Rattle.jpeg_marker.proofs.Choices.{some_is_one}
 
 -- parts of lists
 pub bytes_first : (xs ys : List ℕ) → AreBytes (xs ++ ys) → AreBytes xs
@@ -44,10 +44,6 @@ bytes_each (x ∷ xs) each = (each 0, bytes_each xs (λ i. each (suc i)))
 all-append : (P : Table → Type 0) (xs ys : List Table) → AllByRecursion P xs → AllByRecursion P ys → AllByRecursion P (xs ++ ys)
 all-append P [] ys p q = q
 all-append P (x ∷ xs) ys p q = (p.0, all-append P xs ys p.1 q)
-
-no_fault : (a b : Option HeaderRefusal) → or_else a b ≡ None → (a ≡ None) × (b ≡ None)
-no_fault None b h = (refl, h)
-no_fault (Some r) b h = cc
 
 -- what passed the checks of a table
 record IsPassed (bytes : List ℕ) : Type 0 where
@@ -126,9 +122,6 @@ each_sound : (tables : List (Option TableFields)) (i : ℕ) → AllByRecursion (
 each_sound [] i all = tt
 each_sound (t ∷ tables) zero all = all.0
 each_sound (t ∷ tables) (suc i) all = each_sound tables i all.1
-
-some_is_one : {A : Type 0} (x y : A) → Some x ≡ Some y → x ≡ y
-some_is_one x y e = cc
 
 if_some : {A : Type 0} (P : A → Type 0) (o : Option A) (x : A) → IfSome o P → o ≡ Some x → P x
 if_some P None x all e = cc

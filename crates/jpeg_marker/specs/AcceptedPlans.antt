@@ -1,5 +1,5 @@
 -- Law: what holds of the plan of every header that is accepted (ITU-T T.81, B.2).
-use Rattle.std.specs.Prelude.{ℕ, ◌+◌, ◌<◌, ◌≤◌, ◌≡◌, true, false, List, ◌++◌, length, take, drop, map, Some, IfSome}
+use Rattle.std.specs.Prelude.{ℕ, ◌+◌, ◌≤◌, ◌≡◌, true, false, List, ◌++◌, length, take, drop, map, Some, IfSome}
 use Rattle.std.specs.List.{AllByRecursion, list_any}
 use Rattle.jpeg_marker.specs.HuffmanTables.{IsTable}
 use Rattle.jpeg_marker.specs.Frames.{FrameFields, IsFrame}

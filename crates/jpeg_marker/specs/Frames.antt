@@ -1,10 +1,10 @@
 -- Statement: the frame of a header (ITU-T T.81, B.2.2).
 use Rattle.std.specs.Prelude.{ℕ, ◌+◌, ◌*◌, ◌/◌, ◌%◌, ◌≤◌, Bool, not, List, [], ◌∷◌, length, drop, map, sum_by, get_or, ◌==◌, ◌&&◌, ◌||◌, nat_lt, nat_le, Option, Some, None, if◌then◌else◌, IsTrue}
+use Rattle.std.specs.Option.{option_or}
 use Rattle.std.specs.List.{list_all}
 use Rattle.jpeg_marker.specs.declared.refusal.HeaderRefusal.{HeaderRefusal}
 use Rattle.jpeg_marker.specs.declared.refusal.HeaderRefusal.TheVariants.{LengthBad, FrameTwice, PrecisionBad, SizeZero, ComponentsBad}
 use Rattle.jpeg_marker.specs.declared.parameters.FrameComponent.{FrameComponent}
-use Rattle.jpeg_marker.specs.HeaderRefusals.{or_else}
 use Rattle.jpeg_marker.specs.MarkerSegments.{Segment, number_at}
 use Rattle.jpeg_marker.specs.HuffmanTables.{distinct}
 
@@ -74,7 +74,7 @@ components_fault parts = if are_components parts then None else Some ComponentsB
 abbrev pub frame_fault : Option FrameFields → ℕ → List ℕ → Option HeaderRefusal
 frame_fault (Some frame) at body = Some FrameTwice
 frame_fault None at body =
-    or_else (numbers_fault at body) (components_fault (parts_of (drop 6 body)))
+    option_or (numbers_fault at body) (components_fault (parts_of (drop 6 body)))
 
 -- what holds of a frame that passes
 pub record IsFrame (f : FrameFields) : Type 0 where

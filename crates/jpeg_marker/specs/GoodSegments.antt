@@ -1,9 +1,9 @@
 -- Statement: which segments a header may have, and where bytes stop being a header (ITU-T T.81, B.1.1, B.2). Places
 -- are offsets of bytes from the file's first.
 use Rattle.std.specs.Prelude.{ℕ, ◌+◌, ◌≡◌, List, [], ◌∷◌, ◌++◌, length, flat_map, ◌==◌, nat_lt, not, Option, Some, None, if◌then◌else◌, fold, IsTrue}
+use Rattle.std.specs.Option.{option_or}
 use Rattle.jpeg_marker.specs.declared.refusal.HeaderRefusal.{HeaderRefusal}
 use Rattle.jpeg_marker.specs.declared.refusal.HeaderRefusal.TheVariants.{HeaderCut, MarkerBad, NotBaseline, LengthBad}
-use Rattle.jpeg_marker.specs.HeaderRefusals.{or_else}
 use Rattle.jpeg_marker.specs.MarkerSegments.{Segment, IsWhole, number_at, is_other_process, is_known, last_of}
 use Rattle.jpeg_marker.specs.Walks.{Walk, walk_place}
 use Rattle.jpeg_marker.specs.HuffmanTables.{tables_of}
@@ -101,7 +101,7 @@ abbrev pub stuck_after : ℕ → List ℕ → Option HeaderRefusal
 stuck_after place [] = Some HeaderCut
 stuck_after place (byte ∷ bytes) =
     if byte == 0xff then stuck_after (place + 1) bytes
-    else or_else (code_fault place byte) (length_fault (place + 1) bytes)
+    else option_or (code_fault place byte) (length_fault (place + 1) bytes)
 
 -- Why there is no whole segment at a place, if there is none: no byte, or none of 0xff.
 abbrev pub stuck_at : ℕ → List ℕ → Option HeaderRefusal

@@ -1,4 +1,4 @@
--- Statement: the refusals of headers by number (docs/JPEG.md, Headers), and the first of two.
+-- Statement: the refusals of headers by number (docs/JPEG.md, Headers).
 use Rattle.std.specs.Prelude.{ℕ, Option, Some, None, Result, Ok, Err}
 use Rattle.jpeg_marker.specs.declared.refusal.HeaderRefusal.{HeaderRefusal}
 use Rattle.jpeg_marker.specs.declared.refusal.HeaderRefusal.TheVariants.{NotJpeg, HeaderCut, MarkerBad, NotBaseline, LengthBad, FrameTwice, PrecisionBad, SizeZero, ComponentsBad, TableBad, NoFrame, MultiScan, ScanParams, NoTable, TooManyBlocks}
@@ -25,8 +25,3 @@ number_of TooManyBlocks = 15
 abbrev pub fault_in : {A : Type 0} → Result A HeaderRefusal → Option HeaderRefusal
 fault_in (Ok found) = None
 fault_in (Err refusal) = Some refusal
-
--- the first of two faults
-abbrev pub or_else : Option HeaderRefusal → Option HeaderRefusal → Option HeaderRefusal
-or_else (Some fault) later = Some fault
-or_else None later = later

@@ -20,10 +20,8 @@ pub record Table : Type 0 where
 
 -- what follows the byte with class and number
 abbrev pub fields_at : List ℕ → TableFields
-fields_at bytes = record {
-  counts = take 16 bytes;
-  values = take (sum (take 16 bytes)) (drop 16 bytes);
-}
+fields_at bytes =
+    record { counts = take 16 bytes; values = take (sum (take 16 bytes)) (drop 16 bytes) }
 
 -- the tables in the bytes after the first few, one after the other
 abbrev pub tables_after : ℕ → List ℕ → List Table

@@ -1,5 +1,6 @@
 -- Statement: what a header says as a whole (ITU-T T.81, A.1.1, A.2, B.2.3).
 use Rattle.std.specs.Prelude.{ℕ, ◌+◌, ◌-◌, ◌*◌, ◌/◌, ◌%◌, ◌≡◌, ◌≤◌, max, fold, Bool, true, false, not, List, [], ◌∷◌, length, drop, take, map, set, sum_by, get_or, ◌==◌, ◌&&◌, ◌||◌, nat_lt, nat_le, Option, Some, None, option_map, if◌then◌else◌, IsTrue}
+use Rattle.std.specs.Option.{option_or}
 use Rattle.std.specs.List.{list_all, list_any}
 use Rattle.jpeg_marker.specs.declared.refusal.HeaderRefusal.{HeaderRefusal}
 use Rattle.jpeg_marker.specs.declared.refusal.HeaderRefusal.TheVariants.{LengthBad, NoFrame, MultiScan, ScanParams, NoTable, TooManyBlocks}
@@ -9,7 +10,6 @@ use Rattle.jpeg_marker.specs.declared.component.Component.{Component}
 use Rattle.jpeg_marker.specs.declared.definitions.Definitions.{Definitions}
 use Rattle.jpeg_marker.specs.declared.scans.Scans.{Scans}
 use Rattle.jpeg_marker.specs.declared.scans.Scans.TheVariants.{One, Several}
-use Rattle.jpeg_marker.specs.HeaderRefusals.{or_else}
 use Rattle.jpeg_marker.specs.HuffmanTables.{TableFields}
 use Rattle.jpeg_marker.specs.HeldTables.{table_in}
 use Rattle.jpeg_marker.specs.Frames.{FrameFields, no_part, area, are_components}
@@ -199,8 +199,8 @@ abbrev pub scan_fault : Scans → Definitions → Option FrameFields → ℕ →
     → Option HeaderRefusal
 scan_fault scans known None at body = Some NoFrame
 scan_fault scans known (Some f) at body =
-    or_else (order_fault scans known.coded f.parts at body)
-    (or_else (range_fault body)
+    option_or (order_fault scans known.coded f.parts at body)
+    (option_or (range_fault body)
     (plan_fault known.blocks f (scan_components known f body)))
 
 -- a plan of these components and this frame

@@ -1,8 +1,8 @@
 -- Statement: what is checked of a segment of tables (ITU-T T.81, B.2.4.2).
 use Rattle.std.specs.Prelude.{ℕ, Bool, zero, suc, ◌+◌, ◌/◌, ◌%◌, ◌^◌, List, [], ◌∷◌, length, take, sum, Option, Some, None, nat_lt, nat_le, ◌&&◌, ◌||◌, if◌then◌else◌}
+use Rattle.std.specs.Option.{option_or}
 use Rattle.jpeg_marker.specs.declared.refusal.HeaderRefusal.{HeaderRefusal}
 use Rattle.jpeg_marker.specs.declared.refusal.HeaderRefusal.TheVariants.{LengthBad, TableBad}
-use Rattle.jpeg_marker.specs.HeaderRefusals.{or_else}
 use Rattle.jpeg_marker.specs.HuffmanTables.{TableFields, fields_at, distinct, code_space}
 
 -- the values of a table may stand for its code words: none twice, and the words fit into 16 bits (Annex C)
@@ -25,5 +25,5 @@ abbrev pub tables_fault : ℕ → ℕ → ℕ → List ℕ → Option HeaderRefu
 tables_fault at place skipped [] = None
 tables_fault at place (suc skipped) (byte ∷ bytes) = tables_fault at (place + 1) skipped bytes
 tables_fault at place zero (byte ∷ bytes) =
-    or_else (table_fault at place byte bytes)
+    option_or (table_fault at place byte bytes)
     (tables_fault at (place + 1) (16 + sum (take 16 bytes)) bytes)

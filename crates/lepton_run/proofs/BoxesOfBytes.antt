@@ -1,5 +1,5 @@
 -- The bytes of a container's fields are bytes.
-use Rattle.std.proofs.Common.{ℕ, zero, suc, ◌+◌, Bool, true, false, List, [], ◌∷◌, ◌++◌, length, flat_map, ℤ, Option, Some, None, arith}
+use Rattle.std.proofs.Common.{ℕ, zero, suc, ◌+◌, Bool, true, false, if◌then◌else◌, List, [], ◌∷◌, ◌++◌, length, flat_map, ℤ, Option, Some, None, arith}
 use Rattle.std.specs.Prelude.{slice_index}
 use Rattle.std.specs.List.{AllByRecursion}
 use Rattle.std.specs.Int.{w16, byte_at, cast_unsigned}
@@ -9,7 +9,7 @@ use Rattle.bit_list.specs.Bits.{IsByte}
 use Rattle.handover.specs.Handovers.{HandoverFields, IsHandover}
 use Rattle.handover.specs.HandoverBytes.{handover_bytes}
 use Rattle.scan_spec.specs.Pads.{PadBits, Same, Listed}
-use Rattle.box_format.specs.Parts.{bit_byte, chunk_bytes, list_length, pad_byte, place_bytes, records}
+use Rattle.box_format.specs.Parts.{chunk_bytes, length_said, pad_byte, place_bytes, records}
 use Rattle.box_format.specs.declared.chunk.Chunk.{Chunk}
 
 -- the bytes of a number
@@ -63,7 +63,7 @@ records_are places i (h ∷ hs) (s ∷ ss) each =
     (all-append IsByte long place (number_are 8 (length s)) (place_are places i)))
     (records_are places (i + 1) hs ss each.1)
 
-bit_is : (pad : Bool) → IsByte (bit_byte pad)
+bit_is : (pad : Bool) → IsByte (if pad then 1 else 0)
 bit_is true = omega arith
 bit_is false = omega arith
 
@@ -71,9 +71,9 @@ pub pad_is : (pads : PadBits) → IsByte (pad_byte pads)
 pad_is (Same pad) = bit_is pad
 pad_is (Listed bytes) = omega arith
 
-pub named_are : (listed : Bool) (list : List ℕ) → AllByRecursion IsByte (list_length listed list)
-named_are true list = number_are 4 (length list)
-named_are false list = tt
+pub named_are : (said : Bool) (bytes : List ℕ) → AllByRecursion IsByte (length_said said bytes)
+named_are true bytes = number_are 4 (length bytes)
+named_are false bytes = tt
 
 -- two lists of bytes
 pub both_are : (xs ys : List ℕ) → AllByRecursion IsByte xs → AllByRecursion IsByte ys

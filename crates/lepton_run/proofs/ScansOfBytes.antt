@@ -1,5 +1,5 @@
 -- A container's bytes are bytes.
-use Rattle.std.proofs.Common.{ℕ, ◌<◌, ◌≤◌, Bool, true, false, if◌then◌else◌, List, [], ◌∷◌, ◌++◌, length, flat_map, sym, subst, arith}
+use Rattle.std.proofs.Common.{ℕ, ◌<◌, ◌≤◌, Bool, true, false, if◌then◌else◌, not, List, [], ◌∷◌, ◌++◌, length, flat_map, sym, subst, arith}
 use Rattle.std.specs.List.{AllByRecursion}
 use Rattle.std.proofs.lemmas.List.{length-map}
 use Rattle.byteorder.specs.Endian.{big_bytes}
@@ -7,19 +7,15 @@ use Rattle.bit_list.specs.Bits.{IsByte}
 use Rattle.jpeg_marker.specs.Plans.{PlanFields}
 use Rattle.jpeg_marker.specs.Walks.{Walk, next_walk}
 use Rattle.jpeg_marker.specs.FirstWalks.{opening_walk}
-use Rattle.box_format.specs.Parts.{BoxParts, IsBoxIn, list_bytes, list_length, chunk_bytes, place_bytes, pad_byte, records, BoxSeen}
+use Rattle.box_format.specs.Parts.{BoxParts, IsBoxIn, list_bytes, length_said, chunk_bytes, place_bytes, pad_byte, records, BoxSeen}
 use Rattle.box_format.proofs.Layouts.{most_few}
-use Rattle.box_format.specs.Containers.{AreBoxes, AreScans, all_parts, scan_fields, scan_header, scan_streams, container_bytes, scans_said, trailer_length, trailer_of}
+use Rattle.box_format.specs.Containers.{AreBoxes, AreScans, all_parts, scan_fields, scan_header, scan_streams, container_bytes, scans_said, trailer_of}
 use Rattle.lepton_run.proofs.BoxesOfBytes.{both_are, chunk_are, named_are, number_are, pad_is, place_are, records_are, streams_are}
 use Rattle.box_format.specs.declared.version.Version.{Version}
 use Rattle.box_format.specs.declared.version.Version.TheVariants.{First, Second, Third, Fourth, Fifth}
 use Rattle.box_format.specs.Versions.{layout_of}
 use Rattle.box_format.specs.Single.{IsBoxOf}
 use Rattle.box_format.proofs.Singles.{one_is_container}
-
-trailed_are : (several : Bool) (trailer : List ℕ) → AllByRecursion IsByte (trailer_length several trailer)
-trailed_are true trailer = tt
-trailed_are false trailer = number_are 4 (length trailer)
 
 -- the parts of each scan
 fields_are : (w : Walk) (plan : PlanFields) (b : BoxParts) → IsBoxIn w plan b
@@ -30,13 +26,13 @@ fields_are w plan b is =
     let count : IsByte (length b.handovers) = omega (arith, few, most) in
     let first : List ℕ = pad_byte b.pads ∷ length b.handovers ∷ [] in
     let header = big_bytes 4 (length b.header) in
-    let trailer = trailer_length (layout_of b.version).several b.trailer in
-    let list = list_length (layout_of b.version).listed (list_bytes b.pads) in
+    let trailer = length_said (not (layout_of b.version).several) b.trailer in
+    let list = length_said (layout_of b.version).listed (list_bytes b.pads) in
     let chunk = chunk_bytes b.chunk in
     let end = place_bytes b.places (length b.handovers) in
     let long = both_are first header (pad_is b.pads, (count, tt)) (number_are 4 (length b.header)) in
     let both = both_are (first ++ header) trailer long
-    (trailed_are (layout_of b.version).several b.trailer) in
+    (named_are (not (layout_of b.version).several) b.trailer) in
     let named = both_are ((first ++ header) ++ trailer) list both
     (named_are (layout_of b.version).listed (list_bytes b.pads)) in
     let chunked = both_are (((first ++ header) ++ trailer) ++ list) chunk named (chunk_are b.chunk) in

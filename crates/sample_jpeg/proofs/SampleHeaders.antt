@@ -1,5 +1,6 @@
 -- The header of a sample is one that is taken, and what it says.
 use Rattle.std.proofs.Common.{◌≡◌, ℕ, ◌+◌, ◌*◌, ◌/◌, ◌^◌, ◌<◌, ◌≤◌, Bool, true, false, List, [], ◌∷◌, ◌++◌, length, flat_map, refl, ap, ap₂, ◌∙◌, arith, zero-add}
+use Rattle.std.specs.Option.{option_or}
 use Rattle.std.specs.Prelude.{◌==◌, ◌||◌, nat_lt, Option, Some, None, if◌then◌else◌}
 use Rattle.std.specs.List.{AllByRecursion, list_all}
 use Rattle.std.proofs.lemmas.Bool.{and_parts, ltb-true}
@@ -11,7 +12,6 @@ use Rattle.jpeg_marker.specs.declared.refusal.HeaderRefusal.TheVariants.{SizeZer
 use Rattle.jpeg_marker.specs.Walks.{Walk}
 use Rattle.jpeg_marker.specs.FirstWalks.{only_walk}
 use Rattle.jpeg_marker.specs.HeaderPlan.{Accepts, plan_of}
-use Rattle.jpeg_marker.specs.HeaderRefusals.{or_else}
 use Rattle.jpeg_marker.specs.MarkerSegments.{Segment, is_known, number_at, segment_text, two_bytes}
 use Rattle.jpeg_marker.specs.Plans.{PlanFields, most_blocks}
 use Rattle.jpeg_marker.specs.GoodSegments.{ArePassed, IsGood, fault_of, length_place}
@@ -46,7 +46,7 @@ some_size x y p q = grind (arith, nat_tests)
 
 -- what the frame's sizes are checked for
 abbrev size_fault : Bool → Option HeaderRefusal
-size_fault is_zero = or_else (if is_zero then Some SizeZero else None) None
+size_fault is_zero = option_or (if is_zero then Some SizeZero else None) None
 
 -- the frame passes
 frame_checked : (e : Extent) → IsExtent e
@@ -65,7 +65,7 @@ few_blocks x y p q = let h = small_product x y p q in grind (arith, nat_tests)
 
 -- what the number of blocks is checked for
 abbrev block_fault : Bool → Option HeaderRefusal
-block_fault is_large = or_else None (or_else None (if is_large then Some TooManyBlocks else None))
+block_fault is_large = option_or None (option_or None (if is_large then Some TooManyBlocks else None))
 
 -- the scan passes after such a frame and the tables
 scan_checked : (columns rows : ℕ) → columns ≤ 256 → rows ≤ 256

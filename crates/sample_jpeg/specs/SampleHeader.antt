@@ -67,14 +67,8 @@ sample_header e = header_text (segments_before e ++ scan_segment ∷ [])
 
 -- a component of an index with its tables
 abbrev pub sample_component : ℕ → Component
-sample_component index = record {
-  index = index;
-  id = index + 1;
-  h = 1;
-  v = 1;
-  dc = dc_table;
-  ac = ac_table;
-}
+sample_component index =
+    record { index = index; id = index + 1; h = 1; v = 1; dc = dc_table; ac = ac_table }
 
 -- what the frame says of it
 abbrev pub sample_part : ℕ → FrameComponent

@@ -98,10 +98,8 @@ acs_due shape run slot left loose =
 
 -- after a symbol
 abbrev pub symbol_over : Shape → Run → Slot → ℕ → Symbol → Stage
-symbol_over shape run slot left (Value zeros size) = record {
-  due = AcBits slot (left - (zeros + 1)) size;
-  run = run;
-}
+symbol_over shape run slot left (Value zeros size) =
+    record { due = AcBits slot (left - (zeros + 1)) size; run = run }
 symbol_over shape run slot left Sixteen = acs_due shape run slot (left - 16) true
 symbol_over shape run slot left End = block_over shape run
 symbol_over shape run slot left Past = record { due = Wrong refusals.RunPast; run = run }

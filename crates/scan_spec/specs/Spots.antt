@@ -44,11 +44,7 @@ put_bits shape pads spot before bits =
     )
     else (
       stuffed (bytes_after spot.begun bits),
-      record {
-        begun = begun_after spot.begun bits;
-        before = before;
-        count = spot.count + 1;
-      },
+      record { begun = begun_after spot.begun bits; before = before; count = spot.count + 1 },
     )
 
 -- bytes and the spot after them, or the first cause in writing order why there are none (own)

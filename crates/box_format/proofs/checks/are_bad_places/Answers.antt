@@ -1,12 +1,9 @@
-use Rattle.std.proofs.Common.{refl, ◌≡◌, Bool, false, true, not, sym, ap, ◌∙◌}
+use Rattle.std.proofs.Common.{false, true, not, sym, ap, ◌∙◌}
 use Rattle.std.proofs.lemmas.Bool.{eq-eqb, ne_eqb, not-false}
 use Rattle.box_format.specs.declared.version.Layout.{Layout}
 use Rattle.box_format.proofs.ScansFaults.{no_places, places_by}
 use Rattle.box_format.proofs.checks.are_bad_places.Goals as goal
-
-not_true : (b : Bool) → not b ≡ true → b ≡ false
-not_true true e = cc
-not_true false e = refl
+use Rattle.box_format.proofs.ScansSound.{not_true}
 
 pub returns-then-not-layout : goal.returns-then-not-layout
 returns-then-not-layout c =

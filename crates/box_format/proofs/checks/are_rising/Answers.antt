@@ -1,16 +1,18 @@
-use Rattle.std.proofs.Common.{◌≡◌, ◌<◌, ◌+◌, ℕ, List, length, refl, sym, ◌∙◌, arith}
+use Rattle.std.proofs.Common.{◌≡◌, ◌<◌, ◌+◌, ℕ, List, drop, length, refl, sym, ◌∙◌, arith}
 use Rattle.std.proofs.lemmas.Bool.{le-ltb, lt-ltb}
+use Rattle.byteorder.specs.Endian.{big_number}
 use Rattle.box_format.specs.Versions.{layout_of}
-use Rattle.box_format.specs.Fields.{segments_at, place_at, end_at}
+use Rattle.box_format.specs.Fields.{segments_at, in_record}
 use Rattle.box_format.specs.Whole.{listed_at}
 use Rattle.box_format.specs.declared.version.Layout.{Layout}
 use Rattle.box_format.proofs.PlaceLists.{ended_long, falling_step, rising_end, rising_step}
 use Rattle.box_format.proofs.checks.are_rising.Goals as goal
+use Rattle.box_format.specs.Raws.{place_from}
 
 listed_long : (l : Layout) (bytes : List ℕ) (place : ℕ)
     → length (listed_at l bytes place) ≡ segments_at bytes place + 1
 listed_long l bytes place =
-    ended_long (place_at l bytes place) (segments_at bytes place) (end_at bytes place)
+    ended_long (in_record place_from l bytes place) (segments_at bytes place) (big_number 8 (drop (place + 14) bytes))
 
 -- two places after another
 two : (l : Layout) (bytes : List ℕ) (place i : ℕ) → i < segments_at bytes place

@@ -1,8 +1,9 @@
-use Rattle.std.proofs.Common.{◌≡◌, ◌<◌, ◌+◌, ◌*◌, ℕ, sym, ap, ap₂, ◌∙◌, arith}
+use Rattle.std.proofs.Common.{◌≡◌, ◌<◌, ◌+◌, ◌*◌, ℕ, drop, sym, ap, ap₂, ◌∙◌, arith}
 use Rattle.std.specs.Prelude.{slice_index}
+use Rattle.byteorder.specs.Endian.{big_number}
 use Rattle.box_format.specs.Versions.{layout_of}
 use Rattle.box_format.specs.Raws.{place_from}
-use Rattle.box_format.specs.Fields.{segments_at, place_at, end_at}
+use Rattle.box_format.specs.Fields.{segments_at, in_record}
 use Rattle.box_format.specs.Whole.{listed_at}
 use Rattle.box_format.specs.declared.version.Layout.{Layout}
 use Rattle.box_format.proofs.PlaceLists.{ended_at, ended_last}
@@ -19,7 +20,7 @@ returns-then-segment-segments_at c =
     c.place_at.ensures
     ∙ ap₂ (λ (l : Layout) (k : ℕ). place_from bytes (place + l.fields + l.room * k))
     c.layout-layout.ensures.value c.from.ensures
-    ∙ sym (ended_at (place_at l bytes place) (segments_at bytes place) (end_at bytes place)
+    ∙ sym (ended_at (in_record place_from l bytes place) (segments_at bytes place) (big_number 8 (drop (place + 14) bytes))
     c.args.segment below)
 
 pub returns-else-segment-segments_at : goal.returns-else-segment-segments_at
@@ -32,5 +33,5 @@ returns-else-segment-segments_at c =
     let within = c.requires.segment in
     let same : c.args.segment ≡ segments_at bytes place = omega (arith, count, past, within) in
     c.end_at.ensures
-    ∙ sym (ended_last (place_at l bytes place) (segments_at bytes place) (end_at bytes place))
+    ∙ sym (ended_last (in_record place_from l bytes place) (segments_at bytes place) (big_number 8 (drop (place + 14) bytes)))
     ∙ ap (slice_index (listed_at l bytes place)) (sym same)

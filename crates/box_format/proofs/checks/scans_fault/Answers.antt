@@ -1,6 +1,6 @@
 use Rattle.std.proofs.Common.{◌≡◌, ◌<◌, ◌+◌, ℕ, drop, length, sym, ap, ◌∙◌, arith}
 use Rattle.std.specs.Prelude.{Option}
-use Rattle.box_format.specs.Checks.{or_else}
+use Rattle.std.specs.Option.{option_or}
 use Rattle.box_format.specs.declared.refusal.BoxRefusal.{BoxRefusal}
 use Rattle.box_format.specs.Versions.{layout_of}
 use Rattle.box_format.specs.Fields.{scan_raw, scans_in, segments_at}
@@ -34,7 +34,7 @@ returns-in-Some c =
     let rest = drop (j + 1) plans in
     sym (fault_next c.args.version bytes plan (drop j plans) rest first j below
     (plan_next plans j c.from.result plan there c.from.ensures c.index-plans-from.is)
-    ∙ ap (λ (o : Option BoxRefusal). or_else o
+    ∙ ap (λ (o : Option BoxRefusal). option_or o
     (scans_fault (first + length (scan_raw c.args.version bytes j).handovers) rest (raws_from c.args.version bytes (j + 1))))
     (sym c.scan_fault.ensures ∙ c.in-Some.is)) ∙ c.loop-scan.invariant.left
 
@@ -75,7 +75,7 @@ loop-scan-preserved c =
       left = ap (λ (n : ℕ). scans_fault (first + n) rest (raws_from c.args.version bytes (j + 1))) (sym same)
           ∙ sym (fault_next c.args.version bytes plan (drop j plans) rest first j below
           (plan_next plans j c.from.result plan there c.from.ensures c.index-plans-from.is)
-          ∙ ap (λ (o : Option BoxRefusal). or_else o
+          ∙ ap (λ (o : Option BoxRefusal). option_or o
           (scans_fault (first + length (scan_raw c.args.version bytes j).handovers) rest (raws_from c.args.version bytes (j + 1))))
           (sym c.scan_fault.ensures ∙ c.in_default.is)) ∙ c.loop-scan.invariant.left;
     }

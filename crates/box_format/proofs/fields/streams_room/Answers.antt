@@ -1,14 +1,14 @@
 use Rattle.std.proofs.Common.{◌≡◌, ◌+◌, ◌*◌, ℕ, ap₂, ◌∙◌, arith}
 use Rattle.box_format.specs.Versions.{layout_of}
 use Rattle.box_format.specs.Raws.{length_from}
-use Rattle.box_format.specs.Fields.{stream_length}
+use Rattle.box_format.specs.Fields.{in_record}
 use Rattle.box_format.specs.declared.version.Layout.{Layout}
 use Rattle.box_format.proofs.ScansSliced.{sum_next}
 use Rattle.box_format.proofs.fields.streams_room.Goals as goal
 
 pub loop-i-preserved : goal.loop-i-preserved
 loop-i-preserved c =
-    let f = stream_length (layout_of c.args.version) c.args.bytes.now c.args.place in
+    let f = in_record length_from (layout_of c.args.version) c.args.bytes.now c.args.place in
     let next = sum_next f c.loop-i.i in
     let before = c.loop-i.invariant.room in
     let here : c.from-room.result ≡ f c.loop-i.i =

@@ -93,7 +93,6 @@ of_plans-requires-clause-few c =
     let bytes = c.args.bytes.now in
     let v = c.version_in-version.result in
     let plans = c.in_ok-plans.plans.items in
-    let early = sym c.early_fault.ensures ∙ c.in_default.is in
     let late : late_fault v (take (scans_in (layout_of v) bytes) plans) bytes ≡ None =
     ap (λ (l : List PlanFields). late_fault v (take (scans_in (layout_of v) bytes) l) bytes)
     (sym c.as_slice.ensures.value) ∙ sym c.late_fault.ensures ∙ c.in_default-late_fault.is in
