@@ -49,10 +49,8 @@ skip_of place c a = if c.from == c.to then 0 else a - place c.from
 
 -- the window on their bytes: as many go through as they have places from a to before b
 abbrev pub window_of : (ℕ → ℕ) → Cover → ℕ → ℕ → Window
-window_of place c a b = record {
-  skip = skip_of place c a;
-  most = Some (min b (place c.to) - max a (place c.from));
-}
+window_of place c a b =
+    record { skip = skip_of place c a; most = Some (min b (place c.to) - max a (place c.from)) }
 
 abbrev pub skip_within : PartedFile → ℕ → ℕ → ℕ
 skip_within f a b = skip_of f.place (parts_within f a b) a

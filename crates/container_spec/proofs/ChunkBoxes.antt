@@ -33,12 +33,13 @@ use Rattle.container_spec.proofs.CutsOfPlans.{mcus_within, each_has_mcus}
 use Rattle.container_spec.proofs.FileParts as whole
 use Rattle.container_spec.proofs.Numbered.{mapped_long}
 use Rattle.container_spec.proofs.PadsTold.{second_can_pad}
-use Rattle.container_spec.proofs.SlicesMeant.{all_take, all_drop, blocks_are, between_are, between_long}
+use Rattle.container_spec.proofs.SlicesMeant.{blocks_are, between_are, between_long}
 use Rattle.container_spec.proofs.StartsOfSegments.{handover_at_is, starts_there, none_bad}
 use Rattle.container_spec.proofs.StreamSizes.{stream_short, blocks_long}
 use Rattle.container_spec.proofs.StreamsOfBlocks.{blocks_stream_bytes}
 use Rattle.container_spec.specs.Chunks.{IsChunkOf, file_rows, parts_of_chunk, rows_cut}
 use Rattle.container_spec.proofs.RowsPlaced.{rows_are_placed, rows_are_scan}
+use Rattle.box_format.proofs.ByteParts.{all_drop, all_take}
 
 -- ---- the chunk's fields
 
@@ -84,13 +85,13 @@ room_is f a b p order =
     omega (arith, order, first, last, start, up)
 
 -- and without a row no other bytes
-rowless_is : (f : PartedFile) (a b : ℕ) → IsPlaced f → a ≤ b
+rowless_is : (f : PartedFile) (a b : ℕ) → IsPlaced f
     → (parts_within f a b).from ≡ (parts_within f a b).to
     → (most_within f a b ≡ 0) × (skip_within f a b ≡ 0)
-rowless_is f a b p order same =
+rowless_is f a b p same =
     let rows = parts_within f a b in
     let grid = parts_are_in_file f a b in
-    let enough = bytes_are_enough f a b p order in
+    let enough = bytes_are_enough f a b p in
     let long = rows_long f rows.from rows.to p grid.0 grid.1 in
     let level = ap f.place same in
     (omega (arith, enough, long, level), omega (arith, enough, long, level))
@@ -111,7 +112,7 @@ fields_are f a b p order within few rows_few =
       within = high;
       room = omega (arith, room, header);
       rowless = λ same.
-          let none = rowless_is f a b p order same in
+          let none = rowless_is f a b p same in
           (same_most f a b p order within ∙ none.0, none.1);
       place_fits = omega (arith, order, few);
       length_fits = omega (arith, few);

@@ -8,23 +8,14 @@ use Rattle.jpeg_marker.proofs.OneScans.{one_is_several, one_is_last, several_is_
 use Rattle.jpeg_marker.proofs.HeadersTaken.{none_known}
 use Rattle.scan_spec.specs.FileParts.{IsScanOf, is_last}
 use Rattle.scan_spec.specs.Scans.{Mcu}
-use Rattle.box_format.specs.Versions.{layout_of, fewest_scans, most_scans}
+use Rattle.box_format.specs.Versions.{layout_of}
 use Rattle.box_format.specs.Parts.{BoxParts, BoxSeen}
 use Rattle.box_format.specs.Containers.{container_bytes, all_parts}
 use Rattle.box_format.specs.declared.version.Version.{Version}
-use Rattle.box_format.specs.declared.version.Version.TheVariants.{First, Second, Third, Fourth, Fifth}
 use Rattle.container_spec.specs.Files.{parts_of_file}
 use Rattle.container_spec.specs.ScanContainers.{IsContainerOfOne}
 use Rattle.container_spec.specs.ScansFiles.{AreScansIn, IsContainerOf}
-
-fewest_one : (v : Version) → (layout_of v).several ≡ false
-    → (fewest_scans (layout_of v) ≤ 1) × (1 ≤ most_scans (layout_of v))
-    × (most_scans (layout_of v) ≤ 1)
-fewest_one First e = (omega arith, omega arith, omega arith)
-fewest_one Second e = (omega arith, omega arith, omega arith)
-fewest_one Third e = (omega arith, omega arith, omega arith)
-fewest_one Fourth e = cc
-fewest_one Fifth e = (omega arith, omega arith, omega arith)
+use Rattle.box_format.proofs.Singles.{fewest_one}
 
 opened : (file : List ℕ) (plan : PlanFields) (mcus : List Mcu) (pads : List Bool)
     (trailer : List ℕ) → IsScanOf only_walk file plan mcus pads trailer
@@ -88,8 +79,6 @@ only_one version most made file trailer [] one whole are few fits is spelled = a
 only_one version most made file trailer (s ∷ t ∷ scans) one whole are few fits is spelled =
     absurd (omega (arith, few))
 only_one version most made file trailer (s ∷ []) one whole are few fits is spelled =
-    let b = parts_of_file version s.plan is.0.mcus is.0.pads (take s.plan.header_length file)
-    trailer most in
     record {
       known = none_known;
       whole = whole;

@@ -52,6 +52,7 @@ use Rattle.container_spec.proofs.ScanBytes.{put_are_bytes}
 use Rattle.container_spec.proofs.SpotsAlike.{handovers_alike}
 use Rattle.container_spec.proofs.SpotsKept.{first_is_spot}
 use Rattle.container_spec.proofs.StartsOfSegments.{first_handover}
+use Rattle.box_format.proofs.SingleBytes.{pads_more}
 
 -- a header is taken, whatever follows it
 begins_more : (w : Walk) (header rest : List ℕ) (plan : PlanFields) → Begins w header plan
@@ -83,12 +84,6 @@ can_tell listed shape count (Listed bytes) e all can =
           ∙ ap (λ n. (n + 7) / 8) (sym e);
       clean = ap (λ n. list_all (λ bit. not bit) (drop n (bits_of bytes))) e ∙ parts.1;
     }
-
--- and one that has lists
-can_list : (listed : Bool) (shape : Shape) (told : PadBits) → can_pad listed shape told ≡ true
-    → can_pad true shape told ≡ true
-can_list listed shape (Same pad) can = refl
-can_list listed shape (Listed bytes) can = (and_parts listed (is_list shape bytes) can).1
 
 -- parts by what a file determines
 same_parts : (b : BoxParts) (places : Option (List ℕ)) (pads : PadBits) (header : List ℕ)
@@ -364,7 +359,7 @@ module _ {w : Walk} (plan : PlanFields) (parts : BoxParts) (file : List ℕ)
   pub indexed_is : IsScanContainer w Fifth count (box_bytes (indexed plan b)) file
   indexed_is =
       container_in Fifth (Some (places_found plan b)) refl
-      (can_list (layout_of b.version).listed shape b.pads is.pads)
+      (pads_more (layout_of b.version).listed shape b.pads is.pads)
       (ap (λ (l : List ℕ). Some l) found_there) (box_bytes (indexed plan b)) refl
 
 -- parts without a chunk

@@ -10,7 +10,7 @@ use Rattle.jpeg_marker.specs.HeaderPlan.{Accepts, Begins}
 use Rattle.jpeg_marker.specs.Plans.{PlanFields}
 use Rattle.jpeg_marker.specs.Walks.{Walk, walk_from, next_walk}
 use Rattle.jpeg_marker.proofs.HeaderLaws.{one_begins, one_begins_not, begins_apart}
-use Rattle.jpeg_marker.proofs.HeadersTaken.{begun_has_plan, bytes_from, none_known}
+use Rattle.jpeg_marker.proofs.HeadersTaken.{begun_has_plan, none_known, bytes_from}
 use Rattle.jpeg_marker.proofs.OneScans.{one_is_several}
 use Rattle.scan_spec.specs.FileParts.{FileScan, IsScanOf, AreScans, is_last}
 use Rattle.scan_spec.specs.Items.{Refuses as ItemsRefuse}

@@ -4,8 +4,7 @@ use Rattle.std.specs.Prelude.{bytes_eq, IfSome}
 use Rattle.std.specs.List.{AllByRecursion}
 use Rattle.std.proofs.lemmas.Slice.Eq.{bytes_eq-Decides}
 use Rattle.coef_block.specs.Block.{IsBlock}
-use Rattle.scan_spec.specs.Blocks.{blocks_text}
-use Rattle.scan_spec.specs.Pads.{bit_for, text_sum}
+use Rattle.scan_spec.specs.Pads.{bit_for}
 use Rattle.scan_spec.specs.Scans.{Mcu, IsMcu}
 use Rattle.scan_spec.specs.Spots.{Spot, prefixed_put, then_put, mcu_put, mcus_put, spot_in}
 use Rattle.scan_spec.specs.declared.stop.WriteStop.{WriteStop}
@@ -26,10 +25,11 @@ use Rattle.block_spec.specs.BlockReading.{and_then, blocks_read}
 use Rattle.block_spec.specs.ReadingLaws.{HaveGiven}
 use Rattle.block_spec.proofs.BlocksRead.{blocks_are_given}
 use Rattle.container_spec.specs.ScanStream.{blocks_of, blocks_stream}
-use Rattle.container_spec.specs.Segments.{SegmentFields, Progress, Output, progress_after, fault_cause, stop_cause, stopped, stream_ending, ending_by, ending, after_step, mcu_step, mcus_output}
+use Rattle.container_spec.specs.Segments.{SegmentFields, Progress, Output, progress_after, fault_cause, stop_cause, stopped, stream_ending, seam_ending, ending, after_step, mcu_step, mcus_output}
 use Rattle.container_spec.specs.SegmentLaws.{Meets, IsGood, IsSpot, CanMeet, GoodHasItsStream, mcus_sum}
 use Rattle.container_spec.proofs.PutParts.{sums_more, sums_none}
 use Rattle.container_spec.proofs.SpotsKept.{spot_kept, handover_is}
+use Rattle.container_spec.proofs.McusPut.{here}
 
 -- ---- results
 
@@ -59,10 +59,6 @@ value_of d (Ok x) = x
 value_of d (Err e) = d
 
 -- ---- one MCU
-
--- what is padded after it
-abbrev here : SegmentFields → Progress → Mcu → PadSum
-here s at mcu = text_sum s.shape s.pads at.spot (blocks_text s.shape.slots at.spot.before mcu)
 
 pub record Stepped (s : SegmentFields) (at : Progress) (bytes : List ℕ)
     (next : Progress) : Type 0 where
@@ -135,7 +131,7 @@ one_handover h k is are e =
 
 good_end : (s : SegmentFields) (at : Progress) (next : Option HandoverFields)
     (found : HandoverFields) (bytes : List ℕ) (padded : PadSum) → IsHandover found
-    → IfSome next IsHandover → ending_by s at found next ≡ (bytes, Good padded)
+    → IfSome next IsHandover → seam_ending s at found next ≡ (bytes, Good padded)
     → Meets found next × Ended s at bytes padded
 good_end s at None found bytes padded is are h = (tt, good_stream s at bytes padded h)
 good_end s at (Some kept) found bytes padded is are h =

@@ -20,6 +20,7 @@ pub mod PlacesOfFiles
 pub mod FileParts
 pub mod ContainerSizes
 pub mod PaddedSlices
+pub mod RestoredRows
 pub mod RestoredFiles
 pub mod ScanBytes
 pub mod ReachedSegments

@@ -47,7 +47,7 @@ step_is s at mcu bytes next read put =
     (λ (p : List ℕ × Spot). Ok (p.0, progress_after s at mcu p.1))) put
 
 -- what is padded after the next MCU
-abbrev here : SegmentFields → Progress → Mcu → PadSum
+abbrev pub here : SegmentFields → Progress → Mcu → PadSum
 here s at mcu = text_sum s.shape s.pads at.spot (blocks_text s.shape.slots at.spot.before mcu)
 
 -- a progress by its parts

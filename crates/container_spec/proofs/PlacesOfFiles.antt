@@ -50,7 +50,7 @@ rising_by f (suc count) from order =
     (λ i after within. order i (omega (arith, after)) (omega (arith, within)))
 
 -- without an MCU no byte is done
-nothing_done : (shape : Shape) (pads : ℕ → Bool) (mcus : List Mcu)
+pub nothing_done : (shape : Shape) (pads : ℕ → Bool) (mcus : List Mcu)
     → bytes_done shape pads mcus 0 ≡ 0
 unfolding mcus_put
 nothing_done shape pads mcus = refl

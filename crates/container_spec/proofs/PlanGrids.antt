@@ -1,5 +1,6 @@
 -- The grid of a plan suits its scan.
 use Rattle.std.proofs.Common.{◌≡◌, ℕ, zero, suc, ◌+◌, ◌*◌, ◌<◌, ◌≤◌, Bool, true, false, cond, ◌==◌, List, [], ◌∷◌, length, map, Option, Some, None, refl, sym, ap, ◌∙◌, arith}
+use Rattle.std.specs.Option.{option_map_or}
 use Rattle.std.specs.List.{AllByRecursion, sum_by}
 use Rattle.std.proofs.lemmas.Bool.{eqb-true}
 use Rattle.std.proofs.lemmas.Bool.Decides.{nat_tests}
@@ -21,12 +22,12 @@ use Rattle.huff_table.proofs.FrameComponents.{index_of, none_below}
 use Rattle.scan_spec.specs.Slots.{shape_of}
 use Rattle.scan_spec.proofs.PlanShapes.{slots_count, begun_is_shape}
 use Rattle.block_spec.specs.Grid.{IsGrid}
-use Rattle.container_spec.specs.ScanStream.{number_or_zero, extents_by, mcu_extents, grid_of}
+use Rattle.container_spec.specs.ScanStream.{extents_by, mcu_extents, grid_of}
 use Rattle.container_spec.specs.SegmentLaws.{Suits}
 
 -- a number of the component of an index, after one more component before the others
 abbrev at_index : (Component → ℕ) → List Component → ℕ → ℕ
-at_index number cs k = number_or_zero number (component_at cs k)
+at_index number cs k = option_map_or number (component_at cs k) 0
 
 one_more : (number : Component → ℕ) (c : Component) (cs : List Component) (k : ℕ)
     → Rising (c.index + 1) 4 (map index_of cs)
@@ -72,8 +73,8 @@ total_is number from (c ∷ cs) rising =
 
 -- blocks across by blocks down
 product_at : (across down : Component → ℕ) (found : Option Component)
-    → number_or_zero across found * number_or_zero down found
-    ≡ number_or_zero (λ part. across part * down part) found
+    → option_map_or across found 0 * option_map_or down found 0
+    ≡ option_map_or (λ part. across part * down part) found 0
 product_at across down None = refl
 product_at across down (Some c) = refl
 

@@ -1,5 +1,5 @@
 -- The rows of MCUs of a file, as its parts, and the segments of rows.
-use Rattle.std.proofs.Common.{◌≡◌, ℕ, zero, suc, ◌+◌, ◌-◌, ◌*◌, ◌/◌, ◌<◌, ◌≤◌, min, Bool, List, ◌++◌, length, refl, sym, ap, ap₂, subst, ◌∙◌, arith, zero-add}
+use Rattle.std.proofs.Common.{◌≡◌, ℕ, zero, suc, ◌+◌, ◌-◌, ◌*◌, ◌/◌, ◌<◌, ◌≤◌, min, Bool, List, ◌++◌, length, sym, ap, ap₂, subst, ◌∙◌, arith, zero-add}
 use Rattle.std.specs.Prelude.{flat_map}
 use Rattle.std.proofs.lemmas.List.{take_all}
 use Rattle.std.proofs.Math.Nat.{mul-zero, zero-div, zero-mul, mul-div_cancel_left, mul-le-mul_left, div-mul-le_self, le-div_iff_mul-le}
@@ -9,17 +9,14 @@ use Rattle.byte_window.proofs.SliceParts.{no_slice, slices_join}
 use Rattle.jpeg_marker.specs.Plans.{PlanFields}
 use Rattle.scan_spec.specs.ScanLaws.{IsShape}
 use Rattle.scan_spec.specs.Scans.{Mcu, IsScan, pad_at}
-use Rattle.scan_spec.specs.Slots.{Shape, shape_of}
-use Rattle.scan_spec.specs.Spots.{mcus_put, bytes_done}
+use Rattle.scan_spec.specs.Slots.{shape_of}
+use Rattle.scan_spec.specs.Spots.{bytes_done}
 use Rattle.scan_spec.proofs.DoneBytes.{done_whole, done_in_order}
 use Rattle.cut_spec.specs.Cuts.{row_of, first_mcu}
 use Rattle.cut_spec.specs.Seams.{slices}
 use Rattle.container_spec.specs.Chunks.{file_rows, rows_cut}
 use Rattle.container_spec.specs.ChunkLaws.{RowsArePlaced, SegmentsAreTheRows}
-
-nothing_done : (shape : Shape) (pads : ℕ → Bool) (mcus : List Mcu) → bytes_done shape pads mcus 0 ≡ 0
-unfolding mcus_put
-nothing_done shape pads mcus = refl
+use Rattle.container_spec.proofs.PlacesOfFiles.{nothing_done}
 
 module _ (plan : PlanFields) (mcus : List Mcu) (pads : List Bool) (header scan trailer : List ℕ)
     (shape_is : IsShape (shape_of plan)) (is : IsScan (shape_of plan) mcus pads scan) where

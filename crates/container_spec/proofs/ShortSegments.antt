@@ -16,7 +16,7 @@ use Rattle.cut_spec.specs.RowHandovers.{handover_of}
 use Rattle.scan_spec.specs.TextBounds.{mcu_room}
 use Rattle.block_spec.specs.ReadingLaws.{HaveGiven}
 use Rattle.container_spec.specs.ScanStream.{blocks_stream, starts}
-use Rattle.container_spec.specs.Segments.{SegmentFields, Progress, Output, first_progress, progress_after, stream_ending, ending_by, ending, after_step, mcu_step, mcus_output, rest_output}
+use Rattle.container_spec.specs.Segments.{SegmentFields, Progress, Output, first_progress, progress_after, stream_ending, seam_ending, ending, after_step, mcu_step, mcus_output, rest_output}
 use Rattle.box_format.specs.Parts.{box_cut}
 use Rattle.box_format.proofs.OneCuts.{ordered, in_grid}
 use Rattle.container_spec.specs.Meanings.{segment_in}
@@ -39,7 +39,7 @@ stream_ending_none s at =
     either HasNone (bytes_eq (blocks_stream s.grid at.blocks) s.stream) _ _ refl refl
 
 ending_none : (s : SegmentFields) (at : Progress) (found : HandoverFields)
-    (next : Option HandoverFields) → HasNone (ending_by s at found next)
+    (next : Option HandoverFields) → HasNone (seam_ending s at found next)
 ending_none s at found None = stream_ending_none s at
 ending_none s at found (Some kept) =
     either HasNone (bytes_eq (handover_bytes found) (handover_bytes kept)) _ _

@@ -1,5 +1,5 @@
 -- A segment of a scan stands for its slice of the scan.
-use Rattle.std.proofs.Common.{◌≡◌, ℕ, zero, suc, ◌-◌, ◌≤◌, Bool, true, false, if◌then◌else◌, List, [], ◌∷◌, length, take, drop, Ok, Option, Some, None, refl, sym, ap, ap₂, ◌∙◌, arith, append-nil, zero-add}
+use Rattle.std.proofs.Common.{◌≡◌, ℕ, ◌-◌, ◌≤◌, Bool, true, false, if◌then◌else◌, List, [], ◌∷◌, length, take, drop, Ok, Option, Some, None, refl, sym, ap, ap₂, ◌∙◌, arith, append-nil, zero-add}
 use Rattle.std.specs.Prelude.{bytes_eq}
 use Rattle.std.specs.List.{AllByRecursion}
 use Rattle.std.proofs.lemmas.List.{length-take-le, length-drop}
@@ -24,25 +24,14 @@ use Rattle.cut_spec.proofs.Slices.{each_slice}
 use Rattle.cut_spec.proofs.SpotsBegun.{handover_is_spot, spots_are_begun}
 use Rattle.block_spec.specs.Grid.{Grid}
 use Rattle.container_spec.specs.ScanStream.{blocks_of, blocks_stream, starts}
-use Rattle.container_spec.specs.Segments.{SegmentFields, Progress, Output, first_progress, stopped, with_prefix, stream_ending, ending_by, ending, mcus_output, rest_output, with_place, segment_output}
+use Rattle.container_spec.specs.Segments.{SegmentFields, Progress, Output, first_progress, stopped, with_prefix, stream_ending, seam_ending, ending, mcus_output, rest_output, with_place, segment_output}
 use Rattle.container_spec.specs.SegmentLaws.{Suits, AreKept, IsNextStart, SegmentIsItsSlice, segment_between, progress_through, mcus_sum}
 use Rattle.container_spec.proofs.StreamsOfBlocks.{blocks_stream_starts, stream_gives}
 use Rattle.container_spec.proofs.McusPut.{mcus_are_put}
 use Rattle.container_spec.proofs.PlacesKept.{all_kept, place_is_good}
+use Rattle.box_format.proofs.ByteParts.{all_drop, all_take}
 
 -- ---- lists
-
-pub all_take : {X : Type 0} (P : X → Type 0) (n : ℕ) (xs : List X)
-    → AllByRecursion P xs → AllByRecursion P (take n xs)
-all_take P zero xs h = tt
-all_take P (suc n) [] h = tt
-all_take P (suc n) (x ∷ xs) h = (h.0, all_take P n xs h.1)
-
-pub all_drop : {X : Type 0} (P : X → Type 0) (n : ℕ) (xs : List X)
-    → AllByRecursion P xs → AllByRecursion P (drop n xs)
-all_drop P zero xs h = h
-all_drop P (suc n) [] h = tt
-all_drop P (suc n) (x ∷ xs) h = all_drop P n xs h.1
 
 -- the blocks of MCUs
 pub blocks_are : (slots : List Slot) (mcus : List Mcu) → AllByRecursion (IsMcu slots) mcus
@@ -96,7 +85,7 @@ good_stream s at is =
 good_by : (s : SegmentFields) (at : Progress) (shape : Shape) (pads : ℕ → Bool) (mcus : List Mcu)
     (to : ℕ) (next : Option HandoverFields) → IsNextStart shape pads mcus to next
     → blocks_stream s.grid at.blocks ≡ s.stream
-    → ending_by s at (handover_at shape pads mcus to) next ≡ ([], Good at.padded)
+    → seam_ending s at (handover_at shape pads mcus to) next ≡ ([], Good at.padded)
 good_by s at shape pads mcus to None following is = good_stream s at is
 good_by s at shape pads mcus to (Some kept) following is =
     let found = handover_at shape pads mcus to in
@@ -110,7 +99,7 @@ good_ending : (s : SegmentFields) (at : Progress) (pads : ℕ → Bool) (mcus : 
     → blocks_stream s.grid at.blocks ≡ s.stream → ending s at ≡ ([], Good at.padded)
 unfolding ending
 good_ending s at pads mcus to spot following is =
-    ap (λ p. ending_by s at (handover_of s.shape p) s.next) spot
+    ap (λ p. seam_ending s at (handover_of s.shape p) s.next) spot
     ∙ good_by s at s.shape pads mcus to s.next following is
 
 -- ---- a segment

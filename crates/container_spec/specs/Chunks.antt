@@ -1,5 +1,5 @@
 -- Statement: the container of a chunk of a file (docs/FORMAT.md, Chunks).
-use Rattle.std.specs.Prelude.{ℕ, ◌≡◌, ◌+◌, ◌-◌, ◌*◌, ◌<◌, ◌^◌, Bool, List, [], ◌∷◌, length, map, min, take, Some, None}
+use Rattle.std.specs.Prelude.{ℕ, ◌≡◌, ◌+◌, ◌-◌, ◌*◌, ◌<◌, ◌^◌, Bool, List, [], ◌∷◌, length, min, take, Some}
 use Rattle.std.specs.List.{AllByRecursion}
 use Rattle.byte_window.specs.Slices.{Cover, slice, chunk_from, chunk_to}
 use Rattle.byte_window.specs.PartedFiles.{PartedFile, parts_within, skip_within, trailer_within}
@@ -13,9 +13,9 @@ use Rattle.cut_spec.specs.Cuts.{Cut}
 use Rattle.cut_spec.specs.RowHandovers.{segment_bytes}
 use Rattle.box_format.specs.Containers.{container_bytes}
 use Rattle.box_format.specs.Parts.{BoxParts}
-use Rattle.box_format.specs.Raws.{numbers}
+use Rattle.box_format.specs.declared.chunk.Chunk.{Chunk}
 use Rattle.box_format.specs.declared.version.Version.TheVariants.{Third}
-use Rattle.container_spec.specs.Files.{cut_start, cut_stream, told_pads}
+use Rattle.container_spec.specs.Files.{parts_of_rows}
 
 -- bytes are a file of one scan: a header that is accepted, the scan, and what follows it
 abbrev pub IsOneScanFile : List ℕ → Type 0
@@ -42,12 +42,9 @@ file_rows plan mcus pads header scan trailer = record {
 
 -- the cut of these rows in at most `most` segments; in none if there is no row
 abbrev pub rows_cut : PlanFields → Cover → ℕ → Cut
-rows_cut plan rows most = record {
-  across = plan.across;
-  from = rows.from;
-  to = rows.to;
-  segments = min most (rows.to - rows.from);
-}
+rows_cut plan rows most =
+    let segments = min most (rows.to - rows.from) in
+    record { across = plan.across; from = rows.from; to = rows.to; segments = segments }
 
 -- the parts of the container of a file's bytes from place a to before b, in at most `most` segments
 abbrev pub parts_of_chunk : PlanFields → List Mcu → List Bool → List ℕ → List ℕ → List ℕ → ℕ → ℕ → ℕ
@@ -55,23 +52,11 @@ abbrev pub parts_of_chunk : PlanFields → List Mcu → List Bool → List ℕ �
 parts_of_chunk plan mcus pads header scan trailer a b most =
     let f = file_rows plan mcus pads header scan trailer in
     let rows = parts_within f a b in
+    let chunk : Chunk =
+    record { place = a; length = b - a; skip = skip_within f a b; from = rows.from; to = rows.to } in
     let cut = rows_cut plan rows most in
-    let segments = numbers 0 cut.segments in
-    record {
-      version = Third;
-      chunk = Some (record {
-        place = a;
-        length = b - a;
-        skip = skip_within f a b;
-        from = rows.from;
-        to = rows.to;
-      });
-      places = None;
-      pads = told_pads plan mcus pads;
-      header = header;
-      trailer = trailer_within f a b;
-      handovers = map (cut_start plan mcus pads cut) segments;
-      streams = map (cut_stream plan mcus cut) segments;
+    record (parts_of_rows Third plan mcus pads header (trailer_within f a b) cut) {
+      chunk = Some chunk;
     }
 
 -- `made` is the container of chunk i of a file's chunks of one size, with at most `most` segments, by the plan of the

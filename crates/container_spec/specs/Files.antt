@@ -51,24 +51,30 @@ segment_place plan mcus pads most i =
 -- these places, if they are kept
 abbrev pub places_of_file : Bool → PlanFields → List Mcu → List Bool → ℕ → Option (List ℕ)
 places_of_file placed plan mcus pads most =
-    if placed
-    then Some (map (segment_place plan mcus pads most)
-    (numbers 0 ((plan_cut plan most).segments + 1)))
-    else None
+    let places =
+    map (segment_place plan mcus pads most) (numbers 0 ((plan_cut plan most).segments + 1)) in
+    if placed then Some places else None
 
--- the parts of a file's container in a version, with at most `most` segments
-abbrev pub parts_of_file : Version → PlanFields → List Mcu → List Bool → List ℕ → List ℕ → ℕ
+-- the parts of a container of rows of a file, cut into segments, without a chunk or places
+abbrev pub parts_of_rows : Version → PlanFields → List Mcu → List Bool → List ℕ → List ℕ → Cut
     → BoxParts
-parts_of_file version plan mcus pads header trailer most =
-    let cut = plan_cut plan most in
+parts_of_rows version plan mcus pads header trailer cut =
     let segments = numbers 0 cut.segments in
     record {
       version = version;
       chunk = None;
-      places = places_of_file (layout_of version).placed plan mcus pads most;
+      places = None;
       pads = told_pads plan mcus pads;
       header = header;
       trailer = trailer;
       handovers = map (cut_start plan mcus pads cut) segments;
       streams = map (cut_stream plan mcus cut) segments;
+    }
+
+-- the parts of a file's container in a version, with at most `most` segments
+abbrev pub parts_of_file : Version → PlanFields → List Mcu → List Bool → List ℕ → List ℕ → ℕ
+    → BoxParts
+parts_of_file version plan mcus pads header trailer most =
+    record (parts_of_rows version plan mcus pads header trailer (plan_cut plan most)) {
+      places = places_of_file (layout_of version).placed plan mcus pads most;
     }

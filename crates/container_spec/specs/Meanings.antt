@@ -1,6 +1,6 @@
 -- Statement: a segment of a container, and how what bytes stand for can end (docs/FORMAT.md, What a container stands
 -- for).
-use Rattle.std.specs.Prelude.{ℕ, ◌+◌, ◌-◌, List, [], length, get_or, slice_get, slice_index, Option, Some, None}
+use Rattle.std.specs.Prelude.{ℕ, ◌+◌, ◌-◌, List, [], length, get_or, slice_get, slice_index, Option, option_map}
 use Rattle.jpeg_marker.specs.Plans.{PlanFields}
 use Rattle.scan_spec.specs.Slots.{shape_of}
 use Rattle.handover.specs.Handovers.{start}
@@ -13,8 +13,7 @@ use Rattle.container_spec.specs.Segments.{SegmentFields}
 
 -- how many places are kept for the bytes of segment i, if any are
 abbrev pub kept_in : Option (List ℕ) → ℕ → Option ℕ
-kept_in None i = None
-kept_in (Some places) i = Some (slice_index places (i + 1) - slice_index places i)
+kept_in places i = option_map (λ ps. slice_index ps (i + 1) - slice_index ps i) places
 
 -- segment i of a container
 abbrev pub segment_in : PlanFields → BoxParts → ℕ → SegmentFields

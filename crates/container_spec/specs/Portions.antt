@@ -39,21 +39,20 @@ pub data Kind : Type 0 where
   OfRange : Kind
 
 -- how it ends without a fault
-abbrev pub good_end : Kind → List BoxSeen → Portion → ScansJoined → Meaning
-good_end OfFile scans p all = record {
-  bytes = ended p all;
-  verdict = if all_spelled 0 scans all.padded then Restored else PadSpelled;
-}
-good_end (OfChunk c) scans p all =
+abbrev pub faultless_end : Kind → List BoxSeen → Portion → ScansJoined → Meaning
+faultless_end OfFile scans p all =
+    let verdict = if all_spelled 0 scans all.padded then Restored else PadSpelled in
+    record { bytes = ended p all; verdict = verdict }
+faultless_end (OfChunk c) scans p all =
     if nat_lt (length all.bytes) (c.skip + rows_most c (first_header scans) p.after)
     then record { bytes = begun p all; verdict = ChunkShort }
     else record { bytes = ended p all; verdict = Restored }
-good_end OfRange scans p all = record { bytes = ended p all; verdict = Restored }
+faultless_end OfRange scans p all = record { bytes = ended p all; verdict = Restored }
 
 -- by the first fault, if there is one: nothing of the trailer then
 abbrev pub ending_by : Kind → List BoxSeen → Portion → ScansJoined → Option StreamFault → Meaning
 ending_by kind scans p all (Some fault) = record { bytes = begun p all; verdict = Faulty fault }
-ending_by kind scans p all None = good_end kind scans p all
+ending_by kind scans p all None = faultless_end kind scans p all
 
 -- what it stands for
 abbrev pub portion_meaning : Kind → List BoxSeen → Portion → Meaning
@@ -72,22 +71,16 @@ whole scans = record {
 
 -- the chunk that a container of one scan has
 abbrev pub chunk_portion : Chunk → List BoxSeen → Portion
-chunk_portion c scans = record {
-  before = header_part c (first_header scans);
-  first = 0;
-  count = segment_count scans;
-  within = record {
-    skip = c.skip;
-    most = Some (rows_most c (first_header scans) (trailer_of (all_parts scans)));
-  };
-  after = trailer_of (all_parts scans);
-}
+chunk_portion c scans =
+    let all = whole scans in
+    let within : Window =
+    record { skip = c.skip; most = Some (rows_most c all.before all.after) } in
+    record all { before = header_part c all.before; within = within }
 
 -- the chunk of a container that has one, which has one scan
 abbrev pub only_chunk : List BoxSeen → Option Chunk
-only_chunk [] = None
 only_chunk (s ∷ []) = s.parts.chunk
-only_chunk (s ∷ t ∷ scans) = None
+only_chunk other = None
 
 -- the whole file without a chunk, or that chunk
 abbrev pub meaning_with : Option Chunk → List BoxSeen → Meaning

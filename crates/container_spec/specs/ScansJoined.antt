@@ -37,10 +37,8 @@ sums_with a b = record {
 -- those of one scan
 abbrev pub sum_in : ScanPads → ℕ → PadSum
 sum_in sums scan =
-    if scan == 0 then sums.first
-    else if scan == 1 then sums.second
-    else if scan == 2 then sums.third
-    else sums.fourth
+    if scan == 0 then sums.first else if scan == 1 then sums.second
+    else if scan == 2 then sums.third else sums.fourth
 
 -- the number of a segment's scan, and the segment's output
 abbrev pub Scanned : Type 0
@@ -59,11 +57,9 @@ pub record ScansJoined : Type 0 where
 
 -- a segment before others
 abbrev pub scanned_with : ℕ → List ℕ → Outcome → ScansJoined → ScansJoined
-scanned_with scan bytes (Good padded) more = record {
-  bytes = bytes ++ more.bytes;
-  fault = more.fault;
-  padded = sums_with (sums_of scan padded) more.padded;
-}
+scanned_with scan bytes (Good padded) more =
+    let sums = sums_with (sums_of scan padded) more.padded in
+    record { bytes = bytes ++ more.bytes; fault = more.fault; padded = sums }
 scanned_with scan bytes (Bad fault) more =
     record { bytes = bytes; fault = Some fault; padded = no_sums }
 

@@ -61,11 +61,9 @@ stop_cause (Err stops.DiffRange) = Err DiffRange
 
 -- after one more MCU
 abbrev pub progress_after : SegmentFields → Progress → Mcu → Spot → Progress
-progress_after s at mcu spot = record {
-  blocks = at.blocks ++ mcu;
-  spot = spot;
-  padded = padded_after s.shape s.pads at.spot mcu at.padded;
-}
+progress_after s at mcu spot =
+    let padded = padded_after s.shape s.pads at.spot mcu at.padded in
+    record { blocks = at.blocks ++ mcu; spot = spot; padded = padded }
 
 -- the next MCU's bytes: all its blocks are read, and then it is written; the first that fails is the cause
 unfoldable pub mcu_step : SegmentFields → Progress → Result (List ℕ × Progress) StreamCause
@@ -93,15 +91,15 @@ stream_ending s at =
     else stopped s StreamBad
 
 -- after the last MCU: the next segment has to start from what was reached
-abbrev pub ending_by : SegmentFields → Progress → HandoverFields → Option HandoverFields → Output
-ending_by s at found None = stream_ending s at
-ending_by s at found (Some kept) =
+abbrev pub seam_ending : SegmentFields → Progress → HandoverFields → Option HandoverFields → Output
+seam_ending s at found None = stream_ending s at
+seam_ending s at found (Some kept) =
     if bytes_eq (handover_bytes found) (handover_bytes kept) then stream_ending s at
     else stopped s (Seam found kept)
 
 -- after the last MCU
 unfoldable pub ending : SegmentFields → Progress → Output
-ending s at = ending_by s at (handover_of s.shape at.spot) s.next
+ending s at = seam_ending s at (handover_of s.shape at.spot) s.next
 
 -- what comes of an MCU's step
 abbrev pub after_step : SegmentFields → Result (List ℕ × Progress) StreamCause

@@ -14,7 +14,7 @@ use Rattle.container_spec.specs.Meanings.{Meaning, Verdict, Restored, PadSpelled
 use Rattle.box_format.specs.declared.chunk.Chunk.{Chunk}
 use Rattle.box_format.specs.Containers.{IsContainer}
 use Rattle.box_format.specs.Checks.{IsRefused}
-use Rattle.container_spec.specs.Portions.{Kind, OfFile, OfChunk, OfRange, Portion, begun as begun_of, chunk_portion, ended as ended_of, ending_by, good_end, meaning_with, only_chunk, played, portion_meaning, scans_meaning, whole}
+use Rattle.container_spec.specs.Portions.{Kind, OfFile, OfChunk, OfRange, Portion, begun as begun_of, chunk_portion, ended as ended_of, ending_by, faultless_end, meaning_with, only_chunk, played, portion_meaning, scans_meaning, whole}
 use Rattle.container_spec.specs.ScansJoined.{ScansJoined, all_spelled, first_header}
 use Rattle.outside_core.specs.Written.{HasFailed, HasWritten}
 use Rattle.command_words.specs.declared.command.Command.{Command}
@@ -60,7 +60,7 @@ by_length few bytes true = tt
 by_length few bytes false = tt
 
 at_end : (kind : Kind) (scans : List BoxSeen) (p : Portion) (all : ScansJoined)
-    → IsOfBox (good_end kind scans p all).verdict
+    → IsOfBox (faultless_end kind scans p all).verdict
 at_end OfFile scans p all = by_pad (all_spelled 0 scans all.padded)
 at_end (OfChunk c) scans p all =
     by_length (begun_of p all) (ended_of p all)

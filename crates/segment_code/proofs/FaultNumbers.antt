@@ -10,7 +10,7 @@ use Rattle.handover.specs.declared.outcome.Outcome.{Outcome}
 use Rattle.handover.specs.declared.outcome.Outcome.TheVariants.{Good, Bad}
 use Rattle.cut_spec.specs.RowHandovers.{handover_of}
 use Rattle.container_spec.specs.ScanStream.{blocks_stream, starts}
-use Rattle.container_spec.specs.Segments.{SegmentFields, Progress, Output, first_progress, stopped, after_step, mcu_step, stream_ending, ending_by, ending, mcus_output, rest_output, placed_ending, with_place, segment_output}
+use Rattle.container_spec.specs.Segments.{SegmentFields, Progress, Output, first_progress, stopped, after_step, mcu_step, stream_ending, seam_ending, ending, mcus_output, rest_output, placed_ending, with_place, segment_output}
 use Rattle.container_spec.specs.ScansMeanings.{outcome_after}
 use Rattle.segment_code.specs.FileDecoding.{numbered}
 
@@ -29,7 +29,7 @@ of_stream s at =
     (stopped s StreamBad) tt refl
 
 of_ending_by : (s : SegmentFields) (at : Progress) (found : HandoverFields)
-    (next : Option HandoverFields) → HasNumber s.number (ending_by s at found next).1
+    (next : Option HandoverFields) → HasNumber s.number (seam_ending s at found next).1
 of_ending_by s at found None = of_stream s at
 of_ending_by s at found (Some kept) =
     either (bytes_eq (handover_bytes found) (handover_bytes kept)) s.number (stream_ending s at)

@@ -1,5 +1,6 @@
 -- The grid of a plan has MCUs of few blocks.
 use Rattle.std.proofs.Common.{◌≡◌, ℕ, zero, suc, ◌*◌, ◌<◌, ◌≤◌, ◌^◌, Bool, true, false, cond, ◌==◌, List, [], ◌∷◌, length, map, drop, replicate, Option, Some, None, refl, ◌∙◌, arith}
+use Rattle.std.specs.Option.{option_map_or}
 use Rattle.std.specs.Prelude.{slice_index, ◌&&◌, nat_le}
 use Rattle.std.specs.List.{AllByRecursion, list_all}
 use Rattle.std.proofs.Math.Nat.{le-mul_of_pos_right}
@@ -14,7 +15,7 @@ use Rattle.jpeg_marker.specs.Plans.{PlanFields, IsPlan, part_of, are_indexes}
 use Rattle.jpeg_marker.specs.declared.component.Component.{Component}
 use Rattle.huff_table.specs.ComponentTables.{component_at}
 use Rattle.huff_table.proofs.FrameComponents.{index_of, put_all, value_or, all_put}
-use Rattle.container_spec.specs.ScanStream.{number_or_zero, by_index, mcu_extents}
+use Rattle.container_spec.specs.ScanStream.{by_index, mcu_extents}
 use Rattle.container_spec.proofs.PlanGrids.{counted}
 
 -- sampling factors from 1 to 4
@@ -49,11 +50,11 @@ few_at (n ∷ ns) zero few = few.0
 few_at (n ∷ ns) (suc c) few = few_at ns c few.1
 
 -- numbers of at most 4 of components, by index
-few_found : (number : Component → ℕ) (cs : List Component) (index : ℕ) → AllByRecursion (λ (c : Component). number c ≤ 4) cs → number_or_zero number (component_at cs index) ≤ 4
+few_found : (number : Component → ℕ) (cs : List Component) (index : ℕ) → AllByRecursion (λ (c : Component). number c ≤ 4) cs → option_map_or number (component_at cs index) 0 ≤ 4
 few_found number [] index few = omega arith
 few_found number (c ∷ cs) index few = go (c.index == index) (few_found number cs index few.1)
   where
-    go : (b : Bool) → number_or_zero number (component_at cs index) ≤ 4 → number_or_zero number (cond b (Some c) (component_at cs index)) ≤ 4
+    go : (b : Bool) → option_map_or number (component_at cs index) 0 ≤ 4 → option_map_or number (cond b (Some c) (component_at cs index)) 0 ≤ 4
     go true later = few.0
     go false later = later
 
@@ -79,7 +80,7 @@ each_high [] c are = few_by_index (λ part. 0) [] c tt
 each_high (d ∷ []) c are = few_by_index (λ part. 1) (d ∷ []) c (omega arith, tt)
 each_high (d ∷ e ∷ cs) c are = few_by_index (λ part. part.v) (d ∷ e ∷ cs) c (all_high (d ∷ e ∷ cs) are)
 
-or_zero : (number : Component → ℕ) (found : Option Component) → value_or number 0 found ≡ number_or_zero number found
+or_zero : (number : Component → ℕ) (found : Option Component) → value_or number 0 found ≡ option_map_or number found 0
 or_zero number None = refl
 or_zero number (Some c) = refl
 

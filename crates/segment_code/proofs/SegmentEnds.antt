@@ -14,7 +14,7 @@ use Rattle.handover.specs.declared.outcome.StreamCause.TheVariants.{Seam, Stream
 use Rattle.cut_spec.specs.RowHandovers.{handover_of}
 use Rattle.block_spec.specs.SegmentEvents.{segment_events}
 use Rattle.container_spec.specs.ScanStream.{blocks_stream}
-use Rattle.container_spec.specs.Segments.{SegmentFields, Progress, Output, stopped, stream_ending, ending_by, ending, placed_ending, with_place}
+use Rattle.container_spec.specs.Segments.{SegmentFields, Progress, Output, stopped, stream_ending, seam_ending, ending, placed_ending, with_place}
 use Rattle.segment_code.specs.Decoding.{DecoderSeen}
 use Rattle.segment_code.specs.DecodedPieces.{IsWithin, seam_in, misplaced_in, ended_by}
 
@@ -33,7 +33,7 @@ seam_by false s cause other output e = ap (stopped s) (let same : cause ≡ othe
 
 seam_ends : (s : SegmentFields) (at : Progress) (found : HandoverFields)
     (next : Option HandoverFields) (cause : StreamCause) → seam_in found next ≡ Some cause
-    → ending_by s at found next ≡ stopped s cause
+    → seam_ending s at found next ≡ stopped s cause
 seam_ends s at found None cause e = cc
 seam_ends s at found (Some kept) cause e =
     seam_by (bytes_eq (handover_bytes found) (handover_bytes kept)) s (Seam found kept) cause
@@ -46,7 +46,7 @@ none_by false cause output other e = cc
 
 no_seam : (s : SegmentFields) (at : Progress) (found : HandoverFields)
     (next : Option HandoverFields) → seam_in found next ≡ None
-    → ending_by s at found next ≡ stream_ending s at
+    → seam_ending s at found next ≡ stream_ending s at
 no_seam s at found None e = refl
 no_seam s at found (Some kept) e =
     none_by (bytes_eq (handover_bytes found) (handover_bytes kept)) (Seam found kept)
@@ -79,10 +79,10 @@ stream_told d s left at t is tells =
 
 found_same : (d : DecoderSeen) (s : SegmentFields) (left : ℕ) (at : Progress)
     → IsWithin d s left at
-    → ending s at ≡ ending_by s at (handover_of d.writer.shape d.writer.spot) d.next
+    → ending s at ≡ seam_ending s at (handover_of d.writer.shape d.writer.spot) d.next
 unfolding ending
 found_same d s left at is =
-    ap₂ (λ (h : HandoverFields) (next : Option HandoverFields). ending_by s at h next)
+    ap₂ (λ (h : HandoverFields) (next : Option HandoverFields). seam_ending s at h next)
     (ap₂ handover_of (sym is.holds.shape) (sym is.holds.spot)) (sym is.holds.next)
 
 -- no cause was found

@@ -1,12 +1,10 @@
 use Rattle.std.proofs.Common.{◌≡◌, length, ap, ◌∙◌, sym, subst}
 use Rattle.std.specs.Prelude.{Err}
 use Rattle.std.proofs.lemmas.Result.{err_from_is_err_and}
-use Rattle.coef_block.specs.TwoRows.{block_count}
 use Rattle.scan_spec.specs.Slots.{Shape}
-use Rattle.block_spec.specs.Grid.{Grid}
-use Rattle.container_spec.specs.ScanStream.{grid_of, blocks_of}
+use Rattle.container_spec.specs.ScanStream.{blocks_of}
 use Rattle.segment_code.specs.declared.error.ScanError.TheVariants.{Scan, NoMemory}
-use Rattle.segment_code.proofs.ScansCoded.{stream_is, stream_told, fresh_bins, is_memory}
+use Rattle.segment_code.proofs.ScansCoded.{stream_is, stream_told, is_memory}
 use Rattle.segment_code.proofs.segment_stream.code_over.Goals as goal
 
 pub code_mcus-requires-clause-slots : goal.code_mcus-requires-clause-slots

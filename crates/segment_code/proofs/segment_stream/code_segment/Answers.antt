@@ -1,4 +1,4 @@
-use Rattle.std.proofs.Common.{length, sym, ap, ◌∙◌}
+use Rattle.std.proofs.Common.{sym, ap, ◌∙◌}
 use Rattle.coef_block.specs.TwoRows.{block_count}
 use Rattle.block_spec.specs.Grid.{Grid}
 use Rattle.segment_code.proofs.ScansCoded.{fresh_bins}

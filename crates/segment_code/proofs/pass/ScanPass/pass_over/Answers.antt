@@ -1,5 +1,5 @@
-use Rattle.std.proofs.Common.{subst, sym}
-use Rattle.segment_code.specs.ScanPasses.{IsNextStream, IsNoPart, IsPartStream, PartFields}
+use Rattle.std.proofs.Common.{subst}
+use Rattle.segment_code.specs.ScanPasses.{IsNoPart, IsPartStream, PartFields}
 use Rattle.segment_code.proofs.pass.ScanPass.pass_over.Goals as goal
 
 pub returns-clause-stream : goal.returns-clause-stream
