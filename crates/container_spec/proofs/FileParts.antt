@@ -34,10 +34,11 @@ use Rattle.container_spec.proofs.Numbered.{mapped_long}
 use Rattle.container_spec.proofs.PlacesOfFiles.{placed_if, are_if, are_places}
 use Rattle.container_spec.proofs.PlanGrids.{plan_suits}
 use Rattle.container_spec.proofs.ScanBytes.{completed}
-use Rattle.container_spec.proofs.SlicesMeant.{all_take, all_drop, blocks_are, between_are, between_long}
+use Rattle.container_spec.proofs.SlicesMeant.{blocks_are, between_are, between_long}
 use Rattle.container_spec.proofs.StartsOfSegments.{handover_at_is, starts_there, none_bad}
 use Rattle.container_spec.proofs.StreamSizes.{stream_short, blocks_long}
 use Rattle.container_spec.proofs.StreamsOfBlocks.{blocks_stream_bytes}
+use Rattle.box_format.proofs.ByteParts.{all_drop, all_take}
 
 -- the list of pad bits: bytes, and at most one for eight of them
 record IsFew (count : ℕ) (bytes : List ℕ) : Type 0 where

@@ -65,55 +65,41 @@ abbrev got : Bool → Bool → Bool → ScanPads → PadSum
 got x y z sums =
     if x then sums.first else if y then sums.second else if z then sums.third else sums.fourth
 
-put_none : (x y z : Bool) → put x y z no_pads ≡ no_sums
-put_none true y z = refl
-put_none false true z = refl
-put_none false false true = refl
-put_none false false false = refl
-
-put_with : (x y z : Bool) (p q : PadSum)
-    → sums_with (put x y z p) (put x y z q) ≡ put x y z (pads_with p q)
-put_with true y z p q = refl
-put_with false true z p q = refl
-put_with false false true p q = refl
-put_with false false false p q = refl
-
-got_put : (x y z : Bool) (p : PadSum) → got x y z (put x y z p) ≡ p
-got_put true y z p = refl
-got_put false true z p = refl
-got_put false false true p = refl
-got_put false false false p = refl
-
-got_with : (x y z : Bool) (a b : ScanPads)
-    → got x y z (sums_with a b) ≡ pads_with (got x y z a) (got x y z b)
-got_with true y z a b = refl
-got_with false true z a b = refl
-got_with false false true a b = refl
-got_with false false false a b = refl
+-- what holds of each of the four
+four_cases : (P : Bool → Bool → Bool → Type 0) → ((y z : Bool) → P true y z)
+    → ((z : Bool) → P false true z) → P false false true → P false false false
+    → (scan : ℕ) → P (scan == 0) (scan == 1) (scan == 2)
+four_cases P a b c d scan = by_test (scan == 0) (scan == 1) (scan == 2) where
+  by_test : (x y z : Bool) → P x y z
+  by_test true y z = a y z
+  by_test false true z = b z
+  by_test false false true = c
+  by_test false false false = d
 
 of_none : (scan : ℕ) → sums_of scan no_pads ≡ no_sums
-of_none scan = put_none (scan == 0) (scan == 1) (scan == 2)
+of_none =
+    four_cases (λ x y z. put x y z no_pads ≡ no_sums) (λ y z. refl) (λ z. refl) refl refl
 
 of_with : (scan : ℕ) (p q : PadSum)
     → sums_with (sums_of scan p) (sums_of scan q) ≡ sums_of scan (pads_with p q)
-of_with scan p q = put_with (scan == 0) (scan == 1) (scan == 2) p q
-
-got_none : (x y z : Bool) → got x y z no_sums ≡ no_pads
-got_none true y z = refl
-got_none false true z = refl
-got_none false false true = refl
-got_none false false false = refl
+of_with scan p q =
+    four_cases (λ x y z. sums_with (put x y z p) (put x y z q) ≡ put x y z (pads_with p q))
+    (λ y z. refl) (λ z. refl) refl refl scan
 
 pub in_none : (scan : ℕ) → sum_in no_sums scan ≡ no_pads
-in_none scan = got_none (scan == 0) (scan == 1) (scan == 2)
+in_none =
+    four_cases (λ x y z. got x y z no_sums ≡ no_pads) (λ y z. refl) (λ z. refl) refl refl
 
 -- a scan's own intervals
 pub in_own : (scan : ℕ) (p : PadSum) → sum_in (sums_of scan p) scan ≡ p
-in_own scan p = got_put (scan == 0) (scan == 1) (scan == 2) p
+in_own scan p =
+    four_cases (λ x y z. got x y z (put x y z p) ≡ p) (λ y z. refl) (λ z. refl) refl refl scan
 
 pub in_with : (scan : ℕ) (a b : ScanPads)
     → sum_in (sums_with a b) scan ≡ pads_with (sum_in a scan) (sum_in b scan)
-in_with scan a b = got_with (scan == 0) (scan == 1) (scan == 2) a b
+in_with scan a b =
+    four_cases (λ x y z. got x y z (sums_with a b) ≡ pads_with (got x y z a) (got x y z b))
+    (λ y z. refl) (λ z. refl) refl refl scan
 
 -- those of another scan
 pub in_later : (m n : ℕ) (p : PadSum) → m < n → n ≤ 3 → sum_in (sums_of m p) n ≡ no_pads

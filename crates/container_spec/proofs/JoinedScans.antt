@@ -1,26 +1,25 @@
--- Scans without a chunk stand for their joined segments.
-use Rattle.std.proofs.Common.{◌≡◌, ℕ, ◌+◌, ◌-◌, ◌<◌, ◌≤◌, Bool, true, false, if◌then◌else◌, List, [], ◌∷◌, ◌++◌, length, map, Option, Some, None, refl, sym, ap, ap₂, ◌∙◌, arith, append_assoc, append-nil}
-use Rattle.std.specs.Prelude.{◌&&◌}
+-- Joined segments of scans without a chunk are a file exactly if those of each scan are.
+use Rattle.std.proofs.Common.{◌≡◌, ℕ, ◌+◌, ◌-◌, ◌<◌, ◌≤◌, Bool, true, false, if◌then◌else◌, List, [], ◌∷◌, ◌++◌, length, map, Option, Some, None, refl, sym, ap, ap₂, subst, ◌∙◌, arith, append_assoc, append-nil}
+use Rattle.std.specs.Prelude.{◌&&◌, option_map}
 use Rattle.std.specs.List.{AllByRecursion}
-use Rattle.std.proofs.lemmas.Bool.{le-ltb, lt-ltb}
-use Rattle.scan_spec.specs.Pads.{PadBits, is_spelled}
+use Rattle.std.proofs.lemmas.Bool.{and_parts, le-ltb, lt-ltb}
+use Rattle.scan_spec.specs.Pads.{is_spelled}
 use Rattle.handover.specs.PadSums.{no_pads, pads_with}
 use Rattle.handover.specs.declared.pads.PadSum.{PadSum}
 use Rattle.handover.specs.declared.outcome.StreamFault.{StreamFault}
-use Rattle.box_format.specs.Parts.{BoxParts, BoxSeen}
+use Rattle.box_format.specs.Parts.{BoxSeen}
 use Rattle.box_format.specs.Raws.{numbers}
-use Rattle.box_format.specs.declared.chunk.Chunk.{Chunk}
 use Rattle.box_format.proofs.Lists.{sum_first}
 use Rattle.container_spec.specs.Segments.{Output, segment_output}
-use Rattle.container_spec.specs.AloneMeanings.{Joined, outputs_of, joined, meaning_by, meaning_of}
-use Rattle.container_spec.specs.Meanings.{Meaning, Verdict, Restored, PadSpelled, ChunkShort, Faulty, NoBox, segment_in}
+use Rattle.container_spec.specs.AloneMeanings.{Joined, outputs_of, joined}
+use Rattle.container_spec.specs.Meanings.{Meaning, Restored, PadSpelled, Faulty, segment_in}
+use Rattle.container_spec.specs.Portions.{OfFile, ending_by, whole}
 use Rattle.container_spec.proofs.PutParts.{sums_none}
+use Rattle.container_spec.proofs.RestoredMeanings.{IsRestored, pad_told, restored}
 use Rattle.box_format.specs.Containers.{all_parts, segment_count, trailer_of}
 use Rattle.container_spec.specs.ScansMeanings.{fault_after, lead_of, led_output, output_from, scan_of}
-use Rattle.container_spec.specs.ScanByScan.{verdict_after, meaning_after, followed_by, meaning_from, scans_end, all_joined}
 use Rattle.container_spec.specs.ScansJoined.{sums_of, sums_with, sum_in, Scanned, ScansJoined, scans_joined, all_spelled, first_header}
 use Rattle.container_spec.specs.declared.scan_pads.ScanPads.{ScanPads}
-use Rattle.container_spec.specs.ScansMeaningLaws.{HaveLastTrailer, MeaningIsJoined}
 use Rattle.container_spec.proofs.JoinedLists.{mapped_in_two, in_none, in_own, in_with, in_later, in_earlier, followed, joined_on, of_scan, led, one_scan}
 
 -- ---- the segments of scans from one on
@@ -38,7 +37,7 @@ all_from later first scan scans =
     scans_joined (map (scanned_at later first scan scans) (numbers 0 (segment_count scans)))
 
 -- the segments of one scan
-abbrev own : BoxSeen → Joined
+abbrev pub own : BoxSeen → Joined
 own s = joined (outputs_of s.plan s.parts)
 
 abbrev own_from : Bool → ℕ → ℕ → BoxSeen → ScansJoined
@@ -72,54 +71,6 @@ all_next later first scan s scans some =
     ∙ ap (λ (j : ScansJoined). followed j j.fault (scans_joined (map h (numbers 0 n))))
     (one_scan later first scan s.parts.header f k some)
 
--- ---- what one scan stands for
-
-abbrev meaning : List ℕ → Verdict → Meaning
-meaning bytes verdict = record { bytes = bytes; verdict = verdict }
-
--- the verdict without a fault
-abbrev pads_verdict : Bool → Verdict
-pads_verdict t = if t then Restored else PadSpelled
-
--- the header, the segments through the first bad one, and if there is none, the trailer
-abbrev plain : PadBits → List ℕ → List ℕ → Joined → Option StreamFault → Meaning
-plain pads header trailer j (Some fault) = meaning (header ++ j.bytes) (Faulty fault)
-plain pads header trailer j None =
-    meaning ((header ++ j.bytes) ++ trailer) (pads_verdict (is_spelled pads j.padded))
-
-plain_by : (b : BoxParts) (j : Joined) (fault : Option StreamFault)
-    → meaning_by (record b { chunk = None }) j fault ≡ plain b.pads b.header b.trailer j fault
-plain_by b j (Some fault) = refl
-plain_by b j None = refl
-
-own_is : (s : BoxSeen) → s.parts.chunk ≡ None
-    → meaning_of s.plan s.parts
-    ≡ plain s.parts.pads s.parts.header s.parts.trailer (own s) (own s).fault
-unfolding meaning_of
-own_is s none =
-    ap (λ (c : Option Chunk). meaning_by (record s.parts { chunk = c }) (own s) (own s).fault) none
-    ∙ plain_by s.parts (own s) (own s).fault
-
--- if `first` segments are before it
-abbrev counted : ℕ → Meaning → Meaning
-counted first m = meaning m.bytes (verdict_after first m.verdict)
-
-alone : (bytes : List ℕ) (verdict : Verdict)
-    → meaning bytes verdict ≡ followed_by bytes verdict (meaning [] Restored)
-alone bytes Restored = ap (λ (l : List ℕ). meaning l Restored) (sym (append-nil bytes))
-alone bytes PadSpelled = ap (λ (l : List ℕ). meaning l PadSpelled) (sym (append-nil bytes))
-alone bytes ChunkShort = refl
-alone bytes (Faulty fault) = refl
-alone bytes (NoBox refusal) = refl
-
--- the last scan is followed by none
-meaning_next : (first : ℕ) (s : BoxSeen) (scans : List BoxSeen)
-    → meaning_from first (s ∷ scans)
-    ≡ followed_by (meaning_after first s).bytes (meaning_after first s).verdict
-    (meaning_from (first + length s.parts.handovers) scans)
-meaning_next first s [] = alone (meaning_after first s).bytes (meaning_after first s).verdict
-meaning_next first s (t ∷ scans) = refl
-
 -- ---- pad bits of other scans
 
 without : (k scan : ℕ) (p : PadSum) (sums : ScanPads) → scan < k → k ≤ 3
@@ -151,98 +102,6 @@ spelled_next scan p sums s scans few none =
     ∙ pads_none (sum_in (sums_of scan p) scan) (sum_in sums scan) none ∙ in_own scan p)
     (spelled_without (scan + 1) scan p sums scans (omega arith) (omega arith))
 
--- ---- one scan and those after it
-
--- what scans stand for by their segments, after a prefix; `scan` is the first one's number
-abbrev end_from : List ℕ → ℕ → List BoxSeen → ScansJoined → Option StreamFault → Meaning
-end_from prefix scan scans all (Some fault) = meaning (prefix ++ all.bytes) (Faulty fault)
-end_from prefix scan scans all None =
-    meaning (prefix ++ all.bytes ++ trailer_of (all_parts scans))
-    (pads_verdict (all_spelled scan scans all.padded))
-
--- if a later segment is bad, the trailer is empty; otherwise it commutes with the later bytes
-abbrev Moves : List ℕ → List ℕ → Option StreamFault → Type 0
-Moves trailer bytes (Some fault) = trailer ≡ []
-Moves trailer bytes None = trailer ++ bytes ≡ bytes ++ trailer
-
-good_good : (first : ℕ) (bytes more : List ℕ) (t u : Bool)
-    → followed_by bytes (verdict_after first (pads_verdict t)) (meaning more (pads_verdict u))
-    ≡ meaning (bytes ++ more) (pads_verdict (t && u))
-good_good first bytes more true true = refl
-good_good first bytes more true false = refl
-good_good first bytes more false true = refl
-good_good first bytes more false false = refl
-
-good_bad : (first : ℕ) (bytes more : List ℕ) (t : Bool) (fault : StreamFault)
-    → followed_by bytes (verdict_after first (pads_verdict t)) (meaning more (Faulty fault))
-    ≡ meaning (bytes ++ more) (Faulty fault)
-good_bad first bytes more true fault = refl
-good_bad first bytes more false fault = refl
-
-text_bad : (header trailer prefix lead bytes more : List ℕ)
-    → prefix ++ (lead ++ bytes) ≡ header ++ bytes → trailer ≡ []
-    → ((header ++ bytes) ++ trailer) ++ more ≡ prefix ++ ((lead ++ bytes) ++ more)
-text_bad header trailer prefix lead bytes more same none =
-    ap (λ (l : List ℕ). ((header ++ bytes) ++ l) ++ more) none
-    ∙ ap (λ (l : List ℕ). l ++ more) (append-nil (header ++ bytes) ∙ sym same)
-    ∙ append_assoc prefix (lead ++ bytes) more
-
-text_good : (header trailer prefix lead bytes more end : List ℕ)
-    → prefix ++ (lead ++ bytes) ≡ header ++ bytes → trailer ++ more ≡ more ++ trailer
-    → ((header ++ bytes) ++ trailer) ++ (more ++ end)
-    ≡ (prefix ++ ((lead ++ bytes) ++ more)) ++ (trailer ++ end)
-text_good header trailer prefix lead bytes more end same moves =
-    let a : ((header ++ bytes) ++ trailer) ++ (more ++ end)
-    ≡ (header ++ bytes) ++ ((trailer ++ more) ++ end) = simp append_assoc in
-    let b : (prefix ++ ((lead ++ bytes) ++ more)) ++ (trailer ++ end)
-    ≡ (prefix ++ (lead ++ bytes)) ++ ((more ++ trailer) ++ end) = simp append_assoc in
-    a ∙ ap₂ (λ (l m : List ℕ). l ++ (m ++ end)) (sym same) moves ∙ sym b
-
--- a scan by its joined segments, and the scans after it
-step : (prefix lead : List ℕ) (first scan : ℕ) (s : BoxSeen) (scans : List BoxSeen)
-    (bytes more : List ℕ) (f g : Option StreamFault) (p : PadSum) (sums : ScanPads)
-    → prefix ++ (lead ++ bytes) ≡ s.parts.header ++ bytes → Moves s.parts.trailer more g
-    → all_spelled scan (s ∷ scans) (sums_with (sums_of scan p) sums)
-    ≡ is_spelled s.parts.pads p && all_spelled (scan + 1) scans sums
-    → (let j : Joined = record { bytes = bytes; fault = f; padded = p } in
-    let m = plain s.parts.pads s.parts.header s.parts.trailer j f in
-    let y : ScansJoined = record { bytes = more; fault = g; padded = sums } in
-    let o = of_scan first scan lead j in
-    let a = followed o o.fault y in
-    followed_by m.bytes (verdict_after first m.verdict) (end_from [] (scan + 1) scans y g)
-    ≡ end_from prefix scan (s ∷ scans) a a.fault)
-step prefix lead first scan s scans bytes more (Some fault) g p sums same moves spelled =
-    ap (λ (l : List ℕ). meaning l (Faulty (fault_after first fault))) (sym same)
-step prefix lead first scan s scans bytes more None (Some fault) p sums same moves spelled =
-    good_bad first ((s.parts.header ++ bytes) ++ s.parts.trailer) more
-    (is_spelled s.parts.pads p) fault
-    ∙ ap (λ (l : List ℕ). meaning l (Faulty fault))
-    (text_bad s.parts.header s.parts.trailer prefix lead bytes more same moves)
-step prefix lead first scan s scans bytes more None None p sums same moves spelled =
-    let end : List ℕ = trailer_of (all_parts scans) in
-    good_good first ((s.parts.header ++ bytes) ++ s.parts.trailer) (more ++ end)
-    (is_spelled s.parts.pads p) (all_spelled (scan + 1) scans sums)
-    ∙ ap₂ (λ (l : List ℕ) (t : Bool). meaning l (pads_verdict t))
-    (text_good s.parts.header s.parts.trailer prefix lead bytes more end same moves) (sym spelled)
-
--- ---- all scans
-
-abbrev prefix_of : Bool → List BoxSeen → List ℕ
-prefix_of later scans = if later then [] else first_header scans
-
--- if `first` segments are before them: what scans stand for, and no intervals in earlier scans
-record AreJoined (later : Bool) (first scan : ℕ) (scans : List BoxSeen) : Type 0 where
-  meaning_is : meaning_from first scans
-      ≡ end_from (prefix_of later scans) scan scans (all_from later first scan scans)
-      (all_from later first scan scans).fault
-  before : (k : ℕ) → k < scan → sum_in (all_from later first scan scans).padded k ≡ no_pads
-
-lead_moved : (later : Bool) (s : BoxSeen) (scans : List BoxSeen) (bytes : List ℕ)
-    → prefix_of later (s ∷ scans) ++ (lead_of later s.parts.header 0 ++ bytes)
-    ≡ s.parts.header ++ bytes
-lead_moved true s scans bytes = refl
-lead_moved false s scans bytes = refl
-
 followed_before : (k scan first : ℕ) (lead : List ℕ) (j : Joined) (f : Option StreamFault)
     (y : ScansJoined) → k < scan → scan ≤ 3 → sum_in y.padded k ≡ no_pads
     → sum_in (followed (of_scan first scan lead j) f y).padded k ≡ no_pads
@@ -252,62 +111,216 @@ followed_before k scan first lead j None y less few none =
     in_with k (sums_of scan j.padded) y.padded
     ∙ ap₂ pads_with (in_earlier scan k j.padded less few) none
 
-empty_moves : (trailer : List ℕ) (y : ScansJoined) (fault : Option StreamFault) → trailer ≡ []
-    → Moves trailer y.bytes fault
-empty_moves trailer y (Some fault) none = none
-empty_moves trailer y None none =
-    ap (λ (l : List ℕ). l ++ y.bytes) none
-    ∙ sym (ap (λ (l : List ℕ). y.bytes ++ l) none ∙ append-nil y.bytes)
+-- each scan has a segment
+abbrev pub HaveSegments : List BoxSeen → Type 0
+HaveSegments scans = AllByRecursion (λ (s : BoxSeen). 0 < length s.parts.handovers) scans
 
-trailer_moves : (s : BoxSeen) (scans : List BoxSeen) (first scan : ℕ)
-    → HaveLastTrailer (s ∷ scans)
-    → (let y = all_from true first scan scans in Moves s.parts.trailer y.bytes y.fault)
+pads_before : (later : Bool) (first scan : ℕ) (scans : List BoxSeen) → scan + length scans ≤ 4
+    → HaveSegments scans → (k : ℕ) → k < scan
+    → sum_in (all_from later first scan scans).padded k ≡ no_pads
+pads_before later first scan [] few some k less = in_none k
+pads_before later first scan (s ∷ scans) few some k less =
+    ap (λ (a : ScansJoined). sum_in a.padded k) (all_next later first scan s scans some.0)
+    ∙ followed_before k scan first (lead_of later s.parts.header 0) (own s)
+    (own_from later first scan s).fault
+    (all_from true (first + length s.parts.handovers) (scan + 1) scans) less (omega arith)
+    (pads_before true (first + length s.parts.handovers) (scan + 1) scans (omega arith) some.1 k
+    (omega arith))
+
+-- ---- one scan and those after it
+
+-- joined segments of scans, after a prefix, are a file; `scan` is the first one's number
+pub record AreFile (prefix : List ℕ) (scan : ℕ) (scans : List BoxSeen) (all : ScansJoined)
+    (file : List ℕ) : Type 0 where
+  pub none : all.fault ≡ None
+  pub text : file ≡ prefix ++ all.bytes ++ trailer_of (all_parts scans)
+  pub spelled : all_spelled scan scans all.padded ≡ true
+
+-- those of one scan and of others, by the fault of the one
+abbrev by_fault : ℕ → ℕ → List ℕ → Joined → ScansJoined → Option StreamFault → ScansJoined
+by_fault first scan lead j y f =
+    followed (of_scan first scan lead (record j { fault = f })) (option_map (fault_after first) f) y
+
+first_good : (first scan : ℕ) (lead : List ℕ) (j : Joined) (y : ScansJoined)
+    (f : Option StreamFault) → (by_fault first scan lead j y f).fault ≡ None → f ≡ None
+first_good first scan lead j y None e = refl
+first_good first scan lead j y (Some fault) e =
+    let f : Some (fault_after first fault) ≡ None = e in absurd (cc)
+
+abbrev prefix_of : Bool → List BoxSeen → List ℕ
+prefix_of later scans = if later then [] else first_header scans
+
+lead_moved : (later : Bool) (s : BoxSeen) (scans : List BoxSeen) (bytes : List ℕ)
+    → prefix_of later (s ∷ scans) ++ (lead_of later s.parts.header 0 ++ bytes)
+    ≡ s.parts.header ++ bytes
+lead_moved true s scans bytes = refl
+lead_moved false s scans bytes = refl
+
+texts_joined : (header trailer prefix lead bytes more end : List ℕ)
+    → prefix ++ (lead ++ bytes) ≡ header ++ bytes → trailer ++ more ≡ more ++ trailer
+    → ((header ++ bytes) ++ trailer) ++ (more ++ end)
+    ≡ (prefix ++ ((lead ++ bytes) ++ more)) ++ (trailer ++ end)
+texts_joined header trailer prefix lead bytes more end same moves =
+    let a : ((header ++ bytes) ++ trailer) ++ (more ++ end)
+    ≡ (header ++ bytes) ++ ((trailer ++ more) ++ end) = simp append_assoc in
+    let b : (prefix ++ ((lead ++ bytes) ++ more)) ++ (trailer ++ end)
+    ≡ (prefix ++ (lead ++ bytes)) ++ ((more ++ trailer) ++ end) = simp append_assoc in
+    a ∙ ap₂ (λ (l m : List ℕ). l ++ (m ++ end)) (sym same) moves ∙ sym b
+
+-- the trailer of a scan that isn't the last one is empty
+abbrev pub IsLastOrBare : BoxSeen → List BoxSeen → Type 0
+IsLastOrBare s [] = Unit {0}
+IsLastOrBare s (t ∷ scans) = s.parts.trailer ≡ []
+
+trailer_moves : (s : BoxSeen) (scans : List BoxSeen) (first scan : ℕ) → IsLastOrBare s scans
+    → s.parts.trailer ++ (all_from true first scan scans).bytes
+    ≡ (all_from true first scan scans).bytes ++ s.parts.trailer
 trailer_moves s [] first scan last = append-nil s.parts.trailer
-trailer_moves s (t ∷ scans) first scan last =
-    empty_moves s.parts.trailer (all_from true first scan (t ∷ scans)) _ last.0
+trailer_moves s (t ∷ scans) first scan bare =
+    let bytes : List ℕ = (all_from true first scan (t ∷ scans)).bytes in
+    ap (λ (l : List ℕ). l ++ bytes) bare
+    ∙ sym (ap (λ (l : List ℕ). bytes ++ l) bare ∙ append-nil bytes)
 
-last_rest : (s : BoxSeen) (scans : List BoxSeen) → HaveLastTrailer (s ∷ scans)
-    → HaveLastTrailer scans
-last_rest s [] last = tt
-last_rest s (t ∷ scans) last = last.1
+-- a scan's own file
+abbrev text_of : BoxSeen → List ℕ
+text_of s = (s.parts.header ++ (own s).bytes) ++ s.parts.trailer
 
-are_joined : (later : Bool) (first scan : ℕ) (scans : List BoxSeen) → scan + length scans ≤ 4
-    → AllByRecursion (λ (s : BoxSeen). s.parts.chunk ≡ None) scans
-    → AllByRecursion (λ (s : BoxSeen). 0 < length s.parts.handovers) scans
-    → HaveLastTrailer scans → AreJoined later first scan scans
-are_joined true first scan [] few whole some last =
-    record { meaning_is = refl; before = λ k less. in_none k }
-are_joined false first scan [] few whole some last =
-    record { meaning_is = refl; before = λ k less. in_none k }
-are_joined later first scan (s ∷ scans) few whole some last =
-    let k : ℕ = length s.parts.handovers in
-    let j : Joined = own s in
-    let y : ScansJoined = all_from true (first + k) (scan + 1) scans in
-    let rest = are_joined true (first + k) (scan + 1) scans (omega arith) whole.1 some.1
-    (last_rest s scans last) in
-    let below : scan ≤ 3 = omega arith in
-    let all = all_next later first scan s scans some.0 in
-    record {
-      meaning_is = meaning_next first s scans
-          ∙ ap₂ (λ (m next : Meaning). followed_by m.bytes m.verdict next)
-          (ap (counted first) (own_is s whole.0)) rest.meaning_is
-          ∙ step (prefix_of later (s ∷ scans)) (lead_of later s.parts.header 0) first scan s scans
-          j.bytes y.bytes j.fault y.fault j.padded y.padded (lead_moved later s scans j.bytes)
-          (trailer_moves s scans (first + k) (scan + 1) last)
-          (spelled_next scan j.padded y.padded s scans few (rest.before scan (omega arith)))
-          ∙ ap (λ (a : ScansJoined).
-          end_from (prefix_of later (s ∷ scans)) scan (s ∷ scans) a a.fault) (sym all);
-      before = λ n less. ap (λ (a : ScansJoined). sum_in a.padded n) all
-          ∙ followed_before n scan first (lead_of later s.parts.header 0) j
-          (own_from later first scan s).fault y less below (rest.before n (omega arith));
-    }
+module _ (later : Bool) (first scan : ℕ) (s : BoxSeen) (scans : List BoxSeen)
+    (few : scan + length (s ∷ scans) ≤ 4)
+    (some : HaveSegments (s ∷ scans))
+    (last : IsLastOrBare s scans) where
+  abbrev lead : List ℕ
+  lead = lead_of later s.parts.header 0
 
-end_is : (scans : List BoxSeen) (all : ScansJoined) (fault : Option StreamFault)
-    → end_from (first_header scans) 0 scans all fault ≡ scans_end scans all fault
-end_is scans all (Some fault) = refl
-end_is scans all None = refl
+  abbrev prefix : List ℕ
+  prefix = prefix_of later (s ∷ scans)
 
-pub meaning_is_joined : MeaningIsJoined
-meaning_is_joined scans some few whole segments last =
-    (are_joined false 0 0 scans (omega arith) whole segments last).meaning_is
-    ∙ end_is scans (all_joined scans) (all_joined scans).fault
+  abbrev rest : ScansJoined
+  rest = all_from true (first + length s.parts.handovers) (scan + 1) scans
+
+  abbrev end : List ℕ
+  end = trailer_of (all_parts scans)
+
+  texts_are : text_of s ++ (rest.bytes ++ end)
+      ≡ (prefix ++ ((lead ++ (own s).bytes) ++ rest.bytes)) ++ (s.parts.trailer ++ end)
+  texts_are =
+      texts_joined s.parts.header s.parts.trailer prefix lead (own s).bytes rest.bytes end
+      (lead_moved later s scans (own s).bytes)
+      (trailer_moves s scans (first + length s.parts.handovers) (scan + 1) last)
+
+  spelled_are : all_spelled scan (s ∷ scans)
+      (sums_with (sums_of scan (own s).padded) rest.padded)
+      ≡ is_spelled s.parts.pads (own s).padded && all_spelled (scan + 1) scans rest.padded
+  spelled_are =
+      spelled_next scan (own s).padded rest.padded s scans few
+      (pads_before true (first + length s.parts.handovers) (scan + 1) scans (omega (arith, few))
+      some.1 scan (omega arith))
+
+  all_good : (own s).fault ≡ None
+      → all_from later first scan (s ∷ scans) ≡ by_fault first scan lead (own s) rest None
+  all_good none =
+      all_next later first scan s scans some.0 ∙ ap (by_fault first scan lead (own s) rest) none
+
+  one_more_file : (one more : List ℕ) → IsRestored s.parts (own s) one
+      → AreFile [] (scan + 1) scans rest more
+      → AreFile prefix scan (s ∷ scans) (all_from later first scan (s ∷ scans)) (one ++ more)
+  one_more_file one more a b =
+      subst (λ (all : ScansJoined). AreFile prefix scan (s ∷ scans) all (one ++ more))
+      (sym (all_good a.none)) record {
+        none = b.none;
+        text = ap₂ (λ (l m : List ℕ). l ++ m) a.text b.text ∙ texts_are;
+        spelled = spelled_are ∙ ap₂ (λ (x y : Bool). x && y) a.told b.spelled;
+      }
+
+  record AreTwo (file : List ℕ) : Type 0 where
+    one : IsRestored s.parts (own s) (text_of s)
+    more : AreFile [] (scan + 1) scans rest (rest.bytes ++ end)
+    text : file ≡ text_of s ++ (rest.bytes ++ end)
+
+  one_of_file : (file : List ℕ)
+      → AreFile prefix scan (s ∷ scans) (all_from later first scan (s ∷ scans)) file → AreTwo file
+  one_of_file file are =
+      let none = first_good first scan lead (own s) rest (own s).fault
+      (ap (λ (all : ScansJoined). all.fault) (sym (all_next later first scan s scans some.0))
+      ∙ are.none) in
+      let good = subst (λ (all : ScansJoined). AreFile prefix scan (s ∷ scans) all file)
+      (all_good none) are in
+      let told = and_parts (is_spelled s.parts.pads (own s).padded)
+      (all_spelled (scan + 1) scans rest.padded) (sym spelled_are ∙ good.spelled) in
+      record {
+        one = record { none = none; text = refl; told = told.0 };
+        more = record { none = good.none; text = refl; spelled = told.1 };
+        text = good.text ∙ sym texts_are;
+      }
+
+-- ---- all scans
+
+-- each scan is restored, and a file is what they are restored to, one after another
+abbrev pub EachRestored : List BoxSeen → List ℕ → Type 0
+EachRestored [] file = file ≡ []
+EachRestored (s ∷ scans) file =
+    (one : List ℕ) × (more : List ℕ) × IsRestored s.parts (own s) one × EachRestored scans more
+    × (file ≡ one ++ more)
+
+-- the trailers of all but the last one are empty
+abbrev pub AreBare : List BoxSeen → Type 0
+AreBare [] = Unit {0}
+AreBare (s ∷ scans) = IsLastOrBare s scans × AreBare scans
+
+pub each_joined : (later : Bool) (first scan : ℕ) (scans : List BoxSeen) (file : List ℕ)
+    → scan + length scans ≤ 4
+    → HaveSegments scans → AreBare scans
+    → EachRestored scans file
+    → AreFile (prefix_of later scans) scan scans (all_from later first scan scans) file
+each_joined true first scan [] file few some bare each =
+    record { none = refl; text = each; spelled = refl }
+each_joined false first scan [] file few some bare each =
+    record { none = refl; text = each; spelled = refl }
+each_joined later first scan (s ∷ scans) file few some bare (one, more, so, rest, text) =
+    subst (AreFile (prefix_of later (s ∷ scans)) scan (s ∷ scans)
+    (all_from later first scan (s ∷ scans))) (sym text)
+    (one_more_file later first scan s scans few some bare.0 one more so
+    (each_joined true (first + length s.parts.handovers) (scan + 1) scans more (omega arith) some.1
+    bare.1 rest))
+
+pub joined_each : (later : Bool) (first scan : ℕ) (scans : List BoxSeen) (file : List ℕ)
+    → scan + length scans ≤ 4
+    → HaveSegments scans → AreBare scans
+    → AreFile (prefix_of later scans) scan scans (all_from later first scan scans) file
+    → EachRestored scans file
+joined_each true first scan [] file few some bare are = are.text
+joined_each false first scan [] file few some bare are = are.text
+joined_each later first scan (s ∷ scans) file few some bare are =
+    let k : ℕ = first + length s.parts.handovers in
+    let bytes : List ℕ = (all_from true k (scan + 1) scans).bytes in
+    let two = one_of_file later first scan s scans few some bare.0 file are in (
+      text_of s,
+      bytes ++ trailer_of (all_parts scans),
+      two.one,
+      joined_each true k (scan + 1) scans (bytes ++ trailer_of (all_parts scans)) (omega arith)
+          some.1 bare.1 two.more,
+      two.text,
+    )
+
+-- ---- what they stand for
+
+abbrev meaning : List ℕ → Bool → Meaning
+meaning bytes spelled = record { bytes = bytes; verdict = if spelled then Restored else PadSpelled }
+
+pub file_means : (scans : List BoxSeen) (all : ScansJoined) (file : List ℕ)
+    → AreFile (first_header scans) 0 scans all file
+    → ending_by OfFile scans (whole scans) all all.fault ≡ restored file
+file_means scans all file are =
+    ap (ending_by OfFile scans (whole scans) all) are.none ∙ ap₂ meaning (sym are.text) are.spelled
+
+pub means_file : (scans : List BoxSeen) (all : ScansJoined) (fault : Option StreamFault)
+    (file : List ℕ) → all.fault ≡ fault
+    → restored file ≡ ending_by OfFile scans (whole scans) all fault
+    → AreFile (first_header scans) 0 scans all file
+means_file scans all (Some fault) file is e =
+    absurd (let f : Restored ≡ Faulty fault = ap (λ (m : Meaning). m.verdict) e in cc)
+means_file scans all None file is e = record {
+  none = is;
+  text = ap (λ (m : Meaning). m.bytes) e;
+  spelled = pad_told (all_spelled 0 scans all.padded) (ap (λ (m : Meaning). m.verdict) e);
+}

@@ -16,7 +16,7 @@ use Rattle.scan_spec.proofs.DoneBytes.{done_in_parts}
 use Rattle.scan_spec.proofs.Short.{short}
 use Rattle.scan_spec.proofs.SpentBits.{begun_few, bits_spent}
 use Rattle.container_spec.proofs.PutParts.{bytes_in, put_parts}
-use Rattle.container_spec.proofs.SlicesMeant.{all_take}
+use Rattle.box_format.proofs.ByteParts.{all_take}
 
 -- what holds of both holds of the one that a test takes
 pub either : {A : Type 0} (P : A → Type 0) (t : Bool) (a b : A) → P a → P b

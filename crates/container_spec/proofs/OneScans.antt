@@ -7,9 +7,8 @@ use Rattle.box_format.specs.Raws.{numbers}
 use Rattle.box_format.specs.Parts.{BoxSeen}
 use Rattle.container_spec.specs.Segments.{Output, segment_output}
 use Rattle.container_spec.specs.Meanings.{segment_in}
-use Rattle.container_spec.specs.AloneMeanings.{joined}
+use Rattle.container_spec.specs.AloneMeanings.{joined, joined_alone}
 use Rattle.container_spec.specs.ScansMeanings.{fault_after, output_at, scan_of}
-use Rattle.container_spec.specs.ScanByScan.{joined_alone}
 use Rattle.container_spec.specs.ScansJoined.{Scanned, scans_joined}
 use Rattle.container_spec.specs.ScansMeaningLaws.{OneIsJoined}
 use Rattle.container_spec.proofs.Numbered.{mapped_same}

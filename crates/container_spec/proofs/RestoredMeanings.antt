@@ -64,18 +64,21 @@ first_start shape cut (h ∷ hs) some each none starts =
 
 -- ---- a meaning that is restored
 
+abbrev pub restored : List ℕ → Meaning
+restored file = record { bytes = file; verdict = Restored }
+
 pub record IsRestored (b : BoxParts) (all : Joined) (file : List ℕ) : Type 0 where
   pub none : all.fault ≡ None
   pub text : file ≡ (b.header ++ all.bytes) ++ b.trailer
   pub told : is_spelled b.pads all.padded ≡ true
 
-pad_told : (t : Bool) → Restored ≡ (if t then Restored else PadSpelled) → t ≡ true
+pub pad_told : (t : Bool) → Restored ≡ (if t then Restored else PadSpelled) → t ≡ true
 pad_told true e = refl
 pad_told false e = absurd (let f : Restored ≡ PadSpelled = e in cc)
 
 restored_by : (b : BoxParts) (all : Joined) (file : List ℕ) (fault : Option StreamFault)
     → b.chunk ≡ None → all.fault ≡ fault
-    → (let m : Meaning = record { bytes = file; verdict = Restored } in m) ≡ meaning_by b all fault
+    → restored file ≡ meaning_by b all fault
     → IsRestored b all file
 restored_by b all file (Some fault) whole is e =
     absurd (let f : Restored ≡ Faulty fault = ap (λ (m : Meaning). m.verdict) e in cc)
@@ -87,7 +90,7 @@ restored_by b all file None whole is e =
     }
 
 pub is_restored : (plan : PlanFields) (b : BoxParts) (file : List ℕ) → b.chunk ≡ None
-    → (let m : Meaning = record { bytes = file; verdict = Restored } in m) ≡ meaning_of plan b
+    → restored file ≡ meaning_of plan b
     → IsRestored b (joined (outputs_of plan b)) file
 unfolding meaning_of
 is_restored plan b file none e =

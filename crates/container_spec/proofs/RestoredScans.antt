@@ -1,5 +1,5 @@
 -- What stands for a file in the version of several scans is its container.
-use Rattle.std.proofs.Common.{◌≡◌, ℕ, ◌+◌, ◌^◌, ◌<◌, ◌≤◌, Bool, true, false, inl, inr, List, [], ◌∷◌, ◌++◌, length, take, drop, map, None, refl, sym, ap, ap₂, ◌∙◌, subst, arith, append_assoc, append-nil}
+use Rattle.std.proofs.Common.{◌≡◌, ℕ, ◌^◌, ◌<◌, ◌≤◌, Bool, true, false, inl, inr, List, [], ◌∷◌, ◌++◌, length, take, drop, map, None, sym, ap, ap₂, ◌∙◌, subst, arith, append_assoc, append-nil}
 use Rattle.std.specs.List.{AllByRecursion}
 use Rattle.std.proofs.lemmas.List.{take-append-drop, take-append-le, drop-append-le, length-map}
 use Rattle.huff_table.proofs.Pairs.{all-append}
@@ -16,20 +16,20 @@ use Rattle.scan_spec.specs.Slots.{shape_of}
 use Rattle.box_format.specs.Versions.{layout_of}
 use Rattle.box_format.specs.declared.version.Version.{Version}
 use Rattle.container_spec.specs.Files.{parts_of_file, told_pads}
-use Rattle.container_spec.specs.Meanings.{Meaning, Verdict, Restored, PadSpelled, ChunkShort, Faulty, NoBox}
-use Rattle.container_spec.specs.AloneMeanings.{outputs_of, joined, meaning_of}
+use Rattle.container_spec.specs.Meanings.{Meaning}
+use Rattle.container_spec.specs.AloneMeanings.{outputs_of, joined}
 use Rattle.container_spec.proofs.FilesOfContainers.{without, chain, bits, all_bytes, file_of, told, places_are, parts_are}
 use Rattle.container_spec.proofs.ReachedSegments.{whole}
-use Rattle.container_spec.proofs.RestoredMeanings.{IsRestored, is_restored}
+use Rattle.container_spec.proofs.RestoredMeanings.{IsRestored, restored}
 use Rattle.box_format.specs.Containers.{AreBoxes, IsContainerIn, segment_count}
 use Rattle.container_spec.specs.ScansFiles.{IsScanIn, AreScansIn, IsContainerOf}
 use Rattle.container_spec.specs.ScansMeaningLaws.{RestoredIsContainer}
-use Rattle.container_spec.specs.ScanByScan.{verdict_after, spelled_otherwise, followed_by, meaning_from}
 use Rattle.container_spec.specs.Portions.{scans_meaning}
 use Rattle.box_format.proofs.Singles.{version_is_in}
 use Rattle.box_format.proofs.Spelling.{one_list_of_scans}
-use Rattle.container_spec.proofs.ScansRestored.{restored}
-use Rattle.container_spec.proofs.SeveralScans.{each_some, joined_one_by_one, none_of}
+use Rattle.container_spec.proofs.JoinedScans.{EachRestored, own as joined_own}
+use Rattle.container_spec.proofs.SeveralScans.{each_some, stands_each}
+use Rattle.box_format.proofs.SingleBytes.{none_of}
 
 -- ---- a scan whose parts stand for bytes
 
@@ -45,16 +45,15 @@ record IsRestoredScan (v : Version) (w : Walk) (s : BoxSeen) (own : List ℕ) : 
 
 scan_restored : (v : Version) (whole_is : (layout_of v).chunked ≡ false)
     (w : Walk) (s : BoxSeen) (own : List ℕ) → IsBoxIn w s.plan s.parts
-    → s.parts.version ≡ v → meaning_of s.plan s.parts ≡ restored own
-    → IsRestoredScan v w s own
-scan_restored v whole_is w s own is said means =
+    → s.parts.version ≡ v → IsRestored s.parts (joined_own s) own → IsRestoredScan v w s own
+scan_restored v whole_is w s own is said good =
     let b : BoxParts = s.parts in
     let none : b.chunk ≡ None =
     none_of b.chunk (is.chunked ∙ ap (λ (v : Version). (layout_of v).chunked) said ∙ whole_is) in
     let same : b ≡ whole b = without b none in
     let box : IsBoxIn w s.plan (whole b) = subst (IsBoxIn w s.plan) same is in
     let so : IsRestored (whole b) (joined (outputs_of s.plan (whole b))) own =
-    is_restored s.plan (whole b) own refl (sym means ∙ ap (meaning_of s.plan) same) in
+    subst (λ (c : BoxParts). IsRestored c (joined (outputs_of s.plan c)) own) same good in
     let mcus : List Mcu = (chain s.plan b own box so).mcus in
     let pads : List Bool = bits s.plan b own box so in
     record {
@@ -105,46 +104,6 @@ scan_before v w s own rest box none r =
           trailer (length s.parts.handovers)) header none;
     }
 
--- ---- verdicts that are restored
-
-verdict_before : (first : ℕ) (v : Verdict) → verdict_after first v ≡ Restored → v ≡ Restored
-verdict_before first Restored e = refl
-verdict_before first PadSpelled e = cc
-verdict_before first ChunkShort e = cc
-verdict_before first (Faulty fault) e = cc
-verdict_before first (NoBox refusal) e = cc
-
-never_restored : (v : Verdict) → spelled_otherwise v ≡ Restored → ⊥
-never_restored Restored e = cc
-never_restored PadSpelled e = cc
-never_restored ChunkShort e = cc
-never_restored (Faulty fault) e = cc
-never_restored (NoBox refusal) e = cc
-
-record AreBoth (bytes : List ℕ) (v : Verdict) (next : Meaning) (file : List ℕ) : Type 0 where
-  first : v ≡ Restored
-  second : next.verdict ≡ Restored
-  text : file ≡ bytes ++ next.bytes
-
-are_both : (bytes : List ℕ) (v : Verdict) (next : Meaning) (file : List ℕ)
-    → followed_by bytes v next ≡ restored file → AreBoth bytes v next file
-are_both bytes Restored next file e = record {
-  first = refl;
-  second = ap (λ (m : Meaning). m.verdict) e;
-  text = sym (ap (λ (m : Meaning). m.bytes) e);
-}
-are_both bytes PadSpelled next file e =
-    absurd (never_restored next.verdict (ap (λ (m : Meaning). m.verdict) e))
-are_both bytes ChunkShort next file e =
-    absurd (let f : ChunkShort ≡ Restored = ap (λ (m : Meaning). m.verdict) e in cc)
-are_both bytes (Faulty fault) next file e =
-    absurd (let f : Faulty fault ≡ Restored = ap (λ (m : Meaning). m.verdict) e in cc)
-are_both bytes (NoBox refusal) next file e =
-    absurd (let f : NoBox refusal ≡ Restored = ap (λ (m : Meaning). m.verdict) e in cc)
-
-means_by : (m : Meaning) (own : List ℕ) → m.bytes ≡ own → m.verdict ≡ Restored → m ≡ restored own
-means_by m own a b = rw (a, b) refl
-
 -- ---- all scans
 
 record AreOfFile (v : Version) (w : Walk) (scans : List BoxSeen) (file : List ℕ) : Type 0 where
@@ -154,15 +113,14 @@ record AreOfFile (v : Version) (w : Walk) (scans : List BoxSeen) (file : List �
   are : AreScansIn v w (map (λ (s : BoxSeen). length s.parts.handovers) scans) file trailer scans
 
 are_of_file : (v : Version) (whole : (layout_of v).chunked ≡ false)
-    (w : Walk) (first : ℕ) (scans : List BoxSeen) (file : List ℕ) → AreBoxes w scans
-    → AllByRecursion (λ (s : BoxSeen). s.parts.version ≡ v) scans
-    → meaning_from first scans ≡ restored file → AreOfFile v w scans file
-are_of_file v whole w first [] file boxes versions e = absurd boxes
-are_of_file v whole w first (s ∷ []) file boxes versions e =
-    let m : Meaning = meaning_of s.plan s.parts in
-    let good = verdict_before first m.verdict (ap (λ (x : Meaning). x.verdict) e) in
+    (w : Walk) (scans : List BoxSeen) (file : List ℕ) → AreBoxes w scans
+    → AllByRecursion (λ (s : BoxSeen). s.parts.version ≡ v) scans → EachRestored scans file
+    → AreOfFile v w scans file
+are_of_file v whole w [] file boxes versions each = absurd boxes
+are_of_file v whole w (s ∷ []) file boxes versions (one, more, good, nothing, text) =
+    let same : file ≡ one = text ∙ ap (λ (l : List ℕ). one ++ l) nothing ∙ append-nil one in
     let r = scan_restored v whole w s file boxes.0 versions.0
-    (means_by m file (ap (λ (x : Meaning). x.bytes) e) good) in
+    (subst (IsRestored s.parts (joined_own s)) (sym same) good) in
     record {
       trailer = s.parts.trailer;
       fits = boxes.0.trailer_fits;
@@ -179,25 +137,21 @@ are_of_file v whole w first (s ∷ []) file boxes versions e =
         boxes.1,
       );
     }
-are_of_file v whole w first (s ∷ t ∷ scans) file boxes versions e =
-    let m : Meaning = meaning_of s.plan s.parts in
-    let next : Meaning = meaning_from (first + length s.parts.handovers) (t ∷ scans) in
-    let both = are_both m.bytes (verdict_after first m.verdict) next file e in
-    let r = scan_restored v whole w s m.bytes boxes.0 versions.0
-    (means_by m m.bytes refl (verdict_before first m.verdict both.first)) in
-    let more = are_of_file v whole (next_walk s.plan.known 0) (first + length s.parts.handovers) (t ∷ scans)
-    next.bytes boxes.3 versions.1 (means_by next next.bytes refl both.second) in
+are_of_file v whole w (s ∷ t ∷ scans) file boxes versions (one, more, good, others, text) =
+    let r = scan_restored v whole w s one boxes.0 versions.0 good in
+    let next = are_of_file v whole (next_walk s.plan.known 0) (t ∷ scans) more boxes.3 versions.1
+    others in
     record {
-      trailer = more.trailer;
-      fits = more.fits;
-      bytes = subst (AllByRecursion IsByte) (sym both.text)
-          (all-append IsByte m.bytes next.bytes r.bytes more.bytes);
+      trailer = next.trailer;
+      fits = next.fits;
+      bytes = subst (AllByRecursion IsByte) (sym text)
+          (all-append IsByte one more r.bytes next.bytes);
       are = (
-        next.bytes,
-        subst (λ (l : List ℕ). IsScanIn v w (length s.parts.handovers) l next.bytes [] s)
-            (sym both.text) (scan_before v w s m.bytes next.bytes boxes.0 boxes.2 r),
+        more,
+        subst (λ (l : List ℕ). IsScanIn v w (length s.parts.handovers) l more [] s)
+            (sym text) (scan_before v w s one more boxes.0 boxes.2 r),
         boxes.1,
-        more.are,
+        next.are,
       );
     }
 
@@ -206,8 +160,8 @@ scans_of_file : (v : Version) (scans : List BoxSeen) (made file : List ℕ)
     → restored file ≡ scans_meaning scans
     → IsContainerOf v (map (λ (s : BoxSeen). length s.parts.handovers) scans) made file
 scans_of_file v scans made file whole of e =
-    let all = are_of_file v whole opening_walk 0 scans file of.are.each of.are.versions
-    (sym (e ∙ joined_one_by_one v scans whole of.are)) in
+    let all = are_of_file v whole opening_walk scans file of.are.each of.are.versions
+    (stands_each v scans file whole of.are e) in
     record {
       whole = whole;
       bytes = all.bytes;

@@ -1,6 +1,6 @@
 -- A scan of a file of several has the parts of a container of its own, which stands for the scan's own bytes.
 use Rattle.std.proofs.Common.{◌≡◌, ℕ, ◌^◌, ◌<◌, ◌≤◌, Bool, false, List, ◌++◌, length, take, drop, refl, sym, ap, subst, ◌∙◌}
-use Rattle.std.specs.Prelude.{min}
+use Rattle.std.specs.Prelude.{min, None}
 use Rattle.std.specs.List.{AllByRecursion}
 use Rattle.std.proofs.lemmas.List.{take-append-drop, length-take-le, take_at, drop_at}
 use Rattle.huff_table.proofs.Pairs.{all-append}
@@ -24,8 +24,8 @@ use Rattle.container_spec.specs.AloneMeanings.{meaning_of}
 use Rattle.container_spec.proofs.FileParts.{box_is}
 use Rattle.container_spec.proofs.Numbered.{mapped_long}
 use Rattle.container_spec.proofs.RestoredFiles.{meaning_is}
-use Rattle.container_spec.proofs.SlicesMeant.{all_take, all_drop}
 use Rattle.container_spec.specs.ScansFiles.{IsScanIn}
+use Rattle.box_format.proofs.ByteParts.{all_drop, all_take}
 
 -- what follows a scan
 pub rest_bytes : (w : Walk) (bytes rest : List ℕ) (plan : PlanFields) (mcus : List Mcu)
@@ -109,6 +109,9 @@ module _ (v : Version) (whole : (layout_of v).chunked ≡ false) (w : Walk) (mos
 
   pub is_version : s.parts.version ≡ v
   is_version = ap (λ (b : BoxParts). b.version) is.parts
+
+  pub has_none : s.parts.chunk ≡ None
+  has_none = ap (λ (b : BoxParts). b.chunk) is.parts
 
   pub trailer_is : s.parts.trailer ≡ trailer
   trailer_is = ap (λ (b : BoxParts). b.trailer) is.parts

@@ -1,5 +1,5 @@
 -- The container of a file of several scans stands for the file.
-use Rattle.std.proofs.Common.{◌≡◌, ℕ, zero, suc, ◌+◌, ◌*◌, ◌^◌, ◌<◌, ◌≤◌, Bool, true, false, if◌then◌else◌, ◌==◌, List, [], ◌∷◌, ◌++◌, length, map, replicate, inr, refl, sym, ap, ap₂, ◌∙◌, arith, append_assoc, append-nil}
+use Rattle.std.proofs.Common.{◌≡◌, ℕ, zero, suc, ◌+◌, ◌*◌, ◌^◌, ◌<◌, ◌≤◌, Bool, true, false, if◌then◌else◌, ◌==◌, List, [], ◌∷◌, ◌++◌, length, map, replicate, inr, refl, sym, ap, subst, ◌∙◌, arith, append_assoc, append-nil}
 use Rattle.std.specs.Prelude.{sum}
 use Rattle.std.specs.List.{AllByRecursion}
 use Rattle.std.proofs.lemmas.List.{length-replicate}
@@ -16,26 +16,13 @@ use Rattle.box_format.specs.Versions.{layout_of, most_segments}
 use Rattle.box_format.specs.declared.version.Version.{Version}
 use Rattle.box_format.specs.declared.version.Version.TheVariants.{Second, Fourth}
 use Rattle.box_format.proofs.Lists.{sum_first}
-use Rattle.container_spec.specs.Meanings.{Meaning, Restored}
-use Rattle.container_spec.specs.AloneMeanings.{meaning_of}
 use Rattle.box_format.specs.Containers.{AreBoxes, AreScans, segment_count}
 use Rattle.container_spec.specs.ScansFiles.{AreScansIn, IsContainerOf, share_of, version_for}
 use Rattle.container_spec.specs.ScansMeaningLaws.{FileIsRestored, ContainerIsRestored}
-use Rattle.container_spec.specs.ScanByScan.{verdict_after, meaning_after, followed_by, meaning_from}
-use Rattle.container_spec.proofs.SeveralScans.{joined_one_by_one}
-use Rattle.container_spec.proofs.ScanParts.{has, header, scan, bytes_are, rest_bytes, own, is_version, trailer_is, segments_are, is_box, means}
-
--- a file that is restored
-abbrev pub restored : List ℕ → Meaning
-restored file = record { bytes = file; verdict = Restored }
-
--- what a scan stands for, by what its parts do
-abbrev numbered : ℕ → Meaning → Meaning
-numbered first m = record { bytes = m.bytes; verdict = verdict_after first m.verdict }
-
-numbered_is : (first : ℕ) (s : BoxSeen) (file : List ℕ)
-    → meaning_of s.plan s.parts ≡ restored file → meaning_after first s ≡ restored file
-numbered_is first s file e = ap (numbered first) e
+use Rattle.container_spec.proofs.JoinedScans.{EachRestored, own as joined_own}
+use Rattle.container_spec.proofs.RestoredMeanings.{IsRestored, is_restored}
+use Rattle.container_spec.proofs.SeveralScans.{each_stands}
+use Rattle.container_spec.proofs.ScanParts.{has, header, scan, bytes_are, rest_bytes, own, is_version, has_none, trailer_is, segments_are, is_box, means}
 
 -- bytes that are followed by others
 joined_is : (header scan rest bytes : List ℕ) → bytes ≡ header ++ (scan ++ rest)
@@ -45,22 +32,21 @@ joined_is header scan rest bytes e =
     ∙ ap (λ (l : List ℕ). header ++ (l ++ rest)) (append-nil scan) ∙ sym e
 
 -- what is known of scans from a walk on
-record AreRestored (v : Version) (w : Walk) (first : ℕ) (mosts bytes : List ℕ) (scans : List BoxSeen) : Type 0
-  where
-    boxes : AreBoxes w scans
-    versions : AllByRecursion (λ (s : BoxSeen). s.parts.version ≡ v) scans
-    few : segment_count scans ≤ sum mosts
-    meaning : meaning_from first scans ≡ restored bytes
+record AreRestored (v : Version) (w : Walk) (mosts bytes : List ℕ) (scans : List BoxSeen) : Type 0 where
+  boxes : AreBoxes w scans
+  versions : AllByRecursion (λ (s : BoxSeen). s.parts.version ≡ v) scans
+  few : segment_count scans ≤ sum mosts
+  each : EachRestored scans bytes
 
 are_restored : (v : Version) (whole : (layout_of v).chunked ≡ false)
-    (w : Walk) (first : ℕ) (mosts bytes trailer : List ℕ) (scans : List BoxSeen)
+    (w : Walk) (mosts bytes trailer : List ℕ) (scans : List BoxSeen)
     → AreKnown w.known → AllByRecursion IsByte bytes → length trailer < 2 ^ 32
     → AllByRecursion (λ most. 0 < most) mosts → sum mosts ≤ (layout_of v).most
-    → AreScansIn v w mosts bytes trailer scans → AreRestored v w first mosts bytes scans
-are_restored v whole w first [] bytes trailer [] known all fits some few are = absurd are
-are_restored v whole w first (most ∷ mosts) bytes trailer [] known all fits some few are = absurd are
-are_restored v whole w first [] bytes trailer (s ∷ scans) known all fits some few are = absurd are
-are_restored v whole w first (most ∷ mosts) bytes trailer (s ∷ []) known all fits some few are =
+    → AreScansIn v w mosts bytes trailer scans → AreRestored v w mosts bytes scans
+are_restored v whole w [] bytes trailer [] known all fits some few are = absurd are
+are_restored v whole w (most ∷ mosts) bytes trailer [] known all fits some few are = absurd are
+are_restored v whole w [] bytes trailer (s ∷ scans) known all fits some few are = absurd are
+are_restored v whole w (most ∷ mosts) bytes trailer (s ∷ []) known all fits some few are =
     let is = are.0 in
     let sum_is = sum_first most mosts in
     let tail = rest_bytes w bytes trailer s.plan is.mcus is.pads all is.is in
@@ -71,11 +57,20 @@ are_restored v whole w first (most ∷ mosts) bytes trailer (s ∷ []) known all
       boxes = (is_box v whole w most bytes trailer trailer s known all tail fits is some.0 below, are.1);
       versions = (is_version v whole w most bytes trailer trailer s known all tail fits is, tt);
       few = omega (arith, many, sum_is, one);
-      meaning = numbered_is first s (own v whole w most bytes trailer trailer s known all tail fits is)
-          (means v whole w most bytes trailer trailer s known all tail fits is some.0 below)
-          ∙ ap restored (sym (bytes_are v whole w most bytes trailer trailer s known all tail fits is));
+      each = (
+        bytes,
+        [],
+        subst (IsRestored s.parts (joined_own s))
+            (sym (bytes_are v whole w most bytes trailer trailer s known all tail fits is))
+            (is_restored s.plan s.parts
+            (own v whole w most bytes trailer trailer s known all tail fits is)
+            (has_none v whole w most bytes trailer trailer s known all tail fits is)
+            (sym (means v whole w most bytes trailer trailer s known all tail fits is some.0 below))),
+        refl,
+        sym (append-nil bytes),
+      );
     }
-are_restored v whole w first (most ∷ mosts) bytes trailer (s ∷ t ∷ scans) known all fits some few are =
+are_restored v whole w (most ∷ mosts) bytes trailer (s ∷ t ∷ scans) known all fits some few are =
     let rest : List ℕ = are.0 in
     let is = are.1 in
     let sum_is = sum_first most mosts in
@@ -83,9 +78,8 @@ are_restored v whole w first (most ∷ mosts) bytes trailer (s ∷ t ∷ scans) 
     let others : sum mosts ≤ (layout_of v).most = omega (arith, few, sum_is) in
     let none : length {A = ℕ} [] < 2 ^ 32 = omega arith in
     let many = segments_are v whole w most bytes rest [] s known all tt none is in
-    let here = numbered_is first s (own v whole w most bytes rest [] s known all tt none is)
-    (means v whole w most bytes rest [] s known all tt none is some.0 below) in
-    let more = are_restored v whole (next_walk s.plan.known 0) (first + length s.parts.handovers) mosts rest
+    let here = own v whole w most bytes rest [] s known all tt none is in
+    let more = are_restored v whole (next_walk s.plan.known 0) mosts rest
     trailer (t ∷ scans) (known_on w bytes rest s.plan is.mcus is.pads all known is.is)
     (rest_bytes w bytes rest s.plan is.mcus is.pads all is.is) fits some.1 others are.3 in
     let text = joined_is (header v whole w most bytes rest [] s known all tt none is)
@@ -103,8 +97,14 @@ are_restored v whole w first (most ∷ mosts) bytes trailer (s ∷ t ∷ scans) 
       );
       versions = (is_version v whole w most bytes rest [] s known all tt none is, more.versions);
       few = omega (arith, many, sum_is, one, fewer);
-      meaning = ap₂ (λ (m next : Meaning). followed_by m.bytes m.verdict next) here more.meaning
-          ∙ ap restored text;
+      each = (
+        here,
+        rest,
+        is_restored s.plan s.parts here (has_none v whole w most bytes rest [] s known all tt none is)
+            (sym (means v whole w most bytes rest [] s known all tt none is some.0 below)),
+        more.each,
+        sym text,
+      );
     }
 
 -- there are four scans at most
@@ -136,7 +136,7 @@ scans_few v whole w before (most ∷ mosts) bytes trailer (s ∷ t ∷ scans) kn
 pub are_scans : (v : Version) (mosts made file : List ℕ) → AllByRecursion (λ most. 0 < most) mosts
     → sum mosts ≤ (layout_of v).most → (is : IsContainerOf v mosts made file) → AreScans v is.scans
 are_scans v mosts made file some few is =
-    let all = are_restored v is.whole opening_walk 0 mosts file is.trailer is.scans none_known is.bytes
+    let all = are_restored v is.whole opening_walk mosts file is.trailer is.scans none_known is.bytes
     is.trailer_fits some few is.are in
     let segments = all.few in
     record {
@@ -149,13 +149,13 @@ are_scans v mosts made file some few is =
 
 pub file_is_restored : FileIsRestored
 file_is_restored v mosts made file some few is =
-    let all = are_restored v is.whole opening_walk 0 mosts file is.trailer is.scans none_known is.bytes
+    let all = are_restored v is.whole opening_walk mosts file is.trailer is.scans none_known is.bytes
     is.trailer_fits some few is.are in
     let are = are_scans v mosts made file some few is in
     inr (
       is.scans,
       (v, record { are = are; text = is.spelled }),
-      sym (joined_one_by_one v is.scans is.whole are ∙ all.meaning),
+      sym (each_stands v is.scans file is.whole are all.each),
     )
 
 -- ---- any file

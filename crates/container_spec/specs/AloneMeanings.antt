@@ -13,6 +13,7 @@ use Rattle.box_format.specs.Parts.{BoxParts, header_part, rows_most}
 use Rattle.box_format.specs.Raws.{numbers}
 use Rattle.box_format.specs.declared.chunk.Chunk.{Chunk}
 use Rattle.container_spec.specs.Segments.{Output, segment_output}
+use Rattle.container_spec.specs.ScansJoined.{ScansJoined, sums_of}
 use Rattle.container_spec.specs.Meanings.{segment_in, Meaning, Restored, PadSpelled, ChunkShort, Faulty}
 
 -- the bytes and the outcome of each segment
@@ -40,6 +41,11 @@ joined_with bytes (Bad fault) more =
 abbrev pub joined : List Output → Joined
 joined [] = record { bytes = []; fault = None; padded = no_pads }
 joined (output ∷ outputs) = joined_with output.0 output.1 (joined outputs)
+
+-- all of them as those of a container's only scan
+abbrev pub joined_alone : Joined → ScansJoined
+joined_alone j =
+    record { bytes = j.bytes; fault = j.fault; padded = sums_of 0 j.padded }
 
 -- what comes before the segments: the header, or the bytes of it that lie in the chunk
 abbrev pub before_rows : Option Chunk → List ℕ → List ℕ

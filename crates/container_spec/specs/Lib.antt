@@ -11,7 +11,6 @@ pub mod MeaningLaws
 pub mod MeaningRows
 pub mod ScansMeanings
 pub mod ScansJoined
-pub mod ScanByScan
 pub mod Portions
 pub mod ScansFiles
 pub mod ScansMeaningLaws

@@ -1,5 +1,5 @@
 -- Law: what holds of all containers and files of one scan or of several (own).
-use Rattle.std.specs.Prelude.{ℕ, ◌≡◌, ◌+◌, ◌<◌, ◌≤◌, Bool, false, List, [], ◌∷◌, length, map, sum, None}
+use Rattle.std.specs.Prelude.{ℕ, ◌≡◌, ◌+◌, ◌<◌, ◌≤◌, Bool, false, List, [], ◌∷◌, length, map, sum}
 use Rattle.std.specs.List.{AllByRecursion}
 use Rattle.bit_list.specs.Bits.{IsByte}
 use Rattle.jpeg_marker.specs.Plans.{PlanFields}
@@ -12,12 +12,11 @@ use Rattle.box_format.specs.declared.version.Version.{Version}
 use Rattle.box_format.specs.declared.refusal.BoxRefusal.{BoxRefusal}
 use Rattle.container_spec.specs.Limits.{most_of_a_container, most_of_a_file}
 use Rattle.container_spec.specs.Meanings.{Meaning, Restored, segment_in}
-use Rattle.container_spec.specs.AloneMeanings.{joined, meaning_of}
+use Rattle.container_spec.specs.AloneMeanings.{joined, joined_alone, meaning_of}
 use Rattle.container_spec.specs.Segments.{segment_output}
-use Rattle.box_format.specs.Containers.{AreScans, IsContainer}
+use Rattle.box_format.specs.Containers.{IsContainer}
 use Rattle.box_format.specs.Checks.{IsRefused}
 use Rattle.container_spec.specs.Portions.{StandsFor, scans_meaning}
-use Rattle.container_spec.specs.ScanByScan.{all_joined, joined_alone, scans_end, meaning_from}
 use Rattle.container_spec.specs.ScansJoined.{scanned_from, scans_joined}
 use Rattle.container_spec.specs.ScansFiles.{FileRefusal, FileIsRefused, HasSeveralScans, IsContainerOfFile, IsContainerOf}
 
@@ -106,35 +105,6 @@ ContainerOfFileIsShort =
     (most : ℕ) (made file : List ℕ) → most ≤ most_segments
     → IsContainerOfFile most made file → length file ≤ most_of_a_file
     → length made ≤ most_of_a_container
-
--- only the last scan has a trailer
-abbrev pub HaveLastTrailer : List BoxSeen → Type 0
-HaveLastTrailer [] = Unit {0}
-HaveLastTrailer (s ∷ []) = Unit {0}
-HaveLastTrailer (s ∷ t ∷ scans) = (s.parts.trailer ≡ []) × HaveLastTrailer (t ∷ scans)
-
--- scans without a chunk, each with a segment, stand one by one for the first header, their segments through the first
--- bad one, and if there is none, for the trailer; the pad bits of each scan are looked at by what its own segments
--- padded
-abbrev pub MeaningIsJoined : Type 0
-MeaningIsJoined =
-    (scans : List BoxSeen) → 1 ≤ length scans → length scans ≤ 4
-    → AllByRecursion (λ (s : BoxSeen). s.parts.chunk ≡ None) scans
-    → AllByRecursion (λ (s : BoxSeen). 0 < length s.parts.handovers) scans
-    → HaveLastTrailer scans
-    → meaning_from 0 scans ≡ scans_end scans (all_joined scans) (all_joined scans).fault
-
--- what scans without a chunk stand for as a whole is that
-abbrev pub WholeIsJoined : Type 0
-WholeIsJoined =
-    (scans : List BoxSeen) → AllByRecursion (λ (s : BoxSeen). s.parts.chunk ≡ None) scans
-    → scans_meaning scans ≡ scans_end scans (all_joined scans) (all_joined scans).fault
-
--- and it is what they stand for one by one, if they are the scans of a container
-abbrev pub ScansStandOneByOne : Type 0
-ScansStandOneByOne =
-    (version : Version) (scans : List BoxSeen) → (layout_of version).chunked ≡ false
-    → AreScans version scans → scans_meaning scans ≡ meaning_from 0 scans
 
 -- one scan stands for what its parts do, with a chunk or without one
 abbrev pub OneStandsForItself : Type 0

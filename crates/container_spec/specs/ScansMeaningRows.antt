@@ -10,10 +10,9 @@ use Rattle.container_spec.specs.Meanings.{Restored, PadSpelled, Faulty}
 use Rattle.container_spec.specs.MeaningRows.{ones_padded}
 use Rattle.box_format.specs.ScansRows.{header_one, header_two, plain_parts, plan_one, plan_two, two}
 use Rattle.container_spec.specs.ScansFiles.{share_of}
-use Rattle.container_spec.specs.ScanByScan.{all_joined}
 use Rattle.container_spec.specs.ScansJoined.{no_sums}
 use Rattle.container_spec.specs.ScansMeanings.{output_at, scan_of}
-use Rattle.container_spec.specs.Portions.{scans_meaning}
+use Rattle.container_spec.specs.Portions.{played, scans_meaning, whole}
 
 -- its scans
 abbrev pub first : BoxParts
@@ -68,8 +67,8 @@ two_segments =
     × (output_at two 0 ≡ (0x3f ∷ [], Good ones_padded))
     × (output_at two 1 ≡ (header_two ++ 0x3f ∷ [], Good ones_padded))
     × (output_at (both first (mute second)) 1 ≡ (header_two, Bad (bad_stream 1)))
-    × ((all_joined two).bytes ≡ 0x3f ∷ header_two ++ 0x3f ∷ [])
-    × ((all_joined two).padded ≡ record no_sums { first = ones_padded; second = ones_padded })
+    × ((played two (whole two)).bytes ≡ 0x3f ∷ header_two ++ 0x3f ∷ [])
+    × ((played two (whole two)).padded ≡ record no_sums { first = ones_padded; second = ones_padded })
 
 -- how many segments scans are given
 abbrev pub shares : Type 0

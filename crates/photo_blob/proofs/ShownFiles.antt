@@ -1,21 +1,21 @@
 -- A container's file is its first header, its segments' bytes and its trailer.
-use Rattle.std.proofs.Common.{◌≡◌, ℕ, zero, suc, ◌+◌, ◌-◌, ◌<◌, ◌≤◌, List, [], ◌∷◌, ◌++◌, Option, Some, None, sym, ap, ◌∙◌, refl, append_assoc, append-nil, arith}
+use Rattle.std.proofs.Common.{◌≡◌, ℕ, zero, suc, ◌+◌, ◌-◌, ◌<◌, ◌≤◌, List, [], ◌∷◌, ◌++◌, Some, None, sym, ap, ◌∙◌, refl, append_assoc, append-nil, arith}
 use Rattle.std.specs.Prelude.{slice_get}
+use Rattle.std.specs.List.{AllByRecursion}
 use Rattle.handover.specs.declared.outcome.Outcome.{Outcome}
 use Rattle.handover.specs.declared.outcome.Outcome.TheVariants.{Good, Bad}
-use Rattle.handover.specs.declared.outcome.StreamFault.{StreamFault}
 use Rattle.box_format.specs.Parts.{BoxSeen}
 use Rattle.box_format.specs.declared.refusal.BoxRefusal.{BoxRefusal}
-use Rattle.container_spec.specs.Meanings.{Meaning, Verdict, Restored, Faulty}
+use Rattle.container_spec.specs.Meanings.{Restored}
 use Rattle.box_format.specs.Containers.{IsContainer, all_parts, segment_count, trailer_of}
 use Rattle.box_format.specs.Checks.{IsRefused}
 use Rattle.box_format.proofs.Spelling.{one_list_of_scans}
 use Rattle.container_spec.specs.ScansJoined.{ScansJoined, first_header, scanned_from, scanned_with, scans_joined}
-use Rattle.container_spec.specs.ScanByScan.{all_joined, scans_end}
 use Rattle.container_spec.specs.ScansMeanings.{output_at, scan_of}
-use Rattle.container_spec.specs.Portions.{scans_meaning}
+use Rattle.container_spec.specs.Portions.{played, scans_meaning, whole}
 use Rattle.container_spec.proofs.BoxesOnce.{refused_is_none}
-use Rattle.container_spec.proofs.PortionsMeant.{whole_is_joined}
+use Rattle.container_spec.proofs.JoinedScans.{means_file}
+use Rattle.container_spec.proofs.PortionsMeant.{whole_meaning}
 use Rattle.photo_blob.specs.Showing.{StandsForFile, segment_bytes, bytes_from}
 
 one_more : (scan : ℕ) (bytes : List ℕ) (o : Outcome) (rest : ScansJoined) (all : List ℕ)
@@ -34,28 +34,16 @@ all_bytes scans i (suc count) none =
     (scans_joined (scanned_from scans (i + 1) count)) (bytes_from scans (i + 1) count) none
     (all_bytes scans (i + 1) count)
 
-same_file : (f : List ℕ) (v : Verdict) (m : Meaning) → m ≡ record { bytes = f; verdict = v }
-    → (m.bytes ≡ f) × (m.verdict ≡ v)
-same_file f v m e = (ap (λ (x : Meaning). x.bytes) e, ap (λ (x : Meaning). x.verdict) e)
-
--- joined segments that stand for a file have no fault, and the file is their bytes between first header and trailer
-by_fault : (scans : List BoxSeen) (all : ScansJoined) (fault : Option StreamFault) (file : List ℕ)
-    → scans_end scans all fault ≡ record { bytes = file; verdict = Restored }
-    → (fault ≡ None) × (first_header scans ++ all.bytes ++ trailer_of (all_parts scans) ≡ file)
-by_fault scans all None file e = (refl, (same_file file Restored (scans_end scans all None) e).0)
-by_fault scans all (Some fault) file e =
-    let v : Faulty fault ≡ Restored = (same_file file Restored (scans_end scans all (Some fault)) e).1 in absurd (cc)
-
 -- scans that stand for a file have its bytes
 restored_bytes : (scans : List BoxSeen) (file : List ℕ)
-    → scans_meaning scans ≡ scans_end scans (all_joined scans) (all_joined scans).fault
+    → AllByRecursion (λ (s : BoxSeen). s.parts.chunk ≡ None) scans
     → scans_meaning scans ≡ record { bytes = file; verdict = Restored }
     → first_header scans ++ bytes_from scans 0 (segment_count scans) ++ trailer_of (all_parts scans) ≡ file
-restored_bytes scans file joined e =
-    let all = all_joined scans in
-    let h = by_fault scans all all.fault file (sym joined ∙ e) in
+restored_bytes scans file none e =
+    let all : ScansJoined = played scans (whole scans) in
+    let is = means_file scans all all.fault file refl (sym e ∙ whole_meaning scans none) in
     ap (λ (l : List ℕ). first_header scans ++ l ++ trailer_of (all_parts scans))
-    (sym (all_bytes scans 0 (segment_count scans) h.0)) ∙ h.1
+    (sym (all_bytes scans 0 (segment_count scans) is.none)) ∙ sym is.text
 
 -- the bytes from a segment on begin with it
 pub bytes_step : (scans : List BoxSeen) (i n : ℕ) → i < n
@@ -99,4 +87,4 @@ pub shown_bytes : (bytes file : List ℕ) (scans : List BoxSeen)
 shown_bytes bytes file scans x is =
     ap (λ (l : List BoxSeen). first_header l ++ bytes_from l 0 (segment_count l) ++ trailer_of (all_parts l))
     (one_list_of_scans scans x.0 bytes is x.1)
-    ∙ restored_bytes x.0 file (whole_is_joined x.0 x.2) x.3
+    ∙ restored_bytes x.0 file x.2 x.3
