@@ -24,7 +24,7 @@ use Rattle.container_spec.proofs.ScansSizes.{container_is_short}
 use Rattle.range_read.specs.RangeMeanings.{RangeMeaning}
 use Rattle.range_read.proofs.RestoredRanges.{range_of_container_is_slice}
 use Rattle.command_words.specs.declared.command.Command.TheVariants.{Encode, Decode, Index, Range}
-use Rattle.lepton_run.specs.Answers.{Answers, IndexMakes, Made, index_by, limit_of, range_answer}
+use Rattle.lepton_run.specs.Answers.{Answers, IndexMakes, Made, answer_by, early, limit_of, range_answer}
 use Rattle.lepton_run.proofs.BothWays.{container_are, one_few}
 use Rattle.lepton_run.proofs.ScansOfBytes.{box_are}
 use Rattle.lepton_run.proofs.ChunksBack.{is_meant}
@@ -57,7 +57,7 @@ pub record IsIndexed (bytes made : List ℕ) : Type 0 where
   pub restored : (scans_meaning (record { plan = plan; parts = parts } ∷ [])).verdict ≡ Restored
   pub text : made ≡ box_bytes (indexed plan parts)
 
-made_by : (made found : List ℕ) (verdict : Verdict) → Made made ≡ index_by found verdict
+made_by : (made found : List ℕ) (verdict : Verdict) → Made made ≡ early (answer_by found verdict)
     → (verdict ≡ Restored) × (made ≡ found)
 made_by made found Restored e = (refl, cc)
 made_by made found PadSpelled e = absurd cc
@@ -191,7 +191,7 @@ indexed_answer bytes plan b of short read restored = inr (record {
     b,
     of,
     read,
-    ap (index_by (box_bytes (indexed plan b)))
+    ap (λ (v : Verdict). early (answer_by (box_bytes (indexed plan b)) v))
         (sym (ap (λ (m : Meaning). m.verdict)
         (one_stands_for_itself (record { plan = plan; parts = b })) ∙ restored)),
   );

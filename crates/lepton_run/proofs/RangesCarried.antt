@@ -19,7 +19,7 @@ use Rattle.range_read.specs.RangeEnds.{RangeEnds}
 use Rattle.range_read.specs.RangeMeanings.{RangeMeaning, is_bad_range, range_meaning}
 use Rattle.range_read.specs.declared.reading.Ranged.{Ranged}
 use Rattle.command_words.specs.declared.command.Command.TheVariants.{Index, Range}
-use Rattle.lepton_run.specs.Answers.{Answer, Answers, Early, Late, Made, TakesAnswers, Writes, bytes_of, index_by, limit_of, range_answer, read_answer}
+use Rattle.lepton_run.specs.Answers.{Answer, Answers, Early, Late, Made, TakesAnswers, Writes, bytes_of, answer_by, early, limit_of, range_answer, read_answer}
 use Rattle.lepton_run.specs.CommandEnds.{CarriedOut}
 use Rattle.lepton_run.specs.DecodeEndings.{range_ending}
 use Rattle.lepton_run.specs.declared.refusal.Refusal.TheVariants.{Fault, RangeBad}
@@ -52,11 +52,11 @@ bad_answer from to plan b bad = sym (by_bad (is_bad_range b from to) _ _ bad)
 -- a container that is indexed has the answer of its ending
 pub ended_as : (bytes : List ℕ) (verdict : Verdict) → IndexEnds bytes verdict
     → ((plan : PlanFields) × (b : BoxParts) × IsBoxOf plan b bytes × IsRead indexable b.version
-    × (index_by (box_bytes (indexed plan b)) verdict
-    ≡ index_by (box_bytes (indexed plan b))
-    (scans_meaning (record { plan = plan; parts = b } ∷ [])).verdict))
+    × (early (answer_by (box_bytes (indexed plan b)) verdict)
+    ≡ early (answer_by (box_bytes (indexed plan b))
+    (scans_meaning (record { plan = plan; parts = b } ∷ [])).verdict)))
 ended_as bytes verdict (plan, b, of, read, e) =
-    (plan, b, of, read, ap (index_by (box_bytes (indexed plan b))) (sym e))
+    (plan, b, of, read, ap (λ (v : Verdict). early (answer_by (box_bytes (indexed plan b)) v)) (sym e))
 
 pub index_made : (bytes made : List ℕ) → AllByRecursion IsByte bytes
     → length bytes ≤ limit_of Index → IsIndexOf made bytes → Answers Index bytes (Made made)
@@ -68,7 +68,7 @@ index_made bytes made are short (plan, b, of, read, e, text) = inr (record {
     b,
     of,
     read,
-    ap Made text ∙ ap (index_by (box_bytes (indexed plan b))) (sym e),
+    ap Made text ∙ ap (λ (v : Verdict). early (answer_by (box_bytes (indexed plan b)) v)) (sym e),
   );
 })
 

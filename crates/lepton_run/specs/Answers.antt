@@ -120,20 +120,17 @@ ChunkMakes index size segments bytes (Early NoChunk) =
     IsOneScanFile bytes × (length bytes ≤ index * size)
 ChunkMakes index size segments bytes other = ⊥
 
--- the answer of `index` to a container that ends so, if this is the same one with places
-abbrev pub index_by : List ℕ → Verdict → Answer
-index_by made Restored = Made made
-index_by made PadSpelled = Early PadSpelling
-index_by made ShortChunk = Early ChunkShort
-index_by made (Faulty fault) = Early (Fault fault)
-index_by made (NoBox refusal) = Early (Box refusal)
+-- the same answer, but its refusal comes before any byte is written
+abbrev pub early : Answer → Answer
+early (Late bytes refusal) = Early refusal
+early other = other
 
 -- what `index` makes of a container: the same one in version 5 with the places of its segments, if it stands for a
 -- file; else it refuses what decode refuses, before any byte is written
 abbrev pub IndexMakes : List ℕ → Answer → Type 0
 IndexMakes =
-    BoxMakes indexable (λ plan b. index_by (box_bytes (indexed plan b))
-    (scans_meaning (record { plan = plan; parts = b } ∷ [])).verdict)
+    BoxMakes indexable (λ plan b. early (answer_by (box_bytes (indexed plan b))
+    (scans_meaning (record { plan = plan; parts = b } ∷ [])).verdict))
 
 -- the answer that a range is, by its bytes and by the fault that ends them
 abbrev pub range_answer : List ℕ → Option StreamFault → Answer

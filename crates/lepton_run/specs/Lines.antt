@@ -34,23 +34,13 @@ name_of ScanParams = codes "ScanParams"
 name_of NoTable = codes "NoTable"
 name_of TooManyBlocks = codes "TooManyBlocks"
 
--- the place or the code that it holds, in decimal
+-- the place or the code that it holds, if it holds one, in decimal
 abbrev pub fields_of : HeaderRefusal → List ℕ
-fields_of NotJpeg = []
-fields_of HeaderCut = []
 fields_of (MarkerBad place) = codes " at " ++ decimal place
 fields_of (NotBaseline code) = codes " code " ++ decimal code
 fields_of (LengthBad place) = codes " at " ++ decimal place
-fields_of FrameTwice = []
-fields_of PrecisionBad = []
-fields_of SizeZero = []
-fields_of ComponentsBad = []
 fields_of (TableBad place) = codes " at " ++ decimal place
-fields_of NoFrame = []
-fields_of MultiScan = []
-fields_of ScanParams = []
-fields_of NoTable = []
-fields_of TooManyBlocks = []
+fields_of other = []
 
 -- number and name of a scan's refusal
 abbrev pub scan_words : ScanRefusal → List ℕ
@@ -95,19 +85,12 @@ box_words (HeaderLong place) = codes "38 HeaderLong"
 box_words BoxChunk = codes "39 BoxChunk"
 box_words BoxPlaces = codes "53 BoxPlaces"
 
--- what it holds: the header's refusal, the place or the segment
+-- what it holds, if anything: the header's refusal, the place or the segment
 abbrev pub box_fields : BoxRefusal → List ℕ
-box_fields BoxMagic = []
-box_fields BoxVersion = []
-box_fields BoxCut = []
 box_fields (BoxHeader refusal) = codes " " ++ header_text refusal
-box_fields BoxSegments = []
-box_fields BoxPad = []
 box_fields (HandoverBad segment) = codes " segment " ++ decimal segment
-box_fields BoxLong = []
 box_fields (HeaderLong place) = codes " at " ++ decimal place
-box_fields BoxChunk = []
-box_fields BoxPlaces = []
+box_fields other = []
 
 -- number and name of the cause of a segment's fault; the handovers of a seam are left out, and the numbers of places
 abbrev pub cause_words : StreamCause → List ℕ
