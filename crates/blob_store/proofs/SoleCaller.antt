@@ -6,9 +6,7 @@ use Rattle.blob_store.specs.Journals.{AreBy, StartsWith, calls_by, stored_in}
 use Rattle.blob_store.specs.declared.view.View.{View}
 use Rattle.blob_store.specs.States.{StoreState}
 use Rattle.blob_store.specs.StoreRule.{Fits, FitsCaller}
-
-eqb_refl : (n : ℕ) → (n == n) ≡ true
-eqb_refl n = grind arith
+use Rattle.blob_store.proofs.StoreKept.{eqb_refl}
 
 -- no caller but the first has an entry
 abbrev HasNoOthers : List Record → Type 0

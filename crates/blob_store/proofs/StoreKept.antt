@@ -33,7 +33,7 @@ get_more [] ys n x e = absurd (cc)
 get_more (y ∷ xs) ys zero x e = e
 get_more (y ∷ xs) ys (suc n) x e = get_more xs ys n x e
 
-eqb_refl : (n : ℕ) → (n == n) ≡ true
+pub eqb_refl : (n : ℕ) → (n == n) ≡ true
 eqb_refl n = grind arith
 
 eqb_other : (n m : ℕ) → n ≢ m → (n == m) ≡ false

@@ -48,12 +48,9 @@ same_number (pos a) (negsuc b) m s = absurd (true≢false (sym s ∙ not_below a
 same_number (negsuc a) (pos b) m s = absurd (true≢false (s ∙ not_below b))
 same_number (negsuc a) (negsuc b) m s = ap negsuc (omega (arith, m))
 
-sign_zero : (x : ℤ) → unsigned_abs x ≡ 0 → x ≡ pos 0
-sign_zero (pos n) e = ap pos e
-sign_zero (negsuc n) e = absurd (omega (arith, e))
+pub zero_abs : (x : ℤ) → unsigned_abs x ≡ 0 → x ≡ pos 0
+zero_abs (pos n) e = ap pos e
+zero_abs (negsuc n) e = absurd (omega (arith, e))
 
 pub zero_value : (x : ℤ) → category_of x ≡ 0 → x ≡ pos 0
-zero_value x z = sign_zero x (category_none (unsigned_abs x) z)
-
-pub zero_abs : (x : ℤ) → unsigned_abs x ≡ 0 → x ≡ pos 0
-zero_abs = sign_zero
+zero_value x z = zero_abs x (category_none (unsigned_abs x) z)

@@ -22,17 +22,12 @@ use Rattle.output_board.specs.declared.view.Role.TheVariants.{Emits, Works}
 use Rattle.output_board.specs.declared.seen.Seen.{Seen}
 use Rattle.output_board.specs.SeatRule.{Fits, FitsEmitter, FitsWorker}
 use Rattle.output_board.specs.Releases.{after, action_of, role_after, worker_after, emitter_after, claims_after}
+use Rattle.output_board.specs.Splits.{same_emitter, same_worker}
 
 at_in : {A : Type 0} (l : List A) (i : ℕ) (a : A) → get_elem? l i ≡ some a → i < length l
 at_in [] i a e = absurd (some-ne-none a (sym e))
 at_in (x ∷ xs) zero a e = omega arith
 at_in (x ∷ xs) (suc i) a e = let h = at_in xs i a e in omega arith
-
-pub same_emitter : (f g : EmitterView) → ◌≡◌ {A = Role} (Emits f) (Emits g) → f ≡ g
-same_emitter f g e = cc
-
-pub same_worker : (f g : WorkerView) → ◌≡◌ {A = Role} (Works f) (Works g) → f ≡ g
-same_worker f g e = cc
 
 pub not_both : (f : WorkerView) (g : EmitterView) → ◌≡◌ {A = Role} (Works f) (Emits g) → ⊥
 not_both f g e = cc

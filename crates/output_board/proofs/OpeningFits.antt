@@ -16,7 +16,8 @@ use Rattle.output_board.specs.declared.view.EmitterView.{EmitterView}
 use Rattle.output_board.specs.declared.view.Role.TheVariants.{Emits}
 use Rattle.output_board.specs.SeatRule.{Fits, FitsEmitter}
 use Rattle.output_board.specs.Seats.{new_emitter}
-use Rattle.output_board.proofs.BoardKept.{same_emitter, not_both}
+use Rattle.output_board.proofs.BoardKept.{not_both}
+use Rattle.output_board.specs.Splits.{same_emitter}
 
 nobody : (k i : ℕ) → get_or (replicate k unclaimed_segment) i unclaimed_segment ≡ unclaimed_segment
 nobody zero i = refl

@@ -28,11 +28,11 @@ splitting (Emits e) h = (e, refl, h)
 splitting (Works w) h = absurd h
 
 -- one emitter's view of one role
-same_emitter : (f g : EmitterView) → ◌≡◌ {A = Role} (Emits f) (Emits g) → f ≡ g
+pub same_emitter : (f g : EmitterView) → ◌≡◌ {A = Role} (Emits f) (Emits g) → f ≡ g
 same_emitter f g e = cc
 
 -- one worker's view of one role
-same_worker : (f g : WorkerView) → ◌≡◌ {A = Role} (Works f) (Works g) → f ≡ g
+pub same_worker : (f g : WorkerView) → ◌≡◌ {A = Role} (Works f) (Works g) → f ≡ g
 same_worker f g e = cc
 
 -- no role is both

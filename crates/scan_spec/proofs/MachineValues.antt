@@ -1,7 +1,6 @@
 -- A value of so many bits, as the machine makes it.
-use Rattle.std.proofs.Common.{◌≡◌, ℕ, zero, suc, ◌+◌, ◌-◌, ◌*◌, ◌/◌, ◌%◌, ◌^◌, ◌<◌, ◌≤◌, ℤ, pos, negsuc, neg_ℤ, ◌-ℤ◌, ◌+ℤ◌, unsigned_abs, sym, ap, ap₂, ◌∙◌, arith, zero-add, inl, inr}
+use Rattle.std.proofs.Common.{◌≡◌, ℕ, zero, suc, ◌+◌, ◌-◌, ◌*◌, ◌/◌, ◌%◌, ◌^◌, ◌<◌, ◌≤◌, ℤ, pos, neg_ℤ, ◌-ℤ◌, ◌+ℤ◌, unsigned_abs, sym, ap, ap₂, ◌∙◌, arith, zero-add, inl, inr}
 use Rattle.std.proofs.lemmas.Bool.{cases_lt}
-use Rattle.std.specs.Prelude.{FitsSigned}
 use Rattle.std.specs.Int.{w32}
 use Rattle.std.proofs.lemmas.Int.{ints, to_z-of_z}
 use Rattle.std.proofs.lemmas.Nat.{one_shl, pow_pos, shr_below}
@@ -10,13 +9,10 @@ use mir.Val.{to_z, of_z}
 use Rattle.bit_list.specs.Bits.{low_bits}
 use Rattle.scan_spec.proofs.ValueLemmas.{extend_high, extend_low}
 use Rattle.scan_spec.specs.ValueBits.{extend}
-
-pub fits_word : (z : ℤ) → unsigned_abs z ≤ 65534 → FitsSigned w32 z
-fits_word (pos n) h = record { sfits = omega arith }
-fits_word (negsuc n) h = record { sfits = omega arith }
+use Rattle.scan_spec.proofs.SignedValues.{fits}
 
 pub kept_word : (z : ℤ) → unsigned_abs z ≤ 65534 → to_z w32 (of_z w32 z) ≡ z
-kept_word z h = to_z-of_z w32 z (fits_word z h)
+kept_word z h = to_z-of_z w32 z (fits z h)
 
 minus : (p n : ℕ) → n < p → pos n -ℤ (pos p -ℤ pos 1) ≡ neg_ℤ (pos (p - 1 - n))
 minus p n h = omega (arith, ints)

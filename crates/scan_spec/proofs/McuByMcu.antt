@@ -216,8 +216,6 @@ mcu_spelled shape bytes place spot s next blocks pads is all at e told =
     let spans = at.spans in
     let t = (stand (length m.bits) bytes s.cursor read.cursor m.bits all spans.within m.takes).0 in
     let whole = spans_then bytes (starting place 0) s.cursor read.cursor spot.begun m.bits spans t in
-    let over = s.count + 1 == shape.mcus in
-    let ends = ends_interval shape.interval (s.count + 1) in
     let count = at.count in
     let ap_agrees = λ (t : unwrap_or next.pad (pads (interval_number shape s.count)) ≡ pads (interval_number shape s.count)).
     agrees_from next.pad (pads (interval_number shape spot.count)) (subst (λ (n : ℕ). unwrap_or next.pad (pads (interval_number shape n)) ≡ pads (interval_number shape n)) (sym count) t) in

@@ -70,7 +70,7 @@ number_same_of false k c is e =
 abbrev closed : List Bool → Bool → List Bool → List ℕ
 closed begun pad bits = stuffed (bytes_after begun (bits ++ padding (begun_after begun bits) pad))
 
-abbrev slots_for : List Slot → List Mcu → List Slot
+abbrev pub slots_for : List Slot → List Mcu → List Slot
 slots_for slots mcus = flat_map (λ mcu. slots) mcus
 
 abbrev blocks_in : List Mcu → List (List ℤ)

@@ -12,12 +12,9 @@ use Rattle.scan_spec.specs.Spots.{interval_number}
 use Rattle.scan_spec.specs.declared.slot.Slot.{Slot}
 use Rattle.scan_spec.specs.declared.stop.WriteStop.{WriteStop}
 use Rattle.scan_spec.proofs.Cuts.{text_in_parts}
-use Rattle.scan_spec.proofs.PutWhole.{number_same_of}
+use Rattle.scan_spec.proofs.PutWhole.{number_same_of, slots_for}
 use Rattle.scan_spec.proofs.BitsTaken.{Takes, takes_then}
 use Rattle.scan_spec.proofs.Intervals.{opened, closed}
-
-abbrev pub slots_for : List Slot → List Mcu → List Slot
-slots_for slots mcus = flat_map (λ mcu. slots) mcus
 
 abbrev pub blocks_in : List Mcu → List (List ℤ)
 blocks_in mcus = flat_map (λ mcu. mcu) mcus

@@ -23,13 +23,13 @@ use Rattle.scan_spec.specs.declared.slot.Slot.{Slot}
 use Rattle.scan_spec.specs.declared.refusal.ScanRefusal.{ScanRefusal}
 use Rattle.scan_spec.proofs.Cuts.{text_in_parts}
 use Rattle.scan_spec.proofs.PadsTold.{Follows, follows_all, pads_more, no_pads_told, told_by, sums_more, no_sum_told, sum_by}
-use Rattle.scan_spec.proofs.PutWhole.{number_next_of, number_same_of, intervals_some}
+use Rattle.scan_spec.proofs.PutWhole.{number_next_of, number_same_of, intervals_some, slots_for}
 use Rattle.scan_spec.proofs.BitsTaken.{Takes, takes_split, fine, is_fine, both_fine, then_fine}
 use Rattle.scan_spec.proofs.AcsAgain.{text_parts}
 use Rattle.scan_spec.proofs.ZigzagLaws.{zigzag_tells}
 use Rattle.scan_spec.proofs.BlocksTaken.{McuTaken, blocks_read, blocks_again}
 use Rattle.scan_spec.proofs.Intervals.{Agrees, pad_after, none_told, pad_is, pads_read, pads_fine, pads_are, restart_fine, restart_again}
-use Rattle.scan_spec.proofs.Rests.{slots_for, blocks_in, Later, Rest, RestOf, HasWritten, TextOf, text_of_rest, rest_of_text, closed_rest, onto_rest}
+use Rattle.scan_spec.proofs.Rests.{blocks_in, Later, Rest, RestOf, HasWritten, TextOf, text_of_rest, rest_of_text, closed_rest, onto_rest}
 
 -- ---- after the blocks of an MCU
 

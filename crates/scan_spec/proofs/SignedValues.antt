@@ -5,7 +5,7 @@ use Rattle.std.specs.Int.{w16, w32}
 use Rattle.std.proofs.lemmas.Int.{ints, to_z-of_z}
 use mir.Val.{to_z, of_z}
 
-fits : (z : ℤ) → unsigned_abs z ≤ 65534 → FitsSigned w32 z
+pub fits : (z : ℤ) → unsigned_abs z ≤ 65534 → FitsSigned w32 z
 fits (pos n) h = record { sfits = omega arith }
 fits (negsuc n) h = record { sfits = omega arith }
 

@@ -1,5 +1,5 @@
 -- Pieces of a segment that one thread decodes, written one after another.
-use Rattle.std.proofs.Common.{◌≡◌, ℕ, ◌+◌, ◌*◌, ◌^◌, ◌<◌, ◌≤◌, true, List, [], ◌++◌, length, refl, sym, ap, ap₂, subst, ◌∙◌, arith, append_assoc, append-nil, length-append, Option}
+use Rattle.std.proofs.Common.{◌≡◌, ℕ, ◌+◌, ◌*◌, ◌^◌, ◌<◌, ◌≤◌, true, List, [], ◌++◌, length, refl, sym, ap, ap₂, subst, ◌∙◌, arith, append_assoc, length-append, Option}
 use Rattle.outside_core.specs.Takes.{TakesNext}
 use Rattle.byte_window.specs.declared.window.Window.{Window}
 use Rattle.byte_window.specs.Windows.{window, after, through}
@@ -14,19 +14,7 @@ use Rattle.segment_code.specs.declared.step.Step.TheVariants.{More, Done, Fault}
 use Rattle.outside_core.specs.Written.{HasWritten, HasFailed}
 use Rattle.segment_worker.specs.LoneSegments.{OwesSome, UnderWay}
 use Rattle.segment_worker.proofs.Writing.{written_nothing, written_on, failed_on, next_on}
-
--- a step gives the first of the bytes that were owed
-paid_first : (step : Step) (bytes out : List ℕ) (outcome : Outcome) (old new : FileDecoderSeen)
-    → FilePays step bytes outcome out old new → (more : List ℕ) × (bytes ≡ out ++ more)
-paid_first More bytes out outcome old new p = (p.0, p.1)
-paid_first (Done pads) bytes out outcome old new p = ([], p.0 ∙ sym (append-nil out))
-paid_first (Fault fault) bytes out outcome old new p = ([], p.0 ∙ sym (append-nil out))
-
--- whoever owes pays
-abbrev PaysAll : Step → List ℕ → FileDecoderSeen → FileDecoderSeen → Type 0
-PaysAll step out old new =
-    (bytes : List ℕ) (outcome : Outcome) → FileOwes old bytes outcome
-    → FilePays step bytes outcome out old new
+use Rattle.segment_worker.proofs.OwnPieces.{PaysAll, paid_first}
 
 module _ {Sink : Type 0} (held : Sink → Option (List ℕ))
     (takes : Sink → List ℕ → Type 0) (faults : Sink → ℕ) (full : Sink → Type 0) (w : Window) where
