@@ -73,12 +73,6 @@ all_next later first scan s scans some =
 
 -- ---- pad bits of other scans
 
-without : (k scan : ℕ) (p : PadSum) (sums : ScanPads) → scan < k → k ≤ 3
-    → sum_in (sums_with (sums_of scan p) sums) k ≡ sum_in sums k
-without k scan p sums less few =
-    in_with k (sums_of scan p) sums
-    ∙ ap (λ (q : PadSum). pads_with q (sum_in sums k)) (in_later scan k p less few)
-
 spelled_without : (k scan : ℕ) (p : PadSum) (sums : ScanPads) (scans : List BoxSeen) → scan < k
     → k + length scans ≤ 4
     → all_spelled k scans (sums_with (sums_of scan p) sums) ≡ all_spelled k scans sums
@@ -86,11 +80,9 @@ spelled_without k scan p sums [] less few = refl
 spelled_without k scan p sums (s ∷ scans) less few =
     let below : k ≤ 3 = omega arith in
     ap₂ (λ (q : PadSum) (t : Bool). is_spelled s.parts.pads q && t)
-    (without k scan p sums less below)
+    (in_with k (sums_of scan p) sums
+    ∙ ap (λ (q : PadSum). pads_with q (sum_in sums k)) (in_later scan k p less below))
     (spelled_without (k + 1) scan p sums scans (omega arith) (omega arith))
-
-pads_none : (p q : PadSum) → q ≡ no_pads → pads_with p q ≡ p
-pads_none p q e = ap (pads_with p) e ∙ sums_none p
 
 spelled_next : (scan : ℕ) (p : PadSum) (sums : ScanPads) (s : BoxSeen) (scans : List BoxSeen)
     → scan + length (s ∷ scans) ≤ 4 → sum_in sums scan ≡ no_pads
@@ -99,7 +91,7 @@ spelled_next : (scan : ℕ) (p : PadSum) (sums : ScanPads) (s : BoxSeen) (scans 
 spelled_next scan p sums s scans few none =
     ap₂ (λ (q : PadSum) (t : Bool). is_spelled s.parts.pads q && t)
     (in_with scan (sums_of scan p) sums
-    ∙ pads_none (sum_in (sums_of scan p) scan) (sum_in sums scan) none ∙ in_own scan p)
+    ∙ ap₂ pads_with (in_own scan p) none ∙ sums_none p)
     (spelled_without (scan + 1) scan p sums scans (omega arith) (omega arith))
 
 followed_before : (k scan first : ℕ) (lead : List ℕ) (j : Joined) (f : Option StreamFault)
@@ -232,13 +224,11 @@ module _ (later : Bool) (first scan : ℕ) (s : BoxSeen) (scans : List BoxSeen)
         spelled = spelled_are ∙ ap₂ (λ (x y : Bool). x && y) a.told b.spelled;
       }
 
-  record AreTwo (file : List ℕ) : Type 0 where
-    one : IsRestored s.parts (own s) (text_of s)
-    more : AreFile [] (scan + 1) scans rest (rest.bytes ++ end)
-    text : file ≡ text_of s ++ (rest.bytes ++ end)
-
   one_of_file : (file : List ℕ)
-      → AreFile prefix scan (s ∷ scans) (all_from later first scan (s ∷ scans)) file → AreTwo file
+      → AreFile prefix scan (s ∷ scans) (all_from later first scan (s ∷ scans)) file
+      → IsRestored s.parts (own s) (text_of s)
+      × AreFile [] (scan + 1) scans rest (rest.bytes ++ end)
+      × (file ≡ text_of s ++ (rest.bytes ++ end))
   one_of_file file are =
       let none = first_good first scan lead (own s) rest (own s).fault
       (ap (λ (all : ScansJoined). all.fault) (sym (all_next later first scan s scans some.0))
@@ -246,12 +236,11 @@ module _ (later : Bool) (first scan : ℕ) (s : BoxSeen) (scans : List BoxSeen)
       let good = subst (λ (all : ScansJoined). AreFile prefix scan (s ∷ scans) all file)
       (all_good none) are in
       let told = and_parts (is_spelled s.parts.pads (own s).padded)
-      (all_spelled (scan + 1) scans rest.padded) (sym spelled_are ∙ good.spelled) in
-      record {
-        one = record { none = none; text = refl; told = told.0 };
-        more = record { none = good.none; text = refl; spelled = told.1 };
-        text = good.text ∙ sym texts_are;
-      }
+      (all_spelled (scan + 1) scans rest.padded) (sym spelled_are ∙ good.spelled) in (
+        record { none = none; text = refl; told = told.0 },
+        record { none = good.none; text = refl; spelled = told.1 },
+        good.text ∙ sym texts_are,
+      )
 
 -- ---- all scans
 
@@ -296,10 +285,10 @@ joined_each later first scan (s ∷ scans) file few some bare are =
     let two = one_of_file later first scan s scans few some bare.0 file are in (
       text_of s,
       bytes ++ trailer_of (all_parts scans),
-      two.one,
+      two.0,
       joined_each true k (scan + 1) scans (bytes ++ trailer_of (all_parts scans)) (omega arith)
-          some.1 bare.1 two.more,
-      two.text,
+          some.1 bare.1 two.1,
+      two.2,
     )
 
 -- ---- what they stand for
