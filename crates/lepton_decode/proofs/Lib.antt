@@ -1,6 +1,5 @@
-mod ScansEnd
-mod FilesWritten
-mod NoSegments
+mod PortionsWritten
+mod PortionsMade
 mod EndsMet
 mod RingSizes
 mod PadsLooked

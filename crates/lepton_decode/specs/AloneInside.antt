@@ -10,5 +10,5 @@ alone_of r = record { scans = r.view; used = r.used }
 
 -- until it is decoded, its decoder is one for its plans that began no segment
 pub record IsReadyAlone (r : Inside) : Type 0 where
-  pub plans : r.decoder.plans ≡ all_plans r.view
-  pub fresh : r.used ≡ false → r.decoder.begun ≡ 0
+  pub plans : r.lone.decoder.plans ≡ all_plans r.view
+  pub fresh : r.used ≡ false → r.lone.decoder.begun ≡ 0

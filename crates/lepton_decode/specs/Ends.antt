@@ -7,8 +7,6 @@ use Rattle.output_board.specs.declared.view.EmitterView.{EmitterView}
 use Rattle.output_board.specs.declared.view.WorkerView.{WorkerView}
 use Rattle.outside_core.specs.Written.{HasWritten, HasFailed}
 use Rattle.segment_worker.specs.Emitting.{IsThrough}
-use Rattle.segment_worker.specs.declared.emitted.Emitted.{Emitted}
-use Rattle.segment_worker.specs.declared.emitted.EmitStop.{EmitStop}
 use Rattle.segment_crew.specs.Crews.{CrewSeen, Member}
 use Rattle.lepton_decode.specs.declared.error.DecodeError.{DecodeError}
 use Rattle.lepton_decode.specs.declared.error.DecodeError.TheVariants.{WriteFault, Fault, PadSpelling, ChunkShort}
@@ -67,16 +65,3 @@ HaveLeft team (Err PadSpelling) = All (λ member. member.view.left ≡ true) tea
 HaveLeft team (Err ChunkShort) = All (λ member. member.view.left ≡ true) team
 HaveLeft team (Err (Fault fault)) = All (λ member. member.view.left ≡ true) team
 HaveLeft team (Err (WriteFault written)) = Unit {0}
-
--- what a decode may answer by how its emitter ended: it is whole only if all segments were written
-abbrev pub Follows : Result Emitted EmitStop → Result ℕ DecodeError → Type 0
-Follows (Ok emitted) (Ok written) = Unit {0}
-Follows (Ok emitted) (Err PadSpelling) = Unit {0}
-Follows (Ok emitted) (Err ChunkShort) = Unit {0}
-Follows (Ok emitted) (Err (Fault fault)) = ⊥
-Follows (Ok emitted) (Err (WriteFault written)) = Unit {0}
-Follows (Err stop) (Ok written) = ⊥
-Follows (Err stop) (Err PadSpelling) = ⊥
-Follows (Err stop) (Err ChunkShort) = ⊥
-Follows (Err stop) (Err (Fault fault)) = Unit {0}
-Follows (Err stop) (Err (WriteFault written)) = Unit {0}

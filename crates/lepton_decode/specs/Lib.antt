@@ -1,4 +1,4 @@
-pub mod Chunked
+pub mod Played
 pub mod Ends
 pub mod ReadyInside
 pub mod AloneInside

@@ -1,7 +1,7 @@
 -- View: the value of a container that is ready, and its invariant (own).
 use Rattle.std.specs.Prelude.{◌≡◌, false, IfNone, IfSome}
 use Rattle.box_format.specs.Containers.{segment_count}
-use Rattle.lepton_decode.specs.Chunked.{whole}
+use Rattle.lepton_decode.specs.Played.{whole}
 use Rattle.lepton_decode.specs.Ends.{ReadySeen}
 use Rattle.lepton_decode.specs.declared.ready.Ready.TheInside.{Inside}
 

@@ -2,18 +2,15 @@
 ghost use Rattle.std.specs.Prelude.{◌≡◌, ◌≤◌, IfOk, IsErrOf, false, true};
 ghost use Rattle.box_format.specs.declared.refusal.BoxRefusal.{BoxRefusal};
 ghost use Rattle.outside_core.specs.Takes.{TakesNext};
-ghost use Rattle.box_format.specs.Containers.{IsContainer, all_plans};
+ghost use Rattle.box_format.specs.Containers.{IsContainer};
 ghost use Rattle.box_format.specs.Checks.{IsRefused};
-ghost use Rattle.container_spec.specs.Portions.{scans_meaning};
 ghost use Rattle.lepton_decode.specs.Ends.{Ends, lone_meaning_in};
 
 use crate::error::DecodeError;
-use crate::file_parts::{put_before, put_rest, rows_window};
-use bit_list::Piece;
+use crate::playing::{Lone, play_alone};
+use crate::portion::meant;
 use box_format::{BoxRefusal, FileView, ReadError, read_container};
 use outside_core::{Gate, Sink};
-use segment_code::FileDecoder;
-use segment_worker::emit_alone;
 use std::alloc::Global;
 use std::marker::Model;
 
@@ -23,8 +20,7 @@ use std::marker::Model;
 #[derive(Drop)]
 pub struct ReadyAlone<'a> {
     pub(crate) view: FileView<'a>,
-    pub(crate) decoder: FileDecoder<'a>,
-    pub(crate) piece: Piece,
+    pub(crate) lone: Lone<'a>,
     pub(crate) used: bool,
 }
 
@@ -61,12 +57,10 @@ pub fn prepare_alone(alloc: Global, bytes: &[u8]) -> Result<ReadyAlone<'_>, Read
         Ok(view) => view,
         Err(error) => return Err(error),
     };
-    let decoder = FileDecoder::prepare(alloc, view.plans())?;
-    let piece = Piece::new(alloc)?;
+    let lone = Lone::prepare(alloc, &view)?;
     Ok(ReadyAlone {
         view,
-        decoder,
-        piece,
+        lone,
         used: false,
     })
 }
@@ -91,38 +85,6 @@ pub fn run_alone<K: Sink, G: Gate>(
     ensures lasting { K.faults sink.old ≤ K.faults sink.new }
 {
     ready.used = true;
-    restore_alone(
-        &ready.view,
-        &mut ready.decoder,
-        &mut ready.piece,
-        sink,
-        gate,
-    )
-}
-
-// What comes before the segments, what the container has of them, and the trailer.
-fn restore_alone<'a, K: Sink, G: Gate>(
-    view: &FileView<'a>,
-    decoder: &mut FileDecoder<'a>,
-    piece: &mut Piece,
-    sink: &mut K,
-    gate: &G,
-) -> Result<u64, DecodeError>
-    requires plans { decoder.old.plans ≡ all_plans view.now }
-    requires fresh { decoder.old.begun ≡ 0 }
-    requires takes { TakesNext K.takes sink.old
-        (scans_meaning view.now).bytes }
-    ensures ends { Ends K.held K.takes K.faults K.full sink.old sink.new
-        (scans_meaning view.now) result }
-    ensures plans { decoder.new.plans ≡ decoder.old.plans }
-    ensures lasting { K.faults sink.old ≤ K.faults sink.new }
-{
-    let before = match put_before(view, sink) {
-        Ok(before) => before,
-        Err(written) => return Err(DecodeError::WriteFault { written }),
-    };
-    let window = rows_window(view);
-    let segments = view.segments();
-    let emitted = emit_alone(decoder, piece, view, window, sink, gate, 0, segments);
-    put_rest(view, before, window, emitted, sink)
+    let (kind, portion) = meant(&ready.view);
+    play_alone(&ready.view, kind, &portion, &mut ready.lone, sink, gate)
 }

@@ -1,18 +1,26 @@
 // A container that is ready to be decoded.
-ghost use Rattle.std.specs.Prelude.{List, ◌≡◌, ◌+◌, ◌*◌, ◌/◌, ◌^◌, ◌<◌, ◌≤◌, IfOk, IfSome, IsErrOf, false, is_some, length, max, min, nat_lt};
+ghost use Rattle.std.specs.Prelude.{List, ◌≡◌, ◌+◌, ◌*◌, ◌/◌, ◌^◌, ◌<◌, ◌≤◌, All, IfOk, IfSome, IsErrOf, false, is_some, length, max, min, nat_lt, true};
+ghost use Rattle.outside_core.specs.Takes.{TakesNext};
 ghost use Rattle.box_format.specs.Parts.{BoxSeen};
 ghost use Rattle.box_format.specs.declared.refusal.BoxRefusal.{BoxRefusal};
 ghost use Rattle.box_format.specs.Containers.{IsContainer, segment_count};
 ghost use Rattle.box_format.specs.Checks.{IsRefused};
+ghost use Rattle.segment_worker.specs.Contents.{stretch};
+ghost use Rattle.segment_crew.specs.Crews.{HasBegunItsClaims};
 ghost use Rattle.segment_crew.specs.Worth.{workers_worth};
-ghost use Rattle.lepton_decode.specs.Chunked.{whole};
-ghost use Rattle.lepton_decode.specs.Ends.{team_in};
+ghost use Rattle.lepton_decode.specs.Ends.{Ends, HasEmitted, HaveLeft, meaning_in, team_in};
 
+use crate::error::DecodeError;
+use crate::playing::{play, play_bare};
+use crate::portion::meant;
 use box_format::{BoxRefusal, FileView, ReadError, read_container, segments_named};
 use growth::NoMemory;
+use outside_core::{Gate, Sink};
 use segment_crew::{Crew, workers_worth};
 use std::alloc::Global;
 use std::marker::Model;
+use std::sync::Wait;
+use std::thread::Threads;
 
 /// A container that is ready to be decoded, once: its scans, and if it has a segment, its board with the seats, and all
 /// the memory that decoding needs.
@@ -67,7 +75,7 @@ pub fn prepare(alloc: Global, bytes: &[u8], workers: u8, ring: u32) -> Result<Re
         Ok(view) => view,
         Err(error) => return Err(error),
     };
-    let crew = crew_for(alloc, &view, workers, ring)?;
+    let crew = crew_for(alloc, &view, 0, view.segments(), workers, ring)?;
     Ok(Ready {
         view,
         crew,
@@ -101,7 +109,7 @@ pub fn prepare_worth(
         Err(why) => return Err(why),
     };
     let workers = workers_worth(&view, view.segments(), most);
-    let crew = crew_for(alloc, &view, workers, ring)?;
+    let crew = crew_for(alloc, &view, 0, view.segments(), workers, ring)?;
     Ok(Ready {
         view,
         crew,
@@ -109,30 +117,70 @@ pub fn prepare_worth(
     })
 }
 
-// The crew of all of a container's segments, if it has one: no more workers than segments.
+/// The crew of `count` of a container's segments, from number `first` on, if there is one: no more workers than
+/// segments.
 #[inline(never)]
-fn crew_for<'a>(
+pub fn crew_for<'a>(
     alloc: Global,
     view: &FileView<'a>,
+    first: u8,
+    count: u8,
     workers: u8,
     ring: u32,
 ) -> Result<Option<Crew<'a>>, NoMemory>
-    requires { 1 ≤ ring }
-    ensures some { IfOk result (λ crew.
-        is_some crew ≡ nat_lt 0 (segment_count view.now)) }
-    ensures whole { IfOk result (λ crew. IfSome crew (λ made. made.segments ≡ whole view.now)) }
+    requires ring { 1 ≤ ring }
+    requires within { first + count ≤ segment_count view.now }
+    ensures some { IfOk result (λ crew. is_some crew ≡ nat_lt 0 count) }
+    ensures segments { IfOk result (λ crew.
+        IfSome crew (λ made. made.segments ≡ stretch view.now first count)) }
     ensures fresh { IfOk result (λ crew. IfSome crew (λ made. made.used ≡ false)) }
-    ensures team { IfOk result (λ crew.
-        length (team_in crew) ≡ min workers (segment_count view.now)) }
+    ensures team { IfOk result (λ crew. length (team_in crew) ≡ min workers count) }
     ensures rings { IfOk result (λ crew.
         IfSome crew (λ made. made.emitter.view.capacity ≡ ring)) }
 {
-    let segments = view.segments();
-    if segments == 0 {
+    if count == 0 {
         return Ok(None);
     }
-    let crew = Crew::prepare(alloc, view, 0, segments, workers, ring)?;
+    let crew = Crew::prepare(alloc, view, first, count, workers, ring)?;
     Ok(Some(crew))
+}
+
+/// Writes the file or the chunk that a container stands for, or if a segment's stream has a fault, the bytes before it,
+/// or what there is of a chunk whose segments have too few bytes. It returns how many bytes these are, whatever the
+/// number of workers and the order of their calls. It asks no allocator for memory. If a thread can't be had, it does
+/// without.
+///
+/// At each moment, also while the call is under way, what was written is a prefix of the bytes that the container
+/// stands for, since the sink need take nothing else.
+///
+/// The gate is called before each segment that the emitter asks for, and before and after each put of a worker.
+pub fn run<R: Threads + Wait + Sync, K: Sink + Send, G: Gate + Sync>(
+    ready: &mut Ready,
+    rt: &R,
+    sink: &mut K,
+    gate: &G,
+) -> Result<u64, DecodeError>
+    requires fresh { ready.old.used ≡ false }
+    requires takes { TakesNext K.takes sink.old (meaning_in ready.old).bytes }
+    ensures ends { Ends K.held K.takes K.faults K.full sink.old sink.new (meaning_in ready.old) result }
+    // If there is a board, what the emitter's seat knows then of it, and that each worker has left it.
+    ensures emitted { IfSome ready.new.crew (λ crew.
+        HasEmitted (segment_count ready.old.scans) crew.emitter.view result) }
+    ensures left { IfSome ready.new.crew (λ crew. HaveLeft crew.team result) }
+    // And that the emitter and each worker began as many segments as it claimed.
+    ensures begun { IfSome ready.new.crew (λ crew.
+        HasBegunItsClaims crew.emitter × All HasBegunItsClaims crew.team) }
+    ensures crew { is_some ready.new.crew ≡ is_some ready.old.crew }
+    ensures team { length (team_in ready.new.crew) ≡ length (team_in ready.old.crew) }
+    ensures used { ready.new.used ≡ true }
+    ensures lasting { K.faults sink.old ≤ K.faults sink.new }
+{
+    ready.used = true;
+    let (kind, portion) = meant(&ready.view);
+    match &mut ready.crew {
+        Some(crew) => play(rt, &ready.view, kind, &portion, crew, sink, gate),
+        None => play_bare(&ready.view, kind, &portion, sink),
+    }
 }
 
 /// The least ring that `ample_ring` gives: 64 KiB.

@@ -2,7 +2,7 @@ use Rattle.std.proofs.Common.{true, false, ◌∙◌, sym, ap₂}
 use Rattle.scan_spec.specs.Pads.{PadBits, is_spelled}
 use Rattle.handover.specs.declared.pads.PadSum.{PadSum}
 use Rattle.lepton_decode.proofs.PadsLooked.{spelled_next}
-use Rattle.lepton_decode.proofs.file_parts.are_all_spelled.Goals as goal
+use Rattle.lepton_decode.proofs.around.are_all_spelled.Goals as goal
 
 pub returns-then-not-is_spelled : goal.returns-then-not-is_spelled
 returns-then-not-is_spelled c =
