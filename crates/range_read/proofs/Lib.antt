@@ -2,8 +2,7 @@ pub mod KeptPlaces
 pub mod GoodParts
 mod RangePortions
 pub mod RestoredRanges
-mod RangeWritten
-mod StretchRead
+mod RangesPlayed
 mod CountedSteps
 mod MeasuredSegments
 mod FoundPlaces

@@ -1,19 +1,39 @@
 -- A range as a portion, by its segments one after another.
-use Rattle.std.proofs.Common.{◌≡◌, ℕ, List, [], ◌∷◌, Option, Some, None, refl, ap, ◌∙◌, arith, append_assoc}
+use Rattle.std.proofs.Common.{◌≡◌, ℕ, ◌-◌, List, [], ◌∷◌, ◌++◌, map, Option, Some, None, refl, ap, ◌∙◌, arith, append_assoc}
+use Rattle.byte_window.specs.Slices.{Cover}
 use Rattle.byte_window.specs.Windows.{window}
 use Rattle.jpeg_marker.specs.Plans.{PlanFields}
 use Rattle.handover.specs.declared.outcome.StreamFault.{StreamFault}
 use Rattle.box_format.specs.Parts.{BoxParts, BoxSeen}
-use Rattle.container_spec.specs.AloneMeanings.{Joined}
-use Rattle.container_spec.specs.Meanings.{Meaning}
+use Rattle.box_format.specs.Raws.{numbers}
+use Rattle.container_spec.specs.Segments.{segment_output}
+use Rattle.container_spec.specs.AloneMeanings.{Joined, joined}
+use Rattle.container_spec.specs.Meanings.{Meaning, segment_in}
 use Rattle.container_spec.specs.Portions.{OfRange, ending_by}
 use Rattle.container_spec.specs.ScanByScan.{joined_alone}
 use Rattle.container_spec.specs.ScansJoined.{ScansJoined}
 use Rattle.container_spec.proofs.OneScans.{one_is_joined}
 use Rattle.byte_window.specs.PartedFiles.{PartedFile, parts_within, begun_within, window_within, header_within, trailer_within}
 use Rattle.range_read.specs.RangeMeanings.{RangeMeaning, fault_in, placed_file, range_meaning, range_portion}
-use Rattle.range_read.specs.RangeSteps.{joined_between, range_by, segments_read}
 use Rattle.byte_window.proofs.PartedFacts.{parts_are_in_file}
+
+-- segments from one to before another, one after another
+abbrev pub joined_between : PlanFields → BoxParts → Cover → Joined
+joined_between plan b c =
+    joined (map (λ i. segment_output (segment_in plan b i)) (numbers c.from (c.to - c.from)))
+
+-- by the first fault of the segments: the trailer's part comes only if there is none
+abbrev pub range_by : PartedFile → ℕ → ℕ → List ℕ → Option StreamFault → RangeMeaning
+range_by f from to read (Some fault) = record {
+  bytes = header_within f from to ++ read;
+  fault = Some fault;
+  begun = begun_within f from to;
+}
+range_by f from to read None = record {
+  bytes = header_within f from to ++ (read ++ trailer_within f from to);
+  fault = None;
+  begun = begun_within f from to;
+}
 
 abbrev as_range : ℕ → Meaning → RangeMeaning
 as_range begun m = record { bytes = m.bytes; fault = fault_in m.verdict; begun = begun }
@@ -31,8 +51,9 @@ range_end scans f from to j None =
 
 pub as_read : (plan : PlanFields) (b : BoxParts) (from to : ℕ)
     → range_meaning plan b from to
-    ≡ range_by (placed_file plan b) from to (segments_read plan b from to).bytes
-    (segments_read plan b from to).fault
+    ≡ (let f = placed_file plan b in
+    let all = joined_between plan b (parts_within f from to) in
+    range_by f from to (window (window_within f from to) all.bytes) all.fault)
 unfolding range_meaning
 as_read plan b from to =
     let s : BoxSeen = record { plan = plan; parts = b } in

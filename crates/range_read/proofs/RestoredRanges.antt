@@ -19,8 +19,7 @@ use Rattle.byte_window.specs.PartedFiles.{PartedFile, IsPlaced, file_bytes, part
 use Rattle.byte_window.proofs.BegunParts.{list_is_placed, one_more}
 use Rattle.byte_window.proofs.PartedFacts.{parts_are_in_file, place_rises, slice_of_file}
 use Rattle.range_read.specs.RangeMeanings.{places_of, placed_file, is_bad_range, range_meaning}
-use Rattle.range_read.specs.RangeSteps.{joined_between, range_by}
-use Rattle.range_read.proofs.RangePortions.{as_read}
+use Rattle.range_read.proofs.RangePortions.{as_read, joined_between, range_by}
 use Rattle.range_read.specs.RangeMeaningLaws.{StandsFor, EndIsKept, RangeIsSlice}
 use Rattle.range_read.proofs.KeptPlaces.{AreKeptPlaces, no_chunk, kept_places, segments_long}
 use Rattle.range_read.proofs.GoodParts.{IsPart, good_bytes, good_part, numbers_between}

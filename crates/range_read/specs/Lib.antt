@@ -1,5 +1,4 @@
 pub mod RangeMeanings
-pub mod RangeSteps
 pub mod RangeMeaningLaws
 pub mod RangeMeaningRows
 pub mod IndexEnds

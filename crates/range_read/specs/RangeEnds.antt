@@ -2,14 +2,15 @@
 use Rattle.std.specs.Prelude.{ℕ, ◌≡◌, Bool, List, [], ◌∷◌, length, Option, Some, None, Result, Ok, Err}
 use Rattle.jpeg_marker.specs.Plans.{PlanFields}
 use Rattle.box_format.specs.Parts.{BoxParts, BoxSeen}
-use Rattle.output_board.specs.declared.view.WorkerView.{WorkerView}
 use Rattle.byte_window.specs.PartedFiles.{begun_within, parts_within}
-use Rattle.segment_crew.specs.Crews.{CrewSeen, Member}
+use Rattle.segment_crew.specs.Crews.{CrewSeen}
 use Rattle.segment_crew.specs.Worth.{workers_worth}
 use Rattle.segment_worker.specs.Contents.{Stretch, stretch}
 use Rattle.outside_core.specs.Written.{HasWritten, HasFailed}
 use Rattle.segment_worker.specs.declared.emitted.EmitStop.{EmitStop}
 use Rattle.segment_worker.specs.declared.emitted.EmitStop.TheVariants.{Fault, WriteFault}
+use Rattle.lepton_decode.specs.declared.error.DecodeError.{DecodeError}
+use Rattle.lepton_decode.specs.declared.error.DecodeError.TheVariants as errors
 use Rattle.range_read.specs.RangeMeanings.{RangeMeaning, placed_file, range_meaning}
 use Rattle.range_read.specs.declared.reading.Ranged.{Ranged}
 
@@ -62,10 +63,21 @@ abbrev pub workers_in : RangeSeen → ℕ → ℕ
 workers_in ready most =
     workers_worth (record { plan = ready.plan; parts = ready.parts } ∷ []) (stretch_in ready).count most
 
--- what is seen of each worker; nothing if there is no crew
-abbrev pub team_in : Option CrewSeen → List (Member WorkerView)
-team_in None = []
-team_in (Some crew) = crew.team
+-- how a portion that is a range may end: nothing is asked of its pad bits or of its length
+abbrev pub CanEndRange : Result ℕ DecodeError → Type 0
+CanEndRange (Ok written) = Unit {0}
+CanEndRange (Err (errors.WriteFault written)) = Unit {0}
+CanEndRange (Err (errors.Fault fault)) = Unit {0}
+CanEndRange (Err errors.PadSpelling) = ⊥
+CanEndRange (Err errors.ChunkShort) = ⊥
+
+-- the same of the range, with so many segments
+abbrev pub IsRanged : ℕ → Result ℕ DecodeError → Result Ranged EmitStop → Type 0
+IsRanged begun (Ok written) result = result ≡ Ok (record { written = written; begun = begun })
+IsRanged begun (Err (errors.WriteFault written)) result = result ≡ Err (WriteFault written)
+IsRanged begun (Err (errors.Fault fault)) result = result ≡ Err (Fault fault)
+IsRanged begun (Err errors.PadSpelling) result = ⊥
+IsRanged begun (Err errors.ChunkShort) result = ⊥
 
 module _ {Sink : Type 0} (held : Sink → Option (List ℕ))
     (takes : Sink → List ℕ → Type 0) (faults : Sink → ℕ) (full : Sink → Type 0) where

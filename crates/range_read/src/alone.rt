@@ -7,29 +7,21 @@ ghost use Rattle.box_format.specs.Single.{IsBoxOf};
 ghost use Rattle.box_format.specs.Versions.{IsRead, ranged};
 ghost use Rattle.box_format.specs.declared.refusal.BoxRefusal.{BoxRefusal};
 ghost use Rattle.outside_core.specs.Takes.{TakesNext};
-ghost use Rattle.range_read.specs.RangeEnds.{RangeEnds, lone_range_in, lone_stretch_in, stretch_between};
-ghost use Rattle.range_read.specs.RangeMeanings.{is_bad_range, range_meaning};
+ghost use Rattle.range_read.specs.RangeEnds.{RangeEnds, lone_range_in, lone_stretch_in};
+ghost use Rattle.range_read.specs.RangeMeanings.{is_bad_range};
 
-use crate::bounds::{segments_within, window_within};
+use crate::bounds::segments_within;
 use crate::error::RangeError;
 use crate::one_scan::OneScan;
-use crate::parts::{put_header, put_trailer};
-use crate::reading::{Ranged, read_bare};
+use crate::portion::range_portion;
+use crate::reading::{Ranged, as_range};
 use crate::ready::read_ranged;
-use bit_list::Piece;
 use growth::NoMemory;
+use lepton_decode::{Kind, Lone, play_alone, play_bare};
 use outside_core::{Gate, Sink};
-use segment_code::FileDecoder;
-use segment_worker::{EmitStop, emit_alone};
+use segment_worker::EmitStop;
 use std::alloc::Global;
 use std::marker::Model;
-
-// What decodes segments on one thread: a decoder, and a piece of bytes that it fills.
-#[derive(Drop)]
-pub(crate) struct Lone<'a> {
-    pub(crate) decoder: FileDecoder<'a>,
-    pub(crate) piece: Piece,
-}
 
 /// A range of a container's file that is ready to be read on one thread, once: the container's parts, and if a segment
 /// has a place in the range, all the memory that decoding needs.
@@ -115,9 +107,8 @@ fn lone_for<'a>(alloc: Global, scan: &OneScan<'a>, count: u8) -> Result<Option<L
     if count == 0 {
         return Ok(None);
     }
-    let decoder = FileDecoder::prepare(alloc, scan.file().plans())?;
-    let piece = Piece::new(alloc)?;
-    Ok(Some(Lone { decoder, piece }))
+    let lone = Lone::prepare(alloc, scan.file())?;
+    Ok(Some(lone))
 }
 
 /// Writes what `run_range` writes, and answers what it answers, on the calling thread. Nothing in it waits, so it
@@ -146,61 +137,13 @@ pub fn run_range_alone<K: Sink, G: Gate>(
     ensures lasting { K.faults sink.old ≤ K.faults sink.new }
 {
     ready.used = true;
+    let portion = range_portion(ready.scan.view(), ready.from, ready.to);
+    let view = ready.scan.file();
     match &mut ready.lone {
-        Some(lone) => read_alone(
-            &ready.scan,
-            ready.from,
-            ready.to,
-            &mut lone.decoder,
-            &mut lone.piece,
-            sink,
-            gate,
-        ),
-        None => read_bare(ready.scan.view(), ready.from, ready.to, sink),
+        Some(lone) => {
+            let ended = play_alone(view, Kind::Range, &portion, lone, sink, gate);
+            as_range(ended, portion.count)
+        }
+        None => as_range(play_bare(view, Kind::Range, &portion, sink), portion.count),
     }
-}
-
-// What the range has of the header, of the segments and of the trailer.
-#[inline(never)]
-fn read_alone<'a, K: Sink, G: Gate>(
-    scan: &OneScan<'a>,
-    from: u64,
-    to: u64,
-    decoder: &mut FileDecoder<'a>,
-    piece: &mut Piece,
-    sink: &mut K,
-    gate: &G,
-) -> Result<Ranged, EmitStop>
-    requires good { is_bad_range scan.now.parts from to ≡ false }
-    requires plans { decoder.old.plans ≡ scan.now.plan ∷ [] }
-    requires fresh { decoder.old.begun ≡ 0 }
-    requires takes { TakesNext K.takes sink.old
-        (range_meaning scan.now.plan scan.now.parts from to).bytes }
-    ensures ends { RangeEnds K.held K.takes K.faults K.full sink.old sink.new
-        (range_meaning scan.now.plan scan.now.parts from to) result }
-    ensures begun { IfOk result (λ ranged. decoder.new.begun ≡ ranged.begun) }
-    ensures most { decoder.new.begun ≤ (stretch_between scan.now from to).count }
-    ensures plans { decoder.new.plans ≡ decoder.old.plans }
-    ensures lasting { K.faults sink.old ≤ K.faults sink.new }
-{
-    let view = scan.view();
-    let before = match put_header(view, from, to, sink) {
-        Ok(before) => before,
-        Err(written) => return Err(EmitStop::WriteFault { written }),
-    };
-    let segments = segments_within(view, from, to);
-    let window = window_within(view, segments, from, to);
-    let first = segments.0;
-    let count = segments.1 - first;
-    let emitted = emit_alone(
-        decoder,
-        piece,
-        scan.file(),
-        window,
-        sink,
-        gate,
-        first,
-        count,
-    );
-    put_trailer(view, from, to, before, count, emitted, sink)
 }

@@ -3,13 +3,13 @@
 //!
 //!     index   container --segments decoded, in at most 16 lanes--> lengths --> places --> container of version 5
 //!
-//!     range   from .. to --places--> the segments with a place in it --a crew for these alone--> window --> sink
-//!             before them the header's part, and after them the trailer's
+//!     range   from .. to --places--> the segments with a place in it, a window on their bytes, and the parts of header
+//!             and trailer: a portion --play, with a crew for these segments alone--> sink
 //!
 //!     alone   both on the calling thread, segment after segment: nothing waits
 //!
-//! Which segments a range needs, and what of them goes into it, is found by `byte_window`. What a crew does:
-//! `segment_crew`.
+//! Which segments a range needs, and what of them goes into it, is found by `byte_window`. How a portion is written:
+//! `lepton_decode`. What a crew does: `segment_crew`.
 #![tactic(auto)]
 
 mod alone;
@@ -20,7 +20,7 @@ mod lanes;
 mod laws;
 mod measure;
 mod one_scan;
-mod parts;
+mod portion;
 mod reading;
 mod ready;
 mod tasks;

@@ -2,18 +2,14 @@
 ghost use Rattle.std.specs.Prelude.{◌≡◌, ◌≤◌, All, IfSome, false, is_some, length, true};
 ghost use Rattle.outside_core.specs.Takes.{TakesNext};
 ghost use Rattle.segment_crew.specs.Crews.{HasBegunItsClaims};
-ghost use Rattle.range_read.specs.RangeEnds.{RangeEnds, range_in, stretch_between, stretch_in, team_in};
-ghost use Rattle.range_read.specs.RangeMeanings.{is_bad_range, range_meaning};
+ghost use Rattle.lepton_decode.specs.Ends.{team_in};
+ghost use Rattle.range_read.specs.RangeEnds.{CanEndRange, IsRanged, RangeEnds, range_in, stretch_in};
 
-use crate::bounds::{segments_within, window_within};
-use crate::one_scan::OneScan;
-use crate::parts::{put_header, put_trailer};
+use crate::portion::range_portion;
 use crate::ready::ReadyRange;
-use box_format::BoxView;
-use container_spec::ScanPads;
+use lepton_decode::{DecodeError, Kind, play, play_bare};
 use outside_core::{Gate, Sink};
-use segment_crew::Crew;
-use segment_worker::{EmitStop, Emitted};
+use segment_worker::EmitStop;
 use std::sync::Wait;
 use std::thread::Threads;
 
@@ -56,79 +52,27 @@ pub fn run_range<R: Threads + Wait + Sync, K: Sink + Send, G: Gate + Sync>(
     ensures lasting { K.faults sink.old ≤ K.faults sink.new }
 {
     ready.used = true;
+    let portion = range_portion(ready.scan.view(), ready.from, ready.to);
+    let view = ready.scan.file();
     match &mut ready.crew {
-        Some(crew) => read(rt, &ready.scan, ready.from, ready.to, crew, sink, gate),
-        None => read_bare(ready.scan.view(), ready.from, ready.to, sink),
+        Some(crew) => {
+            let ended = play(rt, view, Kind::Range, &portion, crew, sink, gate);
+            as_range(ended, portion.count)
+        }
+        None => as_range(play_bare(view, Kind::Range, &portion, sink), portion.count),
     }
 }
 
-// What the range has of the header, of the segments and of the trailer.
-fn read<'a, R: Threads + Wait + Sync, K: Sink + Send, G: Gate + Sync>(
-    rt: &R,
-    scan: &OneScan<'a>,
-    from: u64,
-    to: u64,
-    crew: &mut Crew<'a>,
-    sink: &mut K,
-    gate: &G,
-) -> Result<Ranged, EmitStop>
-    requires good { is_bad_range scan.now.parts from to ≡ false }
-    requires fresh { crew.old.used ≡ false }
-    requires segments { crew.old.segments ≡ stretch_between scan.now from to }
-    requires takes { TakesNext K.takes sink.old
-        (range_meaning scan.now.plan scan.now.parts from to).bytes }
-    ensures ends { RangeEnds K.held K.takes K.faults K.full sink.old sink.new
-        (range_meaning scan.now.plan scan.now.parts from to) result }
-    ensures emitter { HasBegunItsClaims crew.new.emitter }
-    ensures team { All HasBegunItsClaims crew.new.team }
-    ensures count { length crew.new.team ≡ length crew.old.team }
-    ensures segments { crew.new.segments ≡ crew.old.segments }
-    ensures lasting { K.faults sink.old ≤ K.faults sink.new }
+/// A portion that is a range, with `begun` segments, ended like this.
+pub(crate) fn as_range(ended: Result<u64, DecodeError>, begun: u8) -> Result<Ranged, EmitStop>
+    requires { CanEndRange ended }
+    ensures { IsRanged begun ended result }
 {
-    // Called for its clauses: before the crew is used, too, each began as many segments as it claimed.
-    let _used = crew.used();
-    let view = scan.view();
-    let before = match put_header(view, from, to, sink) {
-        Ok(before) => before,
-        Err(written) => return Err(EmitStop::WriteFault { written }),
-    };
-    let segments = segments_within(view, from, to);
-    let window = window_within(view, segments, from, to);
-    let emitted = crew.emit(rt, scan.file(), window, sink, gate);
-    put_trailer(
-        view,
-        from,
-        to,
-        before,
-        segments.1 - segments.0,
-        emitted,
-        sink,
-    )
-}
-
-/// Writes what a range has of the header and of the trailer, if no segment has a place in it.
-pub(crate) fn read_bare<K: Sink>(
-    view: &BoxView,
-    from: u64,
-    to: u64,
-    sink: &mut K,
-) -> Result<Ranged, EmitStop>
-    requires good { is_bad_range view.now.parts from to ≡ false }
-    requires none { (stretch_between view.now from to).count ≡ 0 }
-    requires takes { TakesNext K.takes sink.old
-        (range_meaning view.now.plan view.now.parts from to).bytes }
-    ensures ends { RangeEnds K.held K.takes K.faults K.full sink.old sink.new
-        (range_meaning view.now.plan view.now.parts from to) result }
-    ensures lasting { K.faults sink.old ≤ K.faults sink.new }
-{
-    let before = match put_header(view, from, to, sink) {
-        Ok(before) => before,
-        Err(written) => return Err(EmitStop::WriteFault { written }),
-    };
-    let emitted = Emitted {
-        bytes: 0,
-        came: 0,
-        pads: ScanPads::none(),
-    };
-    put_trailer(view, from, to, before, 0, Ok(emitted), sink)
+    match ended {
+        Ok(written) => Ok(Ranged { written, begun }),
+        Err(DecodeError::WriteFault { written }) => Err(EmitStop::WriteFault { written }),
+        Err(DecodeError::Fault(fault)) => Err(EmitStop::Fault(fault)),
+        Err(DecodeError::PadSpelling) => unreachable!(),
+        Err(DecodeError::ChunkShort) => unreachable!(),
+    }
 }

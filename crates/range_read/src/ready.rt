@@ -1,20 +1,20 @@
 // A range of a container's file that is ready to be read.
-ghost use Rattle.std.specs.Prelude.{[], ◌∷◌, ◌≡◌, ◌+◌, ◌≤◌, IfOk, IfSome, IsErrOf, false, is_some, length, min, nat_lt, true};
+ghost use Rattle.std.specs.Prelude.{◌≡◌, ◌≤◌, IfOk, IfSome, IsErrOf, false, is_some, length, min, nat_lt, true};
 ghost use Rattle.jpeg_marker.specs.Plans.{PlanFields};
 ghost use Rattle.box_format.specs.Checks.{IsRefusedBy};
 ghost use Rattle.box_format.specs.Parts.{BoxParts};
 ghost use Rattle.box_format.specs.Single.{IsBoxOf};
 ghost use Rattle.box_format.specs.Versions.{IsRead, ranged};
 ghost use Rattle.box_format.specs.declared.refusal.BoxRefusal.{BoxRefusal};
-ghost use Rattle.segment_worker.specs.Contents.{stretch};
-ghost use Rattle.range_read.specs.RangeEnds.{stretch_in, team_in, workers_in};
+ghost use Rattle.lepton_decode.specs.Ends.{team_in};
+ghost use Rattle.range_read.specs.RangeEnds.{stretch_in, workers_in};
 ghost use Rattle.range_read.specs.RangeMeanings.{is_bad_range};
 
 use crate::bounds::{is_bad_range, segments_within};
 use crate::error::RangeError;
 use crate::one_scan::OneScan;
 use box_format::{ReadError, Version};
-use growth::NoMemory;
+use lepton_decode::crew_for;
 use segment_crew::{Crew, workers_worth};
 use std::alloc::Global;
 use std::marker::Model;
@@ -93,7 +93,7 @@ pub fn prepare_range(
         Err(error) => return Err(error),
     };
     let (first, past) = segments_within(scan.view(), from, to);
-    let crew = crew_for(alloc, &scan, first, past - first, workers, ring)?;
+    let crew = crew_for(alloc, scan.file(), first, past - first, workers, ring)?;
     Ok(ReadyRange {
         scan,
         from,
@@ -139,7 +139,7 @@ pub fn prepare_range_worth(
     };
     let (first, past) = segments_within(scan.view(), from, to);
     let workers = workers_worth(scan.file(), past - first, most);
-    let crew = crew_for(alloc, &scan, first, past - first, workers, ring)?;
+    let crew = crew_for(alloc, scan.file(), first, past - first, workers, ring)?;
     Ok(ReadyRange {
         scan,
         from,
@@ -174,31 +174,4 @@ pub(crate) fn read_ranged(
         return Err(RangeError::RangeBad);
     }
     Ok(scan)
-}
-
-// The crew of `count` of a container's segments, from number `first` on, if there is one.
-#[inline(never)]
-fn crew_for<'a>(
-    alloc: Global,
-    scan: &OneScan<'a>,
-    first: u8,
-    count: u8,
-    workers: u8,
-    ring: u32,
-) -> Result<Option<Crew<'a>>, NoMemory>
-    requires ring { 1 ≤ ring }
-    requires within { first + count ≤ length scan.now.parts.handovers }
-    ensures some { IfOk result (λ crew. is_some crew ≡ nat_lt 0 count) }
-    ensures segments { IfOk result (λ crew.
-        IfSome crew (λ made. made.segments ≡ stretch (scan.now ∷ []) first count)) }
-    ensures fresh { IfOk result (λ crew. IfSome crew (λ made. made.used ≡ false)) }
-    ensures team { IfOk result (λ crew. length (team_in crew) ≡ min workers count) }
-    ensures rings { IfOk result (λ crew.
-        IfSome crew (λ made. made.emitter.view.capacity ≡ ring)) }
-{
-    if count == 0 {
-        return Ok(None);
-    }
-    let crew = Crew::prepare(alloc, scan.file(), first, count, workers, ring)?;
-    Ok(Some(crew))
 }
