@@ -9,7 +9,7 @@ use Rattle.byte_window.proofs.WindowParts.{through_none}
 use Rattle.handover.specs.declared.outcome.StreamFault.{StreamFault}
 use Rattle.box_format.specs.Parts.{BoxSeen, rows_most}
 use Rattle.container_spec.specs.Meanings.{Meaning, Restored, PadSpelled, ChunkShort}
-use Rattle.container_spec.specs.Portions.{Portion, begun, ending_by, good_end, played}
+use Rattle.container_spec.specs.Portions.{Portion, begun, ending_by, faultless_end, played}
 use Rattle.container_spec.specs.ScansJoined.{ScansJoined, first_header, scanned_from, scans_joined}
 use Rattle.segment_worker.specs.Contents.{Stretch}
 use Rattle.segment_worker.specs.declared.emitted.Emitted.{Emitted}
@@ -37,7 +37,7 @@ chunk_after false begun after = refl
 -- without a fault it ends so
 good_is : (kind : Kind) (scans : List BoxSeen) (p : Portion) (all : ScansJoined)
     → IsWindowed kind scans p
-    → good_end (kind_of kind) scans p all
+    → faultless_end (kind_of kind) scans p all
     ≡ good_after (falls_short kind p.within (length all.bytes)) (are_spelled kind scans all.padded) (begun p all)
     p.after
 good_is File scans p all windowed = refl

@@ -7,10 +7,9 @@ use Rattle.handover.specs.declared.outcome.StreamFault.{StreamFault}
 use Rattle.box_format.specs.Parts.{BoxParts, BoxSeen}
 use Rattle.box_format.specs.Raws.{numbers}
 use Rattle.container_spec.specs.Segments.{segment_output}
-use Rattle.container_spec.specs.AloneMeanings.{Joined, joined}
+use Rattle.container_spec.specs.AloneMeanings.{Joined, joined, joined_alone}
 use Rattle.container_spec.specs.Meanings.{Meaning, segment_in}
 use Rattle.container_spec.specs.Portions.{OfRange, ending_by}
-use Rattle.container_spec.specs.ScanByScan.{joined_alone}
 use Rattle.container_spec.specs.ScansJoined.{ScansJoined}
 use Rattle.container_spec.proofs.OneScans.{one_is_joined}
 use Rattle.byte_window.specs.PartedFiles.{PartedFile, parts_within, begun_within, window_within, header_within, trailer_within}
