@@ -137,7 +137,7 @@ pub fn run_range_alone<K: Sink, G: Gate>(
     ensures lasting { K.faults sink.old ≤ K.faults sink.new }
 {
     ready.used = true;
-    let portion = range_portion(ready.scan.view(), ready.from, ready.to);
+    let portion = range_portion(&ready.scan, ready.from, ready.to);
     let view = ready.scan.file();
     match &mut ready.lone {
         Some(lone) => {

@@ -4,15 +4,16 @@ ghost use Rattle.byte_window.specs.Slices.{slice};
 ghost use Rattle.range_read.specs.RangeMeanings.{placed_file, range_portion};
 
 use crate::bounds::{place_of, segments_within, window_within};
-use box_format::BoxView;
+use crate::one_scan::OneScan;
 use byte_window::Window;
 use lepton_decode::Portion;
 
 /// What the range from one place to before another has of the header, of the segments and of the trailer.
-pub(crate) fn range_portion<'a>(view: &BoxView<'a>, from: u64, to: u64) -> Portion<'a>
+pub(crate) fn range_portion<'a>(scan: &OneScan<'a>, from: u64, to: u64) -> Portion<'a>
     requires { from ≤ to }
-    ensures { result ≡ range_portion (placed_file view.now.plan view.now.parts) from to }
+    ensures { result ≡ range_portion (placed_file scan.now.plan scan.now.parts) from to }
 {
+    let view = scan.view();
     let end = place_of(view, view.segments());
     let segments = segments_within(view, from, to);
     let within = window_within(view, segments, from, to);

@@ -52,7 +52,7 @@ pub fn run_range<R: Threads + Wait + Sync, K: Sink + Send, G: Gate + Sync>(
     ensures lasting { K.faults sink.old ≤ K.faults sink.new }
 {
     ready.used = true;
-    let portion = range_portion(ready.scan.view(), ready.from, ready.to);
+    let portion = range_portion(&ready.scan, ready.from, ready.to);
     let view = ready.scan.file();
     match &mut ready.crew {
         Some(crew) => {

@@ -1,62 +1,44 @@
-use Rattle.std.proofs.Common.{◌∙◌, ap, subst, sym, ℕ}
+use Rattle.std.proofs.Common.{ap, subst, sym, ℕ}
 use Rattle.outside_core.specs.Takes.{TakesNext}
-use Rattle.box_format.specs.Parts.{BoxSeen}
 use Rattle.container_spec.specs.Portions.{Portion}
-use Rattle.range_read.specs.RangeEnds.{IsRanged, LoneRangeSeen, RangeEnds, lone_range_in}
-use Rattle.range_read.specs.RangeMeanings.{placed_file, range_portion}
+use Rattle.range_read.specs.RangeEnds.{IsRanged, LoneRangeSeen, lone_range_in}
 use Rattle.range_read.proofs.RangesPlayed.{range_ends, range_taken, range_within}
 use Rattle.range_read.proofs.alone.run_range_alone.Goals.{in-Some, in-None}
 use Rattle.range_read.proofs.alone.run_range_alone.Goals as goal
 
 pub play_alone-ended-requires-clause-within : goal.play_alone-ended-requires-clause-within
 play_alone-ended-requires-clause-within g c =
-    let its = c.range_portion-portion.ensures
-    ∙ ap (λ (s : BoxSeen). range_portion (placed_file s.plan s.parts) c.ready.inside.from c.ready.inside.to)
-    c.view.ensures in
     range_within c.ready.inside.scan c.ready.inside.from c.ready.inside.to c.file-view.result.now
-    c.range_portion-portion.result c.file-view.ensures its
+    c.range_portion-portion.result c.file-view.ensures c.range_portion-portion.ensures
 
 pub play_alone-ended-requires-clause-takes : goal.play_alone-ended-requires-clause-takes
 play_alone-ended-requires-clause-takes g c =
-    let its = c.range_portion-portion.ensures
-    ∙ ap (λ (s : BoxSeen). range_portion (placed_file s.plan s.parts) c.ready.inside.from c.ready.inside.to)
-    c.view.ensures in
     range_taken c.ready.inside.scan c.ready.inside.from c.ready.inside.to c.file-view.result.now
-    c.range_portion-portion.result c.file-view.ensures its g.K.Sink.held g.K.Sink.takes g.K.Sink.faults
+    c.range_portion-portion.result c.file-view.ensures c.range_portion-portion.ensures g.K.Sink.held g.K.Sink.takes g.K.Sink.faults
     g.K.Sink.full c.args.sink.now
     (subst (λ (ready : LoneRangeSeen). TakesNext g.K.Sink.takes c.args.sink.now (lone_range_in ready).bytes)
     (sym c.ready.view_is) c.requires.takes)
 
 pub play_bare-requires-clause-takes : goal.play_bare-requires-clause-takes
 play_bare-requires-clause-takes g c =
-    let its = c.range_portion-portion.ensures
-    ∙ ap (λ (s : BoxSeen). range_portion (placed_file s.plan s.parts) c.ready.inside.from c.ready.inside.to)
-    c.view.ensures in
     range_taken c.ready.inside.scan c.ready.inside.from c.ready.inside.to c.file-view.result.now
-    c.range_portion-portion.result c.file-view.ensures its g.K.Sink.held g.K.Sink.takes g.K.Sink.faults
+    c.range_portion-portion.result c.file-view.ensures c.range_portion-portion.ensures g.K.Sink.held g.K.Sink.takes g.K.Sink.faults
     g.K.Sink.full c.args.sink.now
     (subst (λ (ready : LoneRangeSeen). TakesNext g.K.Sink.takes c.args.sink.now (lone_range_in ready).bytes)
     (sym c.ready.view_is) c.requires.takes)
 
 pub returns-clause-ends : goal.returns-clause-ends
 returns-clause-ends g c =
-    let its = c.range_portion-portion.ensures
-    ∙ ap (λ (s : BoxSeen). range_portion (placed_file s.plan s.parts) c.ready.inside.from c.ready.inside.to)
-    c.view.ensures in
     let count = ap (λ (p : Portion). p.count) c.portion.view_is in
     elim c.match-ready.branch [
       | in-Some w ↦
-          subst (λ (ready : LoneRangeSeen). RangeEnds g.K.Sink.held g.K.Sink.takes g.K.Sink.faults g.K.Sink.full c.args.sink.now c.match-ready.sink (lone_range_in ready) c.match-ready.result)
-          c.ready.view_is
-          (rw (w.sink-is, w.result-is) (range_ends c.ready.inside.scan c.ready.inside.from c.ready.inside.to
-          c.file-view.result.now c.range_portion-portion.result c.file-view.ensures its g.K.Sink.held g.K.Sink.takes
+          rw (w.sink-is, w.result-is, sym c.ready.view_is) (range_ends c.ready.inside.scan c.ready.inside.from c.ready.inside.to
+          c.file-view.result.now c.range_portion-portion.result c.file-view.ensures c.range_portion-portion.ensures g.K.Sink.held g.K.Sink.takes
           g.K.Sink.faults g.K.Sink.full c.args.sink.now w.play_alone-ended.new.sink w.play_alone-ended.result w.as_range.result w.play_alone-ended.ensures.ends
-          (subst (λ (n : ℕ). IsRanged n w.play_alone-ended.result w.as_range.result) count w.as_range.ensures)))
+          (subst (λ (n : ℕ). IsRanged n w.play_alone-ended.result w.as_range.result) count w.as_range.ensures))
       | in-None w ↦
-          subst (λ (ready : LoneRangeSeen). RangeEnds g.K.Sink.held g.K.Sink.takes g.K.Sink.faults g.K.Sink.full c.args.sink.now c.match-ready.sink (lone_range_in ready) c.match-ready.result)
-          c.ready.view_is
-          (rw (w.sink-is, w.result-is) (range_ends c.ready.inside.scan c.ready.inside.from c.ready.inside.to
-          c.file-view.result.now c.range_portion-portion.result c.file-view.ensures its g.K.Sink.held g.K.Sink.takes
+          rw (w.sink-is, w.result-is, sym c.ready.view_is) (range_ends c.ready.inside.scan c.ready.inside.from c.ready.inside.to
+          c.file-view.result.now c.range_portion-portion.result c.file-view.ensures c.range_portion-portion.ensures g.K.Sink.held g.K.Sink.takes
           g.K.Sink.faults g.K.Sink.full c.args.sink.now w.play_bare.new.sink w.play_bare.result w.as_range-in-None.result w.play_bare.ensures.ends
-          (subst (λ (n : ℕ). IsRanged n w.play_bare.result w.as_range-in-None.result) count w.as_range-in-None.ensures)))
+          (subst (λ (n : ℕ). IsRanged n w.play_bare.result w.as_range-in-None.result) count w.as_range-in-None.ensures))
     ]
