@@ -34,7 +34,7 @@ chunk_after : (short : Bool) (begun after : List ℕ)
 chunk_after true begun after = refl
 chunk_after false begun after = refl
 
--- without a fault it ends so
+-- its end without a fault, by whether bytes are missing and whether pad bits are spelled
 good_is : (kind : Kind) (scans : List BoxSeen) (p : Portion) (all : ScansJoined)
     → IsWindowed kind scans p
     → faultless_end (kind_of kind) scans p all
@@ -78,7 +78,7 @@ module _ (kind : Kind) (scans : List BoxSeen) (p : Portion) (windowed : IsWindow
   pub first_bytes : (more : List ℕ) × (m.bytes ≡ p.before ++ (rows ++ more))
   first_bytes = bytes_by all.fault
 
-  -- and where no segment has one, by what was counted
+  -- if no segment has a fault, it ends so, by what was counted
   pub good : (e : Emitted) (short spelled : Bool) → IsEmitted scans p e
       → falls_short kind p.within e.came ≡ short → are_spelled kind scans e.pads ≡ spelled
       → m ≡ good_after short spelled (begun p all) p.after

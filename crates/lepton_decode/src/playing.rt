@@ -22,7 +22,8 @@ use std::sync::Wait;
 use std::thread::Threads;
 
 /// Writes a portion whose segments a crew decodes, or if one of them has a fault, the bytes before it. It returns how
-/// many bytes it wrote.
+/// many bytes it wrote. It asks no allocator for memory. At each moment what was written is a prefix of what the portion
+/// stands for, since the sink need take nothing else.
 ///
 /// The gate is called before each segment that the emitter asks for, and before and after each put of a worker.
 pub fn play<'a, R: Threads + Wait + Sync, K: Sink + Send, G: Gate + Sync>(
