@@ -19,14 +19,12 @@ use crate::writing::write_made;
 use box_format::ReadError;
 use chunk_cut::{CutError, cut_chunk};
 use command_words::Command;
-use lepton_decode::{
-    DecodeError, Ready, ReadyAlone, ample_ring, prepare_alone, prepare_worth, run_alone,
-};
+use lepton_decode::{DecodeError, ample_ring, prepare_alone, prepare_worth, run, run_alone};
 use lepton_encode::EncodeError;
 use outside_core::{Gate, Sink};
 use range_read::{
-    IndexError, RangeError, Ranged, ReadyRange, ReadyRangeAlone, prepare_range_alone,
-    prepare_range_worth, run_range, run_range_alone,
+    IndexError, RangeError, Ranged, prepare_range_alone, prepare_range_worth, run_range,
+    run_range_alone,
 };
 use segment_worker::EmitStop;
 use std::alloc::Global;
@@ -101,7 +99,8 @@ fn encode<R: Threads + Sync, K: Sink>(
     write_made(made.as_slice(), sink)
 }
 
-// The file or the chunk of a container, decoded by `workers` threads beside this one.
+// The file or the chunk of a container, decoded by `workers` threads beside this one. All memory is allocated before
+// the first byte is written.
 #[inline(never)]
 fn decode<R: Threads + Wait + Sync, K: Sink + Send, G: Gate + Sync>(
     rt: &R,
@@ -122,25 +121,7 @@ fn decode<R: Threads + Wait + Sync, K: Sink + Send, G: Gate + Sync>(
         Err(ReadError::Box(refusal)) => return Ending::Refused(Refusal::Box(refusal)),
         Err(ReadError::NoMemory(short)) => return Ending::NoMemory(short),
     };
-    restore(rt, &mut ready, sink, gate)
-}
-
-// The file or the chunk of a container that is ready. Whatever memory this needs was allocated before.
-#[inline(never)]
-fn restore<R: Threads + Wait + Sync, K: Sink + Send, G: Gate + Sync>(
-    rt: &R,
-    ready: &mut Ready,
-    sink: &mut K,
-    gate: &G,
-) -> Ending
-    requires fresh { ready.old.used ≡ false }
-    requires takes { TakesNext K.takes sink.old (meaning_in ready.old).bytes }
-    ensures ends { (answer : Result ℕ DecodeError) × (result ≡ decode_ending answer)
-        × Ends K.held K.takes K.faults K.full sink.old sink.new (meaning_in ready.old) answer }
-    ensures memory { ¬ IsNoMemory result }
-    ensures lasting { K.faults sink.old ≤ K.faults sink.new }
-{
-    let ended = lepton_decode::run(ready, rt, sink, gate);
+    let ended = run(&mut ready, rt, sink, gate);
     ending_by(ended)
 }
 
@@ -158,20 +139,7 @@ fn decode_alone<K: Sink, G: Gate>(alloc: Global, bytes: &[u8], sink: &mut K, gat
         Err(ReadError::Box(refusal)) => return Ending::Refused(Refusal::Box(refusal)),
         Err(ReadError::NoMemory(short)) => return Ending::NoMemory(short),
     };
-    restore_alone(&mut ready, sink, gate)
-}
-
-// The file or the chunk of a container that is ready. Whatever memory this needs was allocated before.
-#[inline(never)]
-fn restore_alone<K: Sink, G: Gate>(ready: &mut ReadyAlone, sink: &mut K, gate: &G) -> Ending
-    requires fresh { ready.old.used ≡ false }
-    requires takes { TakesNext K.takes sink.old (lone_meaning_in ready.old).bytes }
-    ensures ends { (answer : Result ℕ DecodeError) × (result ≡ decode_ending answer)
-        × Ends K.held K.takes K.faults K.full sink.old sink.new (lone_meaning_in ready.old) answer }
-    ensures memory { ¬ IsNoMemory result }
-    ensures lasting { K.faults sink.old ≤ K.faults sink.new }
-{
-    let ended = run_alone(ready, sink, gate);
+    let ended = run_alone(&mut ready, sink, gate);
     ending_by(ended)
 }
 
@@ -271,25 +239,7 @@ fn range<R: Threads + Wait + Sync, K: Sink + Send, G: Gate + Sync>(
         Err(RangeError::RangeBad) => return Ending::Refused(Refusal::RangeBad),
         Err(RangeError::NoMemory(short)) => return Ending::NoMemory(short),
     };
-    read_range(rt, &mut ready, sink, gate)
-}
-
-// A range that is ready. Whatever memory this needs was allocated before.
-#[inline(never)]
-fn read_range<R: Threads + Wait + Sync, K: Sink + Send, G: Gate + Sync>(
-    rt: &R,
-    ready: &mut ReadyRange,
-    sink: &mut K,
-    gate: &G,
-) -> Ending
-    requires fresh { ready.old.used ≡ false }
-    requires takes { TakesNext K.takes sink.old (range_in ready.old).bytes }
-    ensures ends { (answer : Result Ranged EmitStop) × (result ≡ range_ending answer)
-        × RangeEnds K.held K.takes K.faults K.full sink.old sink.new (range_in ready.old) answer }
-    ensures memory { ¬ IsNoMemory result }
-    ensures lasting { K.faults sink.old ≤ K.faults sink.new }
-{
-    let ended = run_range(ready, rt, sink, gate);
+    let ended = run_range(&mut ready, rt, sink, gate);
     range_ended_by(ended)
 }
 
@@ -316,21 +266,7 @@ fn range_alone<K: Sink, G: Gate>(
         Err(RangeError::RangeBad) => return Ending::Refused(Refusal::RangeBad),
         Err(RangeError::NoMemory(short)) => return Ending::NoMemory(short),
     };
-    read_range_alone(&mut ready, sink, gate)
-}
-
-// A range that is ready. Whatever memory this needs was allocated before.
-#[inline(never)]
-fn read_range_alone<K: Sink, G: Gate>(ready: &mut ReadyRangeAlone, sink: &mut K, gate: &G) -> Ending
-    requires fresh { ready.old.used ≡ false }
-    requires takes { TakesNext K.takes sink.old (lone_range_in ready.old).bytes }
-    ensures ends { (answer : Result Ranged EmitStop) × (result ≡ range_ending answer)
-        × RangeEnds K.held K.takes K.faults K.full sink.old sink.new (lone_range_in ready.old)
-        answer }
-    ensures memory { ¬ IsNoMemory result }
-    ensures lasting { K.faults sink.old ≤ K.faults sink.new }
-{
-    let ended = run_range_alone(ready, sink, gate);
+    let ended = run_range_alone(&mut ready, sink, gate);
     range_ended_by(ended)
 }
 

@@ -18,14 +18,14 @@ returns-in-Err-Box-clause-ending g c =
 pub returns-clause-ending : goal.returns-clause-ending
 returns-clause-ending g c =
     subst (λ (ending : Ending). CarriedOut g.K.Sink.held g.K.Sink.faults g.K.Sink.full
-    (Decode c.args.workers) c.args.bytes.now c.args.sink.now c.restore.new.sink ending)
-    (sym c.restore.ensures.ends.1)
-    (ended g.K.Sink.held g.K.Sink.faults g.K.Sink.full c.args.sink.now c.restore.new.sink
+    (Decode c.args.workers) c.args.bytes.now c.args.sink.now c.run-ended.new.sink ending)
+    (sym c.ending_by.ensures.ending)
+    (ended g.K.Sink.held g.K.Sink.faults g.K.Sink.full c.args.sink.now c.run-ended.new.sink
     c.args.bytes.now (all_bytes c.args.bytes.now (λ i. search rules)) g.K.Sink.takes c.args.workers c.requires.short
-    c.in-Ok.ready.scans c.in-Ok.ensures.ready c.restore.ensures.ends.0 c.restore.ensures.ends.2)
+    c.in-Ok.ready.scans c.in-Ok.ensures.ready c.run-ended.result c.run-ended.ensures.ends)
 
-pub restore-requires-clause-takes : goal.restore-requires-clause-takes
-restore-requires-clause-takes g c κs within =
+pub run-ended-requires-clause-takes : goal.run-ended-requires-clause-takes
+run-ended-requires-clause-takes g c κs within =
     meaning_taken g.K.Sink.held g.K.Sink.faults g.K.Sink.full c.args.sink.now c.args.sink.now
     c.args.bytes.now (all_bytes c.args.bytes.now (λ i. search rules)) g.K.Sink.takes c.args.workers c.requires.short
     c.in-Ok.ready.scans c.in-Ok.ensures.ready c.requires.takes

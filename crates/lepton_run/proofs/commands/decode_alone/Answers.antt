@@ -18,14 +18,14 @@ returns-in-Err-Box-clause-ending g c =
 pub returns-clause-ending : goal.returns-clause-ending
 returns-clause-ending g c =
     subst (λ (ending : Ending). CarriedOut g.K.Sink.held g.K.Sink.faults g.K.Sink.full
-    (Decode 0) c.args.bytes.now c.args.sink.now c.restore_alone.new.sink ending)
-    (sym c.restore_alone.ensures.ends.1)
-    (ended g.K.Sink.held g.K.Sink.faults g.K.Sink.full c.args.sink.now c.restore_alone.new.sink
+    (Decode 0) c.args.bytes.now c.args.sink.now c.run_alone-ended.new.sink ending)
+    (sym c.ending_by.ensures.ending)
+    (ended g.K.Sink.held g.K.Sink.faults g.K.Sink.full c.args.sink.now c.run_alone-ended.new.sink
     c.args.bytes.now (all_bytes c.args.bytes.now (λ i. search rules)) g.K.Sink.takes 0 c.requires.short
-    c.in-Ok.ready.scans c.in-Ok.ensures.ready c.restore_alone.ensures.ends.0 c.restore_alone.ensures.ends.2)
+    c.in-Ok.ready.scans c.in-Ok.ensures.ready c.run_alone-ended.result c.run_alone-ended.ensures.ends)
 
-pub restore_alone-requires-clause-takes : goal.restore_alone-requires-clause-takes
-restore_alone-requires-clause-takes g c =
+pub run_alone-ended-requires-clause-takes : goal.run_alone-ended-requires-clause-takes
+run_alone-ended-requires-clause-takes g c =
     meaning_taken g.K.Sink.held g.K.Sink.faults g.K.Sink.full c.args.sink.now c.args.sink.now
     c.args.bytes.now (all_bytes c.args.bytes.now (λ i. search rules)) g.K.Sink.takes 0 c.requires.short
     c.in-Ok.ready.scans c.in-Ok.ensures.ready c.requires.takes

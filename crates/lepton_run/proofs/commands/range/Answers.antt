@@ -39,22 +39,21 @@ returns-clause-ending g c =
     let r = c.in-Ok.ensures in
     let plan = c.in-Ok.ready.plan in
     let parts = c.in-Ok.ready.parts in
-    let came = c.read_range.ensures.ends in
     let ended : RangeEnds g.K.Sink.held g.K.Sink.takes g.K.Sink.faults g.K.Sink.full c.args.sink.now
-    c.read_range.new.sink (range_meaning plan parts c.args.from c.args.to) came.0 =
+    c.run_range-ended.new.sink (range_meaning plan parts c.args.from c.args.to) c.run_range-ended.result =
     subst (λ (n : ℕ). RangeEnds g.K.Sink.held g.K.Sink.takes g.K.Sink.faults g.K.Sink.full c.args.sink.now
-    c.read_range.new.sink (range_meaning plan parts n c.args.to) came.0) r.from
+    c.run_range-ended.new.sink (range_meaning plan parts n c.args.to) c.run_range-ended.result) r.from
     (subst (λ (n : ℕ). RangeEnds g.K.Sink.held g.K.Sink.takes g.K.Sink.faults g.K.Sink.full c.args.sink.now
-    c.read_range.new.sink (range_meaning plan parts c.in-Ok.ready.from n) came.0) r.to came.2) in
+    c.run_range-ended.new.sink (range_meaning plan parts c.in-Ok.ready.from n) c.run_range-ended.result) r.to c.run_range-ended.ensures.ends) in
     subst (λ (ending : Ending). CarriedOut g.K.Sink.held g.K.Sink.faults g.K.Sink.full
-    (Range c.args.from c.args.to c.args.workers) c.args.bytes.now c.args.sink.now c.read_range.new.sink ending)
-    (sym came.1)
+    (Range c.args.from c.args.to c.args.workers) c.args.bytes.now c.args.sink.now c.run_range-ended.new.sink ending)
+    (sym c.range_ended_by.ensures.ending)
     (range_ended g.K.Sink.held g.K.Sink.faults g.K.Sink.full g.K.Sink.takes c.args.sink.now
-    c.read_range.new.sink c.args.bytes.now (box_are plan parts c.args.bytes.now r.ready) c.args.from
-    c.args.to c.args.workers c.requires.short plan parts r.ready r.version r.good came.0 ended)
+    c.run_range-ended.new.sink c.args.bytes.now (box_are plan parts c.args.bytes.now r.ready) c.args.from
+    c.args.to c.args.workers c.requires.short plan parts r.ready r.version r.good c.run_range-ended.result ended)
 
-pub read_range-requires-clause-takes : goal.read_range-requires-clause-takes
-read_range-requires-clause-takes g c κs within =
+pub run_range-ended-requires-clause-takes : goal.run_range-ended-requires-clause-takes
+run_range-ended-requires-clause-takes g c κs within =
     let r = c.in-Ok.ensures in
     let plan = c.in-Ok.ready.plan in
     let parts = c.in-Ok.ready.parts in
