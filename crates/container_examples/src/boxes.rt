@@ -4,6 +4,7 @@ ghost use Rattle.box_format.specs.Single.{IsBox, box_bytes};
 ghost use Rattle.box_format.specs.Versions.{layout_of};
 
 use crate::pads::are_told;
+use crate::parts::{HEADER, HIGHER, ONE_MARKER, START, TWO_BITS, TWO_INTERVALS, ZEROS};
 use box_format::{
     BoxRefusal, BoxView, Chunk, Migrate, Parts, ReadError, Version, migrate, read_box,
     write_container,
@@ -35,50 +36,14 @@ const SECOND: &[u8] = b"LPSG\x02\x01\x01\0\0\0\x45\0\0\0\x02\0\0\0\0";
 
 const SECOND_OF_TWO: &[u8] = b"LPSG\x02\x01\x02\0\0\0\x45\0\0\0\x02\0\0\0\0";
 
-// A record: nothing is begun, and three bytes follow as the stream.
-const RECORD: &[u8] = b"\0\0\0\0\0\0\0\0\0\0\0\0\0\0\0\0\0\0\0\0\0\x03";
-
-// One restart marker comes before.
-const ONE_MARKER: &[u8] = b"\0\0\0\0\0\0\0\0\0\0\0\0\0\x01\0\0\0\0\0\0\0\x03";
-
-// Two bits are begun.
-const TWO_BITS: &[u8] = b"\0\x02\0\0\0\0\0\0\0\0\0\0\0\0\0\0\0\0\0\0\0\x03";
-
-// One component, 8 or 16 by 8 samples, with one code word in each table.
-const EIGHT_HIGH: &[u8] = b"\xff\xd8\xff\xc0\0\x0b\x08\0\x08\0\x08\x01\x01\x11\0";
-
-const SIXTEEN_HIGH: &[u8] = b"\xff\xd8\xff\xc0\0\x0b\x08\0\x10\0\x08\x01\x01\x11\0";
-
-// A restart after each MCU.
-const RESTARTS: &[u8] = b"\xff\xdd\0\x04\0\x01";
-
-// Its tables and its scan.
-const REST: &[u8] = &[
-    0xff, 0xc4, 0x00, 0x14, 0x00, 0x01, 0x00, 0x00, 0x00, 0x00, 0x00, 0x00, 0x00, 0x00, 0x00, 0x00, //
-    0x00, 0x00, 0x00, 0x00, 0x00, 0x00, //
-    0xff, 0xc4, 0x00, 0x14, 0x10, 0x01, 0x00, 0x00, 0x00, 0x00, 0x00, 0x00, 0x00, 0x00, 0x00, 0x00, //
-    0x00, 0x00, 0x00, 0x00, 0x00, 0x00, //
-    0xff, 0xda, 0x00, 0x08, 0x01, 0x01, 0x00, 0x00, 0x3f, 0x00, //
-];
-
-const ZEROS: &[u8] = b"\0\0\0";
-
 const TAIL: &[u8] = b"\xff\xd9\0\0\0";
 
 const TAKEN: &[Taken] = &[
-    (
-        FRONT,
-        SECOND,
-        &[RECORD, EIGHT_HIGH, REST, TAIL],
-        (1, 0),
-        1,
-        69,
-        ZEROS,
-    ),
+    (FRONT, SECOND, &[START, HEADER, TAIL], (1, 0), 1, 69, ZEROS),
     (
         FRONT_OF_TWO,
         SECOND_OF_TWO,
-        &[RECORD, TWO_BITS, SIXTEEN_HIGH, REST, TAIL, b"\0\0\x07"],
+        &[START, TWO_BITS, HIGHER, TAIL, b"\0\0\x07"],
         (1, 0),
         2,
         69,
@@ -89,10 +54,9 @@ const TAKEN: &[Taken] = &[
         b"LPSG\x01\0\x02\0\0\0\x45\0\0\0\0",
         b"LPSG\x02\0\x02\0\0\0\x45\0\0\0\0\0\0\0\0",
         &[
-            RECORD,
+            START,
             b"\x40\x02\x7f\xff\0\0\0\0\0\0\0\0\0\0\0\0\0\0\0\0\0\0",
-            SIXTEEN_HIGH,
-            REST,
+            HIGHER,
             ZEROS,
         ],
         (0, 0),
@@ -104,16 +68,7 @@ const TAKEN: &[Taken] = &[
     (
         b"",
         b"LPSG\x02\x02\x02\0\0\0\x4b\0\0\0\x02\0\0\0\x01",
-        &[
-            RECORD,
-            ONE_MARKER,
-            b"\x80",
-            SIXTEEN_HIGH,
-            RESTARTS,
-            REST,
-            TAIL,
-            ZEROS,
-        ],
+        &[START, ONE_MARKER, b"\x80", TWO_INTERVALS, TAIL, ZEROS],
         (2, 0x80),
         2,
         75,

@@ -2,6 +2,12 @@
 // segments.
 ghost use Rattle.std.specs.Prelude.{◌≤◌};
 
+use crate::parts::{
+    AT_69, AT_70, AT_71, AT_75, AT_78, AT_81, AT_82, FIVE_ZEROS, FOUR_BITS, HEADER, HIGHER,
+    HIGHEST, ONE_MARKER, SIX_BITS, SIXTY_FOUR_HIGH, START, START_OF_EIGHT, START_OF_FIVE,
+    THREE_BITS, THREE_INTERVALS, TRAILER, TWO_BITS, TWO_INTERVALS, TWO_MARKERS, WITH_RESTARTS,
+    ZEROS,
+};
 use handover::StreamCause;
 use lepton_decode::{DecodeError, prepare, run};
 use outside_core::{MemSink, OpenGate};
@@ -39,87 +45,6 @@ const FRONT_OF_SIXTY_FOUR: &[u8] = b"LPSG\x02\x01\x40\0\0\0\x45\0\0\0\x02\0\0\0\
 const FRONT_OF_TWO_PLACES: &[u8] = b"LPSG\x05\x01\x02\0\0\0\x45\0\0\0\x02\0\0\0\0";
 
 const FRONT_OF_THREE_PLACES: &[u8] = b"LPSG\x05\x01\x03\0\0\0\x4b\0\0\0\x02\0\0\0\0";
-
-// A record: nothing begun, two, three, four or six bits, one restart marker or two before; and a stream of three bytes,
-// or of the five that four blocks take, or of eight.
-const START: &[u8] = b"\0\0\0\0\0\0\0\0\0\0\0\0\0\0\0\0\0\0\0\0\0\x03";
-
-const START_OF_EIGHT: &[u8] = b"\0\0\0\0\0\0\0\0\0\0\0\0\0\0\0\0\0\0\0\0\0\x08";
-
-const START_OF_FIVE: &[u8] = b"\0\0\0\0\0\0\0\0\0\0\0\0\0\0\0\0\0\0\0\0\0\x05";
-
-const TWO_BITS: &[u8] = b"\0\x02\0\0\0\0\0\0\0\0\0\0\0\0\0\0\0\0\0\0\0\x03";
-
-const THREE_BITS: &[u8] = b"\0\x03\0\0\0\0\0\0\0\0\0\0\0\0\0\0\0\0\0\0\0\x03";
-
-const FOUR_BITS: &[u8] = b"\0\x04\0\0\0\0\0\0\0\0\0\0\0\0\0\0\0\0\0\0\0\x03";
-
-const SIX_BITS: &[u8] = b"\0\x06\0\0\0\0\0\0\0\0\0\0\0\0\0\0\0\0\0\0\0\x03";
-
-const ONE_MARKER: &[u8] = b"\0\0\0\0\0\0\0\0\0\0\0\0\0\x01\0\0\0\0\0\0\0\x03";
-
-const TWO_MARKERS: &[u8] = b"\0\0\0\0\0\0\0\0\0\0\0\0\0\x02\0\0\0\0\0\0\0\x03";
-
-// A place in the file: of the scan's end, which is the last field of version 5, or of a segment's first byte, which
-// ends a record there.
-const AT_69: &[u8] = b"\0\0\0\0\0\0\0\x45";
-
-const AT_70: &[u8] = b"\0\0\0\0\0\0\0\x46";
-
-const AT_71: &[u8] = b"\0\0\0\0\0\0\0\x47";
-
-const AT_75: &[u8] = b"\0\0\0\0\0\0\0\x4b";
-
-const AT_78: &[u8] = b"\0\0\0\0\0\0\0\x4e";
-
-const AT_81: &[u8] = b"\0\0\0\0\0\0\0\x51";
-
-const AT_82: &[u8] = b"\0\0\0\0\0\0\0\x52";
-
-// Headers of one component, 8 by 8, 8 by 16 and 8 by 32 samples, with one code word in each table; and of one of 8 by
-// 24, or 8 by 16, with a restart after each MCU.
-const HEADER: &[u8] = b"\xff\xd8\xff\xc0\0\x0b\x08\0\x08\0\x08\x01\x01\x11\0\
-    \xff\xc4\0\x14\0\x01\0\0\0\0\0\0\0\0\0\0\0\0\0\0\0\0\
-    \xff\xc4\0\x14\x10\x01\0\0\0\0\0\0\0\0\0\0\0\0\0\0\0\0\
-    \xff\xda\0\x08\x01\x01\0\0\x3f\0";
-
-const HIGHER: &[u8] = b"\xff\xd8\xff\xc0\0\x0b\x08\0\x10\0\x08\x01\x01\x11\0\
-    \xff\xc4\0\x14\0\x01\0\0\0\0\0\0\0\0\0\0\0\0\0\0\0\0\
-    \xff\xc4\0\x14\x10\x01\0\0\0\0\0\0\0\0\0\0\0\0\0\0\0\0\
-    \xff\xda\0\x08\x01\x01\0\0\x3f\0";
-
-const HIGHEST: &[u8] = b"\xff\xd8\xff\xc0\0\x0b\x08\0\x20\0\x08\x01\x01\x11\0\
-    \xff\xc4\0\x14\0\x01\0\0\0\0\0\0\0\0\0\0\0\0\0\0\0\0\
-    \xff\xc4\0\x14\x10\x01\0\0\0\0\0\0\0\0\0\0\0\0\0\0\0\0\
-    \xff\xda\0\x08\x01\x01\0\0\x3f\0";
-
-const WITH_RESTARTS: &[u8] = b"\xff\xd8\xff\xc0\0\x0b\x08\0\x18\0\x08\x01\x01\x11\0\
-    \xff\xc4\0\x14\0\x01\0\0\0\0\0\0\0\0\0\0\0\0\0\0\0\0\
-    \xff\xc4\0\x14\x10\x01\0\0\0\0\0\0\0\0\0\0\0\0\0\0\0\0\
-    \xff\xdd\0\x04\0\x01\xff\xda\0\x08\x01\x01\0\0\x3f\0";
-
-const TWO_INTERVALS: &[u8] = b"\xff\xd8\xff\xc0\0\x0b\x08\0\x10\0\x08\x01\x01\x11\0\
-    \xff\xc4\0\x14\0\x01\0\0\0\0\0\0\0\0\0\0\0\0\0\0\0\0\
-    \xff\xc4\0\x14\x10\x01\0\0\0\0\0\0\0\0\0\0\0\0\0\0\0\0\
-    \xff\xdd\0\x04\0\x01\xff\xda\0\x08\x01\x01\0\0\x3f\0";
-
-// 8 by 96 samples, a restart after four MCUs, and differences of 0 and of 1.
-const THREE_INTERVALS: &[u8] = b"\xff\xd8\xff\xc0\0\x0b\x08\0\x60\0\x08\x01\x01\x11\0\
-    \xff\xc4\0\x15\0\x02\0\0\0\0\0\0\0\0\0\0\0\0\0\0\0\0\x01\
-    \xff\xc4\0\x14\x10\x01\0\0\0\0\0\0\0\0\0\0\0\0\0\0\0\0\
-    \xff\xdd\0\x04\0\x04\xff\xda\0\x08\x01\x01\0\0\x3f\0";
-
-// 8 by 512 samples.
-const SIXTY_FOUR_HIGH: &[u8] = b"\xff\xd8\xff\xc0\0\x0b\x08\x02\0\0\x08\x01\x01\x11\0\
-    \xff\xc4\0\x14\0\x01\0\0\0\0\0\0\0\0\0\0\0\0\0\0\0\0\
-    \xff\xc4\0\x14\x10\x01\0\0\0\0\0\0\0\0\0\0\0\0\0\0\0\0\
-    \xff\xda\0\x08\x01\x01\0\0\x3f\0";
-
-const TRAILER: &[u8] = b"\xff\xd9";
-
-const ZEROS: &[u8] = b"\0\0\0";
-
-const FIVE_ZEROS: &[u8] = b"\0\0\0\0\0";
 
 const SIXTEEN_ZEROS: &[u8] = b"\0\0\0\0\0\0\0\0\0\0\0\0\0\0\0\0";
 

@@ -10,6 +10,8 @@ mod decoded;
 #[cfg(test)]
 mod pads;
 #[cfg(test)]
+mod parts;
+#[cfg(test)]
 mod starts;
 #[cfg(test)]
 mod steps;

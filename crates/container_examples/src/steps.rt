@@ -4,6 +4,10 @@ ghost use Rattle.handover.specs.declared.outcome.Outcome.{Outcome};
 ghost use Rattle.segment_code.specs.Decoding.{Owes};
 
 use crate::pads::number_of;
+use crate::parts::{
+    AT_69, AT_70, FIVE_ZEROS, HEADER, HIGHER, ONE_MARKER, START, START_OF_FIVE, THREE_BITS,
+    TWO_BITS, TWO_INTERVALS, ZEROS,
+};
 use bit_list::Piece;
 use box_format::{BoxView, read_box};
 use handover::StreamCause;
@@ -37,192 +41,94 @@ const FRONT_WITH_PLACES: &[u8] = b"LPSG\x05\x01\x02\0\0\0\x45\0\0\0\0\0\0\0\0\0\
 // A header of 75 bytes.
 const LONGER_FRONT: &[u8] = b"LPSG\x01\x01\x01\0\0\0\x4b\0\0\0\0";
 
-// Nothing, two bits and three bits are begun.
-const START: &[u8] = b"\0\0\0\0\0\0\0\0\0\0\0\0\0\0";
+// A record of which nothing is begun, with a stream of no byte, of one, of six or of seven.
+const START_OF_NONE: &[u8] = b"\0\0\0\0\0\0\0\0\0\0\0\0\0\0\0\0\0\0\0\0\0\0";
 
-const TWO_BITS: &[u8] = b"\0\x02\0\0\0\0\0\0\0\0\0\0\0\0";
+const START_OF_ONE: &[u8] = b"\0\0\0\0\0\0\0\0\0\0\0\0\0\0\0\0\0\0\0\0\0\x01";
 
-const THREE_BITS: &[u8] = b"\0\x03\0\0\0\0\0\0\0\0\0\0\0\0";
+const START_OF_SIX: &[u8] = b"\0\0\0\0\0\0\0\0\0\0\0\0\0\0\0\0\0\0\0\0\0\x06";
 
-// One restart marker comes before.
-const ONE_MARKER: &[u8] = b"\0\0\0\0\0\0\0\0\0\0\0\0\0\x01";
+const START_OF_SEVEN: &[u8] = b"\0\0\0\0\0\0\0\0\0\0\0\0\0\0\0\0\0\0\0\0\0\x07";
 
-// The length of a stream.
-const NONE: &[u8] = b"\0\0\0\0\0\0\0\0";
+// A header of 8 by 16,000 samples, with a restart after each MCU; and one of 8 by 32 with two code words in each table:
+// a block of zeros is `11`.
+const TALL: &[u8] = b"\xff\xd8\xff\xc0\0\x0b\x08\x3e\x80\0\x08\x01\x01\x11\0\
+    \xff\xc4\0\x14\0\x01\0\0\0\0\0\0\0\0\0\0\0\0\0\0\0\0\
+    \xff\xc4\0\x14\x10\x01\0\0\0\0\0\0\0\0\0\0\0\0\0\0\0\0\
+    \xff\xdd\0\x04\0\x01\xff\xda\0\x08\x01\x01\0\0\x3f\0";
 
-const ONE: &[u8] = b"\0\0\0\0\0\0\0\x01";
+const PAIRS: &[u8] = b"\xff\xd8\xff\xc0\0\x0b\x08\0\x20\0\x08\x01\x01\x11\0\
+    \xff\xc4\0\x15\0\x02\0\0\0\0\0\0\0\0\0\0\0\0\0\0\0\x01\0\
+    \xff\xc4\0\x15\x10\x02\0\0\0\0\0\0\0\0\0\0\0\0\0\0\0\x01\0\
+    \xff\xda\0\x08\x01\x01\0\0\x3f\0";
 
-const THREE: &[u8] = b"\0\0\0\0\0\0\0\x03";
-
-const FIVE: &[u8] = b"\0\0\0\0\0\0\0\x05";
-
-const SIX: &[u8] = b"\0\0\0\0\0\0\0\x06";
-
-const SEVEN: &[u8] = b"\0\0\0\0\0\0\0\x07";
-
-// The place of a segment's first byte.
-const AT_69: &[u8] = b"\0\0\0\0\0\0\0\x45";
-
-const AT_70: &[u8] = b"\0\0\0\0\0\0\0\x46";
-
-// One component, 8, 16, 32 or 16,000 by 8 samples, with one code word in each table: a block of zeros is `00`.
-const EIGHT_HIGH: &[u8] = b"\xff\xd8\xff\xc0\0\x0b\x08\0\x08\0\x08\x01\x01\x11\0";
-
-const SIXTEEN_HIGH: &[u8] = b"\xff\xd8\xff\xc0\0\x0b\x08\0\x10\0\x08\x01\x01\x11\0";
-
-const FOUR_HIGH: &[u8] = b"\xff\xd8\xff\xc0\0\x0b\x08\0\x20\0\x08\x01\x01\x11\0";
-
-const TALL: &[u8] = b"\xff\xd8\xff\xc0\0\x0b\x08\x3e\x80\0\x08\x01\x01\x11\0";
-
-const DC: &[u8] = b"\xff\xc4\0\x14\0\x01\0\0\0\0\0\0\0\0\0\0\0\0\0\0\0\0";
-
-const AC: &[u8] = b"\xff\xc4\0\x14\x10\x01\0\0\0\0\0\0\0\0\0\0\0\0\0\0\0\0";
-
-// Two code words in each: a block of zeros is `11`.
-const DC_OF_ONES: &[u8] = b"\xff\xc4\0\x15\0\x02\0\0\0\0\0\0\0\0\0\0\0\0\0\0\0\x01\0";
-
-const AC_OF_ONES: &[u8] = b"\xff\xc4\0\x15\x10\x02\0\0\0\0\0\0\0\0\0\0\0\0\0\0\0\x01\0";
-
-// A restart interval of one MCU.
-const INTERVAL: &[u8] = b"\xff\xdd\0\x04\0\x01";
-
-const SCAN: &[u8] = b"\xff\xda\0\x08\x01\x01\0\0\x3f\0";
-
-// The stream of a block of zeros.
-const ZEROS: &[u8] = b"\0\0\0";
-
+// The stream of ones.
 const ONES: &[u8] = b"\xfe\xff\xff";
 
 const ROWS: &[Row] = &[
     (
         "a block of zeros",
-        &[FRONT, START, THREE, EIGHT_HIGH, DC, AC, SCAN, ZEROS],
+        &[FRONT, START, HEADER, ZEROS],
         (0, b"\x3f", 1),
         (0, b"\x3f", 1),
     ),
     (
         "63 inner coefficients",
-        &[FRONT, START, THREE, EIGHT_HIGH, DC, AC, SCAN, ONES],
+        &[FRONT, START, HEADER, ONES],
         (0, b"", 40),
         (0, b"", 40),
     ),
     (
         "a DC of 32,768",
-        &[
-            FRONT,
-            START,
-            SEVEN,
-            EIGHT_HIGH,
-            DC,
-            AC,
-            SCAN,
-            b"\0\x0f\xff\xf0\0\0\0",
-        ],
+        &[FRONT, START_OF_SEVEN, HEADER, b"\0\x0f\xff\xf0\0\0\0"],
         (0, b"", 41),
         (0, b"", 41),
     ),
     (
         "a DC of 2,048",
-        &[
-            FRONT,
-            START,
-            SIX,
-            EIGHT_HIGH,
-            DC,
-            AC,
-            SCAN,
-            b"\0\x0f\xff\0\0\0",
-        ],
+        &[FRONT, START_OF_SIX, HEADER, b"\0\x0f\xff\0\0\0"],
         (0, b"", 42),
         (0, b"", 42),
     ),
     (
         "a DC of 1, which has no code word",
-        &[FRONT, START, THREE, EIGHT_HIGH, DC, AC, SCAN, b"\0\x08\0"],
+        &[FRONT, START, HEADER, b"\0\x08\0"],
         (0, b"", 43),
         (0, b"", 43),
     ),
     (
         "bits after the last block",
-        &[FRONT, START, THREE, EIGHT_HIGH, DC, AC, SCAN, b"\0\0\x01"],
+        &[FRONT, START, HEADER, b"\0\0\x01"],
         (0, b"\x3f", 45),
         (0, b"\x3f", 45),
     ),
     (
         "no stream",
-        &[FRONT, START, NONE, EIGHT_HIGH, DC, AC, SCAN],
+        &[FRONT, START_OF_NONE, HEADER],
         (0, b"", 45),
         (0, b"", 45),
     ),
     (
         "a byte in two segments",
-        &[
-            FRONT_OF_TWO,
-            START,
-            THREE,
-            TWO_BITS,
-            THREE,
-            SIXTEEN_HIGH,
-            DC,
-            AC,
-            SCAN,
-            ZEROS,
-            ZEROS,
-        ],
+        &[FRONT_OF_TWO, START, TWO_BITS, HIGHER, ZEROS, ZEROS],
         (0, b"", 0),
         (1, b"\x0f", 1),
     ),
     (
         "the second segment first",
-        &[
-            FRONT_OF_TWO,
-            START,
-            THREE,
-            TWO_BITS,
-            THREE,
-            SIXTEEN_HIGH,
-            DC,
-            AC,
-            SCAN,
-            ZEROS,
-            ZEROS,
-        ],
+        &[FRONT_OF_TWO, START, TWO_BITS, HIGHER, ZEROS, ZEROS],
         (1, b"\x0f", 1),
         (0, b"", 0),
     ),
     (
         "three bits where two were found",
-        &[
-            FRONT_OF_TWO,
-            START,
-            THREE,
-            THREE_BITS,
-            THREE,
-            SIXTEEN_HIGH,
-            DC,
-            AC,
-            SCAN,
-            ZEROS,
-            ZEROS,
-        ],
+        &[FRONT_OF_TWO, START, THREE_BITS, HIGHER, ZEROS, ZEROS],
         (0, b"", 44),
         (1, b"\x07", 1),
     ),
     (
         "a segment after a fault",
-        &[
-            FRONT_OF_TWO,
-            START,
-            THREE,
-            TWO_BITS,
-            THREE,
-            SIXTEEN_HIGH,
-            DC,
-            AC,
-            SCAN,
-            ONES,
-            ZEROS,
-        ],
+        &[FRONT_OF_TWO, START, TWO_BITS, HIGHER, ONES, ZEROS],
         (0, b"", 40),
         (1, b"\x0f", 1),
     ),
@@ -231,15 +137,10 @@ const ROWS: &[Row] = &[
         &[
             FRONT_WITH_PLACES,
             START,
-            THREE,
             AT_69,
             TWO_BITS,
-            THREE,
             AT_69,
-            SIXTEEN_HIGH,
-            DC,
-            AC,
-            SCAN,
+            HIGHER,
             ZEROS,
             ZEROS,
         ],
@@ -251,15 +152,10 @@ const ROWS: &[Row] = &[
         &[
             FRONT_WITH_PLACES,
             START,
-            THREE,
             AT_69,
             TWO_BITS,
-            THREE,
             AT_70,
-            SIXTEEN_HIGH,
-            DC,
-            AC,
-            SCAN,
+            HIGHER,
             ZEROS,
             ZEROS,
         ],
@@ -271,15 +167,9 @@ const ROWS: &[Row] = &[
         &[
             FRONT_WITH_LIST,
             START,
-            THREE,
             ONE_MARKER,
-            THREE,
             b"\x80",
-            SIXTEEN_HIGH,
-            DC,
-            AC,
-            INTERVAL,
-            SCAN,
+            TWO_INTERVALS,
             ZEROS,
             ZEROS,
         ],
@@ -291,15 +181,9 @@ const ROWS: &[Row] = &[
         &[
             FRONT_WITH_LIST,
             START,
-            THREE,
             ONE_MARKER,
-            THREE,
             b"\x40",
-            SIXTEEN_HIGH,
-            DC,
-            AC,
-            INTERVAL,
-            SCAN,
+            TWO_INTERVALS,
             ZEROS,
             ZEROS,
         ],
@@ -308,33 +192,13 @@ const ROWS: &[Row] = &[
     ),
     (
         "a 0 in the list for an interval that pads no bit",
-        &[
-            FRONT_OF_ONES,
-            START,
-            FIVE,
-            b"\0",
-            FOUR_HIGH,
-            DC_OF_ONES,
-            AC_OF_ONES,
-            SCAN,
-            b"\0\0\0\0\0",
-        ],
+        &[FRONT_OF_ONES, START_OF_FIVE, b"\0", PAIRS, FIVE_ZEROS],
         (0, b"\xff\0", 4),
         (0, b"\xff\0", 4),
     ),
     (
         "a 1 in the list for an interval that pads no bit",
-        &[
-            FRONT_OF_ONES,
-            START,
-            FIVE,
-            b"\x80",
-            FOUR_HIGH,
-            DC_OF_ONES,
-            AC_OF_ONES,
-            SCAN,
-            b"\0\0\0\0\0",
-        ],
+        &[FRONT_OF_ONES, START_OF_FIVE, b"\x80", PAIRS, FIVE_ZEROS],
         (0, b"\xff\0", 0),
         (0, b"\xff\0", 0),
     ),
@@ -433,17 +297,7 @@ fn segments(rt: HostRuntime) -> Result<(), Fail> {
     Ok(())
 }
 
-const TWO_THOUSAND: &[&[u8]] = &[
-    LONGER_FRONT,
-    START,
-    ONE,
-    TALL,
-    DC,
-    AC,
-    INTERVAL,
-    SCAN,
-    b"\0",
-];
+const TWO_THOUSAND: &[&[u8]] = &[LONGER_FRONT, START_OF_ONE, TALL, b"\0"];
 
 // A segment of more bytes than a piece has: two thousand MCUs, a byte and a marker each.
 #[test]
