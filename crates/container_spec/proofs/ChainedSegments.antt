@@ -22,7 +22,7 @@ use Rattle.container_spec.specs.ScanStream.{grid_of, blocks_of, blocks_stream}
 use Rattle.container_spec.specs.Segments.{Output, segment_output}
 use Rattle.handover.specs.declared.outcome.Outcome.TheVariants.{Good}
 use Rattle.container_spec.specs.SegmentLaws.{mcus_sum}
-use Rattle.container_spec.specs.AloneMeanings.{Joined, joined_with, joined}
+use Rattle.container_spec.proofs.JoinedSegments.{Joined, joined_with, joined}
 use Rattle.container_spec.specs.Meanings.{segment_in}
 use Rattle.container_spec.proofs.CutsOfPlans.{AreCuts, starts_at, cuts_rise}
 use Rattle.container_spec.proofs.PutParts.{sums_parts}

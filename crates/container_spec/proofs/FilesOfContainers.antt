@@ -34,10 +34,10 @@ use Rattle.container_spec.specs.ScanStream.{grid_of, blocks_of, blocks_stream, s
 use Rattle.container_spec.specs.SegmentLaws.{Suits}
 use Rattle.container_spec.specs.Segments.{segment_output}
 use Rattle.container_spec.specs.Meanings.{segment_in}
-use Rattle.container_spec.specs.AloneMeanings.{outputs_of, joined}
+use Rattle.container_spec.proofs.JoinedSegments.{joined}
 use Rattle.container_spec.specs.Files.{parts_of_file, places_of_file, told_pads}
 use Rattle.container_spec.specs.ScanContainers.{IsScanContainer}
-use Rattle.container_spec.specs.Indexed.{indexed, places_found}
+use Rattle.container_spec.specs.Indexed.{indexed, places_found, outputs_of}
 use Rattle.container_spec.proofs.ChainedSegments.{Chained, chained}
 use Rattle.container_spec.proofs.CutsOfPlans.{AreCuts, starts_at, plan_cuts}
 use Rattle.container_spec.proofs.Numbered.{mapped_is}

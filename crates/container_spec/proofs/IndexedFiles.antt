@@ -11,9 +11,10 @@ use Rattle.box_format.proofs.SingleBytes.{no_chunk}
 use Rattle.box_format.proofs.OneCuts.{parts_same}
 use Rattle.box_format.proofs.Layouts.{most_more}
 use Rattle.container_spec.specs.Meanings.{Meaning}
-use Rattle.container_spec.specs.AloneMeanings.{outputs_of, joined, meaning_of}
+use Rattle.container_spec.proofs.JoinedSegments.{joined}
+use Rattle.container_spec.specs.Portions.{meaning_of}
 use Rattle.container_spec.specs.ScanContainers.{IsContainerOfOne}
-use Rattle.container_spec.specs.Indexed.{indexed, places_found}
+use Rattle.container_spec.specs.Indexed.{indexed, places_found, outputs_of}
 use Rattle.container_spec.specs.MeaningLaws.{IndexedIsContainer, IndexedStays}
 use Rattle.container_spec.proofs.FilesAlone.{as_one}
 use Rattle.container_spec.proofs.FilesOfContainers.{container_is, indexed_is, some, without}
@@ -21,7 +22,7 @@ use Rattle.container_spec.proofs.Numbered.{mapped_is}
 use Rattle.container_spec.proofs.PlacesFound.{found_is}
 use Rattle.container_spec.proofs.PlacesOfContainers.{place_is}
 use Rattle.container_spec.proofs.ReachedSegments.{whole}
-use Rattle.container_spec.proofs.RestoredMeanings.{is_restored}
+use Rattle.container_spec.proofs.PortionsMeant.{is_restored}
 
 -- ---- a file's container
 

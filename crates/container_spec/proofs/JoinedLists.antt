@@ -10,7 +10,7 @@ use Rattle.handover.specs.declared.outcome.Outcome.{Outcome}
 use Rattle.handover.specs.declared.outcome.Outcome.TheVariants.{Good, Bad}
 use Rattle.box_format.specs.Raws.{numbers}
 use Rattle.container_spec.specs.Segments.{Output, with_prefix}
-use Rattle.container_spec.specs.AloneMeanings.{Joined, joined, joined_with}
+use Rattle.container_spec.proofs.JoinedSegments.{Joined, joined, joined_with}
 use Rattle.container_spec.proofs.Numbered.{mapped_same}
 use Rattle.container_spec.proofs.PutParts.{sums_more}
 use Rattle.container_spec.specs.ScansMeanings.{fault_after, outcome_after, lead_of}

@@ -11,7 +11,8 @@ use Rattle.box_format.specs.Parts.{BoxSeen}
 use Rattle.box_format.specs.Raws.{numbers}
 use Rattle.box_format.proofs.Lists.{sum_first}
 use Rattle.container_spec.specs.Segments.{Output, segment_output}
-use Rattle.container_spec.specs.AloneMeanings.{Joined, outputs_of, joined}
+use Rattle.container_spec.proofs.JoinedSegments.{Joined, joined}
+use Rattle.container_spec.specs.Indexed.{outputs_of}
 use Rattle.container_spec.specs.Meanings.{Meaning, Restored, PadSpelled, Faulty, segment_in}
 use Rattle.container_spec.specs.Portions.{OfFile, ending_by, whole}
 use Rattle.container_spec.proofs.PutParts.{sums_none}

@@ -1,13 +1,41 @@
--- Segments that end well, one after another.
-use Rattle.std.proofs.Common.{◌≡◌, ℕ, zero, suc, ◌+◌, ◌<◌, ◌≤◌, List, map, refl, ap₂, arith, None}
+-- Segments one after another, as those of one scan, and such that end well.
+use Rattle.std.proofs.Common.{◌≡◌, ℕ, zero, suc, ◌+◌, ◌<◌, ◌≤◌, List, [], ◌∷◌, ◌++◌, map, Option, Some, refl, ap₂, arith, None}
 use Rattle.std.specs.Prelude.{flat_map}
 use Rattle.handover.specs.PadSums.{no_pads, pads_with}
 use Rattle.handover.specs.declared.pads.PadSum.{PadSum}
-use Rattle.handover.specs.declared.outcome.Outcome.TheVariants.{Good}
+use Rattle.handover.specs.declared.outcome.StreamFault.{StreamFault}
+use Rattle.handover.specs.declared.outcome.Outcome.{Outcome}
+use Rattle.handover.specs.declared.outcome.Outcome.TheVariants.{Good, Bad}
 use Rattle.cut_spec.specs.Seams.{slices}
 use Rattle.box_format.specs.Raws.{numbers}
 use Rattle.container_spec.specs.Segments.{Output}
-use Rattle.container_spec.specs.AloneMeanings.{Joined, joined_with, joined}
+use Rattle.container_spec.specs.ScansJoined.{ScansJoined, sums_of}
+
+-- bytes through the first segment that is bad, its fault, and what was padded where there is none
+pub record Joined : Type 0 where
+  pub bytes : List ℕ
+  pub fault : Option StreamFault
+  pub padded : PadSum
+
+-- a segment before others
+abbrev pub joined_with : List ℕ → Outcome → Joined → Joined
+joined_with bytes (Good padded) more = record {
+  bytes = bytes ++ more.bytes;
+  fault = more.fault;
+  padded = pads_with padded more.padded;
+}
+joined_with bytes (Bad fault) more =
+    record { bytes = bytes; fault = Some fault; padded = no_pads }
+
+-- segments, one after another
+abbrev pub joined : List Output → Joined
+joined [] = record { bytes = []; fault = None; padded = no_pads }
+joined (output ∷ outputs) = joined_with output.0 output.1 (joined outputs)
+
+-- all of them as those of a container's only scan
+abbrev pub joined_alone : Joined → ScansJoined
+joined_alone j =
+    record { bytes = j.bytes; fault = j.fault; padded = sums_of 0 j.padded }
 
 -- what some segments padded
 abbrev pub all_sum : (ℕ → PadSum) → ℕ → ℕ → PadSum

@@ -46,7 +46,6 @@ pub mod OneScans
 pub mod PortionsMeant
 pub mod SeveralScans
 pub mod FilesAlone
-pub mod OneStands
 pub mod RowsPlaced
 pub mod ChunkBoxes
 pub mod OneChunks

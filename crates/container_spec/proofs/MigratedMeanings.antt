@@ -12,15 +12,13 @@ use Rattle.box_format.proofs.Layouts.{all_read}
 use Rattle.box_format.proofs.SingleBytes.{no_chunk, no_places, migrated_is}
 use Rattle.box_format.proofs.Singles.{box_or_refused, one_is_container}
 use Rattle.box_format.proofs.Spelling.{one_list_of_scans}
-use Rattle.container_spec.specs.AloneMeanings.{meaning_of}
-use Rattle.container_spec.specs.Portions.{scans_meaning}
-use Rattle.container_spec.proofs.PortionsMeant.{one_stands_for_itself}
+use Rattle.container_spec.specs.Portions.{scans_meaning, meaning_of}
 use Rattle.container_spec.specs.MeaningLaws.{MigratedMeansTheSame}
 
 -- the version is no part of it
 same_meaning : (plan : PlanFields) (b : BoxParts) → b.chunk ≡ None → b.places ≡ None
     → meaning_of plan b ≡ meaning_of plan (migrated b)
-unfolding meaning_of
+unfolding scans_meaning
 same_meaning plan b none unplaced =
     subst
     (λ (c : Option Chunk). meaning_of plan (record b { chunk = c })
@@ -54,7 +52,6 @@ migrated_means_the_same plan b bytes meaning are read is (inr (scans, of, e)) =
     inr (
       moved ∷ [],
       (Second, one_is_container moved (box_bytes (migrated b)) made),
-      e ∙ ap scans_meaning same ∙ one_stands_for_itself s
-          ∙ same_meaning plan b (no_chunk plan b v.chunked is.box) (no_places plan b v.placed is.box)
-          ∙ sym (one_stands_for_itself moved),
+      e ∙ ap scans_meaning same
+          ∙ same_meaning plan b (no_chunk plan b v.chunked is.box) (no_places plan b v.placed is.box),
     )

@@ -1,5 +1,5 @@
--- A container of one scan stands for what it does without the others.
-use Rattle.std.proofs.Common.{◌≡◌, ℕ, ◌+◌, ◌<◌, Bool, if◌then◌else◌, [], ◌∷◌, length, map, Option, Some, None, refl, ap, ◌∙◌, arith}
+-- The segments of a container's only scan, one after another.
+use Rattle.std.proofs.Common.{◌≡◌, ℕ, ◌+◌, ◌<◌, ◌≤◌, Bool, if◌then◌else◌, [], ◌∷◌, length, map, Option, Some, None, refl, ap, ◌∙◌, arith}
 use Rattle.std.specs.Prelude.{option_map}
 use Rattle.std.proofs.lemmas.Bool.{lt-ltb}
 use Rattle.handover.specs.declared.outcome.StreamFault.{StreamFault}
@@ -7,10 +7,9 @@ use Rattle.box_format.specs.Raws.{numbers}
 use Rattle.box_format.specs.Parts.{BoxSeen}
 use Rattle.container_spec.specs.Segments.{Output, segment_output}
 use Rattle.container_spec.specs.Meanings.{segment_in}
-use Rattle.container_spec.specs.AloneMeanings.{joined, joined_alone}
+use Rattle.container_spec.proofs.JoinedSegments.{joined, joined_alone}
 use Rattle.container_spec.specs.ScansMeanings.{fault_after, output_at, scan_of}
-use Rattle.container_spec.specs.ScansJoined.{Scanned, scans_joined}
-use Rattle.container_spec.specs.ScansMeaningLaws.{OneIsJoined}
+use Rattle.container_spec.specs.ScansJoined.{Scanned, scanned_from, scans_joined}
 use Rattle.container_spec.proofs.Numbered.{mapped_same}
 use Rattle.container_spec.proofs.JoinedLists.{led, others}
 
@@ -33,7 +32,10 @@ fault_same : (fault : Option StreamFault) → option_map (fault_after 0) fault �
 fault_same None = refl
 fault_same (Some fault) = ap (λ (f : StreamFault). Some f) (same_fault fault)
 
-pub one_is_joined : OneIsJoined
+pub one_is_joined : (s : BoxSeen) (first count : ℕ) → first + count ≤ length s.parts.handovers
+    → scans_joined (scanned_from (s ∷ []) first count)
+    ≡ joined_alone
+    (joined (map (λ i. segment_output (segment_in s.plan s.parts i)) (numbers first count)))
 one_is_joined s first count within =
     let f : ℕ → Output = λ i. segment_output (segment_in s.plan s.parts i) in
     let j = joined (map f (numbers first count)) in

@@ -11,7 +11,7 @@ use Rattle.box_format.specs.Parts.{BoxParts, are_rising}
 use Rattle.box_format.specs.Raws.{numbers}
 use Rattle.box_format.proofs.Layouts.{most_few}
 use Rattle.container_spec.specs.Segments.{Output, segment_output}
-use Rattle.container_spec.specs.AloneMeanings.{Joined, joined_with, joined}
+use Rattle.container_spec.proofs.JoinedSegments.{Joined, joined_with, joined}
 use Rattle.container_spec.specs.Meanings.{segment_in}
 use Rattle.container_spec.specs.Indexed.{places_after, places_found}
 use Rattle.container_spec.specs.MeaningLaws.{PlacesAreFound}

@@ -10,7 +10,7 @@ use Rattle.box_format.specs.Parts.{BoxParts, ArePlaces, are_rising}
 use Rattle.box_format.specs.Raws.{numbers}
 use Rattle.container_spec.specs.Segments.{Output, segment_output}
 use Rattle.container_spec.specs.SegmentLaws.{AreKept}
-use Rattle.container_spec.specs.AloneMeanings.{Joined, joined_with, joined}
+use Rattle.container_spec.proofs.JoinedSegments.{Joined, joined_with, joined}
 use Rattle.container_spec.specs.Meanings.{segment_in, kept_in}
 use Rattle.container_spec.proofs.PlacesKept.{good_has_its_places}
 use Rattle.container_spec.proofs.ReachedSegments.{first_good}

@@ -1,20 +1,22 @@
--- What scans without a chunk stand for, and one scan.
+-- What scans without a chunk stand for, and one scan, by the segments.
 use Rattle.std.proofs.Common.{◌≡◌, ◌≤◌, ◌+◌, ℕ, List, [], ◌∷◌, length, refl, ap, ◌∙◌, arith}
-use Rattle.std.specs.Prelude.{Option, Some, None}
+use Rattle.std.specs.Prelude.{◌++◌, Option, Some, None, true}
+use Rattle.std.proofs.lemmas.Bool.{and_parts}
 use Rattle.std.proofs.lemmas.List.{append-nil}
 use Rattle.std.specs.List.{AllByRecursion}
+use Rattle.jpeg_marker.specs.Plans.{PlanFields}
 use Rattle.scan_spec.specs.Pads.{is_spelled}
-use Rattle.handover.specs.declared.outcome.StreamFault.{StreamFault}
-use Rattle.box_format.specs.Parts.{BoxSeen}
+use Rattle.box_format.specs.Parts.{BoxParts, BoxSeen}
 use Rattle.box_format.specs.declared.chunk.Chunk.{Chunk}
 use Rattle.box_format.specs.Containers.{segment_count}
 use Rattle.box_format.proofs.Lists.{sum_first}
-use Rattle.container_spec.specs.AloneMeanings.{Joined, meaning_of, meaning_by, joined, joined_alone, outputs_of}
+use Rattle.container_spec.proofs.JoinedSegments.{joined, joined_alone}
+use Rattle.container_spec.specs.Indexed.{outputs_of}
 use Rattle.container_spec.specs.ScansJoined.{ScansJoined, scanned_from, scans_joined}
-use Rattle.container_spec.specs.Portions.{OfFile, OfChunk, chunk_portion, ending_by, meaning_with, only_chunk, played, portion_meaning, scans_meaning, whole}
-use Rattle.container_spec.specs.ScansMeaningLaws.{OneStandsForItself}
+use Rattle.container_spec.specs.Portions.{OfFile, OfChunk, chunk_portion, ending_by, meaning_with, meaning_of, only_chunk, played, portion_meaning, scans_meaning, whole}
+use Rattle.container_spec.proofs.JoinedScans.{means_file}
 use Rattle.container_spec.proofs.OneScans.{one_is_joined}
-use Rattle.box_format.proofs.ScansFaults.{and_true}
+use Rattle.container_spec.proofs.RestoredMeanings.{IsRestored, restored}
 
 -- ---- the whole
 
@@ -42,33 +44,34 @@ all_alone s =
     ap (λ (k : ℕ). scans_joined (scanned_from (s ∷ []) 0 k)) (one_count s) ∙ one_is_joined s 0 n z
 
 -- without a chunk
-file_end : (s : BoxSeen) (j : Joined) (fault : Option StreamFault) → s.parts.chunk ≡ None
-    → ending_by OfFile (s ∷ []) (whole (s ∷ [])) (joined_alone j) fault ≡ meaning_by s.parts j fault
-file_end s j (Some fault) e = rw e refl
-file_end s j None e =
-    rw (e, append-nil s.parts.trailer, and_true (is_spelled s.parts.pads j.padded)) refl
+pub file_alone : (s : BoxSeen) → s.parts.chunk ≡ None
+    → scans_meaning (s ∷ [])
+    ≡ (let j = joined (outputs_of s.plan s.parts) in
+    ending_by OfFile (s ∷ []) (whole (s ∷ [])) (joined_alone j) j.fault)
+file_alone s none =
+    whole_meaning (s ∷ []) (none, tt)
+    ∙ ap (λ (all : ScansJoined). ending_by OfFile (s ∷ []) (whole (s ∷ [])) all all.fault)
+    (all_alone s)
+
+pub is_restored : (plan : PlanFields) (b : BoxParts) (file : List ℕ) → b.chunk ≡ None
+    → restored file ≡ meaning_of plan b → IsRestored b (joined (outputs_of plan b)) file
+is_restored plan b file none e =
+    let s : BoxSeen = record { plan = plan; parts = b } in
+    let j = joined (outputs_of plan b) in
+    let are = means_file (s ∷ []) (joined_alone j) j.fault file refl (e ∙ file_alone s none) in
+    record {
+      none = are.none;
+      text = are.text ∙ ap (λ (l : List ℕ). (b.header ++ j.bytes) ++ l) (append-nil b.trailer);
+      told = (and_parts (is_spelled b.pads j.padded) true are.spelled).0;
+    }
 
 -- with one
-chunk_end : (s : BoxSeen) (c : Chunk) (j : Joined) (fault : Option StreamFault)
-    → s.parts.chunk ≡ Some c
-    → ending_by (OfChunk c) (s ∷ []) (chunk_portion c (s ∷ [])) (joined_alone j) fault
-    ≡ meaning_by s.parts j fault
-chunk_end s c j (Some fault) e = rw (e, append-nil s.parts.trailer) refl
-chunk_end s c j None e = rw (e, append-nil s.parts.trailer) refl
-
-played_with : (s : BoxSeen) (chunk : Option Chunk) → s.parts.chunk ≡ chunk
-    → meaning_with chunk (s ∷ [])
-    ≡ (let j = joined (outputs_of s.plan s.parts) in meaning_by s.parts j j.fault)
-played_with s None e =
-    let j = joined (outputs_of s.plan s.parts) in
-    ap (λ (all : ScansJoined). ending_by OfFile (s ∷ []) (whole (s ∷ [])) all all.fault) (all_alone s)
-    ∙ file_end s j j.fault e
-played_with s (Some c) e =
-    let j = joined (outputs_of s.plan s.parts) in
-    ap (λ (all : ScansJoined). ending_by (OfChunk c) (s ∷ []) (chunk_portion c (s ∷ [])) all all.fault)
-    (all_alone s)
-    ∙ chunk_end s c j j.fault e
-
-pub one_stands_for_itself : OneStandsForItself
-unfolding scans_meaning meaning_of
-one_stands_for_itself s = played_with s s.parts.chunk refl
+pub chunk_alone : (s : BoxSeen) (c : Chunk) → s.parts.chunk ≡ Some c
+    → scans_meaning (s ∷ [])
+    ≡ (let j = joined (outputs_of s.plan s.parts) in
+    ending_by (OfChunk c) (s ∷ []) (chunk_portion c (s ∷ [])) (joined_alone j) j.fault)
+unfolding scans_meaning
+chunk_alone s c some =
+    ap (λ (chunk : Option Chunk). meaning_with chunk (s ∷ [])) some
+    ∙ ap (λ (all : ScansJoined). ending_by (OfChunk c) (s ∷ []) (chunk_portion c (s ∷ [])) all
+    all.fault) (all_alone s)

@@ -21,7 +21,7 @@ use Rattle.box_format.specs.Parts.{BoxParts}
 use Rattle.container_spec.specs.ScanStream.{grid_of, starts}
 use Rattle.container_spec.specs.Segments.{SegmentFields, Progress, Output, first_progress, stopped, mcus_output, rest_output, segment_output}
 use Rattle.container_spec.specs.SegmentLaws.{Meets, IsGood, IsSpot, mcus_sum}
-use Rattle.container_spec.specs.AloneMeanings.{Joined, joined_with}
+use Rattle.container_spec.proofs.JoinedSegments.{Joined, joined_with}
 use Rattle.container_spec.specs.Meanings.{segment_in}
 use Rattle.container_spec.proofs.CutsOfPlans.{AreCuts, starts_at}
 use Rattle.container_spec.proofs.GoodSegments.{good_has_its_stream}

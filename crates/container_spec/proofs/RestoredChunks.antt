@@ -1,5 +1,5 @@
 -- A chunk's container stands for the chunk.
-use Rattle.std.proofs.Common.{◌≡◌, ℕ, ◌+◌, ◌-◌, ◌*◌, ◌<◌, ◌≤◌, Bool, true, false, if◌then◌else◌, List, [], ◌∷◌, ◌++◌, length, Some, None, inl, inr, refl, sym, ap, ap₂, ◌∙◌, arith, append_assoc}
+use Rattle.std.proofs.Common.{◌≡◌, ℕ, ◌+◌, ◌-◌, ◌*◌, ◌<◌, ◌≤◌, Bool, true, false, if◌then◌else◌, List, [], ◌∷◌, ◌++◌, length, Some, None, inl, inr, refl, sym, ap, ap₂, ◌∙◌, arith, append_assoc, append-nil}
 use Rattle.std.specs.Prelude.{nat_lt, flat_map}
 use Rattle.std.proofs.lemmas.Bool.{cases_lt}
 use Rattle.std.proofs.lemmas.Bool.Decides.{nat_tests}
@@ -15,13 +15,15 @@ use Rattle.handover.specs.declared.pads.PadSum.{PadSum}
 use Rattle.cut_spec.specs.RowHandovers.{segment_bytes}
 use Rattle.cut_spec.specs.Seams.{slices}
 use Rattle.box_format.specs.Parts.{BoxParts, BoxSeen, rows_most}
+use Rattle.box_format.specs.declared.chunk.Chunk.{Chunk}
 use Rattle.box_format.specs.declared.version.Version.TheVariants.{Third}
 use Rattle.box_format.proofs.Singles.{one_is_container}
 use Rattle.container_spec.specs.Files.{told_pads}
 use Rattle.container_spec.specs.Meanings.{Meaning, Restored}
-use Rattle.container_spec.specs.AloneMeanings.{outputs_of, joined, meaning_by, meaning_of}
-use Rattle.container_spec.proofs.JoinedSegments.{all_sum, good_join}
-use Rattle.container_spec.proofs.PortionsMeant.{one_stands_for_itself}
+use Rattle.container_spec.specs.Indexed.{outputs_of}
+use Rattle.container_spec.specs.Portions.{OfChunk, chunk_portion, ending_by, faultless_end, meaning_of}
+use Rattle.container_spec.proofs.JoinedSegments.{Joined, all_sum, good_join, joined, joined_alone}
+use Rattle.container_spec.proofs.PortionsMeant.{chunk_alone}
 use Rattle.container_spec.proofs.SlicesMeant.{slice_sum}
 use Rattle.container_spec.specs.Chunks.{IsChunkOf, chunk_of}
 use Rattle.container_spec.specs.ChunkLaws.{ChunkIsRestored}
@@ -135,9 +137,18 @@ module _ (most size i : ℕ) (made file : List ℕ) (some : 0 < most)
 
   meaning_is : meaning_of is.plan box
       ≡ record { bytes = chunk_of file size i; verdict = Restored }
-  unfolding meaning_of
   meaning_is =
-      ap (λ all. meaning_by box all all.fault) all_joined
+      let s : BoxSeen = record { plan = is.plan; parts = box } in
+      let c : Chunk = chunk_fields parts place end in
+      chunk_alone s c refl
+      ∙ ap (λ (j : Joined). ending_by (OfChunk c) (s ∷ []) (chunk_portion c (s ∷ [])) (joined_alone j)
+      j.fault) all_joined
+      ∙ ap (λ (after : List ℕ). faultless_end (OfChunk c) (s ∷ []) (record (chunk_portion c (s ∷ [])) {
+        within = record { skip = c.skip; most = Some (rows_most c parts.header after) };
+        after = after;
+      })
+      (joined_alone (good_join (bytes_within parts place end) (all_sum sum_at 0 count))))
+      (append-nil box.trailer)
       ∙ taken_last (nat_lt (length (bytes_within parts place end))
       (skip_within parts place end
       + rows_most (chunk_fields parts place end) parts.header box.trailer)) _ _ enough
@@ -154,5 +165,5 @@ chunk_is_restored most size i made file some allowed is =
         one_is_container s made
             (record { box = boxes.box_is most size i made file some is allowed; one = refl; text = is.spelled }),
       ),
-      sym (one_stands_for_itself s ∙ meaning_is most size i made file some is),
+      sym (meaning_is most size i made file some is),
     )

@@ -1,5 +1,5 @@
--- A file's container stands for the file.
-use Rattle.std.proofs.Common.{◌≡◌, ℕ, ◌+◌, ◌<◌, Bool, true, false, if◌then◌else◌, List, ◌++◌, take, Ok, refl, sym, ap, ap₂, ◌∙◌, arith, append_assoc, None}
+-- The segments of a file's container are the file.
+use Rattle.std.proofs.Common.{◌≡◌, ℕ, ◌+◌, ◌<◌, Bool, true, List, take, Ok, refl, sym, ap, ap₂, subst, ◌∙◌, arith, append_assoc, None}
 use Rattle.std.proofs.lemmas.List.{take_all}
 use Rattle.jpeg_marker.specs.Walks.{Walk}
 use Rattle.scan_spec.specs.Pads.{PadBits, bit_for, is_spelled}
@@ -15,14 +15,14 @@ use Rattle.box_format.specs.declared.version.Version.{Version}
 use Rattle.container_spec.specs.SegmentLaws.{mcus_sum}
 use Rattle.container_spec.specs.Files.{parts_of_file, told_pads}
 use Rattle.container_spec.specs.ScanContainers.{IsScanContainer}
-use Rattle.container_spec.specs.Meanings.{Verdict, Restored, PadSpelled}
-use Rattle.container_spec.specs.AloneMeanings.{outputs_of, joined, meaning_by, meaning_of}
+use Rattle.container_spec.specs.Indexed.{outputs_of}
 use Rattle.container_spec.proofs.CutsOfPlans.{cut_within}
 use Rattle.container_spec.proofs.FileParts.{segments, cut, cuts, small, suits, file_is, file_places}
-use Rattle.container_spec.proofs.JoinedSegments.{good_join}
+use Rattle.container_spec.proofs.JoinedSegments.{Joined, good_join, joined}
 use Rattle.container_spec.proofs.PaddedMcus.{scan_sum}
 use Rattle.container_spec.proofs.PaddedSlices.{sum_of_all}
 use Rattle.container_spec.proofs.PlacesOfFiles.{kept_if, slice_is_kept}
+use Rattle.container_spec.proofs.RestoredMeanings.{IsRestored}
 use Rattle.container_spec.proofs.RestoredRows as rows
 
 module _ {w : Walk} (version : Version) (most : ℕ) (made file : List ℕ) (some : 0 < most)
@@ -95,15 +95,11 @@ module _ {w : Walk} (version : Version) (most : ℕ) (made file : List ℕ) (som
       ∙ (rows.how_told version is.plan is.mcus is.pads header is.trailer is.is.scan None
       file_box.places count (suits version most made file some is) is.is.is).spelled
 
-  verdict_is : (t : Bool) → t ≡ true → (if t then Restored else PadSpelled) ≡ Restored
-  verdict_is true e = refl
-  verdict_is false e = absurd (let f : false ≡ true = e in cc)
-
-  pub meaning_is : meaning_of is.plan file_box ≡ record { bytes = file; verdict = Restored }
-  unfolding meaning_of
-  meaning_is =
-      let whole : (header ++ is.is.scan) ++ is.trailer ≡ file =
-      append_assoc header is.is.scan is.trailer ∙ sym (file_is version most made file some is) in
-      ap (λ all. meaning_by file_box all all.fault) all_joined
-      ∙ ap₂ (λ (bytes : List ℕ) (v : Verdict). record { bytes = bytes; verdict = v }) whole
-      (verdict_is (is_spelled told (mcus_sum shape told first_spot is.mcus)) spelled)
+  pub is_restored : IsRestored file_box (joined (outputs_of is.plan file_box)) file
+  is_restored =
+      subst (λ (j : Joined). IsRestored file_box j file) (sym all_joined) (record {
+        none = refl;
+        text =
+            file_is version most made file some is ∙ sym (append_assoc header is.is.scan is.trailer);
+        told = spelled;
+      })

@@ -3,20 +3,17 @@ use Rattle.std.proofs.Common.{◌≡◌, ℕ, ◌<◌, Bool, true, false, if◌t
 use Rattle.std.specs.Prelude.{not, ◌&&◌, ◌||◌, ◌==◌}
 use Rattle.std.specs.List.{AllByRecursion, list_all}
 use Rattle.std.proofs.lemmas.Bool.{and_parts, eqb-true}
-use Rattle.jpeg_marker.specs.Plans.{PlanFields}
 use Rattle.scan_spec.specs.Pads.{is_spelled}
 use Rattle.scan_spec.specs.Slots.{Shape}
 use Rattle.handover.specs.Handovers.{HandoverFields, IsHandover, start}
 use Rattle.handover.specs.HandoverBytes.{is_handover}
-use Rattle.handover.specs.declared.outcome.StreamFault.{StreamFault}
 use Rattle.handover.proofs.FieldBytes.{IsFour, four_of, four_same, fields_same}
 use Rattle.block_spec.proofs.CategoryBits.{zero_abs}
 use Rattle.cut_spec.specs.Cuts.{Cut, first_mcu}
 use Rattle.cut_spec.specs.RowHandovers.{markers_before}
-use Rattle.box_format.specs.declared.chunk.Chunk.{Chunk}
 use Rattle.box_format.specs.Parts.{BoxParts, is_unused_zero, is_start, can_start, bad_start}
-use Rattle.container_spec.specs.AloneMeanings.{Joined, outputs_of, joined, good_end, meaning_by, meaning_of}
-use Rattle.container_spec.specs.Meanings.{Meaning, Restored, PadSpelled, Faulty}
+use Rattle.container_spec.proofs.JoinedSegments.{Joined}
+use Rattle.container_spec.specs.Meanings.{Meaning, Restored, PadSpelled}
 
 -- ---- the first handover
 
@@ -75,23 +72,3 @@ pub record IsRestored (b : BoxParts) (all : Joined) (file : List ℕ) : Type 0 w
 pub pad_told : (t : Bool) → Restored ≡ (if t then Restored else PadSpelled) → t ≡ true
 pad_told true e = refl
 pad_told false e = absurd (let f : Restored ≡ PadSpelled = e in cc)
-
-restored_by : (b : BoxParts) (all : Joined) (file : List ℕ) (fault : Option StreamFault)
-    → b.chunk ≡ None → all.fault ≡ fault
-    → restored file ≡ meaning_by b all fault
-    → IsRestored b all file
-restored_by b all file (Some fault) whole is e =
-    absurd (let f : Restored ≡ Faulty fault = ap (λ (m : Meaning). m.verdict) e in cc)
-restored_by b all file None whole is e =
-    let file_is = e ∙ ap (λ (c : Option Chunk). good_end c (record b { chunk = c }) all) whole in record {
-      none = is;
-      text = ap (λ (m : Meaning). m.bytes) file_is;
-      told = pad_told (is_spelled b.pads all.padded) (ap (λ (m : Meaning). m.verdict) file_is);
-    }
-
-pub is_restored : (plan : PlanFields) (b : BoxParts) (file : List ℕ) → b.chunk ≡ None
-    → restored file ≡ meaning_of plan b
-    → IsRestored b (joined (outputs_of plan b)) file
-unfolding meaning_of
-is_restored plan b file none e =
-    let all = joined (outputs_of plan b) in restored_by b all file all.fault none refl e

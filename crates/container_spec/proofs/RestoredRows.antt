@@ -24,8 +24,8 @@ use Rattle.container_spec.specs.Segments.{Output, SegmentFields, segment_output}
 use Rattle.container_spec.specs.SegmentLaws.{AreKept, IsNextStart, Suits, segment_between}
 use Rattle.container_spec.specs.Files.{cut_start, cut_stream, parts_of_rows, told_pads}
 use Rattle.container_spec.specs.Meanings.{kept_in}
-use Rattle.container_spec.specs.AloneMeanings.{outputs_of, joined}
-use Rattle.container_spec.proofs.JoinedSegments.{all_sum, good_join, joined_good}
+use Rattle.container_spec.specs.Indexed.{outputs_of}
+use Rattle.container_spec.proofs.JoinedSegments.{all_sum, good_join, joined_good, joined}
 use Rattle.container_spec.proofs.Numbered.{mapped_at, mapped_same, got_at, got_none}
 use Rattle.container_spec.proofs.PutsAlike.{segment_alike}
 use Rattle.container_spec.proofs.SlicesMeant.{slice_output, slice_sum}

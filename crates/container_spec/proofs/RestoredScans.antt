@@ -17,7 +17,8 @@ use Rattle.box_format.specs.Versions.{layout_of}
 use Rattle.box_format.specs.declared.version.Version.{Version}
 use Rattle.container_spec.specs.Files.{parts_of_file, told_pads}
 use Rattle.container_spec.specs.Meanings.{Meaning}
-use Rattle.container_spec.specs.AloneMeanings.{outputs_of, joined}
+use Rattle.container_spec.specs.Indexed.{outputs_of}
+use Rattle.container_spec.proofs.JoinedSegments.{joined}
 use Rattle.container_spec.proofs.FilesOfContainers.{without, chain, bits, all_bytes, file_of, told, places_are, parts_are}
 use Rattle.container_spec.proofs.ReachedSegments.{whole}
 use Rattle.container_spec.proofs.RestoredMeanings.{IsRestored, restored}

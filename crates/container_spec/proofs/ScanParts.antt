@@ -1,6 +1,6 @@
--- A scan of a file of several has the parts of a container of its own, which stands for the scan's own bytes.
+-- A scan of a file of several has the parts of a container of its own, whose segments are the scan's own bytes.
 use Rattle.std.proofs.Common.{◌≡◌, ℕ, ◌^◌, ◌<◌, ◌≤◌, Bool, false, List, ◌++◌, length, take, drop, refl, sym, ap, subst, ◌∙◌}
-use Rattle.std.specs.Prelude.{min, None}
+use Rattle.std.specs.Prelude.{min}
 use Rattle.std.specs.List.{AllByRecursion}
 use Rattle.std.proofs.lemmas.List.{take-append-drop, length-take-le, take_at, drop_at}
 use Rattle.huff_table.proofs.Pairs.{all-append}
@@ -19,11 +19,12 @@ use Rattle.box_format.specs.Versions.{layout_of}
 use Rattle.box_format.specs.declared.version.Version.{Version}
 use Rattle.container_spec.specs.Files.{parts_of_file, segment_start}
 use Rattle.container_spec.specs.ScanContainers.{IsScanContainer}
-use Rattle.container_spec.specs.Meanings.{Restored}
-use Rattle.container_spec.specs.AloneMeanings.{meaning_of}
+use Rattle.container_spec.specs.Indexed.{outputs_of}
 use Rattle.container_spec.proofs.FileParts.{box_is}
 use Rattle.container_spec.proofs.Numbered.{mapped_long}
-use Rattle.container_spec.proofs.RestoredFiles.{meaning_is}
+use Rattle.container_spec.proofs.JoinedSegments.{joined}
+use Rattle.container_spec.proofs.RestoredFiles.{is_restored}
+use Rattle.container_spec.proofs.RestoredMeanings.{IsRestored}
 use Rattle.container_spec.specs.ScansFiles.{IsScanIn}
 use Rattle.box_format.proofs.ByteParts.{all_drop, all_take}
 
@@ -110,9 +111,6 @@ module _ (v : Version) (whole : (layout_of v).chunked ≡ false) (w : Walk) (mos
   pub is_version : s.parts.version ≡ v
   is_version = ap (λ (b : BoxParts). b.version) is.parts
 
-  pub has_none : s.parts.chunk ≡ None
-  has_none = ap (λ (b : BoxParts). b.chunk) is.parts
-
   pub trailer_is : s.parts.trailer ≡ trailer
   trailer_is = ap (λ (b : BoxParts). b.trailer) is.parts
 
@@ -128,7 +126,7 @@ module _ (v : Version) (whole : (layout_of v).chunked ≡ false) (w : Walk) (mos
         subst (IsBoxIn w s.plan) (sym parts_are)
         (box_is v most (box_bytes s.parts) own some contained few)
 
-    pub means : meaning_of s.plan s.parts ≡ record { bytes = own; verdict = Restored }
-    means =
-        ap (meaning_of s.plan) parts_are
-        ∙ meaning_is v most (box_bytes s.parts) own some contained
+    pub restored : IsRestored s.parts (joined (outputs_of s.plan s.parts)) own
+    restored =
+        subst (λ (b : BoxParts). IsRestored b (joined (outputs_of s.plan b)) own) (sym parts_are)
+        (is_restored v most (box_bytes s.parts) own some contained)

@@ -20,9 +20,9 @@ use Rattle.box_format.specs.Containers.{AreBoxes, AreScans, segment_count}
 use Rattle.container_spec.specs.ScansFiles.{AreScansIn, IsContainerOf, share_of, version_for}
 use Rattle.container_spec.specs.ScansMeaningLaws.{FileIsRestored, ContainerIsRestored}
 use Rattle.container_spec.proofs.JoinedScans.{EachRestored, own as joined_own}
-use Rattle.container_spec.proofs.RestoredMeanings.{IsRestored, is_restored}
+use Rattle.container_spec.proofs.RestoredMeanings.{IsRestored}
 use Rattle.container_spec.proofs.SeveralScans.{each_stands}
-use Rattle.container_spec.proofs.ScanParts.{has, header, scan, bytes_are, rest_bytes, own, is_version, has_none, trailer_is, segments_are, is_box, means}
+use Rattle.container_spec.proofs.ScanParts.{has, header, scan, bytes_are, rest_bytes, own, is_version, trailer_is, segments_are, is_box, restored}
 
 -- bytes that are followed by others
 joined_is : (header scan rest bytes : List ℕ) → bytes ≡ header ++ (scan ++ rest)
@@ -62,10 +62,7 @@ are_restored v whole w (most ∷ mosts) bytes trailer (s ∷ []) known all fits 
         [],
         subst (IsRestored s.parts (joined_own s))
             (sym (bytes_are v whole w most bytes trailer trailer s known all tail fits is))
-            (is_restored s.plan s.parts
-            (own v whole w most bytes trailer trailer s known all tail fits is)
-            (has_none v whole w most bytes trailer trailer s known all tail fits is)
-            (sym (means v whole w most bytes trailer trailer s known all tail fits is some.0 below))),
+            (restored v whole w most bytes trailer trailer s known all tail fits is some.0 below),
         refl,
         sym (append-nil bytes),
       );
@@ -100,8 +97,7 @@ are_restored v whole w (most ∷ mosts) bytes trailer (s ∷ t ∷ scans) known 
       each = (
         here,
         rest,
-        is_restored s.plan s.parts here (has_none v whole w most bytes rest [] s known all tt none is)
-            (sym (means v whole w most bytes rest [] s known all tt none is some.0 below)),
+        restored v whole w most bytes rest [] s known all tt none is some.0 below,
         more.each,
         sym text,
       );

@@ -1,7 +1,6 @@
 pub mod ScanStream
 pub mod Segments
 pub mod Meanings
-pub mod AloneMeanings
 pub mod Indexed
 pub mod Files
 pub mod ScanContainers

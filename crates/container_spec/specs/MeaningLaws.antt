@@ -16,11 +16,10 @@ use Rattle.box_format.specs.Single.{IsBox, IsBoxOf, box_bytes}
 use Rattle.box_format.specs.declared.version.Version.TheVariants.{First, Second, Fifth}
 use Rattle.container_spec.specs.Segments.{segment_output}
 use Rattle.container_spec.specs.Meanings.{Meaning, Restored, segment_in}
-use Rattle.container_spec.specs.AloneMeanings.{meaning_of}
 use Rattle.container_spec.specs.Indexed.{indexed, places_found}
 use Rattle.container_spec.specs.Files.{told_pads}
 use Rattle.container_spec.specs.ScansFiles.{IsContainerOf}
-use Rattle.container_spec.specs.Portions.{StandsFor}
+use Rattle.container_spec.specs.Portions.{StandsFor, meaning_of}
 
 -- the second version can say the pad bits of each scan
 abbrev pub SecondCanPad : Type 0

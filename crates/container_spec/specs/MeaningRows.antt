@@ -17,7 +17,7 @@ use Rattle.box_format.specs.Rows.{grey_header, grey_plan, ones_plan, image_end, 
 use Rattle.container_spec.specs.Segments.{SegmentFields, Output, segment_output}
 use Rattle.box_format.specs.declared.version.Version.TheVariants.{First, Second}
 use Rattle.container_spec.specs.Meanings.{Meaning, Verdict, Restored, PadSpelled, ChunkShort, Faulty}
-use Rattle.container_spec.specs.AloneMeanings.{meaning_of}
+use Rattle.container_spec.specs.Portions.{meaning_of}
 use Rattle.container_spec.specs.Indexed.{indexed, places_found}
 
 -- a segment of one MCU of two with these tables, by its stream, what it starts from, and what the next one starts from

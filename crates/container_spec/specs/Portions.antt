@@ -3,8 +3,9 @@
 use Rattle.std.specs.Prelude.{ℕ, ◌+◌, ◌≡◌, ◌⊎◌, nat_lt, if◌then◌else◌, List, [], ◌∷◌, ◌++◌, length, Option, Some, None}
 use Rattle.byte_window.specs.declared.window.Window.{Window}
 use Rattle.byte_window.specs.Windows.{everything, window}
+use Rattle.jpeg_marker.specs.Plans.{PlanFields}
 use Rattle.handover.specs.declared.outcome.StreamFault.{StreamFault}
-use Rattle.box_format.specs.Parts.{BoxSeen, header_part, rows_most}
+use Rattle.box_format.specs.Parts.{BoxParts, BoxSeen, header_part, rows_most}
 use Rattle.box_format.specs.Containers.{IsContainer, all_parts, segment_count, trailer_of}
 use Rattle.box_format.specs.Checks.{IsRefused}
 use Rattle.box_format.specs.declared.chunk.Chunk.{Chunk}
@@ -90,6 +91,10 @@ meaning_with (Some c) scans = portion_meaning (OfChunk c) scans (chunk_portion c
 -- what the scans of a container stand for
 unfoldable pub scans_meaning : List BoxSeen → Meaning
 scans_meaning scans = meaning_with (only_chunk scans) scans
+
+-- what one scan stands for
+abbrev pub meaning_of : PlanFields → BoxParts → Meaning
+meaning_of plan b = scans_meaning (record { plan = plan; parts = b } ∷ [])
 
 -- what bytes stand for: a refusal, or what their scans stand for
 abbrev pub StandsFor : List ℕ → Meaning → Type 0

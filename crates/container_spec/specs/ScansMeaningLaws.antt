@@ -1,23 +1,19 @@
 -- Law: what holds of all containers and files of one scan or of several (own).
-use Rattle.std.specs.Prelude.{ℕ, ◌≡◌, ◌+◌, ◌<◌, ◌≤◌, Bool, false, List, [], ◌∷◌, length, map, sum}
+use Rattle.std.specs.Prelude.{ℕ, ◌≡◌, ◌<◌, ◌≤◌, Bool, false, List, length, map, sum}
 use Rattle.std.specs.List.{AllByRecursion}
 use Rattle.bit_list.specs.Bits.{IsByte}
 use Rattle.jpeg_marker.specs.Plans.{PlanFields}
 use Rattle.scan_spec.specs.FileParts.{FileScan, IsFile, IsFileOf}
 use Rattle.scan_spec.specs.Scans.{Mcu}
-use Rattle.box_format.specs.Raws.{numbers}
 use Rattle.box_format.specs.Parts.{BoxSeen}
 use Rattle.box_format.specs.Versions.{layout_of, most_segments, version_in}
 use Rattle.box_format.specs.declared.version.Version.{Version}
 use Rattle.box_format.specs.declared.refusal.BoxRefusal.{BoxRefusal}
 use Rattle.container_spec.specs.Limits.{most_of_a_container, most_of_a_file}
-use Rattle.container_spec.specs.Meanings.{Meaning, Restored, segment_in}
-use Rattle.container_spec.specs.AloneMeanings.{joined, joined_alone, meaning_of}
-use Rattle.container_spec.specs.Segments.{segment_output}
+use Rattle.container_spec.specs.Meanings.{Meaning, Restored}
 use Rattle.box_format.specs.Containers.{IsContainer}
 use Rattle.box_format.specs.Checks.{IsRefused}
-use Rattle.container_spec.specs.Portions.{StandsFor, scans_meaning}
-use Rattle.container_spec.specs.ScansJoined.{scanned_from, scans_joined}
+use Rattle.container_spec.specs.Portions.{StandsFor}
 use Rattle.container_spec.specs.ScansFiles.{FileRefusal, FileIsRefused, HasSeveralScans, IsContainerOfFile, IsContainerOf}
 
 -- bytes that have scans as a container aren't refused
@@ -105,15 +101,3 @@ ContainerOfFileIsShort =
     (most : ℕ) (made file : List ℕ) → most ≤ most_segments
     → IsContainerOfFile most made file → length file ≤ most_of_a_file
     → length made ≤ most_of_a_container
-
--- one scan stands for what its parts do, with a chunk or without one
-abbrev pub OneStandsForItself : Type 0
-OneStandsForItself = (s : BoxSeen) → scans_meaning (s ∷ []) ≡ meaning_of s.plan s.parts
-
--- and its segments are joined as those of the scan
-abbrev pub OneIsJoined : Type 0
-OneIsJoined =
-    (s : BoxSeen) (first count : ℕ) → first + count ≤ length s.parts.handovers
-    → scans_joined (scanned_from (s ∷ []) first count)
-    ≡ joined_alone
-    (joined (map (λ i. segment_output (segment_in s.plan s.parts i)) (numbers first count)))

@@ -3,7 +3,7 @@ ghost use Rattle.container_spec.specs.SegmentLaws.{McusArePut, SegmentIsItsSlice
 ghost use Rattle.container_spec.specs.MeaningLaws.{FirstCanPad, SecondCanPad, MigratedMeansTheSame, SegmentIsShort, IndexedIsContainer, IndexedStays, PlacesAreFound};
 ghost use Rattle.container_spec.specs.MeaningRows.{zeros_are_put, faults_are_told, places_are_counted, containers_are_joined, pad_is_spelled, lists_are_spelled, chunks_are_slices, places_are_looked_at, places_are_found};
 ghost use Rattle.container_spec.specs.ScansMeaningRows.{shares, two_segments, two_stand};
-ghost use Rattle.container_spec.specs.ScansMeaningLaws.{RefusedIsNone, StandsForOne, FileIsRestored, ContainerIsRestored, RestoredIsContainer, OneContainer, OneContainerOfFile, ContainedIsNotRefused, AcceptedIsNotRefused, SeveralIsNotOne, OneFileRefusal, ContainerIsShort, ContainerOfFileIsShort, OneStandsForItself, OneIsJoined};
+ghost use Rattle.container_spec.specs.ScansMeaningLaws.{RefusedIsNone, StandsForOne, FileIsRestored, ContainerIsRestored, RestoredIsContainer, OneContainer, OneContainerOfFile, ContainedIsNotRefused, AcceptedIsNotRefused, SeveralIsNotOne, OneFileRefusal, ContainerIsShort, ContainerOfFileIsShort};
 ghost use Rattle.container_spec.specs.ChunkLaws.{ChunkIsRestored, ChunkIsShort, ChunkedIsNotRefused, ChunkedIsOne, ChunksAreRestored, OneChunk, RowsArePlaced, SegmentsAreTheRows};
 ghost use Rattle.container_spec.specs.ChunkRows.{chunks_of_four_rows, one_byte_across_four_rows};
 
@@ -60,12 +60,6 @@ pub fn files_have_one_container()
     ensures refusal { OneFileRefusal }
     ensures short { ContainerIsShort }
     ensures encoded_short { ContainerOfFileIsShort }
-{}
-
-/// A container of one scan stands for what its parts stand for, and its segments are those of the scan.
-pub fn one_scan_stands_for_itself()
-    ensures itself { OneStandsForItself }
-    ensures joined { OneIsJoined }
 {}
 
 /// The rows of a file of one scan have a byte for each of their places, and segments of rows are the rows. A chunk's

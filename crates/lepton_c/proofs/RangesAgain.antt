@@ -18,14 +18,13 @@ use Rattle.container_spec.specs.ScanContainers.{IsContainerOfOne}
 use Rattle.container_spec.specs.Files.{parts_of_file}
 use Rattle.container_spec.specs.Indexed.{indexed}
 use Rattle.container_spec.specs.Limits.{most_of_a_container}
-use Rattle.container_spec.specs.AloneMeanings.{meaning_of}
-use Rattle.container_spec.specs.Portions.{StandsFor}
+use Rattle.container_spec.specs.Portions.{StandsFor, meaning_of}
 use Rattle.container_spec.proofs.FileParts.{box_is}
 use Rattle.container_spec.proofs.FilesAlone.{as_one, of_one}
 use Rattle.container_spec.proofs.FilesOfContainers.{indexed_is, some, without}
-use Rattle.container_spec.proofs.OneStands.{meant_alone}
+use Rattle.container_spec.proofs.BoxesOnce.{meant_alone}
 use Rattle.container_spec.proofs.ReachedSegments.{whole}
-use Rattle.container_spec.proofs.RestoredMeanings.{is_restored}
+use Rattle.container_spec.proofs.PortionsMeant.{is_restored}
 use Rattle.container_spec.proofs.ScansRestored.{container_is_restored, file_is_restored}
 use Rattle.container_spec.proofs.ScansSizes.{container_is_short}
 use Rattle.range_read.specs.IndexEnds.{IsIndexOf}

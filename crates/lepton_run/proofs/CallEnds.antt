@@ -15,10 +15,8 @@ use Rattle.byte_window.specs.Slices.{slice}
 use Rattle.container_spec.specs.ScansFiles.{IsContainerOf, IsContainerOfFile}
 use Rattle.container_spec.specs.Indexed.{indexed}
 use Rattle.box_format.proofs.Singles.{alone, version_is_in, version_said}
-use Rattle.container_spec.proofs.PortionsMeant.{one_stands_for_itself}
-use Rattle.container_spec.specs.Portions.{StandsFor, scans_meaning}
+use Rattle.container_spec.specs.Portions.{StandsFor, scans_meaning, meaning_of}
 use Rattle.container_spec.specs.Meanings.{Meaning, Restored}
-use Rattle.container_spec.specs.AloneMeanings.{meaning_of}
 use Rattle.container_spec.proofs.MigratedMeanings.{migrated_means_the_same}
 use Rattle.command_words.specs.Meaning.{Means}
 use Rattle.command_words.specs.declared.command.Command.{Command}
@@ -335,7 +333,7 @@ module _ {Sink Source : Type 0} (held : Sink → Option (List ℕ)) (faults : Si
       let a = alone v scans bytes one of in
       let s : BoxSeen = a.0 in
       indexed_by ending status is ends said bytes file means calm still had short read s.plan s.parts
-      a.2 (e ∙ ap scans_meaning a.1 ∙ one_stands_for_itself s)
+      a.2 (e ∙ ap scans_meaning a.1)
 
   pub range_back_of : (ending : Ending) (status : ℕ) → status ≡ status_at ending → Ends ending
       → Said (ending_line ending) → (workers most from to : ℕ) (bytes file : List ℕ)

@@ -10,15 +10,13 @@ use Rattle.box_format.specs.declared.version.Version.TheVariants.{First, Second,
 use Rattle.container_spec.specs.ScansFiles.{IsContainerOf}
 use Rattle.container_spec.specs.Files.{parts_of_file}
 use Rattle.container_spec.specs.Indexed.{indexed}
-use Rattle.container_spec.specs.Meanings.{Meaning, Verdict, Restored, PadSpelled, ChunkShort, Faulty, NoBox}
-use Rattle.container_spec.specs.AloneMeanings.{meaning_of}
-use Rattle.container_spec.specs.Portions.{scans_meaning}
-use Rattle.container_spec.proofs.PortionsMeant.{one_stands_for_itself}
+use Rattle.container_spec.specs.Meanings.{Verdict, Restored, PadSpelled, ChunkShort, Faulty, NoBox}
+use Rattle.container_spec.specs.Portions.{scans_meaning, meaning_of}
 use Rattle.container_spec.proofs.FileParts.{box_is}
 use Rattle.box_format.proofs.Singles.{version_said}
 use Rattle.container_spec.proofs.FilesAlone.{of_one}
 use Rattle.container_spec.proofs.IndexedFiles.{indexed_is_container}
-use Rattle.container_spec.proofs.OneStands.{meant_alone}
+use Rattle.container_spec.proofs.BoxesOnce.{meant_alone}
 use Rattle.container_spec.proofs.ScansRestored.{file_is_restored}
 use Rattle.container_spec.proofs.ScansSizes.{container_is_short}
 use Rattle.range_read.specs.RangeMeanings.{RangeMeaning}
@@ -192,7 +190,6 @@ indexed_answer bytes plan b of short read restored = inr (record {
     of,
     read,
     ap (λ (v : Verdict). early (answer_by (box_bytes (indexed plan b)) v))
-        (sym (ap (λ (m : Meaning). m.verdict)
-        (one_stands_for_itself (record { plan = plan; parts = b })) ∙ restored)),
+        (sym restored),
   );
 })

@@ -7,13 +7,15 @@ use Rattle.handover.specs.declared.outcome.Outcome.{Outcome}
 use Rattle.handover.specs.declared.outcome.Outcome.TheVariants.{Good, Bad}
 use Rattle.handover.specs.declared.outcome.StreamFault.{StreamFault}
 use Rattle.handover.specs.declared.pads.PadSum.{PadSum}
-use Rattle.box_format.specs.Parts.{BoxParts}
+use Rattle.box_format.specs.Parts.{BoxParts, BoxSeen}
 use Rattle.box_format.specs.Versions.{most_segments}
-use Rattle.box_format.specs.declared.chunk.Chunk.{Chunk}
+use Rattle.box_format.proofs.ScansFaults.{and_true}
 use Rattle.container_spec.specs.Segments.{Output, segment_output}
-use Rattle.container_spec.specs.Meanings.{Faulty, PadSpelled, Restored, segment_in}
-use Rattle.container_spec.specs.AloneMeanings.{Joined, good_end, joined, joined_with, meaning_by, meaning_of, outputs_of}
-use Rattle.container_spec.specs.Indexed.{places_after, places_found}
+use Rattle.container_spec.specs.Meanings.{Faulty, Meaning, PadSpelled, Restored, segment_in}
+use Rattle.container_spec.proofs.JoinedSegments.{Joined, joined, joined_alone, joined_with}
+use Rattle.container_spec.proofs.PortionsMeant.{file_alone}
+use Rattle.container_spec.specs.Portions.{OfFile, ending_by, meaning_of, whole}
+use Rattle.container_spec.specs.Indexed.{places_after, places_found, outputs_of}
 use Rattle.container_spec.proofs.Numbered.{mapped_long}
 use Rattle.container_spec.proofs.PlacesFound.{found_long}
 use Rattle.container_spec.proofs.PutParts.{sums_more, sums_none}
@@ -25,24 +27,27 @@ use Rattle.range_read.proofs.MeasuredSegments.{measures_few}
 -- ---- what a container stands for
 
 -- the first fault
-pub faulty : (plan : PlanFields) (b : BoxParts) (fault : StreamFault)
+pub faulty : (plan : PlanFields) (b : BoxParts) (fault : StreamFault) → b.chunk ≡ None
     → (joined (outputs_of plan b)).fault ≡ Some fault → (meaning_of plan b).verdict ≡ Faulty fault
-unfolding meaning_of
-faulty plan b fault some =
-    ap (λ (f : Option StreamFault). (meaning_by b (joined (outputs_of plan b)) f).verdict) some
+faulty plan b fault none some =
+    let s : BoxSeen = record { plan = plan; parts = b } in
+    let all = joined_alone (joined (outputs_of plan b)) in
+    ap (λ (m : Meaning). m.verdict) (file_alone s none)
+    ∙ ap (λ (f : Option StreamFault). (ending_by OfFile (s ∷ []) (whole (s ∷ [])) all f).verdict) some
 
 -- without one a file whose pad bits are spelled so or not
 pub spelled : (plan : PlanFields) (b : BoxParts) (padded : PadSum) (t : Bool) → b.chunk ≡ None
     → (joined (outputs_of plan b)).fault ≡ None → (joined (outputs_of plan b)).padded ≡ padded
     → is_spelled b.pads padded ≡ t
     → (meaning_of plan b).verdict ≡ (if t then Restored else PadSpelled)
-unfolding meaning_of
-spelled plan b padded t whole none sum is =
-    let all = joined (outputs_of plan b) in
-    ap (λ (f : Option StreamFault). (meaning_by b all f).verdict) none
-    ∙ ap (λ (c : Option Chunk). (good_end c b all).verdict) whole
+spelled plan b padded t none good sum is =
+    let s : BoxSeen = record { plan = plan; parts = b } in
+    let j = joined (outputs_of plan b) in
+    let all = joined_alone j in
+    ap (λ (m : Meaning). m.verdict) (file_alone s none)
+    ∙ ap (λ (f : Option StreamFault). (ending_by OfFile (s ∷ []) (whole (s ∷ [])) all f).verdict) good
     ∙ ap (λ (p : Bool). if p then Restored else PadSpelled)
-    (ap (λ (p : PadSum). is_spelled b.pads p) sum ∙ is)
+    (and_true (is_spelled b.pads j.padded) ∙ ap (λ (p : PadSum). is_spelled b.pads p) sum ∙ is)
 
 -- as many places as segments, and one more
 pub found_count : (plan : PlanFields) (b : BoxParts)
@@ -157,10 +162,10 @@ bad_next plan b m left pads fault (o ∷ rest) bytes are all bad =
 
 pub bad_place : (plan : PlanFields) (b : BoxParts) (m : Measure) (before left : List Measure)
     (places : List ℕ) (place : ℕ) (pads : PadSum) (fault : StreamFault)
-    → PlacesSoFar plan b before places place pads → before ≡ m ∷ left → m.outcome ≡ Bad fault
-    → (meaning_of plan b).verdict ≡ Faulty fault
-bad_place plan b m before left places place pads fault s front bad =
-    faulty plan b fault
+    → b.chunk ≡ None → PlacesSoFar plan b before places place pads → before ≡ m ∷ left
+    → m.outcome ≡ Bad fault → (meaning_of plan b).verdict ≡ Faulty fault
+bad_place plan b m before left places place pads fault none s front bad =
+    faulty plan b fault none
     (bad_next plan b m left pads fault s.rest s.bytes
     (subst (λ (l : List Measure). AreMeasures s.rest l) front s.are) s.all bad)
 

@@ -4,7 +4,7 @@ use Rattle.std.proofs.lemmas.List.{take-append-drop, take-map, drop-map}
 use Rattle.handover.specs.declared.outcome.Outcome.{Outcome}
 use Rattle.box_format.specs.Raws.{numbers}
 use Rattle.container_spec.specs.Segments.{Output}
-use Rattle.container_spec.specs.AloneMeanings.{joined_with, joined}
+use Rattle.container_spec.proofs.JoinedSegments.{joined_with, joined}
 use Rattle.container_spec.proofs.ReachedSegments.{first_good}
 use Rattle.byte_window.specs.PartedFiles as parted
 

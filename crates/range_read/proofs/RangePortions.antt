@@ -7,7 +7,7 @@ use Rattle.handover.specs.declared.outcome.StreamFault.{StreamFault}
 use Rattle.box_format.specs.Parts.{BoxParts, BoxSeen}
 use Rattle.box_format.specs.Raws.{numbers}
 use Rattle.container_spec.specs.Segments.{segment_output}
-use Rattle.container_spec.specs.AloneMeanings.{Joined, joined, joined_alone}
+use Rattle.container_spec.proofs.JoinedSegments.{Joined, joined, joined_alone}
 use Rattle.container_spec.specs.Meanings.{Meaning, segment_in}
 use Rattle.container_spec.specs.Portions.{OfRange, ending_by}
 use Rattle.container_spec.specs.ScansJoined.{ScansJoined}

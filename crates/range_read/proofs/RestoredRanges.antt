@@ -10,10 +10,12 @@ use Rattle.handover.specs.declared.outcome.StreamFault.{StreamFault}
 use Rattle.box_format.specs.Parts.{BoxParts, file_end}
 use Rattle.box_format.specs.Raws.{numbers}
 use Rattle.container_spec.specs.Segments.{Output, segment_output}
-use Rattle.container_spec.specs.AloneMeanings.{Joined, joined, outputs_of}
+use Rattle.container_spec.proofs.JoinedSegments.{Joined, joined}
+use Rattle.container_spec.specs.Indexed.{outputs_of}
 use Rattle.container_spec.specs.Meanings.{segment_in}
 use Rattle.container_spec.proofs.PlacesOfContainers.{place_is}
-use Rattle.container_spec.proofs.RestoredMeanings.{IsRestored, is_restored}
+use Rattle.container_spec.proofs.PortionsMeant.{is_restored}
+use Rattle.container_spec.proofs.RestoredMeanings.{IsRestored}
 use Rattle.byte_window.specs.PartedFiles as parted
 use Rattle.byte_window.specs.PartedFiles.{PartedFile, IsPlaced, file_bytes, parts_bytes, parts_end, parts_within, begun_within, bytes_within, slice_bytes, header_within, window_within, trailer_within, listed}
 use Rattle.byte_window.proofs.BegunParts.{list_is_placed, one_more}

@@ -7,7 +7,7 @@ use Rattle.box_format.specs.Parts.{BoxParts, file_end}
 use Rattle.box_format.specs.Single.{IsBox}
 use Rattle.box_format.specs.declared.version.Version.TheVariants.{Fifth}
 use Rattle.container_spec.specs.Meanings.{Restored}
-use Rattle.container_spec.specs.AloneMeanings.{meaning_of}
+use Rattle.container_spec.specs.Portions.{meaning_of}
 use Rattle.range_read.specs.RangeMeanings.{is_bad_range, placed_file, places_of, range_meaning}
 
 -- a container of the fifth version stands for this file

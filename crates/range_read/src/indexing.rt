@@ -4,9 +4,9 @@ ghost use Rattle.handover.specs.declared.outcome.StreamFault.{StreamFault};
 ghost use Rattle.box_format.specs.Checks.{IsRefusedBy};
 ghost use Rattle.box_format.specs.Versions.{indexable};
 ghost use Rattle.box_format.specs.declared.refusal.BoxRefusal.{BoxRefusal};
-ghost use Rattle.container_spec.specs.Indexed.{places_found};
+ghost use Rattle.container_spec.specs.Indexed.{outputs_of, places_found};
 ghost use Rattle.container_spec.specs.Meanings.{Faulty, PadSpelled, Restored};
-ghost use Rattle.container_spec.specs.AloneMeanings.{meaning_of, outputs_of};
+ghost use Rattle.container_spec.specs.Portions.{meaning_of};
 ghost use Rattle.range_read.specs.IndexEnds.{Ends, IsIndexOf};
 ghost use Rattle.range_read.specs.Measures.{AreMeasures};
 

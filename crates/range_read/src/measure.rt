@@ -1,7 +1,7 @@
 // How many bytes each segment of a container has, and how it ends.
 ghost use Rattle.std.specs.Prelude.{◌≡◌, ◌<◌, ◌^◌, ◌∷◌, ◌++◌, [], IfOk, OnOk, true};
 ghost use Rattle.std.specs.Mem.{type_size};
-ghost use Rattle.container_spec.specs.AloneMeanings.{outputs_of};
+ghost use Rattle.container_spec.specs.Indexed.{outputs_of};
 ghost use Rattle.container_spec.specs.Segments.{Output};
 ghost use Rattle.segment_code.specs.FileDecoding.{FileOwes, steps_left};
 ghost use Rattle.range_read.specs.Measures.{AreMeasures, IsMeasure};

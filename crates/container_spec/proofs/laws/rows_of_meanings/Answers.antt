@@ -16,41 +16,41 @@ use Rattle.scan_spec.specs.Spots.{mcu_put, mcus_put}
 use Rattle.handover.specs.HandoverBytes.{handover_bytes}
 use Rattle.container_spec.specs.ScanStream.{blocks_stream}
 use Rattle.container_spec.specs.Segments.{mcu_step, ending, mcus_output}
-use Rattle.container_spec.specs.AloneMeanings.{meaning_of}
+use Rattle.container_spec.specs.Portions.{scans_meaning}
 use Rattle.container_spec.proofs.laws.rows_of_meanings.Goals as goal
 
 pub returns-clause-zeros : goal.returns-clause-zeros
-unfolding after first_bits stream blocks_stream value_events count_events values_events inner_positions values_in guess prediction dc_spread block_events inner_count_events edge_events dc_events ac_events cell_at block_at segment_events events_at around_in told_by asked_number asked_count asked_category asked_rest asked_value asked_values asked_edge asked_residue placed block_with asked_coefficients asked_block block_read blocks_read block_text dc_text ac_text ac_values value_text zeros_text word_text word_of words_of blocks_text dcs_after mcu_put mcus_put handover_bytes mcu_step ending mcus_output meaning_of
+unfolding after first_bits stream blocks_stream value_events count_events values_events inner_positions values_in guess prediction dc_spread block_events inner_count_events edge_events dc_events ac_events cell_at block_at segment_events events_at around_in told_by asked_number asked_count asked_category asked_rest asked_value asked_values asked_edge asked_residue placed block_with asked_coefficients asked_block block_read blocks_read block_text dc_text ac_text ac_values value_text zeros_text word_text word_of words_of blocks_text dcs_after mcu_put mcus_put handover_bytes mcu_step ending mcus_output scans_meaning
 returns-clause-zeros c = (refl, refl, refl)
 
 pub returns-clause-faults : goal.returns-clause-faults
-unfolding after first_bits stream blocks_stream value_events count_events values_events inner_positions values_in guess prediction dc_spread block_events inner_count_events edge_events dc_events ac_events cell_at block_at segment_events events_at around_in told_by asked_number asked_count asked_category asked_rest asked_value asked_values asked_edge asked_residue placed block_with asked_coefficients asked_block block_read blocks_read block_text dc_text ac_text ac_values value_text zeros_text word_text word_of words_of blocks_text dcs_after mcu_put mcus_put handover_bytes mcu_step ending mcus_output meaning_of
+unfolding after first_bits stream blocks_stream value_events count_events values_events inner_positions values_in guess prediction dc_spread block_events inner_count_events edge_events dc_events ac_events cell_at block_at segment_events events_at around_in told_by asked_number asked_count asked_category asked_rest asked_value asked_values asked_edge asked_residue placed block_with asked_coefficients asked_block block_read blocks_read block_text dc_text ac_text ac_values value_text zeros_text word_text word_of words_of blocks_text dcs_after mcu_put mcus_put handover_bytes mcu_step ending mcus_output scans_meaning
 returns-clause-faults c = (refl, refl, refl, refl, refl, refl, refl, refl)
 
 pub returns-clause-places : goal.returns-clause-places
-unfolding after first_bits stream blocks_stream value_events count_events values_events inner_positions values_in guess prediction dc_spread block_events inner_count_events edge_events dc_events ac_events cell_at block_at segment_events events_at around_in told_by asked_number asked_count asked_category asked_rest asked_value asked_values asked_edge asked_residue placed block_with asked_coefficients asked_block block_read blocks_read block_text dc_text ac_text ac_values value_text zeros_text word_text word_of words_of blocks_text dcs_after mcu_put mcus_put handover_bytes mcu_step ending mcus_output meaning_of
+unfolding after first_bits stream blocks_stream value_events count_events values_events inner_positions values_in guess prediction dc_spread block_events inner_count_events edge_events dc_events ac_events cell_at block_at segment_events events_at around_in told_by asked_number asked_count asked_category asked_rest asked_value asked_values asked_edge asked_residue placed block_with asked_coefficients asked_block block_read blocks_read block_text dc_text ac_text ac_values value_text zeros_text word_text word_of words_of blocks_text dcs_after mcu_put mcus_put handover_bytes mcu_step ending mcus_output scans_meaning
 returns-clause-places c = (refl, refl, refl, refl, refl)
 
 pub returns-clause-containers : goal.returns-clause-containers
-unfolding after first_bits stream blocks_stream value_events count_events values_events inner_positions values_in guess prediction dc_spread block_events inner_count_events edge_events dc_events ac_events cell_at block_at segment_events events_at around_in told_by asked_number asked_count asked_category asked_rest asked_value asked_values asked_edge asked_residue placed block_with asked_coefficients asked_block block_read blocks_read block_text dc_text ac_text ac_values value_text zeros_text word_text word_of words_of blocks_text dcs_after mcu_put mcus_put handover_bytes mcu_step ending mcus_output meaning_of
+unfolding after first_bits stream blocks_stream value_events count_events values_events inner_positions values_in guess prediction dc_spread block_events inner_count_events edge_events dc_events ac_events cell_at block_at segment_events events_at around_in told_by asked_number asked_count asked_category asked_rest asked_value asked_values asked_edge asked_residue placed block_with asked_coefficients asked_block block_read blocks_read block_text dc_text ac_text ac_values value_text zeros_text word_text word_of words_of blocks_text dcs_after mcu_put mcus_put handover_bytes mcu_step ending mcus_output scans_meaning
 returns-clause-containers c = (refl, refl, refl)
 
 pub returns-clause-pads : goal.returns-clause-pads
-unfolding after first_bits stream blocks_stream value_events count_events values_events inner_positions values_in guess prediction dc_spread block_events inner_count_events edge_events dc_events ac_events cell_at block_at segment_events events_at around_in told_by asked_number asked_count asked_category asked_rest asked_value asked_values asked_edge asked_residue placed block_with asked_coefficients asked_block block_read blocks_read block_text dc_text ac_text ac_values value_text zeros_text word_text word_of words_of blocks_text dcs_after mcu_put mcus_put handover_bytes mcu_step ending mcus_output meaning_of
+unfolding after first_bits stream blocks_stream value_events count_events values_events inner_positions values_in guess prediction dc_spread block_events inner_count_events edge_events dc_events ac_events cell_at block_at segment_events events_at around_in told_by asked_number asked_count asked_category asked_rest asked_value asked_values asked_edge asked_residue placed block_with asked_coefficients asked_block block_read blocks_read block_text dc_text ac_text ac_values value_text zeros_text word_text word_of words_of blocks_text dcs_after mcu_put mcus_put handover_bytes mcu_step ending mcus_output scans_meaning
 returns-clause-pads c = (refl, refl)
 
 pub returns-clause-lists : goal.returns-clause-lists
-unfolding after first_bits stream blocks_stream value_events count_events values_events inner_positions values_in guess prediction dc_spread block_events inner_count_events edge_events dc_events ac_events cell_at block_at segment_events events_at around_in told_by asked_number asked_count asked_category asked_rest asked_value asked_values asked_edge asked_residue placed block_with asked_coefficients asked_block block_read blocks_read block_text dc_text ac_text ac_values value_text zeros_text word_text word_of words_of blocks_text dcs_after mcu_put mcus_put handover_bytes mcu_step ending mcus_output meaning_of
+unfolding after first_bits stream blocks_stream value_events count_events values_events inner_positions values_in guess prediction dc_spread block_events inner_count_events edge_events dc_events ac_events cell_at block_at segment_events events_at around_in told_by asked_number asked_count asked_category asked_rest asked_value asked_values asked_edge asked_residue placed block_with asked_coefficients asked_block block_read blocks_read block_text dc_text ac_text ac_values value_text zeros_text word_text word_of words_of blocks_text dcs_after mcu_put mcus_put handover_bytes mcu_step ending mcus_output scans_meaning
 returns-clause-lists c = (refl, refl, refl, refl)
 
 pub returns-clause-chunks : goal.returns-clause-chunks
-unfolding after first_bits stream blocks_stream value_events count_events values_events inner_positions values_in guess prediction dc_spread block_events inner_count_events edge_events dc_events ac_events cell_at block_at segment_events events_at around_in told_by asked_number asked_count asked_category asked_rest asked_value asked_values asked_edge asked_residue placed block_with asked_coefficients asked_block block_read blocks_read block_text dc_text ac_text ac_values value_text zeros_text word_text word_of words_of blocks_text dcs_after mcu_put mcus_put handover_bytes mcu_step ending mcus_output meaning_of
+unfolding after first_bits stream blocks_stream value_events count_events values_events inner_positions values_in guess prediction dc_spread block_events inner_count_events edge_events dc_events ac_events cell_at block_at segment_events events_at around_in told_by asked_number asked_count asked_category asked_rest asked_value asked_values asked_edge asked_residue placed block_with asked_coefficients asked_block block_read blocks_read block_text dc_text ac_text ac_values value_text zeros_text word_text word_of words_of blocks_text dcs_after mcu_put mcus_put handover_bytes mcu_step ending mcus_output scans_meaning
 returns-clause-chunks c = (refl, refl, refl)
 
 pub returns-clause-looked : goal.returns-clause-looked
-unfolding after first_bits stream blocks_stream value_events count_events values_events inner_positions values_in guess prediction dc_spread block_events inner_count_events edge_events dc_events ac_events cell_at block_at segment_events events_at around_in told_by asked_number asked_count asked_category asked_rest asked_value asked_values asked_edge asked_residue placed block_with asked_coefficients asked_block block_read blocks_read block_text dc_text ac_text ac_values value_text zeros_text word_text word_of words_of blocks_text dcs_after mcu_put mcus_put handover_bytes mcu_step ending mcus_output meaning_of
+unfolding after first_bits stream blocks_stream value_events count_events values_events inner_positions values_in guess prediction dc_spread block_events inner_count_events edge_events dc_events ac_events cell_at block_at segment_events events_at around_in told_by asked_number asked_count asked_category asked_rest asked_value asked_values asked_edge asked_residue placed block_with asked_coefficients asked_block block_read blocks_read block_text dc_text ac_text ac_values value_text zeros_text word_text word_of words_of blocks_text dcs_after mcu_put mcus_put handover_bytes mcu_step ending mcus_output scans_meaning
 returns-clause-looked c = (refl, refl, refl)
 
 pub returns-clause-found : goal.returns-clause-found
-unfolding after first_bits stream blocks_stream value_events count_events values_events inner_positions values_in guess prediction dc_spread block_events inner_count_events edge_events dc_events ac_events cell_at block_at segment_events events_at around_in told_by asked_number asked_count asked_category asked_rest asked_value asked_values asked_edge asked_residue placed block_with asked_coefficients asked_block block_read blocks_read block_text dc_text ac_text ac_values value_text zeros_text word_text word_of words_of blocks_text dcs_after mcu_put mcus_put handover_bytes mcu_step ending mcus_output meaning_of
+unfolding after first_bits stream blocks_stream value_events count_events values_events inner_positions values_in guess prediction dc_spread block_events inner_count_events edge_events dc_events ac_events cell_at block_at segment_events events_at around_in told_by asked_number asked_count asked_category asked_rest asked_value asked_values asked_edge asked_residue placed block_with asked_coefficients asked_block block_read blocks_read block_text dc_text ac_text ac_values value_text zeros_text word_text word_of words_of blocks_text dcs_after mcu_put mcus_put handover_bytes mcu_step ending mcus_output scans_meaning
 returns-clause-found c = (refl, refl, refl, refl)

@@ -1,13 +1,12 @@
-use Rattle.std.proofs.Common.{◌≡◌, ◌+◌, length, ap, ap₂, subst, sym, ◌∙◌, List, ℕ, Err}
+use Rattle.std.proofs.Common.{◌≡◌, ◌+◌, length, ap, ap₂, subst, sym, ◌∙◌, List, [], ◌∷◌, ℕ, Err}
 use Rattle.std.proofs.lemmas.Result.{err_from_is_err_and}
 use Rattle.std.specs.Prelude.{Some}
 use Rattle.box_format.specs.Parts.{BoxSeen}
 use Rattle.box_format.specs.Single.{box_bytes}
 use Rattle.box_format.specs.declared.version.Version.TheVariants.{Fifth}
 use Rattle.container_spec.specs.Indexed.{places_found}
-use Rattle.container_spec.specs.Meanings.{Meaning, Faulty, PadSpelled, Restored}
-use Rattle.container_spec.specs.AloneMeanings.{meaning_of}
-use Rattle.container_spec.proofs.PortionsMeant.{one_stands_for_itself}
+use Rattle.container_spec.specs.Meanings.{Faulty, PadSpelled, Restored}
+use Rattle.container_spec.specs.Portions.{scans_meaning}
 use Rattle.range_read.specs.declared.error.IndexError.{IndexError}
 use Rattle.range_read.specs.declared.error.IndexError.TheVariants.{Fault, PadSpelling}
 use Rattle.range_read.proofs.FoundPlaces.{found_count}
@@ -23,8 +22,7 @@ returns-in_err-places-clause-fault c = λ fault is.
       c.in-Ok.scan.parts,
       c.in-Ok.ensures.taken,
       c.in-Ok.ensures.version,
-      ap (λ (m : Meaning). m.verdict) (one_stands_for_itself c.in-Ok.scan)
-          ∙ subst (λ (s : BoxSeen). (meaning_of s.plan s.parts).verdict ≡ Faulty fault) c.view.ensures
+      subst (λ (s : BoxSeen). (scans_meaning (s ∷ [])).verdict ≡ Faulty fault) c.view.ensures
           (c.in_err-places.ensures.fault fault (ap (λ (error : IndexError). Err error) cause)),
     )
 
@@ -44,8 +42,7 @@ returns-in_err-places-clause-spelling c = λ is.
       c.in-Ok.scan.parts,
       c.in-Ok.ensures.taken,
       c.in-Ok.ensures.version,
-      ap (λ (m : Meaning). m.verdict) (one_stands_for_itself c.in-Ok.scan)
-          ∙ subst (λ (s : BoxSeen). (meaning_of s.plan s.parts).verdict ≡ PadSpelled) c.view.ensures
+      subst (λ (s : BoxSeen). (scans_meaning (s ∷ [])).verdict ≡ PadSpelled) c.view.ensures
           (c.in_err-places.ensures.spelling (ap (λ (error : IndexError). Err error) cause)),
     )
 
@@ -55,8 +52,7 @@ returns-clause-made c = (
   c.in-Ok.scan.parts,
   c.in-Ok.ensures.taken,
   c.in-Ok.ensures.version,
-  ap (λ (m : Meaning). m.verdict) (one_stands_for_itself c.in-Ok.scan)
-      ∙ subst (λ (s : BoxSeen). (meaning_of s.plan s.parts).verdict ≡ Restored) c.view.ensures
+  subst (λ (s : BoxSeen). (scans_meaning (s ∷ [])).verdict ≡ Restored) c.view.ensures
       c.in_ok-places.ensures.restored,
   c.in_ok-made.ensures
       ∙ ap₂ (λ (s : BoxSeen) (l : List ℕ). box_bytes (record s.parts { version = Fifth; places = Some l }))

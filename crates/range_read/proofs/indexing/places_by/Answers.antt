@@ -5,7 +5,7 @@ use Rattle.handover.specs.declared.outcome.StreamFault.{StreamFault}
 use Rattle.scan_spec.specs.Pads.{PadBits, is_spelled}
 use Rattle.box_format.specs.Versions.{most_segments}
 use Rattle.container_spec.specs.Segments.{segment_output}
-use Rattle.container_spec.specs.AloneMeanings.{outputs_of}
+use Rattle.container_spec.specs.Indexed.{outputs_of}
 use Rattle.container_spec.specs.Meanings.{segment_in}
 use Rattle.container_spec.proofs.Numbered.{mapped_long}
 use Rattle.range_read.proofs.FoundPlaces.{all_places, all_spelled, bad_place, good_place, next_fits, no_places}
@@ -56,7 +56,7 @@ returns-in-Bad-clause-fault c = λ fault is.
     let same : c.in-Bad.fault ≡ fault = let e = c.in-Bad.fault-is in cc in
     bad_place c.args.view.now.plan c.args.view.now.parts c.in-Some.measure
     l.measure-iterator.rest.items c.next.new.self.rest.items l.places.items l.place l.pads fault
-    l.invariant front
+    c.requires.whole l.invariant front
     (c.in-Bad.is ∙ ap (λ (f : StreamFault). let o : Outcome = Bad f in o) same)
 
 pub returns-then-is_spelled-clause-places : goal.returns-then-is_spelled-clause-places
