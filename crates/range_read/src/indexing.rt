@@ -1,8 +1,9 @@
 // From a container to the same one with the places of its segments.
-ghost use Rattle.std.specs.Prelude.{◌≡◌, IfOk, IsErrOf, None};
+ghost use Rattle.std.specs.Prelude.{ℕ, ◌≡◌, IfOk, IsErrOf, List, None};
 ghost use Rattle.handover.specs.declared.outcome.StreamFault.{StreamFault};
 ghost use Rattle.box_format.specs.Checks.{IsRefusedBy};
-ghost use Rattle.box_format.specs.Versions.{indexable};
+ghost use Rattle.box_format.specs.Single.{IsBoxOf};
+ghost use Rattle.box_format.specs.Versions.{IsRead, indexable};
 ghost use Rattle.box_format.specs.declared.refusal.BoxRefusal.{BoxRefusal};
 ghost use Rattle.container_spec.specs.Indexed.{outputs_of, places_found};
 ghost use Rattle.container_spec.specs.Meanings.{Faulty, PadSpelled, Restored};
@@ -41,9 +42,7 @@ pub fn index<R: Threads + Sync>(rt: &R, alloc: Global, bytes: &[u8]) -> Result<V
         Err(ReadError::NoMemory(short)) => return Err(IndexError::NoMemory(short)),
     };
     let measures = measure_all(rt, alloc, &scan)?;
-    let places = places_by(alloc, scan.view(), measures)?;
-    let made = write_placed(alloc, scan.view(), places.as_slice())?;
-    Ok(made)
+    index_by(alloc, &scan, measures)
 }
 
 /// What `index` gives, on the calling thread: the segments are decoded one after another, with the memory for one.
@@ -62,6 +61,25 @@ pub fn index_alone(alloc: Global, bytes: &[u8]) -> Result<Vec<u8>, IndexError>
         Err(ReadError::NoMemory(short)) => return Err(IndexError::NoMemory(short)),
     };
     let measures = measure_in_turn(alloc, &scan)?;
+    index_by(alloc, &scan, measures)
+}
+
+// What `index` gives of a container that was read, by the measures of its segments.
+#[inline(never)]
+fn index_by(alloc: Global, scan: &OneScan, measures: Vec<Measure>) -> Result<Vec<u8>, IndexError>
+    requires whole { scan.now.parts.chunk ≡ None }
+    requires measures { AreMeasures (outputs_of scan.now.plan scan.now.parts) measures.items }
+    ensures made { (bytes : List ℕ) → IsBoxOf scan.now.plan scan.now.parts bytes
+        → IsRead indexable scan.now.parts.version
+        → IfOk result (λ made. IsIndexOf made.items bytes) }
+    ensures fault { (bytes : List ℕ) (fault : StreamFault)
+        → IsBoxOf scan.now.plan scan.now.parts bytes → IsRead indexable scan.now.parts.version
+        → IsErrOf result (IndexError.Fault fault) → Ends bytes (Faulty fault) }
+    ensures spelling { (bytes : List ℕ) → IsBoxOf scan.now.plan scan.now.parts bytes
+        → IsRead indexable scan.now.parts.version
+        → IsErrOf result IndexError.PadSpelling → Ends bytes PadSpelled }
+    ensures checked { (refusal : BoxRefusal) → ¬ IsErrOf result (IndexError.Box refusal) }
+{
     let places = places_by(alloc, scan.view(), measures)?;
     let made = write_placed(alloc, scan.view(), places.as_slice())?;
     Ok(made)
