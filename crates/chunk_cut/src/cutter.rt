@@ -159,7 +159,7 @@ impl<'a> ChunkCutter<'a> {
                 streams: streams.as_slice(),
             },
         )?;
-        let made = joined_after(alloc, front.as_slice(), streams)?;
+        let made = joined_after(alloc, front, streams)?;
         Ok(Some(made))
     }
 

@@ -37,7 +37,7 @@ pub(crate) fn write_coded(
     let scans = coded.as_slice();
     let front = front_of(alloc, version, bytes, heads, scans)?;
     let streams = streams_of(alloc, coded)?;
-    let made = joined_after(alloc, front.as_slice(), streams)?;
+    let made = joined_after(alloc, front, streams)?;
     Ok(made)
 }
 
@@ -147,24 +147,51 @@ fn append(streams: &mut Vec<Vec<u8>>, more: Vec<Vec<u8>>) -> Result<(), NoMemory
     Ok(())
 }
 
-/// A front, and after it these streams, one after another. They are joined in the memory of the first one that has
-/// bytes, and each other one is dropped once it is there, so that no stream is in memory twice but the one that is
-/// being appended.
+/// A front, and after it these streams, one after another. The shorter of the front and the first stream moves to the
+/// other one's memory, and each other stream is dropped once it is there: so nothing longer than a stream is in memory
+/// twice.
 #[inline(never)]
-pub fn joined_after(alloc: Global, front: &[u8], streams: Vec<Vec<u8>>) -> Result<Vec<u8>, NoMemory>
+pub fn joined_after(
+    alloc: Global,
+    front: Vec<u8>,
+    streams: Vec<Vec<u8>>,
+) -> Result<Vec<u8>, NoMemory>
     ensures { IfOk result (λ made. made.items
-        ≡ front.now ++ flat_map (λ stream. stream) (map (λ v. v.items) streams.items)) }
+        ≡ front.items ++ flat_map (λ stream. stream) (map (λ v. v.items) streams.items)) }
 {
+    if front.len() > first_length(streams.as_slice()) {
+        let mut made = front;
+        put_streams(&mut made, streams)?;
+        return Ok(made);
+    }
     let mut made = Vec::new(alloc);
+    put_streams(&mut made, streams)?;
+    put_before(&mut made, front.as_slice())?;
+    Ok(made)
+}
+
+// How many bytes the first stream has, 0 if there is none.
+fn first_length(streams: &[Vec<u8>]) -> usize {
+    match streams.first() {
+        Some(stream) => stream.len(),
+        None => 0,
+    }
+}
+
+// Appends these streams, one after another. Nothing is copied of the first that has bytes, if the list has none.
+fn put_streams(made: &mut Vec<u8>, streams: Vec<Vec<u8>>) -> Result<(), NoMemory>
+    ensures { OnOk result (made.new.items
+        ≡ made.old.items ++ flat_map (λ stream. stream) (map (λ v. v.items) streams.items)) }
+{
     for stream in streams {
         if made.is_empty() {
-            made = stream;
+            *made = stream;
         } else {
-            extend_from_slice(&mut made, stream.as_slice())?;
+            let stream = stream.as_slice();
+            extend_from_slice(made, stream)?;
         }
     }
-    put_before(&mut made, front)?;
-    Ok(made)
+    Ok(())
 }
 
 // Puts items before those of a list.

@@ -9,10 +9,10 @@
 //!
 //! The segments are coded side by side from the file's bytes, at most 16 at the same time, each after a pass over the
 //! scan is through it; `encode_alone` codes them on the calling thread. Beside the bytes, memory is for the streams,
-//! and for two MCU rows of blocks and the bins of each that is coded. The first stream's memory becomes the
-//! container's, so that no more of the streams is there twice than the one that is appended. What a segment's stream
-//! is and what a file's container stands for is `container_spec`'s, how a stream is made `segment_code`'s, and in
-//! which thread `segment_encode`'s.
+//! and for two MCU rows of blocks and the bins of each that is coded. The container is made in the memory of its first
+//! stream, or of what comes before that if it is longer, so that no more than a stream is there twice. What a
+//! segment's stream is and what a file's container stands for is `container_spec`'s, how a stream is made
+//! `segment_code`'s, and in which thread `segment_encode`'s.
 #![tactic(auto)]
 
 mod coders;

@@ -1,4 +1,4 @@
-use Rattle.std.proofs.Common.{◌≡◌, ◌∙◌, ◌++◌, List, ℕ, flat_map, sym, ap₂, subst}
+use Rattle.std.proofs.Common.{◌≡◌, ◌∙◌, ◌++◌, List, ℕ, flat_map, sym, ap, subst}
 use Rattle.box_format.specs.Containers.{container_bytes, scan_streams}
 use Rattle.lepton_encode.specs.ScansMade.{AreScansMade, AreWithin, scans_made}
 use Rattle.lepton_encode.specs.declared.container.CodedScan.{CodedScan}
@@ -22,7 +22,7 @@ returns c =
     let heads = c.args.heads.now in
     let front = c.in_ok-front.front.items in
     c.in_ok-made.ensures
-    ∙ ap₂ (λ (l m : List ℕ). l ++ m) c.as_slice.ensures.value (c.in_ok-streams.ensures
+    ∙ ap (λ (l : List ℕ). front ++ l) (c.in_ok-streams.ensures
     ∙ sym (streams_are v bytes heads c.args.coded.items c.requires.within))
     ∙ subst (λ (l : List CodedScan). front ++ flat_map scan_streams (scans_made v bytes heads l)
     ≡ container_bytes v (scans_made v bytes heads l)) c.as_slice-scans.ensures.value

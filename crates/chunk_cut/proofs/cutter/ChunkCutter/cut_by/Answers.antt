@@ -97,8 +97,8 @@ returns-clause-made g c =
     let made = is_chunk i.plan bytes i.starts has.bytes has.plan have has.rows c.args.segments c.args.size
     c.args.index has.few (rw (sym c.in-Some.ensures.from) c.in-Some.ensures.some) in
     let text = c.in_ok-made.ensures
-    ∙ ap₂ (λ (a : List ℕ) (l : List (List ℕ)). a ++ flat_map (λ stream. stream) l)
-    c.as_slice-3.ensures.value (ap (map (λ v. v.items)) (sym c.as_slice-2.ensures.value))
+    ∙ ap (λ (l : List (List ℕ)). c.in_ok-front.front.items ++ flat_map (λ stream. stream) l)
+    (ap (map (λ v. v.items)) (sym c.as_slice-2.ensures.value))
     ∙ c.in_ok-front.ensures ∙ ap box_bytes (same ∙ there) in
     subst (IsChunkOf c.args.segments c.args.size c.args.index c.in_ok-made.made.items)
     c.self.view_is
