@@ -5,7 +5,7 @@ ghost use Rattle.adapt_bins.specs.Shares.{AreShares};
 
 use crate::reciprocals::share;
 use crate::shares::all_shares;
-use growth::{NoMemory, from_elem};
+use allocation::{NoMemory, from_elem};
 use std::alloc::Global;
 use std::marker::Model;
 use std::mem::replace;

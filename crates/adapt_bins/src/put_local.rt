@@ -1,7 +1,7 @@
 // Bins and encoder in a local value, while a block is put.
 use crate::{Bins, Coder};
+use allocation::NoMemory;
 use bool_coder::Encoder;
-use growth::NoMemory;
 
 /// The bins and the encoder of a `Put`, owned: `Put::moved`. In a local value the encoder's state stays in registers;
 /// through references all of it is loaded again after each store to a bin.

@@ -3,7 +3,7 @@ ghost use Rattle.std.specs.Prelude.{◌≡◌, ◌<◌, ◌+◌, ◌*◌, ◌/�
 ghost use Rattle.adapt_bins.specs.Shares.{AreShares, pairs, share_at};
 
 use crate::reciprocals::parts;
-use growth::{NoMemory, from_elem};
+use allocation::{NoMemory, from_elem};
 use std::alloc::Global;
 
 /// How many counts there are, from 0 to 255.

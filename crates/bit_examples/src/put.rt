@@ -1,5 +1,7 @@
 // What is written.
-use bit_list::{BitOut, Piece, ROOM};
+ghost use Rattle.std.specs.Prelude.{◌<◌, length};
+
+use bit_list::{BitBuffer, BitOut, Piece, ROOM};
 use std::alloc::{AllocError, Global};
 use std::process::Abort;
 use std::test::Fail;
@@ -60,9 +62,10 @@ fn is_written(
     after: [u8; 2],
 ) -> Result<bool, AllocError> {
     let mut out = Piece::new(alloc)?;
-    let mut bit_out = begun_at(rt, begun[0], begun[1]);
-    put(rt, &mut bit_out, codes[0], codes[1], &mut out);
-    put(rt, &mut bit_out, codes[2], codes[3], &mut out);
+    let mut buffer = BitBuffer::of(begun_at(rt, begun[0], begun[1]));
+    put(rt, &mut buffer, codes[0], codes[1], &mut out);
+    put(rt, &mut buffer, codes[2], codes[3], &mut out);
+    let bit_out = begun_of(rt, buffer, &mut out);
     Ok(out.bytes() == bytes && bit_out.partial() == (after[0], after[1]))
 }
 
@@ -72,11 +75,21 @@ fn begun_at(rt: &impl Abort, partial: u8, bits: u8) -> BitOut {
     BitOut::at(partial, bits)
 }
 
-fn put(rt: &impl Abort, bit_out: &mut BitOut, code: u32, count: u32, out: &mut Piece) {
+fn put(rt: &impl Abort, buffer: &mut BitBuffer, code: u32, count: u32, out: &mut Piece)
+    requires { length buffer.old < 32 }
+    ensures { length buffer.new < 32 }
+{
     assert!(rt; count <= 27);
     assert!(rt; code >> count == 0);
     assert!(rt; out.len() < 100);
-    bit_out.put(code, count, out);
+    buffer.put(code, count, out);
+}
+
+fn begun_of(rt: &impl Abort, buffer: BitBuffer, out: &mut Piece) -> BitOut
+    requires { length buffer < 32 }
+{
+    assert!(rt; out.len() < 100);
+    buffer.begun(out)
 }
 
 // The byte begun and its bits, the bit after them, the bytes, and whether there was a byte begun.
@@ -124,7 +137,9 @@ fn pieces(rt: HostRuntime) -> Result<(), Fail> {
     assert!(rt; out.len() == 0 && out.free() == ROOM);
     let mut bit_out = BitOut::at(0, 0);
     bit_out.mark(0xd0, &mut out);
-    put(&rt, &mut bit_out, 0x3c, 8, &mut out);
+    let mut buffer = BitBuffer::of(bit_out);
+    put(&rt, &mut buffer, 0x3c, 8, &mut out);
+    begun_of(&rt, buffer, &mut out);
     assert!(rt; out.bytes() == [0xff, 0xd0, 0x3c].as_slice());
     assert!(rt; out.free() == 8189);
     out.back_to(2);

@@ -8,20 +8,15 @@ ghost use Rattle.bit_list.specs.Pieces.{piece_room};
 use crate::piece::Piece;
 use std::marker::Model;
 
-// The lowest bit of each of eight bytes, and the highest.
-const LOWEST: u64 = 0x0101_0101_0101_0101;
-
-const HIGHEST: u64 = 0x8080_8080_8080_8080;
-
 /// The bits of a byte begun, fewer than eight (ITU-T T.81, C.3).
 ///
 /// Clauses see the list of the bits, the highest first.
 #[derive(Clone, Copy)]
 pub struct BitOut {
     // The bits as a number.
-    number: u32,
+    pub(crate) number: u32,
     // How many they are.
-    count: u32,
+    pub(crate) count: u32,
 }
 
 impl Model for BitOut {
@@ -55,25 +50,6 @@ impl BitOut {
             number: u32::from(partial) >> (8 - bits),
             count: u32::from(bits),
         }
-    }
-
-    /// Puts the low `count` bits of a code, the highest first. They are 27 at most, as many as a code word and the bits
-    /// of a value after it have.
-    #[inline(always)]
-    pub fn put(&mut self, code: u32, count: u32, out: &mut Piece)
-        requires count { count ≤ 27 }
-        requires code { code < 2 ^ count }
-        requires room { length out.old + 2 * ((7 + count) / 8) ≤ piece_room }
-        ensures bytes { out.new ≡ out.old ++ stuffed (bytes_after self.old (low_bits count code)) }
-        ensures begun { self.new ≡ begun_after self.old (low_bits count code) }
-        ensures few { length out.new ≤ length out.old + 2 * ((7 + count) / 8) }
-    {
-        let number = (u64::from(self.number) << count) + u64::from(code);
-        let total = self.count + count;
-        put_whole(number, total, out);
-        let left = total % 8;
-        self.number = (number & ((1 << left) - 1)) as u32;
-        self.count = left;
     }
 
     /// Puts the same bit up to the end of the byte, and answers whether there was a byte begun.
@@ -126,53 +102,9 @@ fn repeated(bit: bool, count: u32) -> u32
     if bit { (1 << count) - 1 } else { 0 }
 }
 
-// Puts the whole bytes of a number of up to 34 bits: by one store, if none of them is 0xff. The byte begun after them
-// isn't 0xff, since its free bits are 0.
-#[inline(always)]
-fn put_whole(number: u64, count: u32, out: &mut Piece)
-    requires few { count ≤ 34 }
-    requires below { number < 2 ^ count }
-    requires room { length out.old + 2 * (count / 8) ≤ piece_room }
-    ensures bytes { out.new ≡ out.old ++ stuffed (bytes_after [] (low_bits count number)) }
-    ensures few { length out.new ≤ length out.old + 2 * (count / 8) }
-{
-    // No bits, a number of 0, are shifted by 0 in place of 64.
-    let bits = number.wrapping_shl(64 - count);
-    if may_have_full_byte(bits) {
-        put_one_by_one(number, count, out);
-        return;
-    }
-    out.push_first(bits, (count / 8) as usize);
-}
-
-// Whether a byte of a number of eight may be 0xff: if not, none is. A byte of 0xff is a zero of the complement, and the
-// lowest zero becomes 0xff if one is taken from each byte, since nothing is borrowed below it.
-#[inline(always)]
-fn may_have_full_byte(eight: u64) -> bool
-    ensures { result ≡ false → AllByRecursion (λ byte. byte ≢ 255) (bytes_high_first 8 eight) }
-{
-    (!eight).wrapping_sub(LOWEST) & eight & HIGHEST != 0
-}
-
-// The same byte by byte, each with a zero after it if it is 0xff.
-#[cold]
-#[inline(never)]
-fn put_one_by_one(number: u64, count: u32, out: &mut Piece)
-    requires few { count ≤ 34 }
-    requires room { length out.old + 2 * (count / 8) ≤ piece_room }
-    ensures bytes { out.new ≡ out.old ++ stuffed (bytes_after [] (low_bits count number)) }
-    ensures few { length out.new ≤ length out.old + 2 * (count / 8) }
-{
-    let mut left = count;
-    while left >= 8 {
-        left -= 8;
-        put_byte(((number >> left) & 0xff) as u8, out);
-    }
-}
-
 // Puts a coded byte, and a zero after 0xff.
 #[inline(always)]
-fn put_byte(byte: u8, out: &mut Piece)
+pub(crate) fn put_byte(byte: u8, out: &mut Piece)
     requires { length out.old + 2 ≤ piece_room }
     ensures bytes { out.new ≡ out.old ++ stuffed (byte ∷ []) }
     ensures few { length out.new ≤ length out.old + 2 }

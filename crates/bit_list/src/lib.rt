@@ -7,10 +7,12 @@
 //!     bf    ff 00     d8    3f        stuffed: a zero after 0xff, so that no marker shows
 //!     ^     ^         ^     ^         the places of the units: what each coded byte became
 //!
-//! A byte begun waits in `BitOut`, whole bytes go to a `Piece`. `BitIn` reads units, from any bit on, several at once,
-//! and stops at the end of the bytes or at a marker. Not handled here: what the bits mean (see `huff_table`).
+//! Bits wait in a `BitBuffer`, four bytes of them at once go to a `Piece`, and what is left is a byte begun, `BitOut`.
+//! `BitIn` reads units, from any bit on, several at once, and stops at the end of the bytes or at a marker. Not handled
+//! here: what the bits mean (see `huff_table`).
 #![tactic(auto)]
 
+mod bit_buffer;
 mod bit_in;
 mod bit_out;
 mod fault;
@@ -19,6 +21,7 @@ mod laws;
 mod piece;
 mod window;
 
+pub use bit_buffer::BitBuffer;
 pub use bit_in::BitIn;
 pub use bit_out::BitOut;
 pub use fault::BitFault;

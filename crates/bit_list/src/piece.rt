@@ -3,7 +3,7 @@ ghost use Rattle.std.specs.Prelude.{◌≡◌, ◌+◌, ◌-◌, ◌<◌, ◌≤
 ghost use Rattle.std.specs.Int.{bytes_high_first};
 ghost use Rattle.bit_list.specs.Pieces.{piece_room};
 
-use growth::{NoMemory, from_elem};
+use allocation::{NoMemory, from_elem};
 use std::alloc::Global;
 use std::marker::Model;
 

@@ -10,7 +10,7 @@ use crate::record::{Key, Reply, Sought, Stop};
 use crate::rule::{Form, StoreRule};
 use crate::shelf::Shelf;
 use crate::view::View;
-use growth::{NoMemory, insert, push};
+use allocation::{NoMemory, insert, push};
 use seat_lock::{Lock, Pass};
 use std::alloc::Global;
 use std::collections::LinkedList;

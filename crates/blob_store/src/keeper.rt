@@ -3,7 +3,7 @@ ghost use Rattle.std.specs.Prelude.{◌≡◌, ℕ, ◌<◌, ◌≤◌, List, []
 ghost use Rattle.blob_store.specs.States.{HasRisen};
 ghost use Rattle.blob_store.specs.declared.keeper.Keep.TheVariants.{Failed};
 
-use growth::NoMemory;
+use allocation::NoMemory;
 
 /// Why a keeper didn't append or read a blob.
 #[derive(Clone, Copy, Debug, PartialEq, Eq)]

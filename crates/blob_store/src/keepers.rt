@@ -3,7 +3,7 @@ ghost use Rattle.std.specs.Prelude.{◌≡◌, ◌+◌, [], true, false};
 ghost use Rattle.blob_store.specs.Keepers.{new_fake};
 
 use crate::keeper::{Keep, Keeper};
-use growth::{from_slice, push};
+use allocation::{from_slice, push};
 use std::alloc::Global;
 use std::marker::Model;
 

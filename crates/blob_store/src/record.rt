@@ -1,5 +1,5 @@
 // Calls, their replies, and a journal's entries.
-use growth::NoMemory;
+use allocation::NoMemory;
 
 /// What a blob is stored under.
 pub type Key = [u8; 32];

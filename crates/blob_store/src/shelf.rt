@@ -7,7 +7,7 @@ ghost use Rattle.blob_store.specs.CallSteps.{Calls, Enters, FindGives, stop_from
 use crate::keeper::{Keep, Keeper};
 use crate::note::Counts;
 use crate::record::{Call, Key, Record, Reply, Sought, Stop};
-use growth::{NoMemory, map_insert, with_capacity};
+use allocation::{NoMemory, map_insert, with_capacity};
 use std::alloc::Global;
 use std::collections::BTreeMap;
 use std::marker::Model;

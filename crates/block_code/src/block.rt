@@ -19,9 +19,9 @@ use crate::coefficients::{residue_of, with_dc};
 use crate::neighbours::{Neighbours, prediction};
 use crate::parts_code::code_parts;
 use adapt_bins::{Get, Put};
+use allocation::NoMemory;
 use block_spec::BlockFault;
 use coef_block::{Block, Rows};
-use growth::NoMemory;
 
 // The blocks around one, as the rows hold them.
 #[inline(always)]

@@ -12,9 +12,9 @@ ghost use Rattle.block_code.specs.SegmentUnderWay.{GetsFault, GetsMore, HoldsUpT
 use crate::block::{get_in_place, put_block};
 use crate::mcu_grid::McuGrid;
 use adapt_bins::{Get, Put};
+use allocation::NoMemory;
 use block_spec::BlockFault;
 use coef_block::{Block, Rows};
-use growth::NoMemory;
 use std::alloc::Global;
 use std::marker::Model;
 

@@ -108,16 +108,16 @@ fn sums_at(above: &Block, left: &Block, diagonal: &Block, position: usize) -> (u
     ensures small_inner { 0 < position → result.0 ≤ 32 * 1023 }
     ensures small_edge { 0 < position → result.1 ≤ 2 * 1023 }
 {
-    let both = size_at(above, position).wrapping_add(size_at(left, position));
+    let both = magnitude_at(above, position).wrapping_add(magnitude_at(left, position));
     let around = both
         .wrapping_mul(13)
-        .wrapping_add(size_at(diagonal, position).wrapping_mul(6));
+        .wrapping_add(magnitude_at(diagonal, position).wrapping_mul(6));
     (around, both)
 }
 
 // The magnitude of a coefficient.
 #[inline(always)]
-fn size_at(block: &Block, position: usize) -> u16
+fn magnitude_at(block: &Block, position: usize) -> u16
     requires { position < 64 }
     ensures value { result ≡ unsigned_abs (value_at block.now position) }
     ensures small { 0 < position → result ≤ 1023 }

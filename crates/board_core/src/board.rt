@@ -8,7 +8,7 @@ use crate::actor::Actor;
 use crate::event::{Event, Took};
 use crate::ring::Ring;
 use crate::segment::{Segment, index_of};
-use growth::{NoMemory, from_elem, push};
+use allocation::{NoMemory, from_elem, push};
 use handover::Outcome;
 use std::alloc::Global;
 use std::marker::Model;

@@ -2,8 +2,8 @@
 ghost use Rattle.std.specs.Prelude.{◌≡◌, ◌+◌, ◌-◌, ◌≤◌, [], ◌++◌, IfOk, length, min, take, drop};
 ghost use Rattle.board_core.specs.RingBytes.{ring_bytes};
 
+use allocation::{NoMemory, ring_with_capacity};
 use circular_buffer::HeapCircularBuffer;
-use growth::{NoMemory, ring_with_capacity};
 use std::alloc::Global;
 use std::marker::Model;
 

@@ -8,7 +8,7 @@ use Rattle.std.proofs.lemmas.Nat.{pow_pos, pow-add, shr_split, shr_below, shl_wh
 use Rattle.bool_coder.specs.BoolStream.{Interval, opening, after, stream, stream_length, IsOnLine}
 use Rattle.bool_coder.specs.PlainLine.{IsKept}
 use Rattle.bool_coder.specs.EncoderInside.{bits_of, low_of, kept, IsLonger, IsWord}
-use Rattle.growth.specs.declared.no_memory.NoMemory.{NoMemory}
+use Rattle.allocation.specs.declared.no_memory.NoMemory.{NoMemory}
 use Rattle.bool_coder.proofs.Bytes.{byte_power, bytes_number}
 use Rattle.bool_coder.proofs.Append.{below_by_product}
 use Rattle.bool_coder.proofs.MarkedWord.{word-marked, marked_bits, marked_low, bits_begun, bits_short, low_carry, bits_of-first}

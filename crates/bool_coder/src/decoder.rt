@@ -123,12 +123,15 @@ impl<'a> Decoder<'a> {
         ensures step { self.new ≡ seen_after self.old prob }
     {
         let (fetched, value, bits) = fill(self.bytes, self.fetched, self.value, self.bits);
-        let (bit, value, bits, less) = step_branching(value, bits, self.less + 1, prob);
+        let range = self.less + 1;
         self.fetched = fetched;
-        self.value = value;
-        self.bits = bits;
-        self.less = less;
-        bit
+        if is_one(value, bits, range, prob) {
+            (self.value, self.bits, self.less) = step_known(value, bits, range, prob, true);
+            true
+        } else {
+            (self.value, self.bits, self.less) = step_known(value, bits, range, prob, false);
+            false
+        }
     }
 
     /// Whether the bytes are the stream of the bools that were read, no byte and no bit more or less: the offset and
@@ -279,30 +282,6 @@ fn is_one(value: u64, bits: u32, range: u32, prob: u8) -> bool
     ensures { result ≡ nat_le (split range prob) (value / 2 ^ bits) }
 {
     value >= u64::from(split_of(range, prob)) << bits
-}
-
-// `step`, with a branch on the bool.
-#[inline(always)]
-fn step_branching(value: u64, bits: u32, range: u32, prob: u8) -> (bool, u64, u32, u32)
-    requires wide { 128 ≤ range }
-    requires byte { range ≤ 255 }
-    requires enough { 7 ≤ bits }
-    requires short { bits < 55 }
-    requires prob { 0 < prob }
-    ensures bit { result.0 ≡ nat_le (split range prob) (value / 2 ^ bits) }
-    ensures window { (bytes : List ℕ) (fetched : ℕ) → IsWindow bytes fetched value bits range
-        → IsWindow bytes fetched result.1 result.2 (result.3 + 1) }
-    ensures step { (bytes : List ℕ) (fetched : ℕ) → IsWindow bytes fetched value bits range
-        → seen_in bytes fetched result.1 result.2 (result.3 + 1)
-        ≡ seen_after (seen_in bytes fetched value bits range) prob }
-{
-    if is_one(value, bits, range, prob) {
-        let (value, bits, less) = step_known(value, bits, range, prob, true);
-        (true, value, bits, less)
-    } else {
-        let (value, bits, less) = step_known(value, bits, range, prob, false);
-        (false, value, bits, less)
-    }
 }
 
 // `step`, given the bool.

@@ -5,7 +5,7 @@ ghost use Rattle.bool_coder.specs.BoolStream.{opening, after, split, chosen, str
 ghost use Rattle.bool_coder.specs.EncoderInside.{IsLonger, IsSameKept, bits_of, kept, low_of};
 
 use crate::doublings::widening;
-use growth::{NoMemory, extend_from_slice};
+use allocation::{NoMemory, extend_from_slice};
 use std::alloc::Global;
 use std::marker::Model;
 use std::mem::replace;

@@ -3,13 +3,14 @@ use Rattle.std.proofs.Common.{◌≡◌, ◌<◌, ◌≤◌, Bool, true, false, 
 use Rattle.std.specs.Prelude.{◌⊎◌, Some, None}
 use Rattle.std.proofs.lemmas.List.{append-nil}
 use Rattle.std.proofs.lemmas.Bool.{cases_lt}
+use Rattle.std.specs.List.{range_with_len}
 use Rattle.jpeg_marker.specs.Plans.{PlanFields}
 use Rattle.jpeg_marker.specs.FirstWalks.{opening_walk}
-use Rattle.box_format.specs.Raws.{Raw, numbers}
+use Rattle.box_format.specs.Raws.{Raw}
 use Rattle.box_format.specs.Versions.{layout_of, fewest_scans, most_scans}
 use Rattle.box_format.specs.Fields.{scans_in, scan_raw, raws_as}
 use Rattle.box_format.specs.Checks.{HeadersPass, PassesAs, IsRefusedAs, early_fault, late_fault}
-use Rattle.box_format.specs.Whole.{IsWhole, HavePlans}
+use Rattle.box_format.specs.Whole.{IsUncut, HavePlans}
 use Rattle.box_format.specs.declared.version.Version.{Version}
 use Rattle.box_format.specs.declared.refusal.BoxRefusal.{BoxRefusal}
 use Rattle.box_format.specs.declared.refusal.BoxRefusal.TheVariants.{BoxSegments}
@@ -24,7 +25,7 @@ module _ (versions : List Version) (v : Version) (bytes : List ℕ) where
   abbrev count : ℕ
   count = scans_in (layout_of v) bytes
 
-  pub whole_of : early → IsWhole (layout_of v) bytes
+  pub whole_of : early → IsUncut (layout_of v) bytes
   whole_of e =
       let is = early_of (layout_of v) versions bytes (laid_out v) e in
       record { fields = is.fields; ends = is.ends }
@@ -40,7 +41,7 @@ module _ (versions : List Version) (v : Version) (bytes : List ℕ) where
   -- there is no scan
   pub none_refused : early → count ≡ 0 → IsRefusedAs v versions bytes BoxSegments
   none_refused e none =
-      let raws : raws_as v bytes ≡ [] = ap (λ (k : ℕ). map (scan_raw v bytes) (numbers 0 k)) none in
+      let raws : raws_as v bytes ≡ [] = ap (λ (k : ℕ). map (scan_raw v bytes) (range_with_len 0 k)) none in
       let some = low (layout_of v).several in
       let few : (count < fewest_scans (layout_of v)) ⊎ (most_scans (layout_of v) < count) =
       inl (omega (arith, none, some)) in

@@ -3,12 +3,13 @@ use Rattle.std.proofs.Common.{◌≡◌, ◌<◌, ◌≤◌, ◌+◌, ◌++◌, 
 use Rattle.std.specs.Prelude.{Some, slice_get}
 use Rattle.std.proofs.lemmas.List.{drop_all, length-take-le}
 use Rattle.std.proofs.lemmas.Option.{slice_get_read, slice_get_within, get_or_from_slice_get}
+use Rattle.std.specs.List.{range_with_len}
 use Rattle.jpeg_marker.specs.Plans.{PlanFields}
 use Rattle.jpeg_marker.specs.Walks.{Walk, next_walk}
 use Rattle.jpeg_marker.specs.FirstWalks.{opening_walk}
 use Rattle.box_format.specs.Versions.{layout_of}
 use Rattle.box_format.specs.Parts.{BoxSeen, IsScanBox}
-use Rattle.box_format.specs.Raws.{Raw, numbers, parts_of}
+use Rattle.box_format.specs.Raws.{Raw, parts_of}
 use Rattle.box_format.specs.Containers.{AreBoxes, IsContainerIn, all_parts, segment_count, trailer_of}
 use Rattle.box_format.specs.Fields.{scans_in, scan_raw, raws_as}
 use Rattle.box_format.specs.Checks.{HeadersPass, boxes_of}
@@ -46,7 +47,7 @@ box_at (x ∷ plans) (y ∷ raws) zero plan raw e f =
 box_at (x ∷ plans) (y ∷ raws) (suc j) plan raw e f = box_at plans raws j plan raw e f
 
 value_got : {A : Type 0} (f : ℕ → A) (from j n : ℕ) → j < n
-    → slice_get (map f (numbers from n)) j ≡ Some (f (from + j))
+    → slice_get (map f (range_with_len from n)) j ≡ Some (f (from + j))
 value_got f from j zero below = absurd (omega arith)
 value_got f from zero (suc n) below = let z : from ≡ from + 0 = omega arith in ap (λ k. Some (f k)) z
 value_got f from (suc j) (suc n) below =

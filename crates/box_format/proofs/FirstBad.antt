@@ -1,11 +1,11 @@
 -- The first segment that can't start from its record.
 use Rattle.std.proofs.Common.{◌≡◌, ◌<◌, ℕ, zero, suc, ◌+◌, ◌-◌, map, refl, arith, true, false, Bool, cond}
 use Rattle.std.specs.Prelude.{Option, Some, None}
+use Rattle.std.specs.List.{range_with_len}
 use Rattle.scan_spec.specs.Slots.{Shape}
 use Rattle.cut_spec.specs.Cuts.{Cut, first_mcu}
 use Rattle.handover.specs.Handovers.{HandoverFields}
 use Rattle.box_format.specs.Parts.{bad_start, can_start}
-use Rattle.box_format.specs.Raws.{numbers}
 
 module _ (shape : Shape) (cut : Cut) (f : ℕ → HandoverFields) where
   -- whether the segment of this number can start
@@ -14,7 +14,7 @@ module _ (shape : Shape) (cut : Cut) (f : ℕ → HandoverFields) where
 
   -- those from one on, up to before another
   abbrev bad_from : ℕ → ℕ → Option ℕ
-  bad_from i n = bad_start shape cut i (map f (numbers i n))
+  bad_from i n = bad_start shape cut i (map f (range_with_len i n))
 
   left_is : (i n : ℕ) → i < n → n - i ≡ suc (n - (i + 1))
   left_is i n below = omega arith

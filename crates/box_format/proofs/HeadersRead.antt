@@ -1,6 +1,6 @@
 -- Headers that are read one by one.
 use Rattle.std.proofs.Common.{◌≡◌, ◌<◌, ◌≤◌, ◌+◌, ◌-◌, if◌then◌else◌, Bool, true, false, ℕ, suc, List, [], ◌∷◌, ◌++◌, length, take, map, replicate, nat_lt, slice_set, refl, sym, ap, ◌∙◌, arith, subst, append_assoc, inl, inr}
-use Rattle.std.specs.List.{AllByRecursion}
+use Rattle.std.specs.List.{AllByRecursion, range_with_len}
 use Rattle.std.proofs.lemmas.Bool.{ltb-true, ltb-false}
 use Rattle.std.proofs.lemmas.List.{append-nil, length-set, take_all, take_more_set}
 use Rattle.bit_list.specs.Bits.{IsByte}
@@ -11,12 +11,13 @@ use Rattle.jpeg_marker.specs.FirstWalks.{opening_walk}
 use Rattle.jpeg_marker.specs.HeaderPlan.{Begins}
 use Rattle.jpeg_marker.proofs.HeadersTaken.{begun_has_plan, next_known}
 use Rattle.box_format.specs.Versions.{layout_of}
-use Rattle.box_format.specs.Raws.{Raw, numbers}
+use Rattle.box_format.specs.Raws.{Raw}
 use Rattle.box_format.specs.declared.version.Version.{Version}
 use Rattle.box_format.specs.declared.refusal.BoxRefusal.{BoxRefusal}
 use Rattle.box_format.specs.Fields.{scans_in, scan_raw, raws_as}
 use Rattle.box_format.specs.Checks.{HeadersPass, HeadersFail}
-use Rattle.box_format.specs.Whole.{IsWholeHeader, IsNoHeader, HavePlans, header_at, raws_from}
+use Rattle.box_format.specs.Whole.{IsWholeHeader, IsNoHeader, HavePlans, header_at}
+use Rattle.box_format.proofs.RawParts.{raws_from}
 
 -- a header that begins and is no longer than its plan's
 pub one_plan : (w : Walk) (header : List ℕ) (plan : PlanFields) → AllByRecursion IsByte header
@@ -33,17 +34,17 @@ pub raws_first : (v : Version) (bytes : List ℕ) (j : ℕ) → j < scans_in (la
     → raws_from v bytes j ≡ scan_raw v bytes j ∷ raws_from v bytes (j + 1)
 raws_first v bytes j below =
     let k : scans_in (layout_of v) bytes - j ≡ suc (scans_in (layout_of v) bytes - (j + 1)) = omega arith in
-    ap (λ (k : ℕ). map (scan_raw v bytes) (numbers j k)) k
+    ap (λ (k : ℕ). map (scan_raw v bytes) (range_with_len j k)) k
 
 pub raws_last : (v : Version) (bytes : List ℕ) (j : ℕ) → scans_in (layout_of v) bytes ≤ j → raws_from v bytes j ≡ []
 raws_last v bytes j past =
     let k : scans_in (layout_of v) bytes - j ≡ 0 = omega arith in
-    ap (λ (k : ℕ). map (scan_raw v bytes) (numbers j k)) k
+    ap (λ (k : ℕ). map (scan_raw v bytes) (range_with_len j k)) k
 
 pub raws_all : (v : Version) (bytes : List ℕ) → raws_as v bytes ≡ raws_from v bytes 0
 raws_all v bytes =
     let k : scans_in (layout_of v) bytes ≡ scans_in (layout_of v) bytes - 0 = omega arith in
-    ap (λ (k : ℕ). map (scan_raw v bytes) (numbers 0 k)) k
+    ap (λ (k : ℕ). map (scan_raw v bytes) (range_with_len 0 k)) k
 
 pub raw_header : (v : Version) (bytes : List ℕ) (j : ℕ) → header_at (layout_of v) bytes j ≡ (scan_raw v bytes j).header
 unfolding scan_raw

@@ -1,10 +1,10 @@
 -- Bytes in parts of some lengths.
 use Rattle.std.proofs.Common.{◌≡◌, ◌<◌, ◌≤◌, ◌+◌, ℕ, zero, suc, List, [], ◌∷◌, length, drop, map, refl, ap, arith, length-drop, subst}
 use Rattle.std.specs.Prelude.{sum}
-use Rattle.std.specs.List.{AllByRecursion}
+use Rattle.std.specs.List.{AllByRecursion, range_with_len}
 use Rattle.std.proofs.lemmas.List.{length-take-le}
 use Rattle.bit_list.specs.Bits.{IsByte}
-use Rattle.box_format.specs.Raws.{numbers, parted}
+use Rattle.box_format.specs.Raws.{parted}
 use Rattle.box_format.proofs.Lists.{sum_first}
 use Rattle.box_format.proofs.ByteParts.{all_take, all_drop}
 
@@ -32,7 +32,7 @@ parted_bytes (n ∷ ns) xs h =
 
 -- what holds of all values at some numbers
 pub all_values : {A : Type 0} (P : A → Type 0) (f : ℕ → A) (from n : ℕ)
-    → ((i : ℕ) → i < n → P (f (from + i))) → AllByRecursion P (map f (numbers from n))
+    → ((i : ℕ) → i < n → P (f (from + i))) → AllByRecursion P (map f (range_with_len from n))
 all_values P f from zero each = tt
 all_values P f from (suc n) each =
     let e : from + 0 ≡ from = omega arith in

@@ -1,32 +1,31 @@
 -- The places of a scan's segments and of its end, as a list.
 use Rattle.std.proofs.Common.{ap₂, ◌&&◌, ◌≡◌, ◌<◌, ◌≤◌, ◌+◌, ◌^◌, ◌==◌, not, Bool, true, false, if◌then◌else◌, ℕ, zero, suc, List, [], ◌∷◌, ◌++◌, length, drop, map, nat_lt, refl, sym, ap, ◌∙◌, arith, length-append}
 use Rattle.std.specs.Prelude.{slice_index, Option, Some, None, IfSome}
-use Rattle.std.specs.List.{AllByRecursion}
+use Rattle.std.specs.List.{AllByRecursion, range_with_len}
 use Rattle.std.proofs.lemmas.Bool.{eq-eqb, eqb-true, ltb-true, ltb-false, or_parts, or_from, not-false}
 use Rattle.std.proofs.lemmas.List.{drop_more, drop_all, get_or_at, get_or_append_left, length-drop}
+use Rattle.std.proofs.lemmas.List.FromFn.{length-map-range_with_len, get_or-map-range_with_len}
 use Rattle.box_format.specs.Parts.{ArePlaces, are_rising}
-use Rattle.box_format.specs.Raws.{numbers}
 use Rattle.box_format.specs.Checks.{are_bad_places}
-use Rattle.box_format.proofs.Lists.{length_values, value_at}
 
 -- ---- values at numbers, and one after them
 
 abbrev pub ended : (ℕ → ℕ) → ℕ → ℕ → List ℕ
-ended f n end = map f (numbers 0 n) ++ end ∷ []
+ended f n end = map f (range_with_len 0 n) ++ end ∷ []
 
 pub ended_long : (f : ℕ → ℕ) (n end : ℕ) → length (ended f n end) ≡ n + 1
 ended_long f n end =
-    length-append (map f (numbers 0 n)) (end ∷ []) ∙ ap (λ k. k + 1) (length_values f 0 n)
+    length-append (map f (range_with_len 0 n)) (end ∷ []) ∙ ap (λ k. k + 1) (length-map-range_with_len f 0 n)
 
 pub ended_at : (f : ℕ → ℕ) (n end i : ℕ) → i < n → slice_index (ended f n end) i ≡ f i
 ended_at f n end i below =
     let z : 0 + i ≡ i = omega arith in
-    let long = length_values f 0 n in
-    get_or_append_left (map f (numbers 0 n)) (end ∷ []) 0 i (omega (arith, long, below))
-    ∙ value_at f 0 i n 0 below ∙ ap f z
+    let long = length-map-range_with_len f 0 n in
+    get_or_append_left (map f (range_with_len 0 n)) (end ∷ []) 0 i (omega (arith, long, below))
+    ∙ get_or-map-range_with_len f 0 n i i 0 below z
 
 pub ended_last : (f : ℕ → ℕ) (n end : ℕ) → slice_index (ended f n end) n ≡ end
-ended_last f n end = get_or_at (map f (numbers 0 n)) end [] 0 n (length_values f 0 n)
+ended_last f n end = get_or_at (map f (range_with_len 0 n)) end [] 0 n (length-map-range_with_len f 0 n)
 
 -- one of them
 pub ended_any : (f : ℕ → ℕ) (n end i : ℕ) → i ≤ n
@@ -41,7 +40,7 @@ ended_any f n end i within = by_case (nat_lt i n) refl where
 
 -- a list is its values at numbers, and its last one
 again_from : (ps : List ℕ) (from n : ℕ) → length ps ≡ from + n + 1
-    → map (slice_index ps) (numbers from n) ++ slice_index ps (from + n) ∷ [] ≡ drop from ps
+    → map (slice_index ps) (range_with_len from n) ++ slice_index ps (from + n) ∷ [] ≡ drop from ps
 again_from ps from zero long =
     let z : from + 0 ≡ from = omega arith in
     rw z (ap (λ (l : List ℕ). slice_index ps from ∷ l)
@@ -57,7 +56,7 @@ pub ended_again : (ps : List ℕ) (n : ℕ) → length ps ≡ n + 1
     → ended (slice_index ps) n (slice_index ps n) ≡ ps
 ended_again ps n long =
     let z : 0 + n ≡ n = omega arith in
-    ap (λ (k : ℕ). map (slice_index ps) (numbers 0 n) ++ slice_index ps k ∷ []) (sym z)
+    ap (λ (k : ℕ). map (slice_index ps) (range_with_len 0 n) ++ slice_index ps k ∷ []) (sym z)
     ∙ again_from ps 0 n (omega (arith, long))
 
 pub all_ended : (P : ℕ → Type 0) (xs : List ℕ) (end : ℕ) → AllByRecursion P xs → P end

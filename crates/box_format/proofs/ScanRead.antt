@@ -1,14 +1,14 @@
 -- A scan's fields, looked up again.
 use Rattle.std.proofs.Common.{◌≡◌, ◌<◌, ◌+◌, ◌^◌, Bool, true, false, if◌then◌else◌, ℕ, suc, List, [], ◌∷◌, ◌++◌, length, drop, map, refl, sym, ap, ap₂, ◌∙◌, arith, subst, append_assoc}
 use Rattle.std.specs.Prelude.{slice_index, Option, Some, None, IfSome, is_some, not}
-use Rattle.std.specs.List.{AllByRecursion}
+use Rattle.std.specs.List.{AllByRecursion, range_with_len}
 use Rattle.byteorder.specs.Endian.{big_bytes, big_number}
 use Rattle.handover.specs.Handovers.{HandoverFields, IsHandover}
 use Rattle.handover.specs.HandoverBytes.{handover_bytes, handover_in}
 use Rattle.handover.proofs.FieldBytes.{fields_again}
 use Rattle.box_format.specs.Versions.{layout_of}
 use Rattle.box_format.specs.Parts.{BoxParts, pad_byte, list_bytes, length_said, chunk_bytes, place_bytes, records}
-use Rattle.box_format.specs.Raws.{numbers, handover_from, length_from, place_from}
+use Rattle.box_format.specs.Raws.{handover_from, length_from, place_from}
 use Rattle.box_format.specs.Containers.{scan_fields}
 use Rattle.box_format.specs.Fields.{segments_at, header_length, list_length, chunk_at, record_place, places_at, in_record, in_records}
 use Rattle.box_format.specs.declared.chunk.Chunk.{Chunk}
@@ -48,7 +48,7 @@ place_next (Some ps) i bytes place rest fit is =
 abbrev ArePlacesFrom : Layout → List ℕ → ℕ → Option (List ℕ) → ℕ → ℕ → Type 0
 ArePlacesFrom l bytes place places from n =
     IfSome places
-    (λ ps. map (in_record place_from l bytes place) (numbers from n) ≡ map (slice_index ps) (numbers from n))
+    (λ ps. map (in_record place_from l bytes place) (range_with_len from n) ≡ map (slice_index ps) (range_with_len from n))
 
 none_from : (l : Layout) (bytes : List ℕ) (place : ℕ) (places : Option (List ℕ)) (from : ℕ)
     → ArePlacesFrom l bytes place places from 0
@@ -64,8 +64,8 @@ more_from l bytes place (Some ps) from n here later = both_first _ _ _ _ here la
 
 record RecordsRead (l : Layout) (bytes : List ℕ) (place from : ℕ) (places : Option (List ℕ))
     (handovers : List HandoverFields) (streams : List (List ℕ)) (tail : List ℕ) : Type 0 where
-  handovers_are : map (in_record handover_from l bytes place) (numbers from (length handovers)) ≡ handovers
-  lengths_are : map (in_record length_from l bytes place) (numbers from (length handovers))
+  handovers_are : map (in_record handover_from l bytes place) (range_with_len from (length handovers)) ≡ handovers
+  lengths_are : map (in_record length_from l bytes place) (range_with_len from (length handovers))
       ≡ map (λ (s : List ℕ). length s) streams
   places_are : ArePlacesFrom l bytes place places from (length handovers)
   rest : Remains bytes (record_place l place (from + length handovers)) tail
@@ -156,7 +156,7 @@ pub record FieldsRead (l : Layout) (bytes : List ℕ) (place : ℕ) (b : BoxPart
   pub list : list_length l bytes place ≡ length (list_bytes b.pads)
   pub chunk : chunk_at l bytes place ≡ b.chunk
   pub places : places_at l bytes place ≡ b.places
-  pub handovers : map (in_record handover_from l bytes place) (numbers 0 (segments_at bytes place))
+  pub handovers : map (in_record handover_from l bytes place) (range_with_len 0 (segments_at bytes place))
       ≡ b.handovers
   pub lengths : in_records length_from l bytes place ≡ map (λ (s : List ℕ). length s) b.streams
 
@@ -248,7 +248,7 @@ places_next : (l : Layout) (bytes : List ℕ) (place n count : ℕ) (places : Op
     → IfSome places (λ ps. length ps ≡ n + 1)
     → ArePlacesFrom l bytes place places 0 n
     → IfSome places (λ ps. big_number 8 (drop (place + 14) bytes) ≡ slice_index ps n)
-    → (if l.placed then Some (map (in_record place_from l bytes place) (numbers 0 count)
+    → (if l.placed then Some (map (in_record place_from l bytes place) (range_with_len 0 count)
     ++ big_number 8 (drop (place + 14) bytes) ∷ []) else None) ≡ places
 places_next l bytes place n count None e same long from end = rw (sym e) refl
 places_next l bytes place n count (Some ps) e same long from end =
@@ -337,9 +337,9 @@ fields_read l bytes tail place b out can is =
             (moved b.places bytes count at_end (place + 14) l.placed can.placed
             (λ e. let there = out.end e in omega (arith, there, trailer_is, list_is, chunk_is))
             (place_next b.places count bytes at_end after_end (can.places count) seventh));
-        handovers = ap (λ (k : ℕ). map (in_record handover_from l bytes place) (numbers 0 k)) segments
+        handovers = ap (λ (k : ℕ). map (in_record handover_from l bytes place) (range_with_len 0 k)) segments
             ∙ read.handovers_are;
-        lengths = ap (λ (k : ℕ). map (in_record length_from l bytes place) (numbers 0 k)) segments
+        lengths = ap (λ (k : ℕ). map (in_record length_from l bytes place) (range_with_len 0 k)) segments
             ∙ read.lengths_are;
       },
       subst (λ (k : ℕ). Remains bytes (record_place l place k) tail) (z ∙ sym segments) read.rest,

@@ -1,21 +1,21 @@
 -- A scan's fields as their bytes.
 use Rattle.std.proofs.Common.{◌≡◌, ◌<◌, ◌≤◌, ◌+◌, Bool, true, false, if◌then◌else◌, ℕ, zero, suc, List, [], ◌∷◌, ◌++◌, length, take, drop, map, refl, sym, ap, ap₂, ◌∙◌, arith, append_assoc, length-drop}
 use Rattle.std.specs.Prelude.{slice_index, Option, Some, None, not}
-use Rattle.std.specs.List.{AllByRecursion}
+use Rattle.std.specs.List.{AllByRecursion, range_with_len}
 use Rattle.std.proofs.Math.Nat.{mul-le-mul_right}
 use Rattle.std.proofs.lemmas.List.{drop_more, length-take-le}
+use Rattle.std.proofs.lemmas.List.FromFn.{length-map-range_with_len}
 use Rattle.byteorder.specs.Endian.{big_bytes, big_number}
 use Rattle.bit_list.specs.Bits.{IsByte}
 use Rattle.handover.specs.Handovers.{HandoverFields}
 use Rattle.handover.specs.HandoverBytes.{handover_bytes}
 use Rattle.handover.proofs.FieldBytes.{bytes_again}
 use Rattle.box_format.specs.Parts.{length_said, chunk_bytes, place_bytes, records}
-use Rattle.box_format.specs.Raws.{numbers, handover_from, length_from, place_from}
+use Rattle.box_format.specs.Raws.{handover_from, length_from, place_from}
 use Rattle.box_format.specs.Fields.{segments_at, header_length, list_length, chunk_at, record_place, places_at, in_record, in_records}
 use Rattle.box_format.specs.declared.chunk.Chunk.{Chunk}
 use Rattle.box_format.specs.declared.version.Layout.{Layout}
 use Rattle.box_format.proofs.ByteParts.{all_take, all_drop, peel, four_at, eight_at}
-use Rattle.box_format.proofs.Lists.{length_values}
 use Rattle.box_format.proofs.PlaceLists.{ended_at, ended_last}
 use Rattle.box_format.proofs.Layouts.{IsLaidOut, trailer_room, list_room, chunk_room, end_room}
 use Rattle.box_format.proofs.ScanRead.{next_record}
@@ -51,7 +51,7 @@ place_spelled : (placed : Bool) (bytes : List ℕ) (f : ℕ → ℕ) (n end i he
     → AllByRecursion IsByte bytes → i < n → f i ≡ big_number 8 (drop here bytes)
     → next ≡ here + (if placed then 8 else 0) → next ≤ length bytes
     → drop here bytes
-    ≡ place_bytes (if placed then Some (map f (numbers 0 n) ++ end ∷ []) else None) i
+    ≡ place_bytes (if placed then Some (map f (range_with_len 0 n) ++ end ∷ []) else None) i
     ++ drop next bytes
 place_spelled true bytes f n end i here next are below value e long =
     eight_at bytes here are (omega (arith, e, long))
@@ -68,9 +68,9 @@ together a b p c d = simp append_assoc
 records_spelled : (l : Layout) (bytes : List ℕ) (place from n : ℕ) (streams : List (List ℕ))
     → IsLaidOut l → AllByRecursion IsByte bytes → from + n ≤ segments_at bytes place
     → record_place l place (segments_at bytes place) ≤ length bytes
-    → map (λ (s : List ℕ). length s) streams ≡ map (in_record length_from l bytes place) (numbers from n)
+    → map (λ (s : List ℕ). length s) streams ≡ map (in_record length_from l bytes place) (range_with_len from n)
     → drop (record_place l place from) bytes
-    ≡ records (places_at l bytes place) from (map (in_record handover_from l bytes place) (numbers from n))
+    ≡ records (places_at l bytes place) from (map (in_record handover_from l bytes place) (range_with_len from n))
     streams ++ drop (record_place l place (from + n)) bytes
 records_spelled l bytes place from zero [] out are within long e =
     let z : from + 0 ≡ from = omega arith in
@@ -81,7 +81,7 @@ records_spelled l bytes place from (suc n) (s ∷ streams) out are within long e
     let count = segments_at bytes place in
     let parts = first_same (length s) (in_record length_from l bytes place from)
     (map (λ (s : List ℕ). length s) streams)
-    (map (in_record length_from l bytes place) (numbers (from + 1) n)) e in
+    (map (in_record length_from l bytes place) (range_with_len (from + 1) n)) e in
     let k : from + suc n ≡ from + 1 + n = omega arith in
     let below : from < count = omega arith in
     let here = record_place l place from in
@@ -95,7 +95,7 @@ records_spelled l bytes place from (suc n) (s ∷ streams) out are within long e
     let handover = in_record handover_from l bytes place from in
     let kept = place_bytes (places_at l bytes place) from in
     let others = records (places_at l bytes place) (from + 1)
-    (map (in_record handover_from l bytes place) (numbers (from + 1) n)) streams in
+    (map (in_record handover_from l bytes place) (range_with_len (from + 1) n)) streams in
     let tail = drop (record_place l place (from + 1 + n)) bytes in
     let number = big_bytes 8 (length s) in
     let ended = place_spelled l.placed bytes (in_record place_from l bytes place) count (big_number 8 (drop (place + 14) bytes)) from
@@ -201,7 +201,7 @@ end_spelled : (placed : Bool) (bytes : List ℕ) (f : ℕ → ℕ) (n place here
     → AllByRecursion IsByte bytes → next ≡ here + (if placed then 8 else 0)
     → next ≤ length bytes → (placed ≡ true → place + 14 ≡ here)
     → drop here bytes
-    ≡ place_bytes (if placed then Some (map f (numbers 0 n) ++ big_number 8 (drop (place + 14) bytes) ∷ []) else None) n
+    ≡ place_bytes (if placed then Some (map f (range_with_len 0 n) ++ big_number 8 (drop (place + 14) bytes) ∷ []) else None) n
     ++ drop next bytes
 end_spelled true bytes f n place here next are e long same =
     eight_at bytes here are (omega (arith, e, long))
@@ -225,7 +225,7 @@ pub fields_spelled : (l : Layout) (bytes : List ℕ) (place pad : ℕ) (list hea
     → (l.several ≡ false → big_number 4 (drop (place + 6) bytes) ≡ length trailer)
     → map (λ (s : List ℕ). length s) streams ≡ in_records length_from l bytes place
     → let handovers : List HandoverFields =
-    map (in_record handover_from l bytes place) (numbers 0 (segments_at bytes place)) in
+    map (in_record handover_from l bytes place) (range_with_len 0 (segments_at bytes place)) in
     drop place bytes
     ≡ (pad ∷ length handovers ∷ big_bytes 4 (length header) ++ length_said (not l.several) trailer
     ++ length_said l.listed list ++ chunk_bytes (chunk_at l bytes place)
@@ -235,8 +235,8 @@ pub fields_spelled : (l : Layout) (bytes : List ℕ) (place pad : ℕ) (list hea
 unfolding chunk_by
 fields_spelled l bytes place pad list header trailer streams out are long p s h t lengths =
     let n = segments_at bytes place in
-    let handovers : List HandoverFields = map (in_record handover_from l bytes place) (numbers 0 n) in
-    let count = length_values (in_record handover_from l bytes place) 0 n in
+    let handovers : List HandoverFields = map (in_record handover_from l bytes place) (range_with_len 0 n) in
+    let count = length-map-range_with_len (in_record handover_from l bytes place) 0 n in
     let z : 0 + n ≡ n = omega arith in
     let at_list = place + 6 + trailer_room l in
     let at_chunk = at_list + list_room l in

@@ -7,6 +7,7 @@ use Rattle.std.specs.Option.{option_or}
 use Rattle.std.proofs.lemmas.Bool.{le-ltb, lt-ltb, ltb-false, or_parts}
 use Rattle.std.proofs.lemmas.Bool.Decides.{nat_tests}
 use Rattle.std.proofs.lemmas.List.{length-take-le}
+use Rattle.std.proofs.lemmas.List.FromFn.{length-map-range_with_len}
 use Rattle.jpeg_marker.specs.Plans.{PlanFields}
 use Rattle.scan_spec.specs.FileParts.{is_last}
 use Rattle.scan_spec.specs.Slots.{shape_of}
@@ -16,12 +17,13 @@ use Rattle.box_format.specs.Slices.{handovers_in}
 use Rattle.box_format.specs.Versions.{layout_of, fewest_scans, most_scans, most_segments}
 use Rattle.box_format.specs.Fields.{scans_in, segments_at, header_length, chunk_at, fields_place, header_place, named_end, trailer_at, scan_raw, raws_as, in_record}
 use Rattle.box_format.specs.Checks.{late_fault, are_wrong, is_bad_chunk, is_bad_pad, are_bad_places, are_complete, some_are_wrong, segments_of, are_wrong_scans, scan_fault, scans_fault}
-use Rattle.box_format.specs.Whole.{IsWhole, list_at, header_at, records_at, raws_from, are_not_all, record_fault, listed_at}
+use Rattle.box_format.specs.Whole.{IsUncut, list_at, header_at, records_at, are_not_all, record_fault, listed_at}
 use Rattle.box_format.specs.declared.chunk.Chunk.{Chunk}
 use Rattle.box_format.specs.declared.version.Version.{Version}
 use Rattle.box_format.specs.declared.refusal.BoxRefusal.{BoxRefusal}
 use Rattle.box_format.specs.declared.refusal.BoxRefusal.TheVariants.{BoxSegments, BoxChunk, BoxPad, HandoverBad, BoxPlaces, BoxLong}
-use Rattle.box_format.proofs.Lists.{length_values, sum_first}
+use Rattle.box_format.proofs.RawParts.{raws_from}
+use Rattle.box_format.proofs.Lists.{sum_first}
 use Rattle.box_format.proofs.Layouts.{most_more}
 use Rattle.box_format.proofs.Sliced.{handovers_same}
 use Rattle.box_format.proofs.HeadersRead.{raws_first, raw_header}
@@ -44,7 +46,7 @@ pub handover_count : (v : Version) (bytes : List ℕ) (j : ℕ)
 unfolding scan_raw
 handover_count v bytes j =
     let place = fields_place (layout_of v) bytes j in
-    length_values (in_record handover_from (layout_of v) bytes place) 0 (segments_at bytes place)
+    length-map-range_with_len (in_record handover_from (layout_of v) bytes place) 0 (segments_at bytes place)
 
 pub chunk_is : (v : Version) (bytes : List ℕ) (j place : ℕ)
     → place ≡ fields_place (layout_of v) bytes j
@@ -52,7 +54,7 @@ pub chunk_is : (v : Version) (bytes : List ℕ) (j place : ℕ)
 unfolding scan_raw
 chunk_is v bytes j place e = ap (λ (p : ℕ). chunk_at (layout_of v) bytes p) e
 
-pub records_there : (v : Version) (bytes : List ℕ) (j : ℕ) → IsWhole (layout_of v) bytes
+pub records_there : (v : Version) (bytes : List ℕ) (j : ℕ) → IsUncut (layout_of v) bytes
     → j < scans_in (layout_of v) bytes
     → length (records_at (layout_of v) bytes j)
     ≡ (layout_of v).room * segments_at bytes (fields_place (layout_of v) bytes j)
@@ -114,7 +116,7 @@ pub records_fault_is : (first : ℕ) (plan : PlanFields) (raw : Raw) (o : Option
 records_fault_is first plan raw o bad e f = rw (sym e, sym f) refl
 
 -- its places
-header_long : (v : Version) (bytes : List ℕ) (j : ℕ) → IsWhole (layout_of v) bytes
+header_long : (v : Version) (bytes : List ℕ) (j : ℕ) → IsUncut (layout_of v) bytes
     → j < scans_in (layout_of v) bytes
     → length (scan_raw v bytes j).header
     ≡ header_length bytes (fields_place (layout_of v) bytes j)
@@ -156,7 +158,7 @@ places_are v bytes j e =
 
 -- by what is read
 pub places_by : (v : Version) (bytes : List ℕ) (j place p f : ℕ) (same : Bool)
-    → IsWhole (layout_of v) bytes → j < scans_in (layout_of v) bytes
+    → IsUncut (layout_of v) bytes → j < scans_in (layout_of v) bytes
     → (layout_of v).placed ≡ true → place ≡ fields_place (layout_of v) bytes j
     → p ≡ slice_index (listed_at (layout_of v) bytes place) 0 → f ≡ header_length bytes place
     → (p == f) ≡ same
@@ -239,7 +241,7 @@ complete_by plans before last a b e f g =
 
 raws_count : (v : Version) (bytes : List ℕ)
     → length (raws_as v bytes) ≡ scans_in (layout_of v) bytes
-raws_count v bytes = length_values (scan_raw v bytes) 0 (scans_in (layout_of v) bytes)
+raws_count v bytes = length-map-range_with_len (scan_raw v bytes) 0 (scans_in (layout_of v) bytes)
 
 outside : (low high n : ℕ) → low ≤ high → ((n < low) ⊎ (high < n)) → (b : Bool)
     → (nat_lt n low || (nat_lt high n || b)) ≡ true

@@ -1,8 +1,9 @@
 -- Bytes whose checks pass are the container of their fields.
 use Rattle.std.proofs.Common.{◌≡◌, ◌<◌, ◌≤◌, ◌+◌, ◌-◌, ◌^◌, ◌==◌, ◌||◌, not, Bool, true, false, if◌then◌else◌, ℕ, zero, suc, List, [], length, take, drop, map, nat_lt, refl, sym, ap, ◌∙◌, arith, subst}
 use Rattle.std.specs.Prelude.{slice_index, Some, None, is_some, IfSome}
-use Rattle.std.specs.List.{AllByRecursion}
+use Rattle.std.specs.List.{AllByRecursion, range_with_len}
 use Rattle.std.proofs.lemmas.Bool.{ltb-false, or_parts}
+use Rattle.std.proofs.lemmas.List.FromFn.{length-map-range_with_len}
 use Rattle.byteorder.specs.Endian.{big_number}
 use Rattle.bit_list.specs.Bits.{IsByte}
 use Rattle.jpeg_marker.specs.Plans.{PlanFields}
@@ -11,7 +12,7 @@ use Rattle.jpeg_marker.proofs.HeadersTaken.{none_known}
 use Rattle.handover.specs.Handovers.{HandoverFields, IsHandover}
 use Rattle.handover.specs.HandoverBytes.{is_handover, handover_in}
 use Rattle.box_format.specs.Versions.{layout_of, version_in, fewest_scans, most_scans}
-use Rattle.box_format.specs.Raws.{Raw, numbers, parted, parts_of, handover_from, length_from, place_from}
+use Rattle.box_format.specs.Raws.{Raw, parted, parts_of, handover_from, length_from, place_from}
 use Rattle.box_format.specs.Containers.{container_bytes}
 use Rattle.box_format.specs.Fields.{scans_in, segments_at, header_length, list_length, chunk_at, record_place, fields_place, list_place, header_place, trailer_length, trailer_place, streams_place, scan_raw, raws_as, in_record, in_records}
 use Rattle.box_format.specs.Checks.{are_complete, some_are_wrong, segments_of}
@@ -19,7 +20,6 @@ use Rattle.box_format.specs.Laws.{PassedIsContainer}
 use Rattle.box_format.specs.declared.version.Layout.{Layout}
 use Rattle.box_format.specs.declared.version.Version.{Version}
 use Rattle.box_format.proofs.ByteParts.{all_take, all_drop, all_at, four_small, eight_small}
-use Rattle.box_format.proofs.Lists.{length_values}
 use Rattle.box_format.proofs.PartedLists.{parted_count, parted_bytes, all_values}
 use Rattle.box_format.proofs.PlaceLists.{ended_long, all_ended}
 use Rattle.box_format.proofs.OneCuts.{Fits, all_lengths}
@@ -45,7 +45,7 @@ is_handover_in bytes are e = handover_of_test (handover_in bytes) e refl (all_at
 
 each_plain : (l : Layout) (bytes : List ℕ) (place n : ℕ) → AllByRecursion IsByte bytes
     → AllByRecursion (λ (h : HandoverFields). is_handover h ≡ true → IsHandover h)
-    (map (in_record handover_from l bytes place) (numbers 0 n))
+    (map (in_record handover_from l bytes place) (range_with_len 0 n))
 each_plain l bytes place n are =
     all_values (λ (h : HandoverFields). is_handover h ≡ true → IsHandover h)
     (in_record handover_from l bytes place) 0 n
@@ -101,18 +101,18 @@ one_plain versions v bytes j n are early e =
     all_values (λ n. n < 2 ^ 64) (in_record length_from l bytes place) 0 count
     (λ i below. eight_small (drop (record_place l place (0 + i) + 14) bytes)
     (all_drop IsByte (record_place l place (0 + i) + 14) bytes are)) in
-    let handovers = length_values (in_record handover_from l bytes place) 0 count in
+    let handovers = length-map-range_with_len (in_record handover_from l bytes place) 0 count in
     record {
       version = refl;
       chunked = there_is l.chunked _;
       chunk = chunk_small l bytes place are;
       placed = there_is l.placed _;
       places = if_there (λ ps. (length ps
-          ≡ length (map (in_record handover_from l bytes place) (numbers 0 count)) + 1)
+          ≡ length (map (in_record handover_from l bytes place) (range_with_len 0 count)) + 1)
           × AllByRecursion (λ p. p < 2 ^ 64) ps) l.placed _ (
             ended_long (in_record place_from l bytes place) count (big_number 8 (drop (place + 14) bytes))
                 ∙ ap (λ (k : ℕ). k + 1) (sym handovers),
-            all_ended (λ p. p < 2 ^ 64) (map (in_record place_from l bytes place) (numbers 0 count))
+            all_ended (λ p. p < 2 ^ 64) (map (in_record place_from l bytes place) (range_with_len 0 count))
                 (big_number 8 (drop (place + 14) bytes))
                 (all_values (λ p. p < 2 ^ 64) (in_record place_from l bytes place) 0 count
                 (λ i below. eight_small (drop (record_place l place (0 + i) + 22) bytes)
@@ -121,7 +121,7 @@ one_plain versions v bytes j n are early e =
           );
       streams = parted_count (in_records length_from l bytes place)
           (drop (streams_place l bytes j) bytes)
-          ∙ length_values (in_record length_from l bytes place) 0 count ∙ sym handovers;
+          ∙ length-map-range_with_len (in_record length_from l bytes place) 0 count ∙ sym handovers;
       each = each_plain l bytes place count are;
       header_fits = omega (arith, here, small);
       trailer_fits = chosen (λ (l : List ℕ). length l < 2 ^ 32) (j + 1 == scans_in l bytes)
@@ -196,7 +196,7 @@ passed_is_container versions plans bytes are passes =
     let most = count.most in
     let few = count.few in
     let low = least v in
-    let long = length_values (scan_raw v bytes) 0 (scans_in l bytes) in
+    let long = length-map-range_with_len (scan_raw v bytes) 0 (scans_in l bytes) in
     let n = scans_in l bytes - 1 in
     let some : scans_in l bytes ≡ suc n = omega (arith, enough, low, long) in
     let z : scans_in l bytes ≡ 0 + scans_in l bytes = omega arith in

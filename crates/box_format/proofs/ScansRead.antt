@@ -1,13 +1,12 @@
 -- A container's bytes, looked up again.
 use Rattle.std.proofs.Common.{◌≡◌, ◌<◌, ◌≤◌, ◌+◌, ◌^◌, Bool, true, false, ℕ, List, [], ◌∷◌, ◌++◌, length, take, drop, map, flat_map, refl, sym, ap, ◌∙◌, arith, subst, append_assoc}
 use Rattle.std.specs.Prelude.{slice_index}
-use Rattle.std.specs.List.{AllByRecursion}
+use Rattle.std.specs.List.{AllByRecursion, range_with_len}
 use Rattle.std.proofs.lemmas.List.{append-nil}
 use Rattle.byteorder.specs.Endian.{big_number}
 use Rattle.byteorder.specs.Numbers.{big_number-reads_back}
 use Rattle.box_format.specs.Versions.{layout_of, version_in, version_of}
 use Rattle.box_format.specs.Parts.{BoxParts, magic}
-use Rattle.box_format.specs.Raws.{numbers}
 use Rattle.box_format.specs.Containers.{scans_said, scan_fields, scan_header, scan_streams, trailer_of, container_bytes}
 use Rattle.box_format.specs.Fields.{scans_in, fields_place, list_place, streams_place, trailer_length, trailer_place, named_end, scan_raw, raws_as}
 use Rattle.box_format.specs.declared.version.Layout.{Layout}
@@ -143,7 +142,7 @@ read_after v bytes bs can said trailer one front =
       begins = front.begins;
       byte = front.version;
       version = ap version_of front.version ∙ same_version v;
-      raws = ap (λ (k : ℕ). map (scan_raw v bytes) (numbers 0 k)) front.scans
+      raws = ap (λ (k : ℕ). map (scan_raw v bytes) (range_with_len 0 k)) front.scans
           ∙ raws_walked v bytes 0 bs said fields.0 headers.0 streams.0 trailers;
       fields = let far = at_list.long in omega (arith, far);
       end = let far = at_end.long in omega (arith, far);

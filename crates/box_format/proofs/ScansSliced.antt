@@ -11,10 +11,11 @@ use Rattle.box_format.proofs.Lists.{sum_more}
 use Rattle.handover.specs.Handovers.{HandoverFields}
 use Rattle.scan_spec.specs.Pads.{PadBits}
 use Rattle.std.proofs.lemmas.List.{length-take-le}
+use Rattle.std.specs.List.{range_with_len}
 use Rattle.box_format.specs.Parts.{BoxParts}
-use Rattle.box_format.specs.Raws.{numbers, parted, parts_of, pads_in, length_from}
+use Rattle.box_format.specs.Raws.{parted, parts_of, pads_in, length_from}
 use Rattle.box_format.specs.Slices.{HasSegments, handovers_in, lengths_in, places_with, scan_parts}
-use Rattle.box_format.specs.Whole.{IsWhole, list_at, header_at, records_at, streams_at}
+use Rattle.box_format.specs.Whole.{IsUncut, list_at, header_at, records_at, streams_at}
 use Rattle.box_format.specs.Fields.{scans_in, segments_at, header_length, list_length, chunk_at, record_place, fields_place, list_place, trailer_length, trailer_place, streams_place, trailer_at, scan_raw, in_records}
 use Rattle.box_format.specs.declared.chunk.Chunk.{Chunk}
 use Rattle.box_format.proofs.Sliced.{handovers_same, lengths_same, places_same}
@@ -62,15 +63,15 @@ trailer_there Fourth bytes long =
 
 -- one number more
 pub sum_next : (f : ℕ → ℕ) (i : ℕ)
-    → sum (map f (numbers 0 (i + 1))) ≡ sum (map f (numbers 0 i)) + f i
+    → sum (map f (range_with_len 0 (i + 1))) ≡ sum (map f (range_with_len 0 i)) + f i
 sum_next f i =
     let z : 0 + i ≡ i = omega arith in
     let k : i + 1 ≡ suc i = omega arith in
-    ap (λ (k : ℕ). sum (map f (numbers 0 k))) k ∙ sum_more f 0 i
-    ∙ ap (λ (k : ℕ). sum (map f (numbers 0 i)) + f k) z
+    ap (λ (k : ℕ). sum (map f (range_with_len 0 k))) k ∙ sum_more f 0 i
+    ∙ ap (λ (k : ℕ). sum (map f (range_with_len 0 i)) + f k) z
 
 -- its pad list and its header
-pub header_ends : (l : Layout) (bytes : List ℕ) (j : ℕ) → IsWhole l bytes → j < scans_in l bytes
+pub header_ends : (l : Layout) (bytes : List ℕ) (j : ℕ) → IsUncut l bytes → j < scans_in l bytes
     → list_place l bytes j + list_length l bytes (fields_place l bytes j)
     + header_length bytes (fields_place l bytes j) ≤ length bytes
 header_ends l bytes j whole below =
@@ -83,7 +84,7 @@ header_ends l bytes j whole below =
     omega (arith, up, next, last, ends)
 
 -- the trailer
-pub trailer_ends : (l : Layout) (bytes : List ℕ) → IsWhole l bytes
+pub trailer_ends : (l : Layout) (bytes : List ℕ) → IsUncut l bytes
     → trailer_place l bytes + trailer_length l bytes ≤ length bytes
 trailer_ends l bytes whole =
     let n = scans_in l bytes in
@@ -93,7 +94,7 @@ trailer_ends l bytes whole =
     omega (arith, up, ends)
 
 -- its streams
-pub streams_end : (l : Layout) (bytes : List ℕ) (j : ℕ) → IsWhole l bytes → j < scans_in l bytes
+pub streams_end : (l : Layout) (bytes : List ℕ) (j : ℕ) → IsUncut l bytes → j < scans_in l bytes
     → streams_place l bytes j + sum (in_records length_from l bytes (fields_place l bytes j)) ≤ length bytes
 streams_end l bytes j whole below =
     let n = scans_in l bytes in
@@ -154,7 +155,7 @@ scan_sliced v bytes j place c pad list header trailer n records end streams a b 
 
 -- and the slices have them
 pub has_scan : (v : Version) (bytes : List ℕ) (j n : ℕ) (records streams : List ℕ)
-    → IsWhole (layout_of v) bytes → j < scans_in (layout_of v) bytes
+    → IsUncut (layout_of v) bytes → j < scans_in (layout_of v) bytes
     → n ≡ segments_at bytes (fields_place (layout_of v) bytes j)
     → records ≡ records_at (layout_of v) bytes j → streams ≡ streams_at (layout_of v) bytes j
     → HasSegments v n records streams

@@ -1,21 +1,22 @@
 -- Bytes whose checks pass, by the scans that their fields name.
 use Rattle.std.proofs.Common.{◌≡◌, ◌≤◌, ◌<◌, ◌+◌, Bool, false, if◌then◌else◌, ℕ, zero, suc, List, [], ◌∷◌, ◌++◌, length, take, drop, map, flat_map, refl, sym, ap, ap₂, ◌∙◌, arith, subst, append_assoc, take-append-drop}
 use Rattle.std.specs.Prelude.{slice_index, sum}
-use Rattle.std.specs.List.{AllByRecursion}
+use Rattle.std.specs.List.{AllByRecursion, range_with_len}
 use Rattle.std.proofs.lemmas.Bool.{eq-eqb, ne_eqb}
 use Rattle.std.proofs.lemmas.List.{drop-drop, length-map}
+use Rattle.std.proofs.lemmas.List.FromFn.{length-map-range_with_len}
 use Rattle.byteorder.specs.Endian.{big_bytes, big_number}
 use Rattle.bit_list.specs.Bits.{IsByte}
 use Rattle.box_format.specs.Versions.{layout_of}
 use Rattle.box_format.specs.Parts.{BoxParts, magic, pad_byte, list_bytes}
-use Rattle.box_format.specs.Raws.{Raw, numbers, parted, pads_in, parts_of, length_from}
+use Rattle.box_format.specs.Raws.{Raw, parted, pads_in, parts_of, length_from}
 use Rattle.box_format.specs.Containers.{scans_said, scan_fields, scan_header, scan_streams, trailer_of, container_bytes}
 use Rattle.box_format.specs.Fields.{scans_in, header_length, list_length, fields_place, list_place, header_place, trailer_length, trailer_place, streams_place, named_end, trailer_at, scan_raw, raws_as, in_records}
 use Rattle.box_format.specs.declared.version.Layout.{Layout}
 use Rattle.box_format.specs.declared.version.Version.{Version}
 use Rattle.box_format.specs.declared.version.Version.TheVariants.{First, Second, Third, Fourth, Fifth}
 use Rattle.box_format.proofs.ByteParts.{peel, four_at}
-use Rattle.box_format.proofs.Lists.{sum_first, length_values}
+use Rattle.box_format.proofs.Lists.{sum_first}
 use Rattle.box_format.proofs.Layouts.{laid_out}
 use Rattle.box_format.proofs.ScansWalked.{HaveTrailer, last_trailer, next_fields, next_list, next_streams, trailer_in}
 use Rattle.box_format.proofs.ScansRead.{nested_is}
@@ -29,7 +30,7 @@ pub record IsPadded (raw : Raw) : Type 0 where
 
 -- so many scans from one on, and their parts
 abbrev pub raws_from : Version → List ℕ → ℕ → ℕ → List Raw
-raws_from v bytes j n = map (scan_raw v bytes) (numbers j n)
+raws_from v bytes j n = map (scan_raw v bytes) (range_with_len j n)
 
 abbrev pub parts_from : Version → List ℕ → ℕ → ℕ → List BoxParts
 parts_from v bytes j n = map parts_of (raws_from v bytes j n)
@@ -263,7 +264,7 @@ text_is versions v bytes n are early byte some padded rest =
     ∙ ap₂ (λ (l m : List ℕ). l ++ m) (sym trailer) streams)) in
     let scans : count ≡ length bs =
     sym (length-map (raws_from v bytes 0 count) parts_of
-    ∙ length_values (scan_raw v bytes) 0 count) in
+    ∙ length-map-range_with_len (scan_raw v bytes) 0 count) in
     let trailer_long_is : trailer_length l bytes ≡ length (trailer_of bs) =
     sym (ap (λ (l : List ℕ). length l) trailer ∙ trailer_long l versions bytes early) in
     begun v bytes early.begins early.there byte

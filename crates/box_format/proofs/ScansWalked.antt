@@ -1,13 +1,13 @@
 -- The scans of a container, looked up again one after another.
 use Rattle.std.proofs.Common.{◌≡◌, ◌+◌, Bool, if◌then◌else◌, ℕ, suc, List, [], ◌∷◌, ◌++◌, length, take, drop, map, flat_map, refl, sym, ap, ap₂, ◌∙◌, arith, subst, append_assoc, add-one, length-append}
 use Rattle.std.specs.Prelude.{slice_index, sum, Option}
-use Rattle.std.specs.List.{AllByRecursion}
+use Rattle.std.specs.List.{AllByRecursion, range_with_len}
 use Rattle.std.proofs.lemmas.Bool.{eq-eqb, ne_eqb}
 use Rattle.std.proofs.lemmas.List.{take_at, drop_at, append-nil}
 use Rattle.handover.specs.Handovers.{HandoverFields}
 use Rattle.box_format.specs.Versions.{layout_of}
 use Rattle.box_format.specs.Parts.{BoxParts, pad_byte, list_bytes}
-use Rattle.box_format.specs.Raws.{Raw, numbers, parted, length_from}
+use Rattle.box_format.specs.Raws.{Raw, parted, length_from}
 use Rattle.box_format.specs.declared.chunk.Chunk.{Chunk}
 use Rattle.box_format.specs.declared.version.Layout.{Layout}
 use Rattle.box_format.specs.declared.version.Version.{Version}
@@ -240,7 +240,7 @@ pub raws_walked : (v : Version) (bytes : List ℕ) (j : ℕ) (bs : List BoxParts
     → AllByRecursion (λ (b : BoxParts). b.version ≡ v) bs
     → From (HasFields (layout_of v) bytes) j bs → From (HasHeader (layout_of v) bytes) j bs
     → From (HasStreams (layout_of v) bytes) j bs → From (HasTrailer (layout_of v) bytes) j bs
-    → map (scan_raw v bytes) (numbers j (length bs)) ≡ map raw_like bs
+    → map (scan_raw v bytes) (range_with_len j (length bs)) ≡ map raw_like bs
 raws_walked v bytes j [] said fields headers streams trailers = refl
 raws_walked v bytes j (b ∷ bs) said fields headers streams trailers =
     ap₂ (λ (r : Raw) (rs : List Raw). r ∷ rs)

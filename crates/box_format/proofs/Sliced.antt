@@ -3,17 +3,19 @@ use Rattle.std.proofs.Common.{get_or, take, nat_lt, ◌∙◌, ◌≤◌, Bool, 
 use Rattle.std.specs.Prelude.{sum, Some, None, option_map, slice_index}
 use Rattle.std.proofs.Math.Nat.{mul-le-mul_right}
 use Rattle.std.proofs.lemmas.List.{drop-drop, drop-take}
+use Rattle.std.specs.List.{range_with_len}
+use Rattle.std.proofs.lemmas.List.FromFn.{length-map-range_with_len, get_or-map-range_with_len}
 use Rattle.byteorder.specs.Endian.{big_number}
 use Rattle.byteorder.specs.Numbers.{big_from-take}
 use Rattle.handover.specs.Handovers.{HandoverFields}
 use Rattle.handover.specs.HandoverBytes.{handover_in}
-use Rattle.box_format.specs.Raws.{parted, handover_from, numbers, place_from, length_from}
+use Rattle.box_format.specs.Raws.{parted, handover_from, place_from, length_from}
 use Rattle.box_format.specs.Fields.{segments_at, places_at, in_record}
 use Rattle.box_format.specs.Slices.{places_with, lengths_in, handovers_in, place_among, HasSegments}
 use Rattle.box_format.specs.Versions.{layout_of}
 use Rattle.box_format.specs.declared.version.Version.{Version}
 use Rattle.box_format.specs.declared.version.Version.TheVariants.{First, Second, Third, Fourth, Fifth}
-use Rattle.box_format.proofs.Lists.{length_values, value_at, part_at, sum_more, sum_part}
+use Rattle.box_format.proofs.Lists.{part_at, sum_more, sum_part}
 use Rattle.box_format.proofs.PlaceLists.{ended, ended_any}
 
 pub room_low : (v : Version) → 22 ≤ (layout_of v).room
@@ -34,7 +36,7 @@ kept false ps e = cc
 pub handovers_long : (v : Version) (n : ℕ) (records : List ℕ)
     → length (handovers_in v n records) ≡ n
 handovers_long v n records =
-    length_values (λ i. handover_from records (place_among v i)) 0 n
+    length-map-range_with_len (λ i. handover_from records (place_among v i)) 0 n
 
 -- a handover
 pub handover_sliced : (v : Version) (n : ℕ) (records : List ℕ) (i : ℕ) (d : HandoverFields) → i < n
@@ -42,7 +44,7 @@ pub handover_sliced : (v : Version) (n : ℕ) (records : List ℕ) (i : ℕ) (d 
 handover_sliced v n records i d below =
     let z : 0 + i ≡ i = omega arith in
     let f : ℕ → HandoverFields = λ i. handover_from records (place_among v i) in
-    value_at f 0 i n d below ∙ ap f z
+    get_or-map-range_with_len f 0 n i i d below z
 
 -- a stream
 pub stream_sliced : (v : Version) (n : ℕ) (records streams : List ℕ) (i : ℕ) → i < n
@@ -81,8 +83,8 @@ lengths_more v records i =
     let f : ℕ → ℕ = λ i. length_from records (place_among v i) in
     let z : 0 + i ≡ i = omega arith in
     let k : i + 1 ≡ suc i = omega arith in
-    ap (λ (k : ℕ). sum (map f (numbers 0 k))) k ∙ sum_more f 0 i
-    ∙ ap (λ (k : ℕ). sum (map f (numbers 0 i)) + f k) z
+    ap (λ (k : ℕ). sum (map f (range_with_len 0 k))) k ∙ sum_more f 0 i
+    ∙ ap (λ (k : ℕ). sum (map f (range_with_len 0 i)) + f k) z
 
 -- which are not more than all
 pub lengths_few : (v : Version) (records : List ℕ) (i n : ℕ) → i < n
@@ -138,7 +140,7 @@ number_from p m start xs within =
 -- values that agree
 same_values : {A : Type 0} (f g : ℕ → A) (from n : ℕ)
     → ((i : ℕ) → i < n → f (from + i) ≡ g (from + i))
-    → map f (numbers from n) ≡ map g (numbers from n)
+    → map f (range_with_len from n) ≡ map g (range_with_len from n)
 same_values f g from zero each = refl
 same_values f g from (suc n) each =
     let e : from + 0 ≡ from = omega arith in
@@ -155,7 +157,7 @@ records_at v n start bytes = take (place_among v n) (drop start bytes)
 
 pub handovers_same : (v : Version) (n start : ℕ) (bytes : List ℕ)
     → handovers_in v n (records_at v n start bytes)
-    ≡ map (λ i. handover_from bytes (start + place_among v i)) (numbers 0 n)
+    ≡ map (λ i. handover_from bytes (start + place_among v i)) (range_with_len 0 n)
 handovers_same v n start bytes =
     same_values (λ i. handover_from (records_at v n start bytes) (place_among v i))
     (λ i. handover_from bytes (start + place_among v i)) 0 n
@@ -167,7 +169,7 @@ handovers_same v n start bytes =
 
 pub lengths_same : (v : Version) (n start : ℕ) (bytes : List ℕ)
     → lengths_in v n (records_at v n start bytes)
-    ≡ map (λ i. length_from bytes (start + place_among v i)) (numbers 0 n)
+    ≡ map (λ i. length_from bytes (start + place_among v i)) (range_with_len 0 n)
 lengths_same v n start bytes =
     same_values (λ i. length_from (records_at v n start bytes) (place_among v i))
     (λ i. length_from bytes (start + place_among v i)) 0 n
@@ -181,10 +183,10 @@ lengths_same v n start bytes =
 
 -- the places, in a version that has them or in another
 places_sliced : (placed : Bool) (bytes : List ℕ) (f g : ℕ → ℕ) (n end at : ℕ)
-    → (placed ≡ true → map f (numbers 0 n) ≡ map g (numbers 0 n))
+    → (placed ≡ true → map f (range_with_len 0 n) ≡ map g (range_with_len 0 n))
     → end ≡ (if placed then at else 0)
-    → (if placed then Some (map f (numbers 0 n) ++ end ∷ []) else None)
-    ≡ (if placed then Some (map g (numbers 0 n) ++ at ∷ []) else None)
+    → (if placed then Some (map f (range_with_len 0 n) ++ end ∷ []) else None)
+    ≡ (if placed then Some (map g (range_with_len 0 n) ++ at ∷ []) else None)
 places_sliced true bytes f g n end at same e =
     ap₂ (λ (l : List ℕ) (k : ℕ). Some (l ++ k ∷ [])) (same refl) e
 places_sliced false bytes f g n end at same e = refl
@@ -216,4 +218,4 @@ places_same v n place end bytes e m =
     number_from (p + 22) (place_among v n) start bytes (omega (arith, room, low))
     ∙ ap (λ (k : ℕ). big_number 8 (drop k bytes)) k)) e
     ∙ ap (λ (k : ℕ). if (layout_of v).placed then Some (map (in_record place_from (layout_of v) bytes place)
-    (numbers 0 k) ++ big_number 8 (drop (place + 14) bytes) ∷ []) else None) m
+    (range_with_len 0 k) ++ big_number 8 (drop (place + 14) bytes) ∷ []) else None) m

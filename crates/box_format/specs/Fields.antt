@@ -1,9 +1,10 @@
 -- Statement: the fields of bytes that may be a container, by their offsets, before any check (docs/FORMAT.md, The
 -- container).
 use Rattle.std.specs.Prelude.{ℕ, zero, suc, ◌+◌, ◌*◌, ◌==◌, if◌then◌else◌, List, [], ◌∷◌, ◌++◌, take, drop, map, sum, slice_index, Option, Some, None}
+use Rattle.std.specs.List.{range_with_len}
 use Rattle.byteorder.specs.Endian.{big_number}
 use Rattle.box_format.specs.Versions.{layout_of, version_in}
-use Rattle.box_format.specs.Raws.{Raw, numbers, handover_from, length_from, place_from, parted}
+use Rattle.box_format.specs.Raws.{Raw, handover_from, length_from, place_from, parted}
 use Rattle.box_format.specs.declared.chunk.Chunk.{Chunk}
 use Rattle.box_format.specs.declared.version.Layout.{Layout}
 use Rattle.box_format.specs.declared.version.Version.{Version}
@@ -53,7 +54,7 @@ in_record part l bytes place i = part bytes (record_place l place i)
 -- those of all its segments
 abbrev pub in_records : {A : Type 0} → (List ℕ → ℕ → A) → Layout → List ℕ → ℕ → List A
 in_records part l bytes place =
-    map (in_record part l bytes place) (numbers 0 (segments_at bytes place))
+    map (in_record part l bytes place) (range_with_len 0 (segments_at bytes place))
 
 -- the places in the file of each segment's first byte and of the scan's end, in a version that has places
 abbrev pub places_at : Layout → List ℕ → ℕ → Option (List ℕ)
@@ -121,7 +122,7 @@ scan_raw version bytes j =
 -- of all scans, laid out as in a version
 abbrev pub raws_as : Version → List ℕ → List Raw
 raws_as version bytes =
-    map (scan_raw version bytes) (numbers 0 (scans_in (layout_of version) bytes))
+    map (scan_raw version bytes) (range_with_len 0 (scans_in (layout_of version) bytes))
 
 -- and as in that of the bytes
 abbrev pub raws_of : List ℕ → List Raw

@@ -99,11 +99,6 @@ bad_start shape cut i [] = None
 bad_start shape cut i (h ∷ handovers) =
     if can_start shape (first_mcu cut i) h then bad_start shape cut (i + 1) handovers else Some i
 
--- a grid's rows in this many segments
-abbrev pub cut_in : PlanFields → ℕ → Cut
-cut_in plan segments =
-    record { across = plan.across; from = 0; to = plan.down; segments = segments }
-
 -- a container's rows, which are the chunk's if it has one
 abbrev pub box_rows : PlanFields → Option Chunk → Cover
 box_rows plan None = record { from = 0; to = plan.down }

@@ -1,5 +1,5 @@
 -- Statement: the fields of a scan of bytes that may be a container, before any check, and what a record has.
-use Rattle.std.specs.Prelude.{ℕ, zero, suc, ◌+◌, not, ◌==◌, if◌then◌else◌, List, [], ◌∷◌, take, drop, Option}
+use Rattle.std.specs.Prelude.{ℕ, ◌+◌, not, ◌==◌, if◌then◌else◌, List, [], ◌∷◌, take, drop, Option}
 use Rattle.byteorder.specs.Endian.{big_number}
 use Rattle.handover.specs.Handovers.{HandoverFields}
 use Rattle.handover.specs.HandoverBytes.{handover_in}
@@ -19,11 +19,6 @@ pub record Raw : Type 0 where
   pub header : List ℕ
   pub trailer : List ℕ
   pub streams : List (List ℕ)
-
--- `count` numbers, from one on
-abbrev pub numbers : ℕ → ℕ → List ℕ
-numbers from zero = []
-numbers from (suc count) = from ∷ numbers (from + 1) count
 
 -- the handover fields in the record at a place
 abbrev pub handover_from : List ℕ → ℕ → HandoverFields

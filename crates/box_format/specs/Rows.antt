@@ -1,5 +1,6 @@
 -- Rows: worked containers of one scan (own).
 use Rattle.std.specs.Prelude.{Option, ℕ, ◌*◌, ◌==◌, if◌then◌else◌, ◌≡◌, true, false, List, [], ◌∷◌, ◌++◌, length, replicate, map, take, drop, slice_set, slice_index, Some, None}
+use Rattle.std.specs.List.{range_with_len}
 use Rattle.jpeg_marker.specs.HeldTables.{eight_tables}
 use Rattle.jpeg_marker.specs.Plans.{PlanFields}
 use Rattle.scan_spec.specs.BlockRows.{level_table}
@@ -8,7 +9,7 @@ use Rattle.handover.specs.Handovers.{start}
 use Rattle.scan_spec.specs.Pads.{Same, Listed}
 use Rattle.box_format.specs.Parts.{BoxParts, migrated}
 use Rattle.box_format.specs.Versions.{layout_of, version_in, migratable, decoded, one_scan}
-use Rattle.box_format.specs.Raws.{numbers, parts_of}
+use Rattle.box_format.specs.Raws.{parts_of}
 use Rattle.box_format.specs.Single.{box_bytes}
 use Rattle.box_format.specs.Fields.{raws_of}
 use Rattle.box_format.specs.Checks.{IsRefused, IsRefusedBy, early_fault, late_fault}
@@ -315,7 +316,7 @@ places =
 -- every proper prefix of a container is refused for its first bytes, or as cut
 abbrev pub prefixes : Type 0
 prefixes =
-    map (λ n. early_of decoded (take n least_box)) (numbers 0 111)
+    map (λ n. early_of decoded (take n least_box)) (range_with_len 0 111)
     ≡ replicate 4 (Some BoxMagic) ++ replicate 107 (Some BoxCut)
 
 -- a container with that header is refused for its segments, whatever its version, before its pad byte is looked at; and

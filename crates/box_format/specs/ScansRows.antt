@@ -1,5 +1,6 @@
 -- Rows: worked containers of several scans (own).
 use Rattle.std.specs.Prelude.{ℕ, ◌+◌, ◌==◌, if◌then◌else◌, ◌≡◌, Bool, true, false, List, [], ◌∷◌, ◌++◌, length, replicate, map, take, drop, slice_set, Some, None}
+use Rattle.std.specs.List.{range_with_len}
 use Rattle.jpeg_marker.specs.HeldTables.{eight_tables}
 use Rattle.jpeg_marker.specs.Plans.{PlanFields}
 use Rattle.jpeg_marker.specs.declared.refusal.HeaderRefusal.TheVariants.{MultiScan}
@@ -11,7 +12,6 @@ use Rattle.handover.specs.Handovers.{start}
 use Rattle.box_format.specs.Parts.{BoxParts, BoxSeen}
 use Rattle.box_format.specs.Versions.{layout_of}
 use Rattle.box_format.specs.declared.version.Layout.{Layout}
-use Rattle.box_format.specs.Raws.{numbers}
 use Rattle.box_format.specs.declared.version.Version.TheVariants.{Fourth}
 use Rattle.box_format.specs.declared.refusal.BoxRefusal.TheVariants.{BoxMagic, BoxVersion, BoxCut, BoxHeader, HeaderLong, BoxSegments, BoxPad, HandoverBad, BoxLong}
 use Rattle.box_format.specs.Containers.{IsContainer, all_parts, container_bytes}
@@ -157,5 +157,5 @@ late =
 -- every proper prefix of the container is refused for its first bytes, or as cut
 abbrev pub prefixes : Type 0
 prefixes =
-    map (λ n. early_fault (Fourth ∷ []) four (take n two_box)) (numbers 0 164)
+    map (λ n. early_fault (Fourth ∷ []) four (take n two_box)) (range_with_len 0 164)
     ≡ replicate 4 (Some BoxMagic) ++ replicate 160 (Some BoxCut)

@@ -1,9 +1,10 @@
 -- View: a scan's part of a container by its slices, wherever these lie (own).
 use Rattle.std.specs.Prelude.{ℕ, ◌*◌, ◌≤◌, if◌then◌else◌, List, [], ◌∷◌, ◌++◌, length, map, sum, Option, Some, None}
+use Rattle.std.specs.List.{range_with_len}
 use Rattle.handover.specs.Handovers.{HandoverFields}
 use Rattle.box_format.specs.Versions.{layout_of}
 use Rattle.box_format.specs.Parts.{BoxParts}
-use Rattle.box_format.specs.Raws.{numbers, handover_from, length_from, place_from, parted, pads_in}
+use Rattle.box_format.specs.Raws.{handover_from, length_from, place_from, parted, pads_in}
 use Rattle.box_format.specs.declared.chunk.Chunk.{Chunk}
 use Rattle.box_format.specs.declared.version.Version.{Version}
 
@@ -14,18 +15,18 @@ place_among version i = (layout_of version).room * i
 -- what the segments of a scan start from
 abbrev pub handovers_in : Version → ℕ → List ℕ → List HandoverFields
 handovers_in version segments records =
-    map (λ i. handover_from records (place_among version i)) (numbers 0 segments)
+    map (λ i. handover_from records (place_among version i)) (range_with_len 0 segments)
 
 -- the lengths of their streams
 abbrev pub lengths_in : Version → ℕ → List ℕ → List ℕ
 lengths_in version segments records =
-    map (λ i. length_from records (place_among version i)) (numbers 0 segments)
+    map (λ i. length_from records (place_among version i)) (range_with_len 0 segments)
 
 -- the places of their first bytes and of the scan's end, in a version that has places
 abbrev pub places_with : Version → ℕ → List ℕ → ℕ → Option (List ℕ)
 places_with version segments records end =
     if (layout_of version).placed
-    then Some (map (λ i. place_from records (place_among version i)) (numbers 0 segments)
+    then Some (map (λ i. place_from records (place_among version i)) (range_with_len 0 segments)
     ++ end ∷ [])
     else None
 

@@ -1,5 +1,5 @@
 -- Steps: the parts of bytes that have every part that their fields name, and headers read one by one (own).
-use Rattle.std.specs.Prelude.{Option, option_map, ℕ, ◌+◌, ◌*◌, ◌-◌, ◌≤◌, ◌≡◌, ◌⊎◌, ◌||◌, Bool, true, not, nat_lt, List, [], ◌∷◌, ◌++◌, length, take, drop, map}
+use Rattle.std.specs.Prelude.{Option, option_map, ℕ, ◌+◌, ◌*◌, ◌≤◌, ◌≡◌, ◌⊎◌, ◌||◌, Bool, true, not, nat_lt, List, [], ◌∷◌, ◌++◌, length, take, drop, map}
 use Rattle.std.specs.Bool.{then_some}
 use Rattle.jpeg_marker.specs.KnownBefore.{AreKnown}
 use Rattle.jpeg_marker.specs.Plans.{PlanFields}
@@ -7,23 +7,23 @@ use Rattle.jpeg_marker.specs.Walks.{Walk}
 use Rattle.jpeg_marker.specs.FirstWalks.{opening_walk}
 use Rattle.jpeg_marker.specs.HeaderPlan.{Begins, BeginsNot}
 use Rattle.jpeg_marker.specs.declared.refusal.HeaderRefusal.{HeaderRefusal}
-use Rattle.std.specs.List.{list_all}
+use Rattle.std.specs.List.{list_all, range_with_len}
 use Rattle.std.specs.Option.{option_or}
 use Rattle.handover.specs.Handovers.{HandoverFields}
 use Rattle.scan_spec.specs.Slots.{Shape, shape_of}
 use Rattle.byteorder.specs.Endian.{big_number}
 use Rattle.box_format.specs.Parts.{is_unused_zero, bad_start, box_cut}
-use Rattle.box_format.specs.Raws.{Raw, numbers, place_from}
+use Rattle.box_format.specs.Raws.{Raw, place_from}
 use Rattle.box_format.specs.Versions.{layout_of}
 use Rattle.box_format.specs.declared.version.Layout.{Layout}
 use Rattle.box_format.specs.declared.version.Version.{Version}
 use Rattle.box_format.specs.declared.refusal.BoxRefusal.{BoxRefusal}
 use Rattle.box_format.specs.declared.refusal.BoxRefusal.TheVariants.{BoxHeader, HeaderLong, HandoverBad, BoxPlaces}
-use Rattle.box_format.specs.Fields.{scans_in, segments_at, header_length, list_length, fields_place, list_place, header_place, streams_place, named_end, scan_raw, raws_as, in_record}
+use Rattle.box_format.specs.Fields.{scans_in, segments_at, header_length, list_length, fields_place, list_place, header_place, streams_place, named_end, raws_as, in_record}
 use Rattle.box_format.specs.Checks.{HeadersPass, are_bad_places, are_complete, some_are_wrong, segments_of}
 
 -- no part ends after the bytes
-pub record IsWhole (l : Layout) (bytes : List ℕ) : Type 0 where
+pub record IsUncut (l : Layout) (bytes : List ℕ) : Type 0 where
   pub fields : fields_place l bytes (scans_in l bytes) ≤ length bytes
   pub ends : named_end l bytes ≤ length bytes
 
@@ -45,11 +45,6 @@ records_at l bytes j =
 -- its streams, and those after them
 abbrev pub streams_at : Layout → List ℕ → ℕ → List ℕ
 streams_at l bytes j = drop (streams_place l bytes j) bytes
-
--- the fields of the scans from one on
-abbrev pub raws_from : Version → List ℕ → ℕ → List Raw
-raws_from v bytes j =
-    map (scan_raw v bytes) (numbers j (scans_in (layout_of v) bytes - j))
 
 -- a header is read by a walk, ends where its bytes end, and has this plan
 pub record IsWholeHeader (w : Walk) (header : List ℕ) (plan : PlanFields) : Type 0 where
@@ -92,4 +87,4 @@ record_fault first plan raw =
 -- the places of a scan's segments and of its end, whether the version keeps them or not
 abbrev pub listed_at : Layout → List ℕ → ℕ → List ℕ
 listed_at l bytes place =
-    map (in_record place_from l bytes place) (numbers 0 (segments_at bytes place)) ++ big_number 8 (drop (place + 14) bytes) ∷ []
+    map (in_record place_from l bytes place) (range_with_len 0 (segments_at bytes place)) ++ big_number 8 (drop (place + 14) bytes) ∷ []

@@ -8,7 +8,7 @@ ghost use Rattle.box_format.specs.Parts.{magic, bad_start, box_cut, header_part,
 ghost use Rattle.box_format.specs.Versions.{layout_of, version_in, is_version, fewest_scans, most_scans, most_segments};
 ghost use Rattle.box_format.specs.Fields.{scans_in, segments_at, record_place, scan_raw, raws_as, named_end};
 ghost use Rattle.box_format.specs.Checks.{early_fault, late_fault, is_cut, are_complete, some_are_wrong, segments_of, scan_fault, scans_fault, are_wrong, is_bad_chunk, are_bad_places};
-ghost use Rattle.box_format.specs.Whole.{IsWhole, are_not_all, record_fault, listed_at};
+ghost use Rattle.box_format.specs.Whole.{IsUncut, are_not_all, record_fault, listed_at};
 ghost use Rattle.box_format.specs.declared.refusal.BoxRefusal.TheVariants.{BoxLong};
 
 use crate::chunk::{Chunk, rows_of};
@@ -79,7 +79,7 @@ fn is_cut(version: Version, bytes: &[u8]) -> bool
 /// The first check after the headers that fails, by the plans of the first four, on bytes laid out as in a version.
 #[inline(never)]
 pub(crate) fn late_fault(version: Version, bytes: &[u8], plans: &[Plan]) -> Option<BoxRefusal>
-    requires whole { IsWhole (layout_of version) bytes.now }
+    requires whole { IsUncut (layout_of version) bytes.now }
     requires four { length plans.now ≡ 4 }
     ensures { result ≡ late_fault version
         (take (scans_in (layout_of version) bytes.now) plans.now) bytes.now }
@@ -94,7 +94,7 @@ pub(crate) fn late_fault(version: Version, bytes: &[u8], plans: &[Plan]) -> Opti
 
 // The same of as many scans as the version has, by their plans.
 fn scans_or_end_fault(version: Version, bytes: &[u8], plans: &[Plan]) -> Option<BoxRefusal>
-    requires whole { IsWhole (layout_of version) bytes.now }
+    requires whole { IsUncut (layout_of version) bytes.now }
     requires count { length plans.now ≡ scans_in (layout_of version) bytes.now }
     requires some { fewest_scans (layout_of version) ≤ length plans.now }
     requires few { length plans.now ≤ most_scans (layout_of version) }
@@ -111,7 +111,7 @@ fn scans_or_end_fault(version: Version, bytes: &[u8], plans: &[Plan]) -> Option<
 
 // Whether these aren't all scans of a file, or can't have their numbers of segments.
 fn are_wrong_scans(version: Version, bytes: &[u8], plans: &[Plan]) -> bool
-    requires whole { IsWhole (layout_of version) bytes.now }
+    requires whole { IsUncut (layout_of version) bytes.now }
     requires count { length plans.now ≡ scans_in (layout_of version) bytes.now }
     ensures { result ≡ are_not_all (layout_of version).most plans.now (raws_as version bytes.now) }
 {
@@ -139,7 +139,7 @@ fn is_any_last(plans: &[Plan]) -> bool
 
 // Whether one of the scans can't have its number of segments.
 fn some_are_wrong(version: Version, bytes: &[u8], plans: &[Plan]) -> bool
-    requires whole { IsWhole (layout_of version) bytes.now }
+    requires whole { IsUncut (layout_of version) bytes.now }
     requires count { length plans.now ≡ scans_in (layout_of version) bytes.now }
     ensures { result
         ≡ some_are_wrong (layout_of version).most plans.now (raws_as version bytes.now) }
@@ -154,7 +154,7 @@ fn some_are_wrong(version: Version, bytes: &[u8], plans: &[Plan]) -> bool
 
 // Whether this scan can't have its number of segments.
 fn is_wrong(version: Version, bytes: &[u8], plan: &Plan, scan: u8) -> bool
-    requires whole { IsWhole (layout_of version) bytes.now }
+    requires whole { IsUncut (layout_of version) bytes.now }
     requires scan { scan < scans_in (layout_of version) bytes.now }
     ensures { result ≡ are_wrong (layout_of version).most
         (box_cut plan.now (scan_raw version bytes.now scan).chunk
@@ -189,7 +189,7 @@ pub(crate) fn segments_in(version: Version, bytes: &[u8]) -> usize
 
 // What fails first of the scans, in their order.
 fn scans_fault(version: Version, bytes: &[u8], plans: &[Plan]) -> Option<BoxRefusal>
-    requires whole { IsWhole (layout_of version) bytes.now }
+    requires whole { IsUncut (layout_of version) bytes.now }
     requires count { length plans.now ≡ scans_in (layout_of version) bytes.now }
     requires few { segments_of (raws_as version bytes.now) ≤ most_segments }
     ensures { result ≡ scans_fault 0 plans.now (raws_as version bytes.now) }
@@ -213,7 +213,7 @@ fn scan_fault(
     scan: u8,
     first: u8,
 ) -> Option<BoxRefusal>
-    requires whole { IsWhole (layout_of version) bytes.now }
+    requires whole { IsUncut (layout_of version) bytes.now }
     requires scan { scan < scans_in (layout_of version) bytes.now }
     requires few { first + length (scan_raw version bytes.now scan).handovers ≤ most_segments }
     ensures { result ≡ scan_fault first plan.now (scan_raw version bytes.now scan) }
@@ -251,7 +251,7 @@ fn record_fault(
     scan: u8,
     first: u8,
 ) -> Option<BoxRefusal>
-    requires whole { IsWhole (layout_of version) bytes.now }
+    requires whole { IsUncut (layout_of version) bytes.now }
     requires scan { scan < scans_in (layout_of version) bytes.now }
     requires few { first + length (scan_raw version bytes.now scan).handovers ≤ most_segments }
     ensures { result ≡ record_fault first plan.now (scan_raw version bytes.now scan) }
@@ -290,7 +290,7 @@ fn header_part(chunk: Chunk, header: &[u8]) -> u64
 
 // The first segment of a scan that can't start from its record.
 fn bad_segment(version: Version, bytes: &[u8], plan: &Plan, scan: u8) -> Option<u8>
-    requires whole { IsWhole (layout_of version) bytes.now }
+    requires whole { IsUncut (layout_of version) bytes.now }
     requires scan { scan < scans_in (layout_of version) bytes.now }
     ensures value { result ≡ bad_start (shape_of plan.now)
         (box_cut plan.now (scan_raw version bytes.now scan).chunk
@@ -311,7 +311,7 @@ fn bad_segment(version: Version, bytes: &[u8], plan: &Plan, scan: u8) -> Option<
 
 // Whether the places don't begin where the header ends, or one is below the one before.
 fn are_bad_places(version: Version, bytes: &[u8], scan: u8) -> bool
-    requires whole { IsWhole (layout_of version) bytes.now }
+    requires whole { IsUncut (layout_of version) bytes.now }
     requires scan { scan < scans_in (layout_of version) bytes.now }
     ensures { result ≡ are_bad_places (length (scan_raw version bytes.now scan).header)
         (scan_raw version bytes.now scan).places }
@@ -366,7 +366,7 @@ fn are_rising(version: Version, bytes: &[u8], fields: usize) -> bool
 
 // That bytes follow the last stream, if they do.
 fn after_end(version: Version, bytes: &[u8]) -> Option<BoxRefusal>
-    requires { IsWhole (layout_of version) bytes.now }
+    requires { IsUncut (layout_of version) bytes.now }
     ensures { result ≡ then_some
         (nat_lt (named_end (layout_of version) bytes.now) (length bytes.now)) BoxLong }
 {

@@ -1,6 +1,6 @@
 // The error of a reader of containers.
 use crate::refusal::BoxRefusal;
-use growth::NoMemory;
+use allocation::NoMemory;
 use thiserror::Error;
 
 /// Why a container wasn't read.

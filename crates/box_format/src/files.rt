@@ -5,12 +5,11 @@ ghost use Rattle.box_format.specs.Versions.{layout_of, most_segments};
 ghost use Rattle.box_format.specs.Containers.{IsContainer, IsContainerIn, all_parts, all_plans, segment_count, trailer_of};
 ghost use Rattle.box_format.specs.Fields.{scans_in, raws_as};
 ghost use Rattle.box_format.specs.Checks.{HeadersPass, boxes_of};
-ghost use Rattle.box_format.specs.Whole.{IsWhole};
+ghost use Rattle.box_format.specs.Whole.{IsUncut};
 
 use crate::fields::scans_in;
-use crate::slices::scan_view;
 use crate::version::Version;
-use crate::view::BoxView;
+use crate::view::{BoxView, scan_view};
 use jpeg_marker::Plan;
 use std::marker::Model;
 
@@ -44,7 +43,7 @@ impl<'a> FileView<'a> {
             (take (scans_in (layout_of version) bytes.now) plans.items) (raws_as version bytes.now)) bytes.now }
         requires headers { HeadersPass opening_walk (raws_as version bytes.now)
             (take (scans_in (layout_of version) bytes.now) plans.items) }
-        requires whole { IsWhole (layout_of version) bytes.now }
+        requires whole { IsUncut (layout_of version) bytes.now }
         requires four { length plans.items ≡ 4 }
         requires some { 1 ≤ scans_in (layout_of version) bytes.now }
         requires few { scans_in (layout_of version) bytes.now ≤ 4 }

@@ -6,7 +6,7 @@ ghost use Rattle.jpeg_marker.specs.Walks.{next_walk};
 ghost use Rattle.box_format.specs.Versions.{layout_of};
 ghost use Rattle.box_format.specs.Fields.{scans_in, raws_as};
 ghost use Rattle.box_format.specs.Checks.{HeadersFail};
-ghost use Rattle.box_format.specs.Whole.{IsWhole, IsWholeHeader, IsNoHeader, HavePlans};
+ghost use Rattle.box_format.specs.Whole.{IsUncut, IsWholeHeader, IsNoHeader, HavePlans};
 ghost use Rattle.box_format.specs.declared.refusal.BoxRefusal.{BoxRefusal};
 
 use crate::error::ReadError;
@@ -14,7 +14,7 @@ use crate::fields::scans_in;
 use crate::refusal::BoxRefusal;
 use crate::slices::header_at;
 use crate::version::Version;
-use growth::from_elem;
+use allocation::from_elem;
 use jpeg_marker::{Plan, read_first, read_next};
 use std::alloc::Global;
 
@@ -26,7 +26,7 @@ pub(crate) fn read_plans(
     version: Version,
     bytes: &[u8],
 ) -> Result<Vec<Plan>, ReadError>
-    requires whole { IsWhole (layout_of version) bytes.now }
+    requires whole { IsUncut (layout_of version) bytes.now }
     requires some { 1 ≤ scans_in (layout_of version) bytes.now }
     ensures four { IfOk result (λ plans. length plans.items ≡ 4) }
     ensures passed { IfOk result (λ plans. HavePlans version bytes.now plans.items) }

@@ -13,7 +13,7 @@ use crate::refusal::Migrate;
 use crate::version::{MIGRATABLE, Version};
 use crate::view::BoxView;
 use crate::writing::MOST_ROOM;
-use growth::{NoMemory, extend_from_slice, from_slice, push, with_capacity};
+use allocation::{NoMemory, extend_from_slice, from_slice, push, with_capacity};
 use std::alloc::Global;
 
 /// The same container in version 2: of version 1, with the byte of the version changed and a pad list of no bytes; of

@@ -10,7 +10,7 @@ use crate::view::BoxView;
 use crate::writing::{
     MOST_ROOM, list_of, pad_byte, put_lengths, put_place_field, put_record, put_start,
 };
-use growth::{NoMemory, extend_from_slice, push, with_capacity};
+use allocation::{NoMemory, extend_from_slice, push, with_capacity};
 use std::alloc::Global;
 
 /// The same container in version 5, with these places: of each segment's first byte in the file, and after them of the

@@ -1,5 +1,5 @@
 // Why bytes are no container.
-use growth::NoMemory;
+use allocation::NoMemory;
 use jpeg_marker::HeaderRefusal;
 
 /// Why bytes are no container, by the numbers of the refusals. The checks are made in this order.

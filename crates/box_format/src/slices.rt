@@ -1,22 +1,18 @@
 // The parts of a scan, in bytes that have them all.
 ghost use Rattle.std.specs.Prelude.{◌≡◌, ◌<◌};
-ghost use Rattle.box_format.specs.Parts.{IsScanBox};
-ghost use Rattle.box_format.specs.Raws.{parts_of};
 ghost use Rattle.box_format.specs.Versions.{layout_of};
-ghost use Rattle.box_format.specs.Fields.{scans_in, scan_raw, trailer_at};
-ghost use Rattle.box_format.specs.Whole.{IsWhole, list_at, header_at, records_at, streams_at};
+ghost use Rattle.box_format.specs.Fields.{scans_in, trailer_at};
+ghost use Rattle.box_format.specs.Whole.{IsUncut, list_at, header_at, records_at, streams_at};
 
 use crate::fields::{
-    byte_in, chunk_at, end_in, fields_place, header_length, list_length, list_place, records_room,
-    scans_in, segments_at, streams_place, trailer_length,
+    fields_place, header_length, list_length, list_place, records_room, scans_in, streams_place,
+    trailer_length,
 };
 use crate::version::Version;
-use crate::view::BoxView;
-use jpeg_marker::Plan;
 
 /// The pad list of a scan.
 pub(crate) fn list_at(version: Version, bytes: &[u8], scan: u8) -> &[u8]
-    requires whole { IsWhole (layout_of version) bytes.now }
+    requires whole { IsUncut (layout_of version) bytes.now }
     requires scan { scan < scans_in (layout_of version) bytes.now }
     ensures { result.now ≡ list_at (layout_of version) bytes.now scan }
 {
@@ -28,7 +24,7 @@ pub(crate) fn list_at(version: Version, bytes: &[u8], scan: u8) -> &[u8]
 
 /// The header of a scan.
 pub(crate) fn header_at(version: Version, bytes: &[u8], scan: u8) -> &[u8]
-    requires whole { IsWhole (layout_of version) bytes.now }
+    requires whole { IsUncut (layout_of version) bytes.now }
     requires scan { scan < scans_in (layout_of version) bytes.now }
     ensures { result.now ≡ header_at (layout_of version) bytes.now scan }
 {
@@ -41,7 +37,7 @@ pub(crate) fn header_at(version: Version, bytes: &[u8], scan: u8) -> &[u8]
 
 /// The trailer of a scan: that of the container if the scan is the last one, else none.
 pub(crate) fn trailer_at(version: Version, bytes: &[u8], scan: u8) -> &[u8]
-    requires { IsWhole (layout_of version) bytes.now }
+    requires { IsUncut (layout_of version) bytes.now }
     ensures { result.now ≡ trailer_at (layout_of version) bytes.now scan }
 {
     if u16::from(scan) + 1 != u16::from(scans_in(version, bytes)) {
@@ -54,7 +50,7 @@ pub(crate) fn trailer_at(version: Version, bytes: &[u8], scan: u8) -> &[u8]
 
 /// The records of the segments of a scan.
 pub(crate) fn records_at(version: Version, bytes: &[u8], scan: u8) -> &[u8]
-    requires whole { IsWhole (layout_of version) bytes.now }
+    requires whole { IsUncut (layout_of version) bytes.now }
     requires scan { scan < scans_in (layout_of version) bytes.now }
     ensures { result.now ≡ records_at (layout_of version) bytes.now scan }
 {
@@ -66,33 +62,10 @@ pub(crate) fn records_at(version: Version, bytes: &[u8], scan: u8) -> &[u8]
 
 /// The streams of a scan, and those of the scans after it.
 pub(crate) fn streams_at(version: Version, bytes: &[u8], scan: u8) -> &[u8]
-    requires whole { IsWhole (layout_of version) bytes.now }
+    requires whole { IsUncut (layout_of version) bytes.now }
     requires scan { scan < scans_in (layout_of version) bytes.now }
     ensures { result.now ≡ streams_at (layout_of version) bytes.now scan }
 {
     let (_, streams) = bytes.split_at(streams_place(version, bytes, scan) as usize);
     streams
-}
-
-/// The view of a scan.
-pub(crate) fn scan_view<'a>(version: Version, bytes: &'a [u8], plan: &Plan, scan: u8) -> BoxView<'a>
-    requires whole { IsWhole (layout_of version) bytes.now }
-    requires scan { scan < scans_in (layout_of version) bytes.now }
-    requires is { IsScanBox plan.now (parts_of (scan_raw version bytes.now scan)) }
-    ensures { result ≡ record { plan = plan.now; parts = parts_of (scan_raw version bytes.now scan) } }
-{
-    let fields = fields_place(version, bytes, scan);
-    BoxView::of_scan(
-        version,
-        plan,
-        chunk_at(version, bytes, fields),
-        byte_in(bytes, fields),
-        list_at(version, bytes, scan),
-        header_at(version, bytes, scan),
-        trailer_at(version, bytes, scan),
-        segments_at(bytes, fields),
-        records_at(version, bytes, scan),
-        end_in(version, bytes, fields),
-        streams_at(version, bytes, scan),
-    )
 }

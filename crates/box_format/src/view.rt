@@ -4,12 +4,15 @@ ghost use Rattle.handover.specs.Handovers.{start};
 ghost use Rattle.scan_spec.specs.Pads.{is_long_for, pads_given};
 ghost use Rattle.scan_spec.specs.Slots.{shape_of};
 ghost use Rattle.box_format.specs.Parts.{IsScanBox, file_end, list_bytes};
-ghost use Rattle.box_format.specs.Slices.{HasSegments, scan_parts};
+ghost use Rattle.box_format.specs.Fields.{scan_raw, scans_in};
+ghost use Rattle.box_format.specs.Raws.{parts_of};
+ghost use Rattle.box_format.specs.Whole.{IsUncut};
 ghost use Rattle.box_format.specs.Versions.{layout_of, most_segments};
 
 use crate::chunk::Chunk;
-use crate::fields::place_at;
+use crate::fields::{byte_in, chunk_at, end_in, fields_place, place_at, segments_at};
 use crate::records::{place_among, record_at, stream_among};
+use crate::slices::{header_at, list_at, records_at, streams_at, trailer_at};
 use crate::version::Version;
 use handover::Handover;
 use jpeg_marker::Plan;
@@ -50,47 +53,31 @@ impl<'a> Model for BoxView<'a> {
     ghost invariant = { IsView };
 }
 
-impl<'a> BoxView<'a> {
-    /// The view of a scan by its slices: the pad byte and the pad list, the header, the trailer, a record for each
-    /// segment, the place of the scan's end, and the streams, one after another.
-    #[inline(never)]
-    pub(crate) fn of_scan(
-        version: Version,
-        plan: &Plan,
-        chunk: Option<Chunk>,
-        pad: u8,
-        list: &'a [u8],
-        header: &'a [u8],
-        trailer: &'a [u8],
-        segments: u8,
-        records: &'a [u8],
-        end: u64,
-        streams: &'a [u8],
-    ) -> BoxView<'a>
-        requires scan { IsScanBox plan.now (scan_parts version chunk pad list.now header.now trailer.now
-            segments records.now end streams.now) }
-        requires whole { HasSegments version segments records.now streams.now }
-        ensures { result ≡ record {
-          plan = plan.now;
-          parts = scan_parts version chunk pad list.now header.now trailer.now segments records.now end
-              streams.now;
-        } }
-    {
-        BoxView {
-            plan: *plan,
-            version,
-            chunk,
-            pad,
-            list,
-            header,
-            trailer,
-            segments,
-            records,
-            end,
-            streams,
-        }
+/// The view of a scan of a container with these parts.
+#[inline(never)]
+pub(crate) fn scan_view<'a>(version: Version, bytes: &'a [u8], plan: &Plan, scan: u8) -> BoxView<'a>
+    requires whole { IsUncut (layout_of version) bytes.now }
+    requires scan { scan < scans_in (layout_of version) bytes.now }
+    requires is { IsScanBox plan.now (parts_of (scan_raw version bytes.now scan)) }
+    ensures { result ≡ record { plan = plan.now; parts = parts_of (scan_raw version bytes.now scan) } }
+{
+    let fields = fields_place(version, bytes, scan);
+    BoxView {
+        plan: *plan,
+        version,
+        chunk: chunk_at(version, bytes, fields),
+        pad: byte_in(bytes, fields),
+        list: list_at(version, bytes, scan),
+        header: header_at(version, bytes, scan),
+        trailer: trailer_at(version, bytes, scan),
+        segments: segments_at(bytes, fields),
+        records: records_at(version, bytes, scan),
+        end: end_in(version, bytes, fields),
+        streams: streams_at(version, bytes, scan),
     }
+}
 
+impl<'a> BoxView<'a> {
     /// What the header says.
     pub fn plan(&self) -> &Plan
         ensures value { result.now ≡ self.now.plan }

@@ -14,7 +14,7 @@ use crate::checks::MAGIC;
 use crate::chunk::Chunk;
 use crate::parts::Parts;
 use crate::version::Version;
-use growth::{NoMemory, extend_from_slice, push, with_capacity};
+use allocation::{NoMemory, extend_from_slice, push, with_capacity};
 use handover::Handover;
 use scan_spec::Pads;
 use std::alloc::Global;

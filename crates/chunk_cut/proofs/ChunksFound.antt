@@ -1,10 +1,11 @@
 -- A chunk's parts, as they are found by where the rows of a file start.
 use Rattle.std.proofs.Common.{◌≡◌, ℕ, zero, suc, ◌+◌, ◌-◌, ◌*◌, ◌<◌, ◌≤◌, ◌^◌, Bool, true, false, List, length, take, drop, get_or, map, inl, inr, refl, sym, ap, ap₂, subst, ◌∙◌, append_assoc, arith, ◌∷◌, [], ◌++◌}
 use Rattle.std.specs.Prelude.{◌==◌, nat_lt, max, min, if◌then◌else◌, Some, None}
-use Rattle.std.specs.List.{AllByRecursion}
+use Rattle.std.specs.List.{AllByRecursion, range_with_len}
 use Rattle.std.proofs.lemmas.Bool.{cases_lt}
 use Rattle.std.proofs.lemmas.Bool.Decides.{nat_tests}
 use Rattle.std.proofs.lemmas.List.{length-take-le, map-id}
+use Rattle.std.proofs.lemmas.List.FromFn.{length-map-range_with_len, get_or-map-range_with_len}
 use Rattle.byte_window.specs.Slices.{Cover, slice, has_place, with_part, cover, chunk_from, chunk_to}
 use Rattle.byte_window.specs.PartedFiles.{PartedFile, parts_within, skip_of, trailer_within}
 use Rattle.byte_window.proofs.PartedFacts.{parts_are_in_file}
@@ -24,14 +25,13 @@ use Rattle.cut_spec.specs.Cuts.{Cut, first_mcu, row_of}
 use Rattle.cut_spec.specs.RowHandovers.{handover_at, mcus_between}
 use Rattle.box_format.specs.Parts.{BoxParts, box_cut}
 use Rattle.box_format.specs.Single.{IsBox, box_bytes}
-use Rattle.box_format.specs.Raws.{numbers}
 use Rattle.box_format.specs.Versions.{layout_of}
 use Rattle.box_format.specs.declared.chunk.Chunk.{Chunk}
 use Rattle.box_format.specs.declared.version.Version.TheVariants.{Third}
 use Rattle.container_spec.specs.Files.{cut_start, plan_cut, segment_start}
 use Rattle.container_spec.specs.ScanStream.{stream_of}
 use Rattle.container_spec.proofs.CutsOfPlans.{mcus_within, each_has_mcus}
-use Rattle.container_spec.proofs.Numbered.{mapped_at, mapped_long, mapped_same}
+use Rattle.container_spec.proofs.Numbered.{mapped_same}
 use Rattle.segment_code.specs.FileStarts.{StartsFields}
 use Rattle.segment_code.specs.Starting.{AreStarts}
 use Rattle.container_spec.specs.Chunks.{IsChunkOf, file_rows, parts_of_chunk, rows_cut}
@@ -56,13 +56,13 @@ isnt_less m n h = grind (arith, nat_tests)
 -- one more item of a list that comes to these
 pub one_more : {A : Type 0} (f : ℕ → A) (items more : List A) (x : A) (i count : ℕ) → i < count
     → more ≡ items ++ x ∷ [] → x ≡ f i
-    → more ++ map f (numbers (i + 1) (count - (i + 1))) ≡ items ++ map f (numbers i (count - i))
+    → more ++ map f (range_with_len (i + 1) (count - (i + 1))) ≡ items ++ map f (range_with_len i (count - i))
 one_more {A = A} f items more x i count under is at =
-    let rest : List A = map f (numbers (i + 1) (count - (i + 1))) in
+    let rest : List A = map f (range_with_len (i + 1) (count - (i + 1))) in
     let left : count - i ≡ suc (count - (i + 1)) = omega (arith, under) in
     ap (λ (l : List A). l ++ rest) is ∙ append_assoc items (x ∷ []) rest
     ∙ ap (λ (y : A). items ++ (y ∷ rest)) at
-    ∙ ap (λ (n : ℕ). items ++ map f (numbers i n)) (sym left)
+    ∙ ap (λ (n : ℕ). items ++ map f (range_with_len i n)) (sym left)
 
 -- a chunk with these rows, which skips so many bytes
 abbrev chunk_with : ℕ → ℕ → Cover → ℕ → Chunk
@@ -85,7 +85,7 @@ row_below cut i order fits under =
 
 module _ (plan : PlanFields) (bytes : List ℕ) (starts : StartsFields)
     (are : AllByRecursion IsByte bytes) (accepts : Accepts bytes plan) (have : AreStarts plan bytes plan.down starts)
-    (each : starts.rows ≡ numbers 0 plan.down) where
+    (each : starts.rows ≡ range_with_len 0 plan.down) where
   abbrev pub trailer : List ℕ
   trailer = drop starts.trailer bytes
 
@@ -118,7 +118,7 @@ module _ (plan : PlanFields) (bytes : List ℕ) (starts : StartsFields)
 
   pub rows_long : length starts.rows ≡ plan.down
   rows_long =
-      ap (λ (s : StartsFields). length s.rows) have.are ∙ mapped_long (row_of cut) 0 cut.segments
+      ap (λ (s : StartsFields). length s.rows) have.are ∙ length-map-range_with_len (row_of cut) 0 cut.segments
       ∙ count_is
 
   -- each row is a segment of that cut
@@ -126,10 +126,10 @@ module _ (plan : PlanFields) (bytes : List ℕ) (starts : StartsFields)
   row_is row under =
       let none : 0 + row ≡ row = omega arith in
       ap (row_of cut) (sym none)
-      ∙ sym (mapped_at (row_of cut) 0 cut.segments row 0 (omega (arith, under)))
+      ∙ sym (get_or-map-range_with_len (row_of cut) 0 cut.segments row (0 + row) 0 (omega (arith, under)) refl)
       ∙ sym (ap (λ (s : StartsFields). get_or s.rows row 0) have.are)
-      ∙ ap (λ (l : List ℕ). get_or l row 0) (each ∙ sym (map-id (numbers 0 plan.down)))
-      ∙ mapped_at (λ i. i) 0 plan.down row 0 under ∙ none
+      ∙ ap (λ (l : List ℕ). get_or l row 0) (each ∙ sym (map-id (range_with_len 0 plan.down)))
+      ∙ get_or-map-range_with_len (λ i. i) 0 plan.down row (0 + row) 0 under refl ∙ none
 
   row_starts : (row : ℕ) → row < plan.down → first_mcu cut row ≡ plan.across * row
   row_starts row under = ap (λ (n : ℕ). plan.across * n) (row_is row under)
@@ -138,8 +138,7 @@ module _ (plan : PlanFields) (bytes : List ℕ) (starts : StartsFields)
   place_found row under =
       let done : ℕ → ℕ = bytes_done (shape_of plan) (pad_at have.pads) have.mcus in
       let first = ap (λ (s : StartsFields). get_or s.places row 0) have.are
-      ∙ mapped_at (λ i. plan.header_length + done (first_mcu cut i)) 0 cut.segments row 0
-      (omega (arith, under)) in
+      ∙ get_or-map-range_with_len (λ i. plan.header_length + done (first_mcu cut i)) 0 cut.segments row (0 + row) 0 (omega (arith, under)) refl in
       let none : 0 + row ≡ row = omega arith in
       first ∙ ap (λ (i : ℕ). plan.header_length + done (first_mcu cut i)) none
       ∙ ap₂ (λ (h n : ℕ). h + done n) (sym header_long) (row_starts row under)
@@ -207,14 +206,13 @@ module _ (plan : PlanFields) (bytes : List ℕ) (starts : StartsFields)
       start_found row under =
           let none : 0 + row ≡ row = omega arith in
           ap (λ (s : StartsFields). get_or s.handovers row start) have.are
-          ∙ mapped_at (segment_start plan have.mcus have.pads plan.down) 0 cut.segments row start
-          (omega (arith, under))
+          ∙ get_or-map-range_with_len (segment_start plan have.mcus have.pads plan.down) 0 cut.segments row (0 + row) start (omega (arith, under)) refl
           ∙ ap (segment_start plan have.mcus have.pads plan.down) none
           ∙ ap (handover_at (shape_of plan) (pad_at have.pads) have.mcus) (row_starts row under)
 
       -- what its segments start from
       pub handovers_are : handovers_found plan starts (chunk_fields parts a b) segments.segments
-          ≡ map (cut_start plan have.mcus have.pads segments) (numbers 0 segments.segments)
+          ≡ map (cut_start plan have.mcus have.pads segments) (range_with_len 0 segments.segments)
       handovers_are =
           mapped_same (λ i. get_or starts.handovers (row_of segments i) start)
           (cut_start plan have.mcus have.pads segments) 0 segments.segments
@@ -233,7 +231,7 @@ module _ (plan : PlanFields) (bytes : List ℕ) (starts : StartsFields)
       abbrev streams_of : Chunk → ℕ → List (List ℕ)
       streams_of at count =
           map (λ i. stream_of plan (mcus_between have.mcus (first_mcu (box_cut plan (Some at) count) i)
-          (first_mcu (box_cut plan (Some at) count) (i + 1)))) (numbers 0 count)
+          (first_mcu (box_cut plan (Some at) count) (i + 1)))) (range_with_len 0 count)
 
       -- they are what the starts and their places give
       pub found : {pads : PadBits} {at : Chunk} {count from : ℕ} {header after : List ℕ}

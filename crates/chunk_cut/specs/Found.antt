@@ -1,6 +1,6 @@
 -- Steps: a chunk by where the rows of a file start (own).
 use Rattle.std.specs.Prelude.{ℕ, ◌≡◌, ◌-◌, ◌<◌, ◌^◌, nat_lt, if◌then◌else◌, List, length, get_or, map, Some}
-use Rattle.std.specs.List.{AllByRecursion}
+use Rattle.std.specs.List.{AllByRecursion, range_with_len}
 use Rattle.byte_window.specs.Slices.{Cover, cover_of}
 use Rattle.byte_window.specs.PartedFiles.{skip_of}
 use Rattle.bit_list.specs.Bits.{IsByte}
@@ -9,7 +9,6 @@ use Rattle.jpeg_marker.specs.Plans.{PlanFields}
 use Rattle.handover.specs.Handovers.{HandoverFields, start}
 use Rattle.cut_spec.specs.Cuts.{row_of}
 use Rattle.box_format.specs.Parts.{box_cut}
-use Rattle.box_format.specs.Raws.{numbers}
 use Rattle.box_format.specs.declared.chunk.Chunk.{Chunk}
 use Rattle.segment_code.specs.FileStarts.{StartsFields}
 use Rattle.segment_code.specs.Starting.{AreStarts}
@@ -39,7 +38,7 @@ chunk_found s a b =
 abbrev pub handovers_found : PlanFields → StartsFields → Chunk → ℕ → List HandoverFields
 handovers_found plan s chunk count =
     map (λ i. get_or s.handovers (row_of (box_cut plan (Some chunk) count) i) start)
-    (numbers 0 count)
+    (range_with_len 0 count)
 
 -- what a cutter has: a file of fewer bytes than four bytes count, its header's plan, and where its rows start
 pub record IsCutter (c : Inside) : Type 0 where
@@ -47,4 +46,4 @@ pub record IsCutter (c : Inside) : Type 0 where
   pub few : length c.bytes.now < 2 ^ 32
   pub plan : Accepts c.bytes.now c.plan
   pub starts : AreStarts c.plan c.bytes.now c.plan.down c.starts
-  pub rows : c.starts.rows ≡ numbers 0 c.plan.down
+  pub rows : c.starts.rows ≡ range_with_len 0 c.plan.down

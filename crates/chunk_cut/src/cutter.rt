@@ -14,8 +14,8 @@ ghost use Rattle.container_spec.specs.ScansFiles.{FileIsRefused, HasSeveralScans
 
 use crate::error::CutError;
 use crate::rows::{chunk_between, handovers_of};
+use allocation::NoMemory;
 use box_format::{Parts, Version, write_front};
-use growth::NoMemory;
 use jpeg_marker::Plan;
 use lepton_encode::{Alone, InThreads, ScanCoder, joined_after, read_one_scan};
 use segment_code::{Starts, find_rows};

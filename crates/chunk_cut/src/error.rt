@@ -1,5 +1,5 @@
 // Why a chunk isn't cut.
-use growth::NoMemory;
+use allocation::NoMemory;
 use jpeg_marker::HeaderRefusal;
 use lepton_encode::OneScanError;
 use scan_spec::ScanRefusal;

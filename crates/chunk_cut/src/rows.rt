@@ -2,9 +2,9 @@
 ghost use Rattle.std.specs.Prelude.{◌≡◌, ◌≤◌, ◌-◌, IfOk, length};
 ghost use Rattle.chunk_cut.specs.Found.{chunk_found, handovers_found};
 
+use allocation::{NoMemory, push, with_capacity};
 use box_format::Chunk;
 use byte_window::{Places, parts_within, window_within};
-use growth::{NoMemory, push, with_capacity};
 use handover::Handover;
 use jpeg_marker::Plan;
 use segment_code::{Starts, row_of};

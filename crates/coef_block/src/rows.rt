@@ -3,7 +3,7 @@ ghost use Rattle.std.specs.Prelude.{◌≡◌, ◌<◌, ◌*◌, ◌+◌, ◌≤
 ghost use Rattle.coef_block.specs.TwoRows.{AreCleared, width, height, offset, block_count, index_in, above_in, left_in, diagonal_in, stored, four_of, extents_of};
 
 use crate::block::Block;
-use growth::{NoMemory, from_elem};
+use allocation::{NoMemory, from_elem};
 use std::alloc::Global;
 use std::marker::Model;
 

@@ -5,8 +5,8 @@ ghost use Rattle.command_words.specs.LeptonApp.{faults, given};
 ghost use Rattle.command_words.specs.Meaning.{Asks, IsInRange, Means, Reads};
 
 use crate::words::known_words;
+use allocation::{NoMemory, try_get_matches_from};
 use clap::ArgMatches;
-use growth::{NoMemory, try_get_matches_from};
 use std::alloc::Global;
 
 /// What the arguments mean.

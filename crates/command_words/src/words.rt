@@ -4,9 +4,9 @@ ghost use Rattle.clap.specs.declared.builder.value_parser.ValueParser.TheVariant
 ghost use Rattle.clap.specs.Words.{app_of, rule_of, with_subcommand};
 ghost use Rattle.command_words.specs.LeptonApp.{chunk_app, decode_app, encode_app, index_app, lepton_app, migrate_app, number_rule, range_app, required_rule, sample_app};
 
+use allocation::{NoMemory, arg, subcommand};
 use clap::builder::ValueParser;
 use clap::{Arg, value_parser};
-use growth::{NoMemory, arg, subcommand};
 use std::alloc::Global;
 
 /// The program with its seven subcommands, of which one must be named.

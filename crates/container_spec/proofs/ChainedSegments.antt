@@ -1,6 +1,6 @@
 -- Segments that end well, each starting from where the one before it leaves off, have one list of MCUs.
 use Rattle.std.proofs.Common.{◌≡◌, ℕ, zero, suc, ◌+◌, ◌-◌, ◌^◌, ◌<◌, ◌≤◌, Bool, List, [], ◌∷◌, ◌++◌, length, take, drop, map, get_or, Ok, Err, None, inl, inr, refl, sym, ap, ap₂, ◌∙◌, arith, length-append, zero-add}
-use Rattle.std.specs.List.{AllByRecursion}
+use Rattle.std.specs.List.{AllByRecursion, range_with_len}
 use Rattle.std.proofs.lemmas.Bool.{cases_eq}
 use Rattle.std.proofs.lemmas.List.{take_at}
 use Rattle.std.proofs.Math.Seq.{take-append-add}
@@ -17,7 +17,6 @@ use Rattle.handover.specs.declared.pads.PadSum.{PadSum}
 use Rattle.cut_spec.specs.RowHandovers.{handover_of}
 use Rattle.block_spec.specs.Grid.{IsGrid}
 use Rattle.box_format.specs.Parts.{BoxParts}
-use Rattle.box_format.specs.Raws.{numbers}
 use Rattle.container_spec.specs.ScanStream.{grid_of, blocks_of, blocks_stream}
 use Rattle.container_spec.specs.Segments.{Output, segment_output}
 use Rattle.handover.specs.declared.outcome.Outcome.TheVariants.{Good}
@@ -69,7 +68,7 @@ module _ (plan : PlanFields) (b : BoxParts) (few : (shape_of plan).mcus ≤ 2 ^ 
   cut i = starts_at plan (length b.handovers) i
 
   abbrev all_from : ℕ → ℕ → Joined
-  all_from i count = joined (map (λ j. segment_output (segment_in plan (whole b) j)) (numbers i count))
+  all_from i count = joined (map (λ j. segment_output (segment_in plan (whole b) j)) (range_with_len i count))
 
   -- the first k segments' bytes are what the MCUs before the next one put
   abbrev AreBytesOf : ℕ → Spot → List Mcu → ℕ → Type 0

@@ -1,8 +1,9 @@
 -- The parts of a chunk's container.
 use Rattle.std.proofs.Common.{◌≡◌, ℕ, ◌+◌, ◌-◌, ◌*◌, ◌/◌, ◌^◌, ◌==◌, ◌<◌, ◌≤◌, Bool, true, false, if◌then◌else◌, List, ◌++◌, length, take, map, refl, sym, ap, ◌∙◌, arith, length-append}
-use Rattle.std.specs.List.{AllByRecursion}
+use Rattle.std.specs.List.{AllByRecursion, range_with_len}
 use Rattle.std.proofs.Math.Nat.{mul-le-mul_right, mul-le-mul_left}
 use Rattle.std.proofs.lemmas.List.{length-drop}
+use Rattle.std.proofs.lemmas.List.FromFn.{length-map-range_with_len}
 use Rattle.byte_window.specs.Slices.{Cover, slice, chunk_from, chunk_to}
 use Rattle.byte_window.specs.PartedFiles.{PartedFile, IsPlaced, file_bytes, parts_end, parts_within, skip_within, header_within, trailer_within}
 use Rattle.byte_window.specs.PartedLaws.{most_within}
@@ -20,18 +21,16 @@ use Rattle.cut_spec.specs.Cuts.{Cut, first_mcu}
 use Rattle.cut_spec.specs.RowHandovers.{mcus_between}
 use Rattle.box_format.specs.Parts.{BoxParts, IsChunkIn, box_cut, bad_start, list_bytes, rows_most}
 use Rattle.box_format.specs.Single.{IsBox, box_bytes}
-use Rattle.box_format.specs.Raws.{numbers}
 use Rattle.box_format.specs.Versions.{layout_of}
 use Rattle.box_format.specs.declared.chunk.Chunk.{Chunk}
 use Rattle.box_format.specs.declared.version.Version.TheVariants.{Second, Third}
 use Rattle.box_format.proofs.PartedLists.{all_values}
-use Rattle.container_spec.specs.ScanContainers.{IsContainerOfOne}
+use Rattle.container_spec.proofs.ScanContainers.{IsContainerOfOne}
 use Rattle.container_spec.specs.Files.{cut_start, cut_stream, parts_of_file, told_pads}
 use Rattle.container_spec.specs.ScanStream.{grid_of, blocks_of}
 use Rattle.container_spec.specs.SegmentLaws.{Suits}
 use Rattle.container_spec.proofs.CutsOfPlans.{mcus_within, each_has_mcus}
 use Rattle.container_spec.proofs.FileParts as whole
-use Rattle.container_spec.proofs.Numbered.{mapped_long}
 use Rattle.container_spec.proofs.PadsTold.{second_can_pad}
 use Rattle.container_spec.proofs.SlicesMeant.{blocks_are, between_are, between_long}
 use Rattle.container_spec.proofs.StartsOfSegments.{handover_at_is, starts_there, none_bad}
@@ -312,7 +311,7 @@ module _ (most size i : ℕ) (made file : List ℕ) (some : 0 < most)
   box_is allowed =
       let start : ℕ → HandoverFields = cut_start is.plan is.mcus is.pads cut in
       let stream : ℕ → List ℕ = cut_stream is.plan is.mcus cut in
-      let many = mapped_long start 0 segments in
+      let many = length-map-range_with_len start 0 segments in
       let file_box = whole.box_is Second most whole_box file some whole_is allowed in
       record {
         known = file_box.known;
@@ -328,11 +327,11 @@ module _ (most size i : ℕ) (made file : List ℕ) (some : 0 < most)
         placed = refl;
         places = tt;
         pads = file_box.pads;
-        streams = mapped_long stream 0 segments ∙ sym many;
+        streams = length-map-range_with_len stream 0 segments ∙ sym many;
         each = all_values IsHandover start 0 segments
             (λ j within. handovers_are (0 + j) (omega (arith, within)));
         starts = ap (λ n. bad_start (shape_of is.plan) (box_cut is.plan box.chunk n) 0
-            (map start (numbers 0 segments))) many
+            (map start (range_with_len 0 segments))) many
             ∙ none_bad (shape_of is.plan) cut start segments 0
             (λ j after within.
             starts_there (shape_of is.plan) (pad_at is.pads) is.mcus is.is.scan suits.shape_is

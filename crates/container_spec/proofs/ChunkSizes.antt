@@ -2,10 +2,10 @@
 use Rattle.std.proofs.Common.{◌≡◌, ℕ, zero, suc, ◌+◌, ◌*◌, ◌-◌, ◌<◌, ◌≤◌, List, length, map, ap, arith, zero-add}
 use Rattle.std.specs.Prelude.{flat_map}
 use Rattle.std.proofs.Math.Nat.{mul-le-mul_right}
+use Rattle.std.specs.List.{range_with_len}
 use Rattle.scan_spec.specs.Slots.{shape_of}
 use Rattle.cut_spec.specs.Cuts.{Cut, first_mcu}
 use Rattle.box_format.specs.Parts.{BoxParts}
-use Rattle.box_format.specs.Raws.{numbers}
 use Rattle.container_spec.proofs.ContainerSizes.{box_long}
 use Rattle.container_spec.proofs.StreamSizes.{streams_short}
 use Rattle.container_spec.specs.ChunkLaws.{ChunkIsShort}
@@ -17,7 +17,7 @@ streams_few : (stream : ℕ → List ℕ) (d : ℕ → ℕ) (n all count : ℕ)
     → ((j : ℕ) → j < count → d j ≤ d (j + 1))
     → ((j : ℕ) → j < count → length (stream j) ≤ 1 + 1141 * ((d (j + 1) - d j) * n))
     → (0 < count → d count ≤ all)
-    → length (flat_map (λ bytes. bytes) (map stream (numbers 0 count))) ≤ count + 1141 * (all * n)
+    → length (flat_map (λ bytes. bytes) (map stream (range_with_len 0 count))) ≤ count + 1141 * (all * n)
 streams_few stream d n all zero order each within = omega arith
 streams_few stream d n all (suc count) order each within =
     let sum = streams_short stream d n (suc count) 0

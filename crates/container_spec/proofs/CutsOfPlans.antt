@@ -1,9 +1,9 @@
 -- The cuts of a plan's MCUs into segments, and of a chunk's rows.
-use Rattle.std.proofs.Common.{◌≡◌, ℕ, zero, suc, ◌+◌, ◌-◌, ◌*◌, ◌/◌, ◌<◌, ◌≤◌, refl, ap, subst, arith}
+use Rattle.std.proofs.Common.{◌≡◌, ℕ, zero, suc, ◌+◌, ◌-◌, ◌*◌, ◌/◌, ◌<◌, ◌≤◌, refl, ap, subst, arith, None}
 use Rattle.jpeg_marker.specs.Plans.{PlanFields}
 use Rattle.cut_spec.specs.Cuts.{Cut, first_mcu}
 use Rattle.cut_spec.proofs.SpotsBegun.{rows, each_has_rows}
-use Rattle.box_format.specs.Parts.{cut_in}
+use Rattle.box_format.specs.Parts.{box_cut}
 
 -- where the segments of a plan start: MCUs that rise from 0 to all of them
 pub record AreCuts (d : ℕ → ℕ) (segments all : ℕ) : Type 0 where
@@ -14,12 +14,12 @@ pub record AreCuts (d : ℕ → ℕ) (segments all : ℕ) : Type 0 where
 
 -- the MCU that segment i of some segments starts at
 abbrev pub starts_at : PlanFields → ℕ → ℕ → ℕ
-starts_at plan segments i = first_mcu (cut_in plan segments) i
+starts_at plan segments i = first_mcu (box_cut plan None segments) i
 
 pub plan_cuts : (plan : PlanFields) (segments : ℕ) → 0 < segments
     → AreCuts (starts_at plan segments) segments (plan.across * plan.down)
 plan_cuts plan segments some =
-    let r = rows (cut_in plan segments) refl some in
+    let r = rows (box_cut plan None segments) refl some in
     record { some = some; none = r.0; whole = r.1; order = r.2 }
 
 rises : (d : ℕ → ℕ) (segments i count : ℕ) → ((j : ℕ) → j < segments → d j ≤ d (j + 1))

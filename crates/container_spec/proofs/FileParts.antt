@@ -1,9 +1,10 @@
 -- The parts of a file's container.
-use Rattle.std.proofs.Common.{◌≡◌, ℕ, ◌+◌, ◌-◌, ◌*◌, ◌/◌, ◌^◌, ◌<◌, ◌≤◌, Bool, true, false, ◌==◌, not, ◌&&◌, if◌then◌else◌, List, [], ◌++◌, length, take, drop, map, refl, sym, ap, ◌∙◌, subst, arith, append-nil, length-append}
+use Rattle.std.proofs.Common.{◌≡◌, ℕ, ◌+◌, ◌-◌, ◌*◌, ◌/◌, ◌^◌, ◌<◌, ◌≤◌, Bool, true, false, ◌==◌, not, ◌&&◌, if◌then◌else◌, List, [], ◌++◌, length, take, drop, map, refl, sym, ap, ◌∙◌, subst, arith, append-nil, length-append, None}
 use Rattle.std.specs.Prelude.{min}
-use Rattle.std.specs.List.{AllByRecursion}
+use Rattle.std.specs.List.{AllByRecursion, range_with_len}
 use Rattle.std.proofs.Math.Nat.{mul-le-mul_right, div-le_self}
 use Rattle.std.proofs.lemmas.List.{take-append-drop, length-take-le, drop_at}
+use Rattle.std.proofs.lemmas.List.FromFn.{length-map-range_with_len}
 use Rattle.bit_list.specs.Bits.{IsByte}
 use Rattle.jpeg_marker.specs.AcceptedPlans.{HasBegun}
 use Rattle.jpeg_marker.specs.HeaderPlan.{Begins}
@@ -19,18 +20,16 @@ use Rattle.scan_spec.proofs.PadsAlike.{are_long, intervals_are}
 use Rattle.scan_spec.proofs.PlanShapes.{slots_count, begun_is_shape}
 use Rattle.handover.specs.Handovers.{HandoverFields, IsHandover}
 use Rattle.cut_spec.specs.RowHandovers.{mcus_between}
-use Rattle.box_format.specs.Parts.{IsBoxIn, ArePlaces, cut_in, bad_start, list_bytes}
+use Rattle.box_format.specs.Parts.{IsBoxIn, ArePlaces, box_cut, bad_start, list_bytes}
 use Rattle.box_format.specs.Versions.{layout_of}
 use Rattle.box_format.specs.declared.version.Version.{Version}
-use Rattle.box_format.specs.Raws.{numbers}
 use Rattle.box_format.proofs.PartedLists.{all_values}
 use Rattle.container_spec.specs.ScanStream.{grid_of, blocks_of, stream_of}
 use Rattle.container_spec.specs.Files.{segment_mcus, segment_start, segment_place, parts_of_file, told_pads}
-use Rattle.container_spec.specs.ScanContainers.{IsScanContainer}
+use Rattle.container_spec.proofs.ScanContainers.{IsScanContainer}
 use Rattle.container_spec.specs.SegmentLaws.{Suits}
 use Rattle.container_spec.proofs.CutsOfPlans.{AreCuts, starts_at, plan_cuts, cut_within}
 use Rattle.container_spec.proofs.McuSizes.{IsSmall}
-use Rattle.container_spec.proofs.Numbered.{mapped_long}
 use Rattle.container_spec.proofs.PlacesOfFiles.{placed_if, are_if, are_places}
 use Rattle.container_spec.proofs.PlanGrids.{plan_suits}
 use Rattle.container_spec.proofs.ScanBytes.{completed}
@@ -195,7 +194,7 @@ module _ {w : Walk} (version : Version) (most : ℕ) (made file : List ℕ) (som
 
   -- the places of the segments and of the scan's end
   abbrev pub file_places : List ℕ
-  file_places = map (segment_place is.plan is.mcus is.pads most) (numbers 0 (segments + 1))
+  file_places = map (segment_place is.plan is.mcus is.pads most) (range_with_len 0 (segments + 1))
 
   places_are : (handovers : ℕ) → segments ≡ handovers
       → ArePlaces (length (take is.plan.header_length file)) handovers file_places
@@ -210,7 +209,7 @@ module _ {w : Walk} (version : Version) (most : ℕ) (made file : List ℕ) (som
   box_is allowed =
       let start : ℕ → HandoverFields = segment_start is.plan is.mcus is.pads most in
       let stream : ℕ → List ℕ = λ j. stream_of is.plan (segment_mcus is.plan is.mcus most j) in
-      let many = mapped_long start 0 segments in
+      let many = length-map-range_with_len start 0 segments in
       let count = some_segments in
       record {
         known = is.known;
@@ -227,12 +226,12 @@ module _ {w : Walk} (version : Version) (most : ℕ) (made file : List ℕ) (som
         places = are_if (ArePlaces (length (take is.plan.header_length file)) _)
             (layout_of version).placed file_places (places_are _ (sym many));
         pads = is.can;
-        streams = mapped_long stream 0 segments ∙ sym many;
+        streams = length-map-range_with_len stream 0 segments ∙ sym many;
         each = all_values IsHandover start 0 segments
             (λ j within. handovers_are (0 + j) (omega (arith, within)));
-        starts = ap (λ n. bad_start (shape_of is.plan) (cut_in is.plan n) 0
-            (map start (numbers 0 segments))) many
-            ∙ none_bad (shape_of is.plan) (cut_in is.plan segments) start segments 0
+        starts = ap (λ n. bad_start (shape_of is.plan) (box_cut is.plan None n) 0
+            (map start (range_with_len 0 segments))) many
+            ∙ none_bad (shape_of is.plan) (box_cut is.plan None segments) start segments 0
             (λ j after within.
             starts_there (shape_of is.plan)
             (pad_at is.pads) is.mcus is.is.scan suits.shape_is is.is.is.grid

@@ -13,7 +13,7 @@ use Rattle.box_format.specs.Parts.{BoxParts, BoxSeen}
 use Rattle.box_format.specs.Containers.{container_bytes, all_parts}
 use Rattle.box_format.specs.declared.version.Version.{Version}
 use Rattle.container_spec.specs.Files.{parts_of_file}
-use Rattle.container_spec.specs.ScanContainers.{IsContainerOfOne}
+use Rattle.container_spec.proofs.ScanContainers.{IsContainerOfOne}
 use Rattle.container_spec.specs.ScansFiles.{AreScansIn, IsContainerOf}
 use Rattle.box_format.proofs.Singles.{fewest_one}
 

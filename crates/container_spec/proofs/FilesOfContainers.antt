@@ -1,7 +1,7 @@
 -- What stands for a file is its container.
 use Rattle.std.proofs.Common.{◌≡◌, ℕ, ◌+◌, ◌-◌, ◌^◌, ◌≤◌, ◌<◌, Bool, true, false, if◌then◌else◌, Option, Some, None, not, ◌==◌, ◌/◌, List, [], ◌∷◌, ◌++◌, length, take, drop, map, refl, sym, ap, subst, ◌∙◌, arith, append_assoc, zero-add}
 use Rattle.std.specs.Prelude.{min, slice_index, IfSome, is_some}
-use Rattle.std.specs.List.{AllByRecursion, list_all}
+use Rattle.std.specs.List.{AllByRecursion, list_all, range_with_len}
 use Rattle.std.proofs.lemmas.Bool.{and_parts, eqb-true}
 use Rattle.std.proofs.lemmas.List.{take_at, drop_at}
 use Rattle.huff_table.proofs.Pairs.{all-append}
@@ -24,19 +24,18 @@ use Rattle.handover.specs.declared.pads.PadSum.{PadSum}
 use Rattle.handover.specs.Handovers.{HandoverFields, start}
 use Rattle.cut_spec.specs.Cuts.{first_mcu}
 use Rattle.cut_spec.specs.RowHandovers.{handover_of, handover_at, mcus_between}
-use Rattle.box_format.specs.Parts.{BoxParts, ArePlaces, IsBoxIn, cut_in, can_pad, is_list, list_bytes}
+use Rattle.box_format.specs.Parts.{BoxParts, ArePlaces, IsBoxIn, box_cut, can_pad, is_list, list_bytes}
 use Rattle.box_format.specs.Single.{box_bytes}
 use Rattle.box_format.specs.Versions.{layout_of}
 use Rattle.box_format.specs.declared.version.Version.{Version}
 use Rattle.box_format.specs.declared.version.Version.TheVariants.{Fifth}
-use Rattle.box_format.specs.Raws.{numbers}
 use Rattle.container_spec.specs.ScanStream.{grid_of, blocks_of, blocks_stream, stream_of}
 use Rattle.container_spec.specs.SegmentLaws.{Suits}
 use Rattle.container_spec.specs.Segments.{segment_output}
 use Rattle.container_spec.specs.Meanings.{segment_in}
 use Rattle.container_spec.proofs.JoinedSegments.{joined}
 use Rattle.container_spec.specs.Files.{parts_of_file, places_of_file, told_pads}
-use Rattle.container_spec.specs.ScanContainers.{IsScanContainer}
+use Rattle.container_spec.proofs.ScanContainers.{IsScanContainer}
 use Rattle.container_spec.specs.Indexed.{indexed, places_found, outputs_of}
 use Rattle.container_spec.proofs.ChainedSegments.{Chained, chained}
 use Rattle.container_spec.proofs.CutsOfPlans.{AreCuts, starts_at, plan_cuts}
@@ -149,7 +148,7 @@ module _ {w : Walk} (plan : PlanFields) (parts : BoxParts) (file : List ℕ)
     is = first_is_spot;
     counted = sym cuts.none;
     at = λ some. first_start shape
-        (cut_in plan count) b.handovers some is.each cuts.none is.starts
+        (box_cut plan None count) b.handovers some is.each cuts.none is.starts
         ∙ sym (first_handover shape);
   }
 
@@ -221,17 +220,17 @@ module _ {w : Walk} (plan : PlanFields) (parts : BoxParts) (file : List ℕ)
       (put_are_bytes shape pads chain.mcus first_spot chain.end scan chain.text) is.trailer_bytes))
 
   abbrev handed : ℕ → ℕ → HandoverFields
-  handed n i = handover_at shape (pad_at bits) chain.mcus (first_mcu (cut_in plan n) i)
+  handed n i = handover_at shape (pad_at bits) chain.mcus (first_mcu (box_cut plan None n) i)
 
   abbrev streamed : ℕ → ℕ → List ℕ
   streamed n i =
-      stream_of plan (mcus_between chain.mcus (first_mcu (cut_in plan n) i)
-      (first_mcu (cut_in plan n) (i + 1)))
+      stream_of plan (mcus_between chain.mcus (first_mcu (box_cut plan None n) i)
+      (first_mcu (box_cut plan None n) (i + 1)))
 
   as_many : count ≡ min count plan.down
   as_many = let h = is.cut.rows in omega (arith, h)
 
-  handovers_are : b.handovers ≡ map (handed (min count plan.down)) (numbers 0 (min count plan.down))
+  handovers_are : b.handovers ≡ map (handed (min count plan.down)) (range_with_len 0 (min count plan.down))
   handovers_are =
       mapped_is (handed count) b.handovers 0 start
       (λ k within.
@@ -242,9 +241,9 @@ module _ {w : Walk} (plan : PlanFields) (parts : BoxParts) (file : List ℕ)
       ∙ ap (λ n. handover_of shape
       (spot_in (mcus_put shape pads first_spot (take n chain.mcus)))) e
       ∙ handovers_alike shape pads (pad_at bits) chain.mcus (cut (0 + k)))
-      ∙ ap (λ n. map (handed n) (numbers 0 n)) as_many
+      ∙ ap (λ n. map (handed n) (range_with_len 0 n)) as_many
 
-  streams_are : b.streams ≡ map (streamed (min count plan.down)) (numbers 0 (min count plan.down))
+  streams_are : b.streams ≡ map (streamed (min count plan.down)) (range_with_len 0 (min count plan.down))
   streams_are =
       let long = is.streams in
       mapped_is (streamed count) b.streams 0 []
@@ -255,8 +254,8 @@ module _ {w : Walk} (plan : PlanFields) (parts : BoxParts) (file : List ℕ)
       ∙ ap (λ n. blocks_stream (grid_of plan)
       (blocks_of (take (cut (k + 1) - cut k) (drop n chain.mcus)))) e
       ∙ ap (streamed count) (sym (zero-add k)))
-      ∙ ap (λ n. map (streamed count) (numbers 0 n)) long
-      ∙ ap (λ n. map (streamed n) (numbers 0 n)) as_many
+      ∙ ap (λ n. map (streamed count) (range_with_len 0 n)) long
+      ∙ ap (λ n. map (streamed n) (range_with_len 0 n)) as_many
 
   -- the first MCUs complete as many bytes with the pad bits that are kept as with those that the container spells
   done_alike : (n : ℕ)
@@ -267,7 +266,7 @@ module _ {w : Walk} (plan : PlanFields) (parts : BoxParts) (file : List ℕ)
 
   abbrev placed : ℕ → ℕ → ℕ
   placed n i =
-      plan.header_length + bytes_done shape (pad_at bits) chain.mcus (first_mcu (cut_in plan n) i)
+      plan.header_length + bytes_done shape (pad_at bits) chain.mcus (first_mcu (box_cut plan None n) i)
 
   kept_places : (places : List ℕ) → b.places ≡ Some places
       → ArePlaces (length b.header) count places
@@ -277,14 +276,14 @@ module _ {w : Walk} (plan : PlanFields) (parts : BoxParts) (file : List ℕ)
   -- where the bytes of the segments before leave off
   bytes_there : (k : ℕ) → k ≤ count
       → length b.header
-      + length (joined (map (λ i. segment_output (segment_in plan b i)) (numbers 0 k))).bytes
+      + length (joined (map (λ i. segment_output (segment_in plan b i)) (range_with_len 0 k))).bytes
       ≡ placed count (0 + k)
   bytes_there k few =
       let none = cuts.none in
       let e : cut (0 + k) - cut 0 ≡ cut (0 + k) = omega (arith, none) in
       let put = (chain.through k few).1 in
       let same : bytes_done shape pads chain.mcus (cut (0 + k))
-      ≡ length (joined (map (λ i. segment_output (segment_in plan b i)) (numbers 0 k))).bytes =
+      ≡ length (joined (map (λ i. segment_output (segment_in plan b i)) (range_with_len 0 k))).bytes =
       ap (λ n. count_in (mcus_put shape pads first_spot (take n chain.mcus))) (sym e)
       ∙ ap count_in put in
       let alike = done_alike (cut (0 + k)) in
@@ -301,13 +300,13 @@ module _ {w : Walk} (plan : PlanFields) (parts : BoxParts) (file : List ℕ)
   pub places_are : b.places ≡ places_of_file (layout_of b.version).placed plan chain.mcus bits count
   places_are =
       placed_by (layout_of b.version).placed b.places
-      (map (placed (min count plan.down)) (numbers 0 (min count plan.down + 1))) is.placed
+      (map (placed (min count plan.down)) (range_with_len 0 (min count plan.down + 1))) is.placed
       (λ places some.
       let long = (kept_places places some).count in
       mapped_is (placed count) places 0 0
       (λ k within. place_there places k some (omega (arith, within, long)))
-      ∙ ap (λ n. map (placed count) (numbers 0 n)) long
-      ∙ ap (λ n. map (placed n) (numbers 0 (n + 1))) as_many)
+      ∙ ap (λ n. map (placed count) (range_with_len 0 n)) long
+      ∙ ap (λ n. map (placed n) (range_with_len 0 (n + 1))) as_many)
 
   -- the same parts in another version, with its places
   abbrev pub parts_in : Version → Option (List ℕ) → BoxParts
@@ -351,10 +350,10 @@ module _ {w : Walk} (plan : PlanFields) (parts : BoxParts) (file : List ℕ)
 
   -- with the places found it is one of the fifth version
   found_there : places_found plan b
-      ≡ map (placed (min count plan.down)) (numbers 0 (min count plan.down + 1))
+      ≡ map (placed (min count plan.down)) (range_with_len 0 (min count plan.down + 1))
   found_there =
       found_is plan b (placed count) so.none bytes_there
-      ∙ ap (λ n. map (placed n) (numbers 0 (n + 1))) as_many
+      ∙ ap (λ n. map (placed n) (range_with_len 0 (n + 1))) as_many
 
   pub indexed_is : IsScanContainer w Fifth count (box_bytes (indexed plan b)) file
   indexed_is =

@@ -1,10 +1,10 @@
 -- A file's container with the places found is the file's in the fifth version.
 use Rattle.std.proofs.Common.{◌≡◌, ℕ, ◌+◌, true, false, List, length, map, Option, Some, None, refl, sym, ap, subst, ◌∙◌, arith}
 use Rattle.std.specs.Prelude.{is_some, IfSome, slice_index}
+use Rattle.std.specs.List.{range_with_len}
 use Rattle.jpeg_marker.specs.Plans.{PlanFields}
 use Rattle.box_format.specs.Parts.{BoxParts, ArePlaces, with_places}
 use Rattle.box_format.specs.Single.{IsBox, box_bytes}
-use Rattle.box_format.specs.Raws.{numbers}
 use Rattle.box_format.specs.Versions.{layout_of}
 use Rattle.box_format.specs.declared.version.Version.TheVariants.{Fifth}
 use Rattle.box_format.proofs.SingleBytes.{no_chunk}
@@ -13,7 +13,7 @@ use Rattle.box_format.proofs.Layouts.{most_more}
 use Rattle.container_spec.specs.Meanings.{Meaning}
 use Rattle.container_spec.proofs.JoinedSegments.{joined}
 use Rattle.container_spec.specs.Portions.{meaning_of}
-use Rattle.container_spec.specs.ScanContainers.{IsContainerOfOne}
+use Rattle.container_spec.proofs.ScanContainers.{IsContainerOfOne}
 use Rattle.container_spec.specs.Indexed.{indexed, places_found, outputs_of}
 use Rattle.container_spec.specs.MeaningLaws.{IndexedIsContainer, IndexedStays}
 use Rattle.container_spec.proofs.FilesAlone.{as_one}
@@ -63,7 +63,7 @@ stays_with plan b (Some places) box is there fifth none =
     let long = are.count in
     let all = mapped_is (slice_index places) places 0 0
     (λ k within. let z : k ≡ 0 + k = omega arith in ap (slice_index places) z)
-    ∙ ap (λ n. map (slice_index places) (numbers 0 n)) long in
+    ∙ ap (λ n. map (slice_index places) (range_with_len 0 n)) long in
     let found = found_is plan b (slice_index places) none
     (λ k upto.
     let z : k ≡ 0 + k = omega arith in

@@ -1,9 +1,9 @@
 -- What the containers of all chunks of a file stand for, one after another, is the file.
 use Rattle.std.proofs.Common.{◌≡◌, ℕ, zero, suc, ◌+◌, ◌<◌, ◌≤◌, List, ◌++◌, refl, ap, ap₂, ◌∙◌, arith}
 use Rattle.std.specs.Prelude.{flat_map}
+use Rattle.std.specs.List.{range_with_len}
 use Rattle.byte_window.specs.PartedLaws.{chunks_of}
 use Rattle.byte_window.proofs.PartedFacts.{chunks_are_the_file}
-use Rattle.box_format.specs.Raws.{numbers}
 use Rattle.container_spec.specs.Meanings.{Meaning, Restored}
 use Rattle.container_spec.specs.Portions.{StandsFor}
 use Rattle.container_spec.proofs.BoxesOnce.{stands_for_one}
@@ -20,7 +20,7 @@ one_restored bytes a b x y =
 -- chunks from number i on
 chunks_joined : (file : List ℕ) (size : ℕ) (decoded : ℕ → List ℕ) (count i : ℕ)
     → ((j : ℕ) → i ≤ j → j < i + count → decoded j ≡ chunk_of file size j)
-    → flat_map decoded (numbers i count) ≡ flat_map (λ chunk. chunk) (chunks_of file size i count)
+    → flat_map decoded (range_with_len i count) ≡ flat_map (λ chunk. chunk) (chunks_of file size i count)
 chunks_joined file size decoded zero i each = refl
 chunks_joined file size decoded (suc count) i each =
     ap₂ (λ (x y : List ℕ). x ++ y) (each i (omega arith) (omega arith))

@@ -3,52 +3,53 @@ use Rattle.std.proofs.Common.{◌≡◌, ℕ, zero, suc, ◌+◌, ◌<◌, ◌�
 use Rattle.std.specs.Prelude.{◌==◌, option_map}
 use Rattle.std.proofs.lemmas.Bool.Decides.{nat_tests}
 use Rattle.std.proofs.lemmas.List.{map-append}
+use Rattle.std.specs.List.{range_with_len}
 use Rattle.handover.specs.PadSums.{no_pads, pads_with}
 use Rattle.handover.specs.declared.pads.PadSum.{PadSum}
 use Rattle.handover.specs.declared.outcome.StreamFault.{StreamFault}
 use Rattle.handover.specs.declared.outcome.Outcome.{Outcome}
 use Rattle.handover.specs.declared.outcome.Outcome.TheVariants.{Good, Bad}
-use Rattle.box_format.specs.Raws.{numbers}
 use Rattle.container_spec.specs.Segments.{Output, with_prefix}
 use Rattle.container_spec.proofs.JoinedSegments.{Joined, joined, joined_with}
 use Rattle.container_spec.proofs.Numbered.{mapped_same}
 use Rattle.container_spec.proofs.PutParts.{sums_more}
 use Rattle.container_spec.specs.ScansMeanings.{fault_after, outcome_after, lead_of}
-use Rattle.container_spec.specs.ScansJoined.{no_sums, sums_of, sums_with, sum_in, Scanned, ScansJoined, scanned_with, scans_joined}
-use Rattle.container_spec.specs.declared.scan_pads.ScanPads.{ScanPads}
+use Rattle.handover.specs.ScanSums.{no_sums, sums_of, sums_with, sum_in}
+use Rattle.container_spec.specs.ScansJoined.{Scanned, ScansJoined, scanned_with, scans_joined}
+use Rattle.handover.specs.declared.scan_pads.ScanPads.{ScanPads}
 
 -- ---- numbers
 
-numbers_on : (from k n : ℕ) → numbers from (k + n) ≡ numbers from k ++ numbers (from + k) n
+numbers_on : (from k n : ℕ) → range_with_len from (k + n) ≡ range_with_len from k ++ range_with_len (from + k) n
 numbers_on from zero n =
     let e : zero + n ≡ n = omega arith in
     let f : from + zero ≡ from = omega arith in
-    ap (numbers from) e ∙ ap (λ m. numbers m n) (sym f)
+    ap (range_with_len from) e ∙ ap (λ m. range_with_len m n) (sym f)
 numbers_on from (suc k) n =
     let e : suc k + n ≡ suc (k + n) = omega arith in
     let f : (from + 1) + k ≡ from + suc k = omega arith in
-    ap (numbers from) e ∙ ap (λ (l : List ℕ). from ∷ l) (numbers_on (from + 1) k n)
-    ∙ ap (λ m. from ∷ (numbers (from + 1) k ++ numbers m n)) f
+    ap (range_with_len from) e ∙ ap (λ (l : List ℕ). from ∷ l) (numbers_on (from + 1) k n)
+    ∙ ap (λ m. from ∷ (range_with_len (from + 1) k ++ range_with_len m n)) f
 
 -- the values of f from k + `from` on
 shifted : {A : Type 0} (f : ℕ → A) (k from n : ℕ)
-    → map f (numbers (k + from) n) ≡ map (λ i. f (k + i)) (numbers from n)
+    → map f (range_with_len (k + from) n) ≡ map (λ i. f (k + i)) (range_with_len from n)
 shifted f k from zero = refl
 shifted f k from (suc n) =
     let e : (k + from) + 1 ≡ k + (from + 1) = omega arith in
-    ap (λ m. f (k + from) ∷ map f (numbers m n)) e
+    ap (λ m. f (k + from) ∷ map f (range_with_len m n)) e
     ∙ ap (λ l. f (k + from) ∷ l) (shifted f k (from + 1) n)
 
 -- f is g below k, and h after k
 pub mapped_in_two : {A : Type 0} (f g h : ℕ → A) (k n : ℕ)
     → ((i : ℕ) → i < k → f i ≡ g i) → ((i : ℕ) → f (k + i) ≡ h i)
-    → map f (numbers 0 (k + n)) ≡ map g (numbers 0 k) ++ map h (numbers 0 n)
+    → map f (range_with_len 0 (k + n)) ≡ map g (range_with_len 0 k) ++ map h (range_with_len 0 n)
 mapped_in_two f g h k n here more =
     let z : 0 + k ≡ k + 0 = omega arith in
-    ap (map f) (numbers_on 0 k n) ∙ map-append f (numbers 0 k) (numbers (0 + k) n)
+    ap (map f) (numbers_on 0 k n) ∙ map-append f (range_with_len 0 k) (range_with_len (0 + k) n)
     ∙ ap₂ (λ a b. a ++ b)
     (mapped_same f g 0 k (λ i low within. here i (omega (arith, within))))
-    (ap (λ m. map f (numbers m n)) z ∙ shifted f k 0 n
+    (ap (λ m. map f (range_with_len m n)) z ∙ shifted f k 0 n
     ∙ mapped_same (λ i. f (k + i)) h 0 n (λ i low within. more i))
 
 -- ---- sums by scan
@@ -212,8 +213,8 @@ no_lead true header i low =
 pub one_scan : (later : Bool) (first scan : ℕ) (header : List ℕ) (f : ℕ → Output) (count : ℕ)
     → 0 < count
     → scans_joined
-    (map (λ i. led first scan (lead_of later header i) (f i)) (numbers 0 count))
-    ≡ of_scan first scan (lead_of later header 0) (joined (map f (numbers 0 count)))
+    (map (λ i. led first scan (lead_of later header i) (f i)) (range_with_len 0 count))
+    ≡ of_scan first scan (lead_of later header 0) (joined (map f (range_with_len 0 count)))
 one_scan later first scan header f zero some = absurd (omega arith)
 one_scan later first scan header f (suc k) some =
     let lead : List ℕ = lead_of later header 0 in
@@ -223,5 +224,5 @@ one_scan later first scan header f (suc k) some =
     ap (λ (l : List Scanned). scanned_with scan (lead ++ (f 0).0) (outcome_after first (f 0).1)
     (scans_joined l)) rest
     ∙ ap (scanned_with scan (lead ++ (f 0).0) (outcome_after first (f 0).1))
-    (others first scan f (numbers 1 k))
-    ∙ one_more first scan lead (f 0).0 (f 0).1 (joined (map f (numbers 1 k)))
+    (others first scan f (range_with_len 1 k))
+    ∙ one_more first scan lead (f 0).0 (f 0).1 (joined (map f (range_with_len 1 k)))

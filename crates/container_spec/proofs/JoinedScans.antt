@@ -1,14 +1,13 @@
 -- Joined segments of scans without a chunk are a file exactly if those of each scan are.
 use Rattle.std.proofs.Common.{◌≡◌, ℕ, ◌+◌, ◌-◌, ◌<◌, ◌≤◌, Bool, true, false, if◌then◌else◌, List, [], ◌∷◌, ◌++◌, length, map, Option, Some, None, refl, sym, ap, ap₂, subst, ◌∙◌, arith, append_assoc, append-nil}
 use Rattle.std.specs.Prelude.{◌&&◌, option_map}
-use Rattle.std.specs.List.{AllByRecursion}
+use Rattle.std.specs.List.{AllByRecursion, range_with_len}
 use Rattle.std.proofs.lemmas.Bool.{and_parts, le-ltb, lt-ltb}
 use Rattle.scan_spec.specs.Pads.{is_spelled}
 use Rattle.handover.specs.PadSums.{no_pads, pads_with}
 use Rattle.handover.specs.declared.pads.PadSum.{PadSum}
 use Rattle.handover.specs.declared.outcome.StreamFault.{StreamFault}
 use Rattle.box_format.specs.Parts.{BoxSeen}
-use Rattle.box_format.specs.Raws.{numbers}
 use Rattle.box_format.proofs.Lists.{sum_first}
 use Rattle.container_spec.specs.Segments.{Output, segment_output}
 use Rattle.container_spec.proofs.JoinedSegments.{Joined, joined}
@@ -19,8 +18,9 @@ use Rattle.container_spec.proofs.PutParts.{sums_none}
 use Rattle.container_spec.proofs.RestoredMeanings.{IsRestored, pad_told, restored}
 use Rattle.box_format.specs.Containers.{all_parts, segment_count, trailer_of}
 use Rattle.container_spec.specs.ScansMeanings.{fault_after, lead_of, led_output, output_from, scan_of}
-use Rattle.container_spec.specs.ScansJoined.{sums_of, sums_with, sum_in, Scanned, ScansJoined, scans_joined, all_spelled, first_header}
-use Rattle.container_spec.specs.declared.scan_pads.ScanPads.{ScanPads}
+use Rattle.handover.specs.ScanSums.{sums_of, sums_with, sum_in}
+use Rattle.container_spec.specs.ScansJoined.{Scanned, ScansJoined, scans_joined, all_spelled, first_header}
+use Rattle.handover.specs.declared.scan_pads.ScanPads.{ScanPads}
 use Rattle.container_spec.proofs.JoinedLists.{mapped_in_two, in_none, in_own, in_with, in_later, in_earlier, followed, joined_on, of_scan, led, one_scan}
 
 -- ---- the segments of scans from one on
@@ -35,7 +35,7 @@ scanned_at later first scan scans i =
 
 abbrev all_from : Bool → ℕ → ℕ → List BoxSeen → ScansJoined
 all_from later first scan scans =
-    scans_joined (map (scanned_at later first scan scans) (numbers 0 (segment_count scans)))
+    scans_joined (map (scanned_at later first scan scans) (range_with_len 0 (segment_count scans)))
 
 -- the segments of one scan
 abbrev pub own : BoxSeen → Joined
@@ -65,11 +65,11 @@ all_next later first scan s scans some =
     let e : (k + i) - k ≡ i = omega arith in
     ap (λ t. by t (k + i) ((k + i) - k)) (le-ltb (k + i) k past)
     ∙ ap (λ m. by false (k + i) m) e in
-    ap (λ m. scans_joined (map (scanned_at later first scan (s ∷ scans)) (numbers 0 m)))
+    ap (λ m. scans_joined (map (scanned_at later first scan (s ∷ scans)) (range_with_len 0 m)))
     (sum_first k (map (λ (s : BoxSeen). length s.parts.handovers) scans))
     ∙ ap scans_joined (mapped_in_two (scanned_at later first scan (s ∷ scans)) g h k n here more)
-    ∙ joined_on (map g (numbers 0 k)) (map h (numbers 0 n))
-    ∙ ap (λ (j : ScansJoined). followed j j.fault (scans_joined (map h (numbers 0 n))))
+    ∙ joined_on (map g (range_with_len 0 k)) (map h (range_with_len 0 n))
+    ∙ ap (λ (j : ScansJoined). followed j j.fault (scans_joined (map h (range_with_len 0 n))))
     (one_scan later first scan s.parts.header f k some)
 
 -- ---- pad bits of other scans

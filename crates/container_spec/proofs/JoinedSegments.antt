@@ -1,15 +1,16 @@
 -- Segments one after another, as those of one scan, and such that end well.
 use Rattle.std.proofs.Common.{◌≡◌, ℕ, zero, suc, ◌+◌, ◌<◌, ◌≤◌, List, [], ◌∷◌, ◌++◌, map, Option, Some, refl, ap₂, arith, None}
 use Rattle.std.specs.Prelude.{flat_map}
+use Rattle.std.specs.List.{range_with_len}
 use Rattle.handover.specs.PadSums.{no_pads, pads_with}
 use Rattle.handover.specs.declared.pads.PadSum.{PadSum}
 use Rattle.handover.specs.declared.outcome.StreamFault.{StreamFault}
 use Rattle.handover.specs.declared.outcome.Outcome.{Outcome}
 use Rattle.handover.specs.declared.outcome.Outcome.TheVariants.{Good, Bad}
 use Rattle.cut_spec.specs.Seams.{slices}
-use Rattle.box_format.specs.Raws.{numbers}
 use Rattle.container_spec.specs.Segments.{Output}
-use Rattle.container_spec.specs.ScansJoined.{ScansJoined, sums_of}
+use Rattle.handover.specs.ScanSums.{sums_of}
+use Rattle.container_spec.specs.ScansJoined.{ScansJoined}
 
 -- bytes through the first segment that is bad, its fault, and what was padded where there is none
 pub record Joined : Type 0 where
@@ -48,7 +49,7 @@ good_join bytes padded = record { bytes = bytes; fault = None; padded = padded }
 pub joined_good : (output : ℕ → Output) (slice : ℕ → ℕ → List ℕ) (cut : ℕ → ℕ)
     (padded : ℕ → PadSum) (count i : ℕ)
     → ((j : ℕ) → i ≤ j → j < i + count → output j ≡ (slice (cut j) (cut (j + 1)), Good (padded j)))
-    → joined (map output (numbers i count))
+    → joined (map output (range_with_len i count))
     ≡ good_join (flat_map (λ bytes. bytes) (slices slice cut i count)) (all_sum padded i count)
 joined_good output slice cut padded zero i each = refl
 joined_good output slice cut padded (suc count) i each =

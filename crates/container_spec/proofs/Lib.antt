@@ -17,6 +17,7 @@ pub mod StartsOfSegments
 pub mod StreamSizes
 pub mod McuSizes
 pub mod PlacesOfFiles
+pub mod ScanContainers
 pub mod FileParts
 pub mod ContainerSizes
 pub mod PaddedSlices

@@ -1,26 +1,12 @@
 -- Lists by the numbers of their items.
 use Rattle.std.proofs.Common.{◌≡◌, ℕ, zero, suc, ◌+◌, ◌<◌, ◌≤◌, List, [], ◌∷◌, length, map, get_or, refl, ap, ap₂, ◌∙◌, arith, Some, None}
 use Rattle.std.specs.Prelude.{slice_get}
-use Rattle.box_format.specs.Raws.{numbers}
-
-pub mapped_long : {A : Type 0} (f : ℕ → A) (from count : ℕ)
-    → length (map f (numbers from count)) ≡ count
-mapped_long f from zero = refl
-mapped_long f from (suc count) = ap suc (mapped_long f (from + 1) count)
-
--- an item
-pub mapped_at : {A : Type 0} (f : ℕ → A) (from count k : ℕ) (d : A) → k < count
-    → get_or (map f (numbers from count)) k d ≡ f (from + k)
-mapped_at f from zero k d within = absurd (omega (arith, within))
-mapped_at f from (suc count) zero d within = let e : from ≡ from + 0 = omega arith in ap f e
-mapped_at f from (suc count) (suc k) d within =
-    let e : (from + 1) + k ≡ from + suc k = omega arith in
-    mapped_at f (from + 1) count k d (omega (arith, within)) ∙ ap f e
+use Rattle.std.specs.List.{range_with_len}
 
 -- a list of these items
 pub mapped_is : {A : Type 0} (f : ℕ → A) (xs : List A) (from : ℕ) (d : A)
     → ((k : ℕ) → k < length xs → get_or xs k d ≡ f (from + k))
-    → xs ≡ map f (numbers from (length xs))
+    → xs ≡ map f (range_with_len from (length xs))
 mapped_is f [] from d each = refl
 mapped_is f (x ∷ xs) from d each =
     let e : from + 0 ≡ from = omega arith in
@@ -44,7 +30,7 @@ got_none (x ∷ xs) (suc k) past = got_none xs k (omega (arith, past))
 -- the same items of two functions
 pub mapped_same : {A : Type 0} (f g : ℕ → A) (from count : ℕ)
     → ((k : ℕ) → from ≤ k → k < from + count → f k ≡ g k)
-    → map f (numbers from count) ≡ map g (numbers from count)
+    → map f (range_with_len from count) ≡ map g (range_with_len from count)
 mapped_same f g from zero same = refl
 mapped_same f g from (suc count) same =
     ap₂ (λ (y : _) (ys : List _). y ∷ ys) (same from (omega arith) (omega arith))

@@ -2,8 +2,8 @@
 use Rattle.std.proofs.Common.{◌≡◌, ℕ, ◌+◌, ◌<◌, ◌≤◌, Bool, if◌then◌else◌, [], ◌∷◌, length, map, Option, Some, None, refl, ap, ◌∙◌, arith}
 use Rattle.std.specs.Prelude.{option_map}
 use Rattle.std.proofs.lemmas.Bool.{lt-ltb}
+use Rattle.std.specs.List.{range_with_len}
 use Rattle.handover.specs.declared.outcome.StreamFault.{StreamFault}
-use Rattle.box_format.specs.Raws.{numbers}
 use Rattle.box_format.specs.Parts.{BoxSeen}
 use Rattle.container_spec.specs.Segments.{Output, segment_output}
 use Rattle.container_spec.specs.Meanings.{segment_in}
@@ -35,13 +35,13 @@ fault_same (Some fault) = ap (λ (f : StreamFault). Some f) (same_fault fault)
 pub one_is_joined : (s : BoxSeen) (first count : ℕ) → first + count ≤ length s.parts.handovers
     → scans_joined (scanned_from (s ∷ []) first count)
     ≡ joined_alone
-    (joined (map (λ i. segment_output (segment_in s.plan s.parts i)) (numbers first count)))
+    (joined (map (λ i. segment_output (segment_in s.plan s.parts i)) (range_with_len first count)))
 one_is_joined s first count within =
     let f : ℕ → Output = λ i. segment_output (segment_in s.plan s.parts i) in
-    let j = joined (map f (numbers first count)) in
+    let j = joined (map f (range_with_len first count)) in
     ap scans_joined (mapped_same (λ i. (scan_of 0 (s ∷ []) i, output_at (s ∷ []) i))
     (λ i. led 0 0 [] (f i)) first count
     (λ i low below. here s i (omega (arith, below, within))))
-    ∙ others 0 0 f (numbers first count)
+    ∙ others 0 0 f (range_with_len first count)
     ∙ ap (λ (o : Option StreamFault). joined_alone (record j { fault = o }))
     (fault_same j.fault)

@@ -2,12 +2,12 @@
 use Rattle.std.proofs.Common.{◌≡◌, ℕ, zero, suc, ◌+◌, ◌-◌, ◌<◌, ◌≤◌, not, nat_lt, List, [], ◌∷◌, ◌++◌, length, map, true, Some, None, ap, subst, arith, length-append}
 use Rattle.std.specs.Prelude.{slice_index}
 use Rattle.std.proofs.lemmas.Bool.{and_parts, not-true, ltb-false}
+use Rattle.std.specs.List.{range_with_len}
 use Rattle.jpeg_marker.specs.Plans.{PlanFields}
 use Rattle.handover.specs.declared.outcome.Outcome.{Outcome}
 use Rattle.handover.specs.declared.outcome.Outcome.TheVariants.{Good}
 use Rattle.handover.specs.declared.pads.PadSum.{PadSum}
 use Rattle.box_format.specs.Parts.{BoxParts, ArePlaces, are_rising}
-use Rattle.box_format.specs.Raws.{numbers}
 use Rattle.container_spec.specs.Segments.{Output, segment_output}
 use Rattle.container_spec.specs.SegmentLaws.{AreKept}
 use Rattle.container_spec.proofs.JoinedSegments.{Joined, joined_with, joined}
@@ -34,7 +34,7 @@ module _ (output : ℕ → Output) (places : List ℕ) (up : are_rising places �
     (kept : (i : ℕ) (bytes : List ℕ) (padded : PadSum) → output i ≡ (bytes, Good padded)
     → length bytes ≡ slice_index places (i + 1) - slice_index places i) where
   abbrev all_from : ℕ → ℕ → Joined
-  all_from i count = joined (map output (numbers i count))
+  all_from i count = joined (map output (range_with_len i count))
 
   -- if `count` segments from segment i on end well, those before the k-th of them have the bytes between two places
   place_after : (count k i : ℕ) → k ≤ count → i + count < length places
@@ -62,10 +62,10 @@ module _ (output : ℕ → Output) (places : List ℕ) (up : are_rising places �
 -- of a container
 pub place_is : (plan : PlanFields) (b : BoxParts) (places : List ℕ) (header segments k : ℕ)
     → b.places ≡ Some places → ArePlaces header segments places → k ≤ segments
-    → (joined (map (λ i. segment_output (segment_in plan b i)) (numbers 0 segments))).fault ≡ None
+    → (joined (map (λ i. segment_output (segment_in plan b i)) (range_with_len 0 segments))).fault ≡ None
     → slice_index places k
     ≡ header
-    + length (joined (map (λ i. segment_output (segment_in plan b i)) (numbers 0 k))).bytes
+    + length (joined (map (λ i. segment_output (segment_in plan b i)) (range_with_len 0 k))).bytes
 place_is plan b places header segments k some are few none =
     let output : ℕ → Output = λ i. segment_output (segment_in plan b i) in
     let count = are.count in

@@ -3,6 +3,8 @@ use Rattle.std.proofs.Common.{◌≡◌, ℕ, zero, suc, ◌+◌, ◌^◌, ◌<�
 use Rattle.std.specs.Prelude.{slice_index, IfSome, is_some}
 use Rattle.std.proofs.lemmas.Bool.{le-ltb}
 use Rattle.std.proofs.lemmas.List.{length-drop}
+use Rattle.std.specs.List.{range_with_len}
+use Rattle.std.proofs.lemmas.List.FromFn.{length-map-range_with_len, get_or-map-range_with_len}
 use Rattle.jpeg_marker.specs.Plans.{most_blocks}
 use Rattle.scan_spec.specs.Scans.{Mcu, AreMcus, scan_bytes}
 use Rattle.scan_spec.specs.Slots.{Shape}
@@ -11,13 +13,11 @@ use Rattle.scan_spec.proofs.DoneBytes.{done_in_parts}
 use Rattle.cut_spec.specs.RowHandovers.{segment_bytes}
 use Rattle.cut_spec.proofs.Slices.{done_rises}
 use Rattle.box_format.specs.Parts.{ArePlaces, are_rising}
-use Rattle.box_format.specs.Raws.{numbers}
 use Rattle.box_format.proofs.PartedLists.{all_values}
 use Rattle.container_spec.specs.Meanings.{kept_in}
 use Rattle.container_spec.specs.SegmentLaws.{AreKept}
 use Rattle.container_spec.proofs.CutsOfPlans.{AreCuts, cut_within}
 use Rattle.container_spec.proofs.McuSizes.{IsSmall, done_few}
-use Rattle.container_spec.proofs.Numbered.{mapped_long, mapped_at}
 
 -- ---- places that are kept or not
 
@@ -41,10 +41,10 @@ kept_if false places bytes i are = tt
 -- values that rise
 rising_by : (f : ℕ → ℕ) (count from : ℕ)
     → ((i : ℕ) → from ≤ i → i < from + count → f i ≤ f (i + 1))
-    → are_rising (map f (numbers from (suc count))) ≡ true
+    → are_rising (map f (range_with_len from (suc count))) ≡ true
 rising_by f zero from order = refl
 rising_by f (suc count) from order =
-    ap (λ (t : Bool). not t && are_rising (map f (numbers (from + 1) (suc count))))
+    ap (λ (t : Bool). not t && are_rising (map f (range_with_len (from + 1) (suc count))))
     (le-ltb (f (from + 1)) (f from) (order from (omega arith) (omega arith)))
     ∙ rising_by f count (from + 1)
     (λ i after within. order i (omega (arith, after)) (omega (arith, within)))
@@ -63,12 +63,12 @@ module _ (shape : Shape) (pads : ℕ → Bool) (mcus : List Mcu) (scan : List �
   place i = header + bytes_done shape pads mcus (d i)
 
   abbrev pub places : List ℕ
-  places = map place (numbers 0 (count + 1))
+  places = map place (range_with_len 0 (count + 1))
 
   pub place_at : (i : ℕ) → i ≤ count → slice_index places i ≡ place i
   place_at i within =
       let z : 0 + i ≡ i = omega arith in
-      mapped_at place 0 (count + 1) i 0 (omega (arith, within)) ∙ ap place z
+      get_or-map-range_with_len place 0 (count + 1) i i 0 (omega (arith, within)) z
 
   first_place : slice_index places 0 ≡ header
   first_place =
@@ -79,7 +79,7 @@ module _ (shape : Shape) (pads : ℕ → Bool) (mcus : List Mcu) (scan : List �
   rising : are_rising places ≡ true
   rising =
       let e : count + 1 ≡ suc count = omega arith in
-      ap (λ (n : ℕ). are_rising (map place (numbers 0 n))) e
+      ap (λ (n : ℕ). are_rising (map place (range_with_len 0 n))) e
       ∙ rising_by place count 0
       (λ i after within.
       let under : i < count = omega (arith, within) in
@@ -95,7 +95,7 @@ module _ (shape : Shape) (pads : ℕ → Bool) (mcus : List Mcu) (scan : List �
 
   pub are_places : header < 2 ^ 32 → shape.mcus ≤ most_blocks → ArePlaces header count places
   are_places fits few = record {
-    count = mapped_long place 0 (count + 1);
+    count = length-map-range_with_len place 0 (count + 1);
     first = first_place;
     rising = rising;
     fit = all_values (λ p. p < 2 ^ 64) place 0 (count + 1) (λ i below. place_fits fits few (0 + i));

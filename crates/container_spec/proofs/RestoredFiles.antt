@@ -14,7 +14,7 @@ use Rattle.box_format.specs.Versions.{layout_of}
 use Rattle.box_format.specs.declared.version.Version.{Version}
 use Rattle.container_spec.specs.SegmentLaws.{mcus_sum}
 use Rattle.container_spec.specs.Files.{parts_of_file, told_pads}
-use Rattle.container_spec.specs.ScanContainers.{IsScanContainer}
+use Rattle.container_spec.proofs.ScanContainers.{IsScanContainer}
 use Rattle.container_spec.specs.Indexed.{outputs_of}
 use Rattle.container_spec.proofs.CutsOfPlans.{cut_within}
 use Rattle.container_spec.proofs.FileParts.{segments, cut, cuts, small, suits, file_is, file_places}

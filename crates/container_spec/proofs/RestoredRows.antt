@@ -2,6 +2,8 @@
 use Rattle.std.proofs.Common.{◌≡◌, ℕ, ◌+◌, ◌-◌, ◌<◌, ◌≤◌, Bool, List, [], map, get_or, Ok, Option, Some, inl, inr, refl, sym, ap, ap₂, subst, ◌∙◌, arith, zero-add}
 use Rattle.std.specs.Prelude.{slice_get, flat_map}
 use Rattle.std.proofs.lemmas.Bool.{cases_lt}
+use Rattle.std.specs.List.{range_with_len}
+use Rattle.std.proofs.lemmas.List.FromFn.{length-map-range_with_len, get_or-map-range_with_len}
 use Rattle.jpeg_marker.specs.Plans.{PlanFields}
 use Rattle.scan_spec.specs.Pads.{PadBits, bit_for}
 use Rattle.scan_spec.specs.Scans.{IsScan, Mcu, scan_bytes, pad_counts, pad_at, intervals_of}
@@ -15,10 +17,8 @@ use Rattle.cut_spec.specs.Cuts.{Cut, first_mcu}
 use Rattle.cut_spec.specs.RowHandovers.{segment_bytes, handover_at}
 use Rattle.cut_spec.specs.Seams.{slices}
 use Rattle.box_format.specs.Parts.{BoxParts, box_cut}
-use Rattle.box_format.specs.Raws.{numbers}
 use Rattle.box_format.specs.declared.chunk.Chunk.{Chunk}
 use Rattle.box_format.specs.declared.version.Version.{Version}
-use Rattle.box_format.proofs.Lists.{length_values}
 use Rattle.container_spec.specs.ScanStream.{grid_of}
 use Rattle.container_spec.specs.Segments.{Output, SegmentFields, segment_output}
 use Rattle.container_spec.specs.SegmentLaws.{AreKept, IsNextStart, Suits, segment_between}
@@ -26,7 +26,7 @@ use Rattle.container_spec.specs.Files.{cut_start, cut_stream, parts_of_rows, tol
 use Rattle.container_spec.specs.Meanings.{kept_in}
 use Rattle.container_spec.specs.Indexed.{outputs_of}
 use Rattle.container_spec.proofs.JoinedSegments.{all_sum, good_join, joined_good, joined}
-use Rattle.container_spec.proofs.Numbered.{mapped_at, mapped_same, got_at, got_none}
+use Rattle.container_spec.proofs.Numbered.{mapped_same, got_at, got_none}
 use Rattle.container_spec.proofs.PutsAlike.{segment_alike}
 use Rattle.container_spec.proofs.SlicesMeant.{slice_output, slice_sum}
 use Rattle.container_spec.proofs.SpotsAlike.{handovers_alike}
@@ -93,7 +93,7 @@ module _ (version : Version) (plan : PlanFields) (mcus : List Mcu) (file_pads : 
   handed i = handover_at shape pads mcus (d i)
 
   abbrev box : BoxParts
-  box = record rows { handovers = map handed (numbers 0 count) }
+  box = record rows { handovers = map handed (range_with_len 0 count) }
 
   rows_are_told : rows ≡ box
   rows_are_told =
@@ -103,11 +103,11 @@ module _ (version : Version) (plan : PlanFields) (mcus : List Mcu) (file_pads : 
 
   next_start : (i : ℕ) → IsNextStart shape pads mcus (d i) (slice_get box.handovers i)
   next_start i =
-      let long = length_values handed 0 count in
+      let long = length-map-range_with_len handed 0 count in
       elim (cases_lt i count) [
         | inl within ↦ subst (IsNextStart shape pads mcus (d i))
             (sym (got_at box.handovers i start (omega (arith, long, within))
-            ∙ ap (λ h. Some h) (mapped_at handed 0 count i start within ∙ ap handed (zero-add i))))
+            ∙ ap (λ h. Some h) (get_or-map-range_with_len handed 0 count i i start within (zero-add i))))
             refl
         | inr past ↦ subst (IsNextStart shape pads mcus (d i))
             (sym (got_none box.handovers i (omega (arith, long, past)))) tt
@@ -120,8 +120,8 @@ module _ (version : Version) (plan : PlanFields) (mcus : List Mcu) (file_pads : 
   segment_is i within =
       let stream : ℕ → List ℕ = cut_stream plan mcus cut in
       ap₂ (λ (bytes : List ℕ) (h : HandoverFields). segment_with plan box count i bytes h)
-      (mapped_at stream 0 count i [] within ∙ ap stream (zero-add i))
-      (mapped_at handed 0 count i start within ∙ ap handed (zero-add i))
+      (get_or-map-range_with_len stream 0 count i i [] within (zero-add i))
+      (get_or-map-range_with_len handed 0 count i i start within (zero-add i))
 
   -- the bytes of the scan that a segment completes, and what it pads
   abbrev pub bytes_at : ℕ → ℕ → List ℕ
@@ -146,10 +146,10 @@ module _ (version : Version) (plan : PlanFields) (mcus : List Mcu) (file_pads : 
         ∙ ap (λ (bytes : List ℕ). let o : Output = (bytes, Good (sum_at i)) in o) (sym same)
 
     all_outputs : outputs_of plan box
-        ≡ map (λ i. segment_output (segment_at plan box count i)) (numbers 0 count)
+        ≡ map (λ i. segment_output (segment_at plan box count i)) (range_with_len 0 count)
     all_outputs =
-        ap (λ n. map (λ i. segment_output (segment_at plan box n i)) (numbers 0 n))
-        (length_values handed 0 count)
+        ap (λ n. map (λ i. segment_output (segment_at plan box n i)) (range_with_len 0 n))
+        (length-map-range_with_len handed 0 count)
 
     pub rows_joined : joined (outputs_of plan rows)
         ≡ good_join (flat_map (λ bytes. bytes) (slices bytes_at d 0 count)) (all_sum sum_at 0 count)

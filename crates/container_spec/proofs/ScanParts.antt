@@ -3,6 +3,7 @@ use Rattle.std.proofs.Common.{◌≡◌, ℕ, ◌^◌, ◌<◌, ◌≤◌, Bool,
 use Rattle.std.specs.Prelude.{min}
 use Rattle.std.specs.List.{AllByRecursion}
 use Rattle.std.proofs.lemmas.List.{take-append-drop, length-take-le, take_at, drop_at}
+use Rattle.std.proofs.lemmas.List.FromFn.{length-map-range_with_len}
 use Rattle.huff_table.proofs.Pairs.{all-append}
 use Rattle.bit_list.specs.Bits.{IsByte}
 use Rattle.jpeg_marker.specs.AcceptedPlans.{HasBegun}
@@ -18,10 +19,9 @@ use Rattle.box_format.specs.Single.{box_bytes}
 use Rattle.box_format.specs.Versions.{layout_of}
 use Rattle.box_format.specs.declared.version.Version.{Version}
 use Rattle.container_spec.specs.Files.{parts_of_file, segment_start}
-use Rattle.container_spec.specs.ScanContainers.{IsScanContainer}
+use Rattle.container_spec.proofs.ScanContainers.{IsScanContainer}
 use Rattle.container_spec.specs.Indexed.{outputs_of}
 use Rattle.container_spec.proofs.FileParts.{box_is}
-use Rattle.container_spec.proofs.Numbered.{mapped_long}
 use Rattle.container_spec.proofs.JoinedSegments.{joined}
 use Rattle.container_spec.proofs.RestoredFiles.{is_restored}
 use Rattle.container_spec.proofs.RestoredMeanings.{IsRestored}
@@ -118,7 +118,7 @@ module _ (v : Version) (whole : (layout_of v).chunked ≡ false) (w : Walk) (mos
   segments_are =
       let start : ℕ → HandoverFields = segment_start s.plan is.mcus is.pads most in
       ap (λ (b : BoxParts). length b.handovers) is.parts
-      ∙ mapped_long start 0 (min most s.plan.down)
+      ∙ length-map-range_with_len start 0 (min most s.plan.down)
 
   module _ (some : 0 < most) (few : most ≤ (layout_of v).most) where
     pub is_box : IsBoxIn w s.plan s.parts

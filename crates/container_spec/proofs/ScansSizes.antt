@@ -20,7 +20,7 @@ use Rattle.box_format.specs.declared.version.Version.{Version}
 use Rattle.box_format.proofs.Lists.{sum_first}
 use Rattle.box_format.proofs.Layouts.{most_few}
 use Rattle.container_spec.specs.Files.{segment_mcus}
-use Rattle.container_spec.specs.ScanContainers.{IsScanContainer}
+use Rattle.container_spec.proofs.ScanContainers.{IsScanContainer}
 use Rattle.container_spec.specs.ScanStream.{stream_of}
 use Rattle.container_spec.proofs.ContainerSizes.{fields_long, scans_long}
 use Rattle.container_spec.proofs.FileParts.{cut, cuts, stream_long, list_long, mcus_few}

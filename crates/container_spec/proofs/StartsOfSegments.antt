@@ -1,7 +1,7 @@
 -- What a scan hands over is what a segment can start from.
 use Rattle.std.proofs.Common.{◌≡◌, ℕ, zero, suc, ◌+◌, ◌-◌, ◌/◌, ◌^◌, ◌<◌, ◌≤◌, Bool, true, false, if◌then◌else◌, List, [], ◌∷◌, length, take, map, inl, inr, Ok, Some, None, refl, ap, ap₂, ◌∙◌, arith, ℤ, pos, unsigned_abs, zero-add}
 use Rattle.std.specs.Prelude.{slice_index_or, min, not, ◌&&◌, ◌||◌, ◌==◌}
-use Rattle.std.specs.List.{AllByRecursion, list_all, list_any}
+use Rattle.std.specs.List.{AllByRecursion, list_all, list_any, range_with_len}
 use Rattle.std.proofs.lemmas.Bool.{cases_eq, eq-eqb, false_from_ne_true, eqb-true}
 use Rattle.std.proofs.lemmas.List.{length-take-le}
 use Rattle.std.proofs.Math.Nat.{zero-div}
@@ -17,7 +17,6 @@ use Rattle.cut_spec.specs.Cuts.{Cut, first_mcu}
 use Rattle.cut_spec.specs.RowHandovers.{handover_of, handover_at, markers_before}
 use Rattle.cut_spec.proofs.SpotsBegun.{spots_are_begun}
 use Rattle.box_format.specs.Parts.{is_unused_zero, is_start, can_start, bad_start}
-use Rattle.box_format.specs.Raws.{numbers}
 use Rattle.container_spec.specs.SegmentLaws.{IsSpot}
 use Rattle.container_spec.proofs.SpotsKept.{kept_put, unused_are_kept, spot_kept, first_is_spot, handover_is}
 use Rattle.box_format.proofs.ByteParts.{all_take}
@@ -110,10 +109,10 @@ module _ (shape : Shape) (pads : ℕ → Bool) (mcus : List Mcu) (scan : List �
 -- no segment of several is bad
 pub none_bad : (shape : Shape) (cut : Cut) (f : ℕ → HandoverFields) (count i : ℕ)
     → ((j : ℕ) → i ≤ j → j < i + count → can_start shape (first_mcu cut j) (f j) ≡ true)
-    → bad_start shape cut i (map f (numbers i count)) ≡ None
+    → bad_start shape cut i (map f (range_with_len i count)) ≡ None
 none_bad shape cut f zero i each = refl
 none_bad shape cut f (suc count) i each =
-    ap (λ t. if t then bad_start shape cut (i + 1) (map f (numbers (i + 1) count)) else Some i)
+    ap (λ t. if t then bad_start shape cut (i + 1) (map f (range_with_len (i + 1) count)) else Some i)
     (each i (omega arith) (omega arith))
     ∙ none_bad shape cut f count (i + 1)
     (λ j after within. each j (omega (arith, after)) (omega (arith, within)))

@@ -1,7 +1,7 @@
 -- How long the streams of a file's segments can be.
 use Rattle.std.proofs.Common.{◌≡◌, ℕ, zero, suc, ◌+◌, ◌-◌, ◌*◌, ◌<◌, ◌≤◌, Bool, true, false, List, [], ◌∷◌, ◌++◌, length, map, fold, if◌then◌else◌, refl, ap, length-append, arith, ℤ}
 use Rattle.std.specs.Prelude.{nat_lt, flat_map}
-use Rattle.std.specs.List.{AllByRecursion}
+use Rattle.std.specs.List.{AllByRecursion, range_with_len}
 use Rattle.coef_block.specs.Block.{IsBlock}
 use Rattle.bool_coder.specs.BoolStream.{Interval, opening, doubled, widened, chosen, after, coded}
 use Rattle.bool_coder.proofs.ReadBack.{length-stream}
@@ -11,7 +11,6 @@ use Rattle.block_spec.specs.SegmentEvents.{segment_events}
 use Rattle.block_spec.proofs.BlockBounds.{segment_length}
 use Rattle.scan_spec.specs.Scans.{Mcu, IsMcu}
 use Rattle.scan_spec.specs.declared.slot.Slot.{Slot}
-use Rattle.box_format.specs.Raws.{numbers}
 use Rattle.container_spec.specs.ScanStream.{blocks_of, blocks_stream}
 
 -- a bool shifts seven places at most
@@ -68,7 +67,7 @@ split_product a b n less =
 pub streams_short : (f : ℕ → List ℕ) (d : ℕ → ℕ) (n count i : ℕ)
     → ((j : ℕ) → i ≤ j → j < i + count → d j ≤ d (j + 1))
     → ((j : ℕ) → i ≤ j → j < i + count → length (f j) ≤ 1 + 1141 * ((d (j + 1) - d j) * n))
-    → length (flat_map (λ stream. stream) (map f (numbers i count))) + 1141 * (d i * n)
+    → length (flat_map (λ stream. stream) (map f (range_with_len i count))) + 1141 * (d i * n)
     ≤ count + 1141 * (d (i + count) * n)
 streams_short f d n zero i order each =
     let e : i + 0 ≡ i = omega arith in
@@ -83,6 +82,6 @@ streams_short f d n (suc count) i order each =
     let e : (i + 1) + count ≡ i + suc count = omega arith in
     let g : d ((i + 1) + count) * n ≡ d (i + suc count) * n = ap (λ k. d k * n) e in
     let p = split_product (d (i + 1)) (d i) n here in
-    let more : List ℕ = flat_map (λ stream. stream) (map f (numbers (i + 1) count)) in
+    let more : List ℕ = flat_map (λ stream. stream) (map f (range_with_len (i + 1) count)) in
     let l = length-append (f i) more in
     omega (arith, first, rest, g, p, l)

@@ -1,5 +1,6 @@
 -- Law: what holds of the rows of all files, and of the containers of all chunks (own).
 use Rattle.std.specs.Prelude.{ℕ, ◌≡◌, ◌*◌, ◌<◌, ◌≤◌, Bool, List, length, flat_map}
+use Rattle.std.specs.List.{range_with_len}
 use Rattle.byte_window.specs.Slices.{Cover}
 use Rattle.byte_window.specs.PartedFiles.{IsPlaced}
 use Rattle.jpeg_marker.specs.Plans.{PlanFields}
@@ -9,7 +10,6 @@ use Rattle.scan_spec.specs.Slots.{shape_of}
 use Rattle.cut_spec.specs.Cuts.{first_mcu}
 use Rattle.cut_spec.specs.RowHandovers.{segment_bytes}
 use Rattle.cut_spec.specs.Seams.{slices}
-use Rattle.box_format.specs.Raws.{numbers}
 use Rattle.box_format.specs.Versions.{layout_of}
 use Rattle.box_format.specs.declared.version.Version.TheVariants.{Third}
 use Rattle.container_spec.specs.Limits.{most_of_a_container, most_of_a_file}
@@ -51,7 +51,7 @@ ChunksAreRestored =
     → ((i : ℕ) → i < count → IsChunkOf most size i (made i) file)
     → ((i : ℕ) → i < count
     → StandsFor (made i) (record { bytes = decoded i; verdict = Restored }))
-    → flat_map decoded (numbers 0 count) ≡ file
+    → flat_map decoded (range_with_len 0 count) ≡ file
 
 -- a chunk has one container of each number of segments
 abbrev pub OneChunk : Type 0

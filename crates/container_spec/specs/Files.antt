@@ -1,5 +1,6 @@
 -- Statement: the container of a file (docs/FORMAT.md, Segments).
 use Rattle.std.specs.Prelude.{ℕ, ◌+◌, Bool, if◌then◌else◌, List, map, Option, Some, None}
+use Rattle.std.specs.List.{range_with_len}
 use Rattle.jpeg_marker.specs.Plans.{PlanFields}
 use Rattle.scan_spec.specs.Slots.{shape_of}
 use Rattle.scan_spec.specs.Scans.{Mcu, intervals_of, pad_counts, pad_at}
@@ -11,7 +12,6 @@ use Rattle.cut_spec.specs.RowHandovers.{handover_at, mcus_between}
 use Rattle.box_format.specs.Parts.{BoxParts}
 use Rattle.box_format.specs.Versions.{layout_of}
 use Rattle.box_format.specs.declared.version.Version.{Version}
-use Rattle.box_format.specs.Raws.{numbers}
 use Rattle.container_spec.specs.ScanStream.{stream_of}
 
 -- the cut of a plan's rows in at most `most` segments
@@ -52,14 +52,14 @@ segment_place plan mcus pads most i =
 abbrev pub places_of_file : Bool → PlanFields → List Mcu → List Bool → ℕ → Option (List ℕ)
 places_of_file placed plan mcus pads most =
     let places =
-    map (segment_place plan mcus pads most) (numbers 0 ((plan_cut plan most).segments + 1)) in
+    map (segment_place plan mcus pads most) (range_with_len 0 ((plan_cut plan most).segments + 1)) in
     if placed then Some places else None
 
 -- the parts of a container of rows of a file, cut into segments, without a chunk or places
 abbrev pub parts_of_rows : Version → PlanFields → List Mcu → List Bool → List ℕ → List ℕ → Cut
     → BoxParts
 parts_of_rows version plan mcus pads header trailer cut =
-    let segments = numbers 0 cut.segments in
+    let segments = range_with_len 0 cut.segments in
     record {
       version = version;
       chunk = None;

@@ -1,16 +1,16 @@
 -- Statement: the places of a container's segments by what they stand for, and the container that keeps them
 -- (docs/FORMAT.md, Version 5).
 use Rattle.std.specs.Prelude.{ℕ, ◌+◌, List, [], ◌∷◌, length, map}
+use Rattle.std.specs.List.{range_with_len}
 use Rattle.jpeg_marker.specs.Plans.{PlanFields}
 use Rattle.box_format.specs.Parts.{BoxParts, with_places}
-use Rattle.box_format.specs.Raws.{numbers}
 use Rattle.container_spec.specs.Segments.{Output, segment_output}
 use Rattle.container_spec.specs.Meanings.{segment_in}
 
 -- the bytes and the outcome of each segment
 abbrev pub outputs_of : PlanFields → BoxParts → List Output
 outputs_of plan b =
-    map (λ i. segment_output (segment_in plan b i)) (numbers 0 (length b.handovers))
+    map (λ i. segment_output (segment_in plan b i)) (range_with_len 0 (length b.handovers))
 
 -- the places of segments with these outputs, which come after so many bytes: of each one's first byte, and after them
 -- of the end

@@ -3,7 +3,6 @@ pub mod Segments
 pub mod Meanings
 pub mod Indexed
 pub mod Files
-pub mod ScanContainers
 pub mod Limits
 pub mod SegmentLaws
 pub mod MeaningLaws

@@ -1,44 +1,16 @@
 -- Statement: the segments of a container, one after another, and what they padded scan by scan (docs/FORMAT.md, What a
 -- container stands for).
-use Rattle.std.specs.Prelude.{ℕ, ◌+◌, ◌==◌, ◌&&◌, Bool, true, if◌then◌else◌, List, [], ◌∷◌, ◌++◌, map, Option, Some, None}
+use Rattle.std.specs.Prelude.{ℕ, ◌+◌, ◌&&◌, Bool, true, List, [], ◌∷◌, ◌++◌, map, Option, Some, None}
+use Rattle.std.specs.List.{range_with_len}
 use Rattle.scan_spec.specs.Pads.{is_spelled}
-use Rattle.handover.specs.PadSums.{no_pads, pads_with}
-use Rattle.handover.specs.declared.pads.PadSum.{PadSum}
+use Rattle.handover.specs.ScanSums.{no_sums, sums_of, sums_with, sum_in}
+use Rattle.handover.specs.declared.scan_pads.ScanPads.{ScanPads}
 use Rattle.handover.specs.declared.outcome.StreamFault.{StreamFault}
 use Rattle.handover.specs.declared.outcome.Outcome.{Outcome}
 use Rattle.handover.specs.declared.outcome.Outcome.TheVariants.{Good, Bad}
-use Rattle.box_format.specs.Raws.{numbers}
 use Rattle.box_format.specs.Parts.{BoxSeen}
 use Rattle.container_spec.specs.Segments.{Output}
 use Rattle.container_spec.specs.ScansMeanings.{output_at, scan_of}
-use Rattle.container_spec.specs.declared.scan_pads.ScanPads.{ScanPads}
-
--- no interval of any of four scans
-abbrev pub no_sums : ScanPads
-no_sums = record { first = no_pads; second = no_pads; third = no_pads; fourth = no_pads }
-
--- these intervals of one scan
-abbrev pub sums_of : ℕ → PadSum → ScanPads
-sums_of scan padded =
-    if scan == 0 then record no_sums { first = padded }
-    else if scan == 1 then record no_sums { second = padded }
-    else if scan == 2 then record no_sums { third = padded }
-    else record no_sums { fourth = padded }
-
--- some intervals and others, scan by scan
-abbrev pub sums_with : ScanPads → ScanPads → ScanPads
-sums_with a b = record {
-  first = pads_with a.first b.first;
-  second = pads_with a.second b.second;
-  third = pads_with a.third b.third;
-  fourth = pads_with a.fourth b.fourth;
-}
-
--- those of one scan
-abbrev pub sum_in : ScanPads → ℕ → PadSum
-sum_in sums scan =
-    if scan == 0 then sums.first else if scan == 1 then sums.second
-    else if scan == 2 then sums.third else sums.fourth
 
 -- the number of a segment's scan, and the segment's output
 abbrev pub Scanned : Type 0
@@ -47,7 +19,7 @@ Scanned = ℕ × Output
 -- those of segments from one on, by their numbers in the container
 abbrev pub scanned_from : List BoxSeen → ℕ → ℕ → List Scanned
 scanned_from scans first count =
-    map (λ i. (scan_of 0 scans i, output_at scans i)) (numbers first count)
+    map (λ i. (scan_of 0 scans i, output_at scans i)) (range_with_len first count)
 
 -- bytes through the first segment that is bad, its fault, and what was padded where there is none
 pub record ScansJoined : Type 0 where

@@ -10,7 +10,7 @@ use Rattle.container_spec.specs.Meanings.{Restored, PadSpelled, Faulty}
 use Rattle.container_spec.specs.MeaningRows.{ones_padded}
 use Rattle.box_format.specs.ScansRows.{header_one, header_two, plain_parts, plan_one, plan_two, two}
 use Rattle.container_spec.specs.ScansFiles.{share_of}
-use Rattle.container_spec.specs.ScansJoined.{no_sums}
+use Rattle.handover.specs.ScanSums.{no_sums}
 use Rattle.container_spec.specs.ScansMeanings.{output_at, scan_of}
 use Rattle.container_spec.specs.Portions.{played, scans_meaning, whole}
 

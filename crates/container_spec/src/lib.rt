@@ -11,11 +11,9 @@
 #![tactic(auto)]
 
 mod laws;
-mod scan_pads;
 
 pub use laws::{
     chunks_are_restored, containers_stand_for_files, files_have_one_container,
     good_segments_have_their_stream, indexed_containers_stand_for_files, rows_of_chunks,
     rows_of_meanings, rows_of_scans, segments_are_short, segments_are_slices,
 };
-pub use scan_pads::ScanPads;

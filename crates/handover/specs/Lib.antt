@@ -3,3 +3,4 @@ pub mod HandoverBytes
 pub mod OneSpelling
 pub mod HandoverInside
 pub mod PadSums
+pub mod ScanSums

@@ -2,7 +2,7 @@
 ghost use Rattle.std.specs.Prelude.{◌≡◌, ◌<◌, length, slice_get, Some, IfOk, IfSome};
 
 use crate::codes::Codes;
-use growth::{NoMemory, from_elem, from_slice};
+use allocation::{NoMemory, from_elem, from_slice};
 use jpeg_marker::{Component, Plan};
 use std::alloc::Global;
 use std::marker::Model;

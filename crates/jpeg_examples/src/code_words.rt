@@ -3,7 +3,7 @@ use crate::marker_segments::{
     BOTH, FRAME, K3, K4, K5, K6, ONE, SCAN, START, TWO, TWO_SCAN, planned,
 };
 use crate::standard_words::{K3_WORDS, K4_WORDS, K5_WORDS, K6_WORDS, Word};
-use bit_list::{BitFault, BitIn, BitOut, Piece};
+use bit_list::{BitBuffer, BitFault, BitIn, BitOut, Piece};
 use huff_table::{CodeFault, Codes, PlanCodes};
 use std::alloc::Global;
 use std::process::Abort;
@@ -92,15 +92,17 @@ fn there_and_back(rt: &impl Abort, alloc: Global, codes: &Codes, words: &[Word])
 }
 
 fn put_words(rt: &impl Abort, words: &[Word], out: &mut Piece) {
-    let mut bits = BitOut::at(0, 0);
+    let mut begun = BitOut::at(0, 0);
     for (_, code, size) in words {
         assert!(rt; *size <= 16);
         assert!(rt; u32::from(*code) >> *size == 0);
         assert!(rt; out.len() < 1000);
-        bits.put(u32::from(*code), u32::from(*size), out);
+        let mut buffer = BitBuffer::of(begun);
+        buffer.put(u32::from(*code), u32::from(*size), out);
+        begun = buffer.begun(out);
     }
     assert!(rt; out.len() < 1000);
-    bits.pad(true, out);
+    begun.pad(true, out);
 }
 
 // The code words of a DC table with `0` alone, and of an AC table with `0` and `1`.

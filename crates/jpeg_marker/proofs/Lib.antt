@@ -1,3 +1,4 @@
+pub mod HeaderWalks
 pub mod Choices
 pub mod Chosen
 pub mod HeaderLaws

@@ -1,7 +1,7 @@
 -- A file of one scan as one of several.
 use Rattle.std.proofs.Common.{◌≡◌, ℕ, zero, suc, ◌+◌, ◌*◌, ◌≤◌, zero-add, Bool, true, false, ◌||◌, not, List, [], ◌∷◌, ◌++◌, length, map, take, replicate, Option, Some, None, refl, ap, sym, ◌∙◌, arith, subst, cond, eqb, ltb}
 use Rattle.std.specs.Option.{option_or}
-use Rattle.std.specs.List.{list_all}
+use Rattle.std.specs.List.{list_all, range_with_len}
 use Rattle.jpeg_marker.specs.declared.refusal.HeaderRefusal.{HeaderRefusal}
 use Rattle.jpeg_marker.specs.declared.refusal.HeaderRefusal.TheVariants.{LengthBad, MultiScan, ScanParams}
 use Rattle.jpeg_marker.specs.declared.parameters.FrameComponent.{FrameComponent}
@@ -70,12 +70,7 @@ one_is_several bytes plan is = record {
 }
 
 -- so many indexes are all
-numbers : ℕ → ℕ → List ℕ
-numbers from zero = []
-numbers from (suc n) = from ∷ numbers (from + 1) n
-
-rising_all : (from : ℕ) (is : List ℕ) → Rising from (from + length is) is → is ≡ numbers from (length is)
-unfolding numbers
+rising_all : (from : ℕ) (is : List ℕ) → Rising from (from + length is) is → is ≡ range_with_len from (length is)
 rising_all from [] h = refl
 rising_all from (i ∷ is) h =
     let few = rising_few (i + 1) (from + suc (length is)) is (let b = h.1 in omega arith) h.2 in
@@ -83,8 +78,7 @@ rising_all from (i ∷ is) h =
     let rest = rising_all (from + 1) is (subst (λ (b : ℕ). Rising (from + 1) b is) (omega arith) (subst (λ (n : ℕ). Rising (n + 1) (from + suc (length is)) is) first h.2)) in
     rw first (ap (λ (others : List ℕ). from ∷ others) rest)
 
-all_coded : (n : ℕ) → n ≤ 4 → list_all (λ coded. coded) (take n (coded_after (replicate 4 false) (numbers 0 n))) ≡ true
-unfolding numbers
+all_coded : (n : ℕ) → n ≤ 4 → list_all (λ coded. coded) (take n (coded_after (replicate 4 false) (range_with_len 0 n))) ≡ true
 all_coded zero h = refl
 all_coded (suc zero) h = refl
 all_coded (suc (suc zero)) h = refl
@@ -97,7 +91,7 @@ one_is_last bytes plan all is =
     let has = accepted_has_all bytes plan all is in
     let n = length has.frame.parts in
     let indexes = map (λ (c : Component). c.index) plan.components in
-    let are : indexes ≡ numbers 0 n = rising_all 0 indexes (subst (λ (m : ℕ). Rising 0 m indexes) (sym has.long ∙ sym (zero-add (length indexes))) has.rising) ∙ ap (numbers 0) has.long in
+    let are : indexes ≡ range_with_len 0 n = rising_all 0 indexes (subst (λ (m : ℕ). Rising 0 m indexes) (sym has.long ∙ sym (zero-add (length indexes))) has.rising) ∙ ap (range_with_len 0) has.long in
     ap (λ (frame : Option FrameFields). are_all_coded plan.known frame) has.there
     ∙ ap (λ (coded : List Bool). list_all (λ b. b) (take n coded)) (has.coded ∙ ap (coded_after (replicate 4 false)) are)
     ∙ all_coded n has.few

@@ -15,7 +15,7 @@ use Rattle.jpeg_marker.specs.Plans.{PlanFields, scan_fault, plan_after}
 use Rattle.jpeg_marker.specs.Walks.{Walk, walk_text}
 use Rattle.jpeg_marker.specs.GoodSegments.{IsGood, AreGoodAfter, HaveNoScan, segment_fault, body_fault, fault_of, length_place, known_after, intervals_in}
 use Rattle.jpeg_marker.specs.StandingSegments.{Stands}
-use Rattle.jpeg_marker.specs.HeaderWalks.{Walked}
+use Rattle.jpeg_marker.proofs.HeaderWalks.{Walked}
 use Rattle.jpeg_marker.specs.HeaderPlan.{Begins, Stops}
 use Rattle.jpeg_marker.proofs.TableLists.{tables_kept-append}
 

@@ -15,6 +15,5 @@ pub mod StandingSegments
 pub mod TableFaults
 pub mod TableInside
 pub mod HuffmanTables
-pub mod HeaderWalks
 pub mod Walks
 pub mod FirstWalks

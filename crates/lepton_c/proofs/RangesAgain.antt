@@ -14,7 +14,7 @@ use Rattle.box_format.proofs.Singles.{box_or_refused}
 use Rattle.box_format.proofs.SingleBytes.{no_chunk}
 use Rattle.box_format.proofs.Layouts.{most_more}
 use Rattle.container_spec.specs.ScansFiles.{IsContainerOf}
-use Rattle.container_spec.specs.ScanContainers.{IsContainerOfOne}
+use Rattle.container_spec.proofs.ScanContainers.{IsContainerOfOne}
 use Rattle.container_spec.specs.Files.{parts_of_file}
 use Rattle.container_spec.specs.Indexed.{indexed}
 use Rattle.container_spec.specs.Limits.{most_of_a_container}

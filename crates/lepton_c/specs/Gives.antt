@@ -11,7 +11,7 @@ use Rattle.box_format.specs.Containers.{IsContainer}
 use Rattle.container_spec.specs.ScansFiles.{FileIsRefused, HasSeveralScans, IsContainerOfFile, Header as FileHeader, Scan as FileScan}
 use Rattle.container_spec.specs.Portions.{scans_meaning}
 use Rattle.container_spec.specs.Chunks.{IsChunkOf, IsOneScanFile}
-use Rattle.range_read.specs.IndexEnds.{Ends, IsIndexOf}
+use Rattle.range_read.specs.IndexEnds.{IndexEnds, IsIndexOf}
 use Rattle.range_read.specs.RangeMeanings.{RangeMeaning, is_bad_range, range_meaning}
 use Rattle.lepton_c.specs.declared.answer.Answer.{Answer}
 use Rattle.lepton_c.specs.declared.answer.Answer.TheVariants.{Done, Counted, Header, Scan, Box, Fault, PadSpelling, ChunkShort, TooLong, NoChunk, ManyScans, RangeBad, BadCall, NoRoom, Larger, NoMemory}
@@ -97,8 +97,8 @@ MigrateGives bytes = GivesMade (IsMigrated bytes) (MigrateRefuses bytes)
 -- of a container that stands for a file: the same one in version 5 with the places of its segments
 abbrev pub IndexRefuses : List ℕ → Answer → Type 0
 IndexRefuses bytes (Box refusal) = IsRefusedBy indexable bytes refusal
-IndexRefuses bytes (Fault fault n) = Ends bytes (Faulty fault) × (n ≡ 0)
-IndexRefuses bytes (PadSpelling n) = Ends bytes PadSpelled × (n ≡ 0)
+IndexRefuses bytes (Fault fault n) = IndexEnds bytes (Faulty fault) × (n ≡ 0)
+IndexRefuses bytes (PadSpelling n) = IndexEnds bytes PadSpelled × (n ≡ 0)
 IndexRefuses bytes TooLong = most_of_a_container < length bytes
 IndexRefuses bytes NoMemory = Unit {0}
 IndexRefuses bytes other = ⊥

@@ -9,15 +9,15 @@ use Rattle.container_spec.specs.Meanings.{Meaning}
 use Rattle.container_spec.specs.Portions as portions
 use Rattle.container_spec.specs.Portions.{Portion, played, portion_meaning}
 use Rattle.container_spec.specs.ScansJoined.{all_spelled, first_header}
-use Rattle.container_spec.specs.declared.scan_pads.ScanPads.{ScanPads}
+use Rattle.handover.specs.declared.scan_pads.ScanPads.{ScanPads}
 use Rattle.segment_worker.specs.Contents.{Stretch, segment_room, stretch}
 use Rattle.segment_worker.specs.declared.emitted.Emitted.{Emitted}
 use Rattle.lepton_decode.specs.declared.portion.Kind.{Kind}
 use Rattle.lepton_decode.specs.declared.portion.Kind.TheVariants.{File, Chunk, Range}
 
 -- all segments of a container
-abbrev pub whole : List BoxSeen → Stretch
-whole scans = stretch scans 0 (segment_count scans)
+abbrev pub all_segments : List BoxSeen → Stretch
+all_segments scans = stretch scans 0 (segment_count scans)
 
 -- those of a portion
 abbrev pub stretch_of : List BoxSeen → Portion → Stretch

@@ -15,7 +15,7 @@ use crate::error::DecodeError;
 use crate::portion::{Kind, Portion};
 use box_format::FileView;
 use byte_window::Window;
-use container_spec::ScanPads;
+use handover::ScanPads;
 use outside_core::{Sink, WriteFault, write_all};
 use segment_worker::{EmitStop, Emitted};
 

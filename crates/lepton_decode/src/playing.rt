@@ -9,10 +9,10 @@ ghost use Rattle.lepton_decode.specs.Played.{IsWindowed, meaning_as, stretch_of}
 use crate::around::{end, finish, put};
 use crate::error::DecodeError;
 use crate::portion::{Kind, Portion};
+use allocation::NoMemory;
 use bit_list::Piece;
 use box_format::FileView;
-use container_spec::ScanPads;
-use growth::NoMemory;
+use handover::ScanPads;
 use outside_core::{Gate, Sink};
 use segment_code::FileDecoder;
 use segment_crew::Crew;
@@ -22,8 +22,8 @@ use std::sync::Wait;
 use std::thread::Threads;
 
 /// Writes a portion whose segments a crew decodes, or if one of them has a fault, the bytes before it. It returns how
-/// many bytes it wrote. It asks no allocator for memory. At each moment what was written is a prefix of what the portion
-/// stands for, since the sink need take nothing else.
+/// many bytes it wrote. It asks no allocator for memory. At each moment what was written is a prefix of what the
+/// portion stands for, since the sink need take nothing else.
 ///
 /// The gate is called before each segment that the emitter asks for, and before and after each put of a worker.
 pub fn play<'a, R: Threads + Wait + Sync, K: Sink + Send, G: Gate + Sync>(

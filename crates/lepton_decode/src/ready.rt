@@ -13,8 +13,8 @@ ghost use Rattle.lepton_decode.specs.Ends.{Ends, HasEmitted, HaveLeft, meaning_i
 use crate::error::DecodeError;
 use crate::playing::{play, play_bare};
 use crate::portion::meant;
+use allocation::NoMemory;
 use box_format::{BoxRefusal, FileView, ReadError, read_container, segments_named};
-use growth::NoMemory;
 use outside_core::{Gate, Sink};
 use segment_crew::{Crew, workers_worth};
 use std::alloc::Global;

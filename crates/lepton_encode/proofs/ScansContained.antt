@@ -1,7 +1,7 @@
 -- The scans of a file, by their headers, starts and streams, are those of its container.
 use Rattle.std.proofs.Common.{◌≡◌, ℕ, zero, suc, ◌+◌, ◌-◌, ◌*◌, ◌<◌, ◌≤◌, ◌^◌, Bool, true, false, if◌then◌else◌, List, [], ◌∷◌, ◌++◌, length, take, drop, map, replicate, refl, sym, ap, ap₂, ◌∙◌, subst, arith, length-drop, drop-cons, add-one, append_assoc, append-nil, get_or}
 use Rattle.std.specs.Prelude.{Some, None, min}
-use Rattle.std.specs.List.{AllByRecursion}
+use Rattle.std.specs.List.{AllByRecursion, range_with_len}
 use Rattle.std.proofs.lemmas.Bool.{false≢true}
 use Rattle.std.proofs.lemmas.List.{length-replicate}
 use Rattle.std.proofs.lemmas.List.Folds.{sum_by-replicate}
@@ -17,7 +17,6 @@ use Rattle.scan_spec.specs.Slots.{shape_of}
 use Rattle.scan_spec.proofs.FilesOnce.{one_scan_of}
 use Rattle.box_format.specs.Containers.{all_parts, container_bytes}
 use Rattle.box_format.specs.Parts.{BoxParts, BoxSeen, can_pad}
-use Rattle.box_format.specs.Raws.{numbers}
 use Rattle.box_format.specs.Versions.{layout_of, most_segments}
 use Rattle.box_format.specs.declared.version.Version.{Version}
 use Rattle.box_format.specs.declared.version.Version.TheVariants.{Fourth, Fifth}
@@ -94,7 +93,7 @@ module _ (v : Version) (w : Walk) (most : ℕ) (file trailer : List ℕ) (h : He
       ∙ places_are h.plan file most c.starts coded.starts is_shape
       (plan_cuts h.plan (min most h.plan.down) some_segments).whole
       ∙ ap (λ (p : PlanFields). map (segment_place p coded.starts.mcus coded.starts.pads most)
-      (numbers 0 ((plan_cut p most).segments + 1))) plan)
+      (range_with_len 0 ((plan_cut p most).segments + 1))) plan)
 
   parts_are : scan_made v file trailer h c
       ≡ parts_of_file v is.plan coded.starts.mcus coded.starts.pads
@@ -106,10 +105,10 @@ module _ (v : Version) (w : Walk) (most : ℕ) (file trailer : List ℕ) (h : He
       ∙ ap (λ (p : PlanFields). told_pads p mcus pads) is.moved in
       let handovers = ap (λ (s : StartsFields). s.handovers) coded.starts.are
       ∙ ap (λ (p : PlanFields). map (segment_start p mcus pads most)
-      (numbers 0 (plan_cut p most).segments)) is.moved in
+      (range_with_len 0 (plan_cut p most).segments)) is.moved in
       let streams = coded.streams mcus pads coded.starts.file
       ∙ ap (λ (p : PlanFields). map (λ i. stream_of p (segment_mcus p mcus most i))
-      (numbers 0 (plan_cut p most).segments)) is.moved in
+      (range_with_len 0 (plan_cut p most).segments)) is.moved in
       parts_same v None (if (layout_of v).placed then Some c.places.items else None) c.starts.pads
       (take (h.plan.header_length - h.place) (drop h.place file)) trailer c.starts.handovers
       (map (λ v. v.items) c.streams.items)

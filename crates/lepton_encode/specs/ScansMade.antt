@@ -1,10 +1,10 @@
 -- Steps: the parts of the scans of a file by where their segments start (own).
 use Rattle.std.specs.Prelude.{ℕ, ◌≡◌, ◌*◌, ◌≤◌, ◌-◌, Bool, true, false, if◌then◌else◌, List, [], ◌∷◌, ◌++◌, length, take, drop, map, flat_map, get_or, Some, None}
+use Rattle.std.specs.List.{range_with_len}
 use Rattle.jpeg_marker.specs.Plans.{PlanFields}
 use Rattle.scan_spec.specs.Scans.{Mcu}
 use Rattle.box_format.specs.Containers.{AreScans, all_parts}
 use Rattle.box_format.specs.Parts.{BoxParts, BoxSeen}
-use Rattle.box_format.specs.Raws.{numbers}
 use Rattle.box_format.specs.Versions.{layout_of, fewest_scans, most_scans}
 use Rattle.box_format.specs.declared.version.Version.{Version}
 use Rattle.container_spec.specs.Files.{plan_cut, segment_mcus}
@@ -28,12 +28,12 @@ abbrev pub AreStreamsOf : PlanFields → List ℕ → ℕ → StartsFields → L
 AreStreamsOf plan bytes most starts streams =
     (mcus : List Mcu) (pads : List Bool) → IsFileAt bytes plan mcus pads starts.trailer
     → streams ≡ map (λ i. stream_of plan (segment_mcus plan mcus most i))
-    (numbers 0 (plan_cut plan most).segments)
+    (range_with_len 0 (plan_cut plan most).segments)
 
 -- the places of the segments and of the scan's end
 abbrev pub places_made : StartsFields → List ℕ
 places_made starts =
-    map (λ i. get_or starts.places i 0) (numbers 0 (length starts.rows)) ++ starts.trailer ∷ []
+    map (λ i. get_or starts.places i 0) (range_with_len 0 (length starts.rows)) ++ starts.trailer ∷ []
 
 -- the starts, the places and the streams of the segments of a scan, of at most `most`
 pub record IsCoded (most : ℕ) (file : List ℕ) (h : Head) (c : CodedScan) : Type 0 where

@@ -1,6 +1,7 @@
 // What codes segments: beside other threads, or on the calling thread alone.
 ghost use Rattle.jpeg_marker.specs.AcceptedPlans.{CanScan};
 ghost use Rattle.std.specs.Prelude.{◌≡◌, ◌+◌, ◌-◌, ◌<◌, ◌≤◌, ℕ, Bool, List, map, IfOk, IsErrOf};
+ghost use Rattle.std.specs.List.{range_with_len};
 ghost use Rattle.scan_spec.specs.Items.{Refuses};
 ghost use Rattle.scan_spec.specs.Scans.{Mcu};
 ghost use Rattle.scan_spec.specs.Slots.{shape_of};
@@ -8,14 +9,13 @@ ghost use Rattle.scan_spec.specs.declared.refusal.ScanRefusal.{ScanRefusal};
 ghost use Rattle.cut_spec.specs.Cuts.{first_mcu};
 ghost use Rattle.cut_spec.specs.RowHandovers.{mcus_between};
 ghost use Rattle.box_format.specs.Parts.{box_cut, box_rows};
-ghost use Rattle.box_format.specs.Raws.{numbers};
 ghost use Rattle.container_spec.specs.Files.{plan_cut, segment_mcus};
 ghost use Rattle.container_spec.specs.ScanStream.{stream_of};
 ghost use Rattle.segment_code.specs.FileStarts.{starts_of};
 ghost use Rattle.segment_code.specs.Starting.{AreStarts, IsFileAt};
 
+use allocation::NoMemory;
 use box_format::Chunk;
-use growth::NoMemory;
 use jpeg_marker::Plan;
 use segment_code::{ScanError, Starts};
 use segment_encode::{encode_all, encode_all_alone, encode_scan, encode_scan_alone};
@@ -44,7 +44,7 @@ pub trait ScanCoder {
             → IsFileAt bytes.now plan.now mcus pads trailer
             → IfOk result (λ made. map (λ v. v.items) made.1.items
             ≡ map (λ i. stream_of plan.now (segment_mcus plan.now mcus segments i))
-            (numbers 0 (plan_cut plan.now segments).segments)) }
+            (range_with_len 0 (plan_cut plan.now segments).segments)) }
         ensures refused { (refusal : ScanRefusal) → IsErrOf result (ScanError.Scan refusal)
             → Refuses (shape_of plan.now) bytes.now plan.now.header_length refusal };
 
@@ -70,7 +70,7 @@ pub trait ScanCoder {
             → IfOk result (λ streams. map (λ v. v.items) streams.items
             ≡ map (λ i. stream_of plan.now
             (mcus_between mcus (first_mcu (box_cut plan.now chunk count) i)
-            (first_mcu (box_cut plan.now chunk count) (i + 1)))) (numbers 0 count)) };
+            (first_mcu (box_cut plan.now chunk count) (i + 1)))) (range_with_len 0 count)) };
 }
 
 /// Codes segments in threads, if these can be had.

@@ -1,13 +1,13 @@
 // From the coded scans of a file to its container.
-ghost use Rattle.std.specs.Prelude.{◌≡◌, ◌++◌, map, flat_map, option_map, if◌then◌else◌, Some, None, [], drop, IfOk, OnOk};
+ghost use Rattle.std.specs.Prelude.{◌≡◌, ◌++◌, map, length, get_or, flat_map, option_map, if◌then◌else◌, Some, None, [], drop, IfOk, OnOk};
 ghost use Rattle.box_format.specs.Containers.{container_bytes, scan_streams};
 ghost use Rattle.box_format.specs.Given.{parts_given};
 ghost use Rattle.box_format.specs.Versions.{layout_of};
 ghost use Rattle.lepton_encode.specs.ScansMade.{AreScansMade, AreWithin, HasParts, scan_made, scans_made, streams_in};
 
 use crate::heads::Head;
+use allocation::{NoMemory, extend_from_slice, push};
 use box_format::{Parts, Version, write_front};
-use growth::{NoMemory, extend_from_slice, push};
 use segment_code::Starts;
 use std::alloc::Global;
 
@@ -171,7 +171,9 @@ pub fn joined_after(
 }
 
 // How many bytes the first stream has, 0 if there is none.
-fn first_length(streams: &[Vec<u8>]) -> usize {
+fn first_length(streams: &[Vec<u8>]) -> usize
+    ensures { result ≡ get_or (map (λ v. length v.items) streams.now) 0 0 }
+{
     match streams.first() {
         Some(stream) => stream.len(),
         None => 0,

@@ -1,5 +1,5 @@
 // Why a file isn't encoded.
-use growth::NoMemory;
+use allocation::NoMemory;
 use jpeg_marker::HeaderRefusal;
 use scan_spec::ScanRefusal;
 use segment_code::ScanError;

@@ -11,7 +11,7 @@ ghost use Rattle.container_spec.specs.ScansFiles.{FileIsRefused, Header, Scan};
 ghost use Rattle.lepton_encode.specs.FileHeads.{AreHeads, EndsAt, Follows, IsHead};
 
 use crate::error::EncodeError;
-use growth::{NoMemory, push, with_capacity};
+use allocation::{NoMemory, push, with_capacity};
 use jpeg_marker::{Plan, read_first, read_next};
 use segment_code::find_starts;
 use std::alloc::Global;

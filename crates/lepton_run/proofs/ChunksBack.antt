@@ -1,11 +1,10 @@
 -- Chunks are decoded alone.
 use Rattle.std.proofs.Common.{◌≡◌, ℕ, ◌*◌, ◌<◌, ◌≤◌, inl, inr, List, length, take, refl, subst}
 use Rattle.std.specs.Prelude.{flat_map}
-use Rattle.std.specs.List.{AllByRecursion}
+use Rattle.std.specs.List.{AllByRecursion, range_with_len}
 use Rattle.bit_list.specs.Bits.{IsByte}
 use Rattle.box_format.specs.Parts.{BoxParts}
 use Rattle.box_format.specs.Single.{IsBoxOf}
-use Rattle.box_format.specs.Raws.{numbers}
 use Rattle.box_format.specs.Versions.{layout_of}
 use Rattle.box_format.specs.declared.version.Version.TheVariants.{Third}
 use Rattle.byte_window.specs.Slices.{chunk_from, chunk_to}
@@ -82,7 +81,7 @@ pub chunks_joined : (count size segments workers : ℕ) (file : List ℕ) (made 
     → 0 < segments → segments ≤ (layout_of Third).most → length file ≤ count * size
     → ((i : ℕ) → i < count → Answers (Chunk i size segments) file (Made (made i)))
     → ((i : ℕ) → i < count → Answers (Decode workers) (made i) (Made (decoded i)))
-    → flat_map decoded (numbers 0 count) ≡ file
+    → flat_map decoded (range_with_len 0 count) ≡ file
 chunks_joined count size segments workers file made decoded some few long cut back =
     chunks_are_restored segments size count file made decoded some few long
     (λ i within. (is_chunk i size segments file (made i) (cut i within)).0)

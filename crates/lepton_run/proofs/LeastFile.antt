@@ -29,7 +29,7 @@ use Rattle.box_format.specs.Parts.{can_pad, migrated}
 use Rattle.box_format.specs.Containers.{container_bytes}
 use Rattle.box_format.specs.Versions.{layout_of}
 use Rattle.box_format.specs.declared.version.Version.TheVariants.{Second}
-use Rattle.container_spec.specs.ScanContainers.{IsContainerOfOne}
+use Rattle.container_spec.proofs.ScanContainers.{IsContainerOfOne}
 use Rattle.container_spec.specs.ScansFiles.{IsContainerOf}
 use Rattle.container_spec.specs.Files.{parts_of_file, told_pads}
 use Rattle.container_spec.specs.ScanStream.{blocks_stream}

@@ -14,7 +14,7 @@ use Rattle.container_spec.specs.Meanings.{Verdict}
 use Rattle.container_spec.specs.Portions.{scans_meaning}
 use Rattle.segment_worker.specs.declared.emitted.EmitStop.{EmitStop}
 use Rattle.segment_worker.specs.declared.emitted.EmitStop.TheVariants as stops
-use Rattle.range_read.specs.IndexEnds.{Ends as IndexEnds, IsIndexOf}
+use Rattle.range_read.specs.IndexEnds.{IndexEnds, IsIndexOf}
 use Rattle.range_read.specs.RangeEnds.{RangeEnds}
 use Rattle.range_read.specs.RangeMeanings.{RangeMeaning, is_bad_range, range_meaning}
 use Rattle.range_read.specs.declared.reading.Ranged.{Ranged}

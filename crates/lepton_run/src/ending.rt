@@ -4,7 +4,7 @@ ghost use Rattle.lepton_run.specs.Endings.{ending_line, status_at};
 
 use crate::line::Line;
 use crate::refusal::Refusal;
-use growth::NoMemory;
+use allocation::NoMemory;
 
 /// How a command ended.
 #[derive(Clone, Copy, Debug, PartialEq, Eq)]

@@ -1,9 +1,8 @@
 // What holds of every file and every container.
 ghost use Rattle.std.specs.Prelude.{◌≡◌, ◌*◌, ◌<◌, ◌≤◌, ℕ, List, false, flat_map, length, sum};
-ghost use Rattle.std.specs.List.{AllByRecursion};
+ghost use Rattle.std.specs.List.{AllByRecursion, range_with_len};
 ghost use Rattle.bit_list.specs.Bits.{IsByte};
 ghost use Rattle.scan_spec.specs.FileParts.{FileScan, IsFile};
-ghost use Rattle.box_format.specs.Raws.{numbers};
 ghost use Rattle.box_format.specs.Versions.{layout_of, version_in};
 ghost use Rattle.box_format.specs.declared.version.Version.TheVariants.{Second, Third};
 ghost use Rattle.byte_window.specs.Slices.{slice};
@@ -42,7 +41,7 @@ pub fn chunks_are_decoded_alone()
         → 0 < segments → segments ≤ (layout_of Third).most → length file ≤ count * size
         → ((i : ℕ) → i < count → Answers (Chunk i size segments) file (Made (made i)))
         → ((i : ℕ) → i < count → Answers (Decode workers) (made i) (Made (decoded i)))
-        → flat_map decoded (numbers 0 count) ≡ file }
+        → flat_map decoded (range_with_len 0 count) ≡ file }
 {}
 
 /// Ranges of a file are read alone: of the container that `index` makes of one that stands for a file, `range` makes

@@ -13,8 +13,8 @@ ghost use Rattle.lepton_run.specs.Summaries.{IsSummary, entry, sample_segments, 
 use crate::ending::Ending;
 use crate::line::Line;
 use crate::writing::write_made;
+use allocation::NoMemory;
 use box_format::ReadError;
-use growth::NoMemory;
 use lepton_decode::{ample_ring, prepare};
 use lepton_encode::EncodeError;
 use outside_core::{Compare, Gate, Sink};

@@ -5,7 +5,7 @@ ghost use Rattle.outside_core.specs.Faults.{Rose};
 ghost use Rattle.outside_core.specs.Takes.{MovesOn, TakesNext};
 
 use crate::{Failed, Sink, Source};
-use growth::{NoMemory, resize};
+use allocation::{NoMemory, resize};
 use std::alloc::Global;
 
 /// Why a source wasn't read to its end.

@@ -1,21 +1,15 @@
 -- Blobs and their files.
-use Rattle.std.proofs.Common.{◌≡◌, ◌≤◌, ℕ, zero, suc, ◌-◌, List, [], ◌∷◌, length, take, drop, get_or, replicate, sym, ap, ◌∙◌, subst, inl, inr, None, arith}
+use Rattle.std.proofs.Common.{◌≡◌, ◌≤◌, ℕ, zero, suc, ◌-◌, List, [], ◌∷◌, length, take, drop, get_or, replicate, sym, ap, ◌∙◌, subst, inl, inr, arith}
 use Rattle.std.specs.Prelude.{sum}
-use Rattle.std.specs.List.{AllByRecursion}
-use Rattle.jpeg_marker.specs.FirstWalks.{opening_walk}
-use Rattle.box_format.specs.Parts.{BoxSeen}
 use Rattle.box_format.specs.Versions.{layout_of, most_segments}
-use Rattle.container_spec.specs.Meanings.{Meaning, Restored, NoBox}
-use Rattle.box_format.specs.Containers.{IsContainer}
-use Rattle.box_format.proofs.Spelling.{one_list_of_scans}
+use Rattle.container_spec.specs.Meanings.{Meaning, Restored}
+use Rattle.container_spec.proofs.BoxesOnce.{stands_for_one}
 use Rattle.container_spec.specs.ScansFiles.{FileIsRefused, FileRefusal, IsContainerOfFile, share_of, version_for}
-use Rattle.container_spec.specs.Portions.{StandsFor, scans_meaning}
+use Rattle.container_spec.specs.Portions.{StandsFor}
 use Rattle.container_spec.proofs.OneContainers.{one_container_of_file, contained_is_not_refused}
-use Rattle.container_spec.proofs.ScansRestored.{are_scans, file_is_restored, for_most, shares_are}
-use Rattle.container_spec.proofs.SeveralScans.{have_each}
+use Rattle.container_spec.proofs.ScansRestored.{file_is_restored, for_most, shares_are}
 use Rattle.photo_blob.specs.Blobs.{IsBlobOf, blob_segments}
 use Rattle.photo_blob.specs.BlobLaws.{OneBlob, OneFile}
-use Rattle.photo_blob.specs.Showing.{StandsForFile}
 
 take_all : (xs : List ℕ) (n : ℕ) → n ≡ length xs → take n xs ≡ xs
 take_all [] n e = let z : n ≡ 0 = e in ap (λ (k : ℕ). take k []) z
@@ -25,16 +19,11 @@ take_all (x ∷ xs) (suc n) e = ap (λ (l : List ℕ). x ∷ l) (take_all xs n (
 rest_is : (made : List ℕ) → take (length (1 ∷ made) - 1) (drop 1 (1 ∷ made)) ≡ made
 rest_is made = take_all made (length (1 ∷ made) - 1) (omega arith)
 
--- a file's container has no chunk, and stands for the file
-by_scans : (made file : List ℕ) (scans : List BoxSeen) → IsContainer scans made
-    → AllByRecursion (λ (s : BoxSeen). s.parts.chunk ≡ None) scans
-    → StandsFor made (record { bytes = file; verdict = Restored }) → StandsForFile made file
-by_scans made file scans is whole (inl x) =
-    let v : Restored ≡ NoBox x.0 = ap (λ (m : Meaning). m.verdict) x.2 in absurd (cc)
-by_scans made file scans is whole (inr x) =
-    (scans, is, whole, ap scans_meaning (one_list_of_scans scans x.0 made is x.1) ∙ sym x.2)
+-- a file, as a meaning
+abbrev pub as_file : List ℕ → Meaning
+as_file file = record { bytes = file; verdict = Restored }
 
-stands : (made file : List ℕ) → IsContainerOfFile blob_segments made file → StandsForFile made file
+stands : (made file : List ℕ) → IsContainerOfFile blob_segments made file → StandsFor made (as_file file)
 stands made file (n, is) =
     let v = version_for n in
     let below : blob_segments ≤ most_segments = omega arith in
@@ -43,27 +32,23 @@ stands made file (n, is) =
     let room = for_most n in
     let few : sum (replicate n (share_of blob_segments n)) ≤ (layout_of v).most =
     omega (arith, all, room) in
-    let are = are_scans v (replicate n (share_of blob_segments n)) made file shares.some few is in
-    by_scans made file is.scans (v, record { are = are; text = is.spelled })
-    (have_each v is.whole opening_walk is.scans are.each are.versions).whole
-    (file_is_restored v (replicate n (share_of blob_segments n)) made file shares.some few is)
+    file_is_restored v (replicate n (share_of blob_segments n)) made file shares.some few is
 
 -- after a mark that isn't 0 the file's container follows
 pub container_of : (blob file : List ℕ) → (get_or blob 0 0 ≡ 0 → ⊥) → IsBlobOf blob file
-    → StandsForFile (take (length blob - 1) (drop 1 blob)) file
+    → StandsFor (take (length blob - 1) (drop 1 blob)) (as_file file)
 container_of blob file marked (inl a) =
-    subst (λ (l : List ℕ). StandsForFile (take (length l - 1) (drop 1 l)) file) (sym a.1)
-    (subst (λ (l : List ℕ). StandsForFile l file) (sym (rest_is a.0))
+    subst (λ (l : List ℕ). StandsFor (take (length l - 1) (drop 1 l)) (as_file file)) (sym a.1)
+    (subst (λ (l : List ℕ). StandsFor l (as_file file)) (sym (rest_is a.0))
     (stands a.0 file a.2))
 container_of blob file marked (inr a) =
     absurd (marked (ap (λ (l : List ℕ). get_or l 0 0) a.0))
 
 -- bytes stand for one file
-one_restored : (bytes file other : List ℕ) → StandsForFile bytes file → StandsForFile bytes other
+one_restored : (bytes file other : List ℕ) → StandsFor bytes (as_file file) → StandsFor bytes (as_file other)
     → file ≡ other
 one_restored bytes file other x y =
-    ap (λ (m : Meaning). m.bytes)
-    (sym x.3 ∙ ap scans_meaning (one_list_of_scans x.0 y.0 bytes x.1 y.1) ∙ y.3)
+    ap (λ (m : Meaning). m.bytes) (stands_for_one bytes (as_file file) (as_file other) x y)
 
 encoded_is_not_refused : (made file : List ℕ) (r : FileRefusal)
     → IsContainerOfFile blob_segments made file → FileIsRefused file r → ⊥
@@ -89,7 +74,7 @@ pub one_file : OneFile
 one_file blob file other (inl a) (inl b) =
     let same : a.0 ≡ b.0 = ap (λ (l : List ℕ). drop 1 l) (sym a.1 ∙ b.1) in
     one_restored b.0 file other
-    (subst (λ (l : List ℕ). StandsForFile l file) same (stands a.0 file a.2)) (stands b.0 other b.2)
+    (subst (λ (l : List ℕ). StandsFor l (as_file file)) same (stands a.0 file a.2)) (stands b.0 other b.2)
 one_file blob file other (inl a) (inr b) = absurd (marks_differ blob a.0 other a.1 b.0)
 one_file blob file other (inr a) (inl b) = absurd (marks_differ blob b.0 file b.1 a.0)
 one_file blob file other (inr a) (inr b) = ap (λ (l : List ℕ). drop 1 l) (sym a.0 ∙ b.0)

@@ -1,3 +1,2 @@
-pub mod ShownFiles
-pub mod PaidSteps
 pub mod BlobFiles
+pub mod ShownFiles

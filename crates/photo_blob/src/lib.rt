@@ -7,6 +7,7 @@
 //! `encode` (`photo_store` uses `lepton_encode`), and where blobs are kept.
 #![tactic(auto)]
 
+mod grown;
 mod laws;
 mod show;
 

@@ -3,7 +3,7 @@ use Rattle.std.specs.Prelude.{ℕ, ◌≡◌, ◌≢◌, ◌⊎◌, ◌≤◌, L
 use Rattle.std.specs.declared.result.Result.{Result}
 use Rattle.std.specs.declared.result.Result.TheVariants.{Ok, Err}
 use Rattle.sha2.specs.Sha256.{sha256}
-use Rattle.growth.specs.declared.no_memory.NoMemory.{NoMemory as OutOfMemory}
+use Rattle.allocation.specs.declared.no_memory.NoMemory.{NoMemory as OutOfMemory}
 use Rattle.container_spec.specs.Limits.{most_of_a_file}
 use Rattle.blob_store.specs.declared.record.Reply.TheVariants.{Stored, Held, Found as FoundReply, Missing as MissingReply, Removed as RemovedReply}
 use Rattle.blob_store.specs.declared.record.Stop.{Stop}

@@ -4,8 +4,8 @@ ghost use Rattle.sha2.specs.Sha256.{sha256};
 ghost use Rattle.container_spec.specs.Limits.{most_of_a_file};
 ghost use Rattle.photo_blob.specs.Blobs.{IsBlobOf};
 
+use allocation::{NoMemory, extend_from_slice, push};
 use blob_store::Key;
-use growth::{NoMemory, extend_from_slice, push};
 use lepton_encode::{EncodeError, encode};
 use photo_blob::{CONTAINER, PLAIN};
 use sha2::{Digest, Sha256};

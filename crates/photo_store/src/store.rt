@@ -9,8 +9,8 @@ ghost use Rattle.photo_store.specs.Photos.{PutGives, FindGives, RemoveGives, Has
 use crate::answers::{Find, Put, Remove};
 use crate::make::{key_of, make_blob};
 use crate::ticket::Ticket;
+use allocation::NoMemory;
 use blob_store::{BlobCaller, BlobStore, Form, Keeper, Key, Reply, Stop};
-use growth::NoMemory;
 use std::alloc::Global;
 use std::marker::Model;
 use std::sync::Wait;

@@ -2,7 +2,7 @@
 ghost use Rattle.std.specs.Prelude.{◌≡◌, ℕ, List, IfOk, IfErr};
 ghost use Rattle.photo_blob.specs.Blobs.{IsBlobOf};
 
-use growth::NoMemory;
+use allocation::NoMemory;
 use photo_blob::show_blob;
 use std::alloc::Global;
 use std::marker::Model;

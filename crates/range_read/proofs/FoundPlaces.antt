@@ -1,5 +1,6 @@
 -- The places of segments by their measures, and what a container stands for by these.
 use Rattle.std.proofs.Common.{◌≡◌, ℕ, ◌+◌, ◌*◌, ◌^◌, ◌<◌, ◌≤◌, if◌then◌else◌, Bool, List, [], ◌∷◌, ◌++◌, length, Option, Some, None, refl, sym, ap, ap₂, subst, ◌∙◌, arith, append_assoc}
+use Rattle.std.proofs.lemmas.List.FromFn.{length-map-range_with_len}
 use Rattle.jpeg_marker.specs.Plans.{PlanFields}
 use Rattle.scan_spec.specs.Pads.{is_spelled}
 use Rattle.handover.specs.PadSums.{no_pads, pads_with}
@@ -16,7 +17,6 @@ use Rattle.container_spec.proofs.JoinedSegments.{Joined, joined, joined_alone, j
 use Rattle.container_spec.proofs.PortionsMeant.{file_alone}
 use Rattle.container_spec.specs.Portions.{OfFile, ending_by, meaning_of, whole}
 use Rattle.container_spec.specs.Indexed.{places_after, places_found, outputs_of}
-use Rattle.container_spec.proofs.Numbered.{mapped_long}
 use Rattle.container_spec.proofs.PlacesFound.{found_long}
 use Rattle.container_spec.proofs.PutParts.{sums_more, sums_none}
 use Rattle.segment_worker.specs.Contents.{segment_room}
@@ -54,7 +54,7 @@ pub found_count : (plan : PlanFields) (b : BoxParts)
     → length (places_found plan b) ≡ length b.handovers + 1
 found_count plan b =
     let long = found_long (length b.header) (outputs_of plan b) in
-    let many = mapped_long (λ i. segment_output (segment_in plan b i)) 0 (length b.handovers) in
+    let many = length-map-range_with_len (λ i. segment_output (segment_in plan b i)) 0 (length b.handovers) in
     omega (arith, long, many)
 
 -- ---- measures, one after another

@@ -1,8 +1,8 @@
 -- Outputs without a fault, one after another, and a part of them.
 use Rattle.std.proofs.Common.{◌≡◌, ℕ, zero, suc, ◌+◌, ◌-◌, ◌≤◌, List, [], ◌∷◌, ◌++◌, map, take, drop, None, refl, sym, ap, ap₂, ◌∙◌, arith}
 use Rattle.std.proofs.lemmas.List.{take-append-drop, take-map, drop-map}
+use Rattle.std.specs.List.{range_with_len}
 use Rattle.handover.specs.declared.outcome.Outcome.{Outcome}
-use Rattle.box_format.specs.Raws.{numbers}
 use Rattle.container_spec.specs.Segments.{Output}
 use Rattle.container_spec.proofs.JoinedSegments.{joined_with, joined}
 use Rattle.container_spec.proofs.ReachedSegments.{first_good}
@@ -11,22 +11,22 @@ use Rattle.byte_window.specs.PartedFiles as parted
 -- ---- numbers
 
 dropped_numbers : {A : Type 0} (f : ℕ → A) (k from count : ℕ)
-    → drop k (map f (numbers from count)) ≡ map f (numbers (from + k) (count - k))
+    → drop k (map f (range_with_len from count)) ≡ map f (range_with_len (from + k) (count - k))
 dropped_numbers f zero from count =
     let same : from ≡ from + 0 = omega arith in
     let all : count ≡ count - 0 = omega arith in
-    ap₂ (λ (i n : ℕ). map f (numbers i n)) same all
+    ap₂ (λ (i n : ℕ). map f (range_with_len i n)) same all
 dropped_numbers f (suc k) from zero =
     let none : 0 ≡ 0 - suc k = omega arith in
-    ap (λ (n : ℕ). map f (numbers (from + suc k) n)) none
+    ap (λ (n : ℕ). map f (range_with_len (from + suc k) n)) none
 dropped_numbers f (suc k) from (suc count) =
     let same : (from + 1) + k ≡ from + suc k = omega arith in
     let left : count - k ≡ suc count - suc k = omega arith in
     dropped_numbers f k (from + 1) count
-    ∙ ap₂ (λ (i n : ℕ). map f (numbers i n)) same left
+    ∙ ap₂ (λ (i n : ℕ). map f (range_with_len i n)) same left
 
 taken_numbers : {A : Type 0} (f : ℕ → A) (k from count : ℕ) → k ≤ count
-    → take k (map f (numbers from count)) ≡ map f (numbers from k)
+    → take k (map f (range_with_len from count)) ≡ map f (range_with_len from k)
 taken_numbers f zero from count few = refl
 taken_numbers f (suc k) from zero few = absurd (omega (arith, few))
 taken_numbers f (suc k) from (suc count) few =
@@ -34,12 +34,12 @@ taken_numbers f (suc k) from (suc count) few =
 
 -- those from one to before another are a part of all
 pub numbers_between : {A : Type 0} (f : ℕ → A) (from to count : ℕ) → from ≤ to → to ≤ count
-    → map f (numbers from (to - from)) ≡ take (to - from) (drop from (map f (numbers 0 count)))
+    → map f (range_with_len from (to - from)) ≡ take (to - from) (drop from (map f (range_with_len 0 count)))
 numbers_between f from to count order within =
     let same : 0 + from ≡ from = omega arith in
     sym (ap (take (to - from)) (dropped_numbers f from 0 count)
     ∙ taken_numbers f (to - from) (0 + from) (count - from) (omega (arith, order, within))
-    ∙ ap (λ (i : ℕ). map f (numbers i (to - from))) same)
+    ∙ ap (λ (i : ℕ). map f (range_with_len i (to - from))) same)
 
 -- ---- outputs without a fault
 

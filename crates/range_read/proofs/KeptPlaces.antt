@@ -2,6 +2,7 @@
 use Rattle.std.proofs.Common.{◌≡◌, ℕ, ◌+◌, true, false, List, length, map, Option, Some, None, refl, ap, ◌∙◌}
 use Rattle.std.specs.Prelude.{IfSome, is_some}
 use Rattle.std.proofs.lemmas.List.{length-map}
+use Rattle.std.proofs.lemmas.List.FromFn.{length-map-range_with_len}
 use Rattle.jpeg_marker.specs.Plans.{PlanFields}
 use Rattle.box_format.specs.Parts.{BoxParts, ArePlaces}
 use Rattle.box_format.specs.Single.{IsBox}
@@ -12,7 +13,6 @@ use Rattle.box_format.specs.declared.version.Version.TheVariants.{Fifth}
 use Rattle.container_spec.specs.Segments.{Output, segment_output}
 use Rattle.container_spec.specs.Indexed.{outputs_of}
 use Rattle.container_spec.specs.Meanings.{segment_in}
-use Rattle.container_spec.proofs.Numbered.{mapped_long}
 use Rattle.range_read.specs.RangeMeanings.{places_of}
 
 -- places that are kept
@@ -38,7 +38,7 @@ pub segments_long : (plan : PlanFields) (b : BoxParts)
     → length (map (λ (output : Output). output.0) (outputs_of plan b)) ≡ length b.handovers
 segments_long plan b =
     length-map (outputs_of plan b) (λ (output : Output). output.0)
-    ∙ mapped_long (λ i. segment_output (segment_in plan b i)) 0 (length b.handovers)
+    ∙ length-map-range_with_len (λ i. segment_output (segment_in plan b i)) 0 (length b.handovers)
 
 -- of the fifth version
 module _ (plan : PlanFields) (b : BoxParts) (box : IsBox plan b) (fifth : b.version ≡ Fifth) where

@@ -1,11 +1,11 @@
 -- A range as a portion, by its segments one after another.
 use Rattle.std.proofs.Common.{◌≡◌, ℕ, ◌-◌, List, [], ◌∷◌, ◌++◌, map, Option, Some, None, refl, ap, ◌∙◌, arith, append_assoc}
+use Rattle.std.specs.List.{range_with_len}
 use Rattle.byte_window.specs.Slices.{Cover}
 use Rattle.byte_window.specs.Windows.{window}
 use Rattle.jpeg_marker.specs.Plans.{PlanFields}
 use Rattle.handover.specs.declared.outcome.StreamFault.{StreamFault}
 use Rattle.box_format.specs.Parts.{BoxParts, BoxSeen}
-use Rattle.box_format.specs.Raws.{numbers}
 use Rattle.container_spec.specs.Segments.{segment_output}
 use Rattle.container_spec.proofs.JoinedSegments.{Joined, joined, joined_alone}
 use Rattle.container_spec.specs.Meanings.{Meaning, segment_in}
@@ -19,7 +19,7 @@ use Rattle.byte_window.proofs.PartedFacts.{parts_are_in_file}
 -- segments from one to before another, one after another
 abbrev pub joined_between : PlanFields → BoxParts → Cover → Joined
 joined_between plan b c =
-    joined (map (λ i. segment_output (segment_in plan b i)) (numbers c.from (c.to - c.from)))
+    joined (map (λ i. segment_output (segment_in plan b i)) (range_with_len c.from (c.to - c.from)))
 
 -- by the first fault of the segments: the trailer's part comes only if there is none
 abbrev pub range_by : PartedFile → ℕ → ℕ → List ℕ → Option StreamFault → RangeMeaning

@@ -3,12 +3,12 @@ use Rattle.std.proofs.Common.{◌≡◌, ℕ, ◌+◌, ◌-◌, ◌≤◌, Bool,
 use Rattle.std.specs.Prelude.{◌||◌}
 use Rattle.std.proofs.lemmas.Bool.{le-ltb}
 use Rattle.std.proofs.lemmas.List.{take_all}
+use Rattle.std.specs.List.{range_with_len}
 use Rattle.byte_window.specs.Slices.{slice}
 use Rattle.byte_window.specs.Windows.{window}
 use Rattle.jpeg_marker.specs.Plans.{PlanFields}
 use Rattle.handover.specs.declared.outcome.StreamFault.{StreamFault}
 use Rattle.box_format.specs.Parts.{BoxParts, file_end}
-use Rattle.box_format.specs.Raws.{numbers}
 use Rattle.container_spec.specs.Segments.{Output, segment_output}
 use Rattle.container_spec.proofs.JoinedSegments.{Joined, joined}
 use Rattle.container_spec.specs.Indexed.{outputs_of}
@@ -22,11 +22,11 @@ use Rattle.byte_window.proofs.BegunParts.{list_is_placed, one_more}
 use Rattle.byte_window.proofs.PartedFacts.{parts_are_in_file, place_rises, slice_of_file}
 use Rattle.range_read.specs.RangeMeanings.{places_of, placed_file, is_bad_range, range_meaning}
 use Rattle.range_read.proofs.RangePortions.{as_read, joined_between, range_by}
-use Rattle.range_read.specs.RangeMeaningLaws.{StandsFor, EndIsKept, RangeIsSlice}
+use Rattle.range_read.specs.RangeMeaningLaws.{RestoresFile, EndIsKept, RangeIsSlice}
 use Rattle.range_read.proofs.KeptPlaces.{AreKeptPlaces, no_chunk, kept_places, segments_long}
 use Rattle.range_read.proofs.GoodParts.{IsPart, good_bytes, good_part, numbers_between}
 
-module _ (plan : PlanFields) (b : BoxParts) (file : List ℕ) (s : StandsFor plan b file) where
+module _ (plan : PlanFields) (b : BoxParts) (file : List ℕ) (s : RestoresFile plan b file) where
   abbrev count : ℕ
   count = length b.handovers
 
@@ -50,7 +50,7 @@ module _ (plan : PlanFields) (b : BoxParts) (file : List ℕ) (s : StandsFor pla
 
   -- the bytes of segments from one to before another
   between : (from to : ℕ) → from ≤ to → to ≤ count
-      → joined (map output (numbers from (to - from)))
+      → joined (map output (range_with_len from (to - from)))
       ≡ joined (take (to - from) (drop from outputs))
   between from to order within =
       ap joined (numbers_between output from to count order within)
@@ -66,7 +66,7 @@ module _ (plan : PlanFields) (b : BoxParts) (file : List ℕ) (s : StandsFor pla
       let here =
       place_is plan b (places_of b.places) (length b.header) count k kept.some kept.are few
       restored.none in
-      let made = ap (λ (n : ℕ). joined (map output (numbers 0 n))) (sym all)
+      let made = ap (λ (n : ℕ). joined (map output (range_with_len 0 n))) (sym all)
       ∙ between 0 k (omega arith) few
       ∙ ap (λ (n : ℕ). joined (take n outputs)) all in
       let long = ap (λ (x : Joined). length x.bytes) made ∙ ap length (part 0 k).bytes in

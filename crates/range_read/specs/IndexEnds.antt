@@ -9,8 +9,8 @@ use Rattle.container_spec.specs.Portions.{scans_meaning}
 use Rattle.container_spec.specs.Indexed.{indexed}
 
 -- the bytes are a container that is indexed, which ends so
-abbrev pub Ends : List ℕ → Verdict → Type 0
-Ends bytes verdict =
+abbrev pub IndexEnds : List ℕ → Verdict → Type 0
+IndexEnds bytes verdict =
     (plan : PlanFields) × (b : BoxParts) × IsBoxOf plan b bytes × IsRead indexable b.version
     × ((scans_meaning (record { plan = plan; parts = b } ∷ [])).verdict ≡ verdict)
 

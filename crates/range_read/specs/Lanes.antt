@@ -1,6 +1,6 @@
 -- Steps: segments of a container that are measured at the same time (own).
 use Rattle.std.specs.Prelude.{ℕ, ◌≡◌, ◌+◌, ◌-◌, ◌<◌, ◌≤◌, List, [], ◌∷◌, ◌++◌, length, map}
-use Rattle.box_format.specs.Raws.{numbers}
+use Rattle.std.specs.List.{range_with_len}
 use Rattle.box_format.specs.Parts.{BoxSeen}
 use Rattle.container_spec.specs.Meanings.{segment_in}
 use Rattle.container_spec.specs.Segments.{Output, segment_output}
@@ -15,7 +15,7 @@ most_at_once = 16
 -- the outputs of `count` segments of a container of one scan, from number `first` on
 abbrev pub outputs_from : BoxSeen → ℕ → ℕ → List Output
 outputs_from v first count =
-    map (λ i. segment_output (segment_in v.plan v.parts i)) (numbers first count)
+    map (λ i. segment_output (segment_in v.plan v.parts i)) (range_with_len first count)
 
 -- a lane that can measure a segment, after at most `most` others
 pub record IsLane (v : BoxSeen) (most : ℕ) (lane : Lane) : Type 0 where

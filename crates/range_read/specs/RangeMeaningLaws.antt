@@ -11,7 +11,7 @@ use Rattle.container_spec.specs.Portions.{meaning_of}
 use Rattle.range_read.specs.RangeMeanings.{is_bad_range, placed_file, places_of, range_meaning}
 
 -- a container of the fifth version stands for this file
-pub record StandsFor (plan : PlanFields) (b : BoxParts) (file : List ℕ) : Type 0 where
+pub record RestoresFile (plan : PlanFields) (b : BoxParts) (file : List ℕ) : Type 0 where
   pub box : IsBox plan b
   pub fifth : b.version ≡ Fifth
   pub restored : meaning_of plan b ≡ record { bytes = file; verdict = Restored }
@@ -19,13 +19,13 @@ pub record StandsFor (plan : PlanFields) (b : BoxParts) (file : List ℕ) : Type
 -- the place where it says that its file ends is the file's end
 abbrev pub EndIsKept : Type 0
 EndIsKept =
-    (plan : PlanFields) (b : BoxParts) (file : List ℕ) → StandsFor plan b file
+    (plan : PlanFields) (b : BoxParts) (file : List ℕ) → RestoresFile plan b file
     → file_end b (places_of b.places) ≡ length file
 
 -- a range of it is the file's slice
 abbrev pub RangeIsSlice : Type 0
 RangeIsSlice =
-    (plan : PlanFields) (b : BoxParts) (file : List ℕ) (from to : ℕ) → StandsFor plan b file
+    (plan : PlanFields) (b : BoxParts) (file : List ℕ) (from to : ℕ) → RestoresFile plan b file
     → from ≤ to → to ≤ length file
     → (is_bad_range b from to ≡ false)
     × (range_meaning plan b from to ≡ record {

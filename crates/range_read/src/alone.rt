@@ -16,7 +16,7 @@ use crate::one_scan::OneScan;
 use crate::portion::range_portion;
 use crate::reading::{Ranged, as_range};
 use crate::ready::read_ranged;
-use growth::NoMemory;
+use allocation::NoMemory;
 use lepton_decode::{Kind, Lone, play_alone, play_bare};
 use outside_core::{Gate, Sink};
 use segment_worker::EmitStop;

@@ -1,6 +1,6 @@
 // Why a container isn't indexed, and why a range of it can't be read.
+use allocation::NoMemory;
 use box_format::BoxRefusal;
-use growth::NoMemory;
 use handover::StreamFault;
 use thiserror::Error;
 

@@ -8,14 +8,14 @@ ghost use Rattle.box_format.specs.declared.refusal.BoxRefusal.{BoxRefusal};
 ghost use Rattle.container_spec.specs.Indexed.{outputs_of, places_found};
 ghost use Rattle.container_spec.specs.Meanings.{Faulty, PadSpelled, Restored};
 ghost use Rattle.container_spec.specs.Portions.{meaning_of};
-ghost use Rattle.range_read.specs.IndexEnds.{Ends, IsIndexOf};
+ghost use Rattle.range_read.specs.IndexEnds.{IndexEnds, IsIndexOf};
 ghost use Rattle.range_read.specs.Measures.{AreMeasures};
 
 use crate::error::IndexError;
 use crate::measure::{Measure, measure_all, measure_in_turn};
 use crate::one_scan::OneScan;
+use allocation::{push, with_capacity};
 use box_format::{BoxView, ReadError, Version, write_placed};
-use growth::{push, with_capacity};
 use handover::{Outcome, PadSum};
 use std::alloc::Global;
 use std::thread::Threads;
@@ -33,8 +33,8 @@ pub fn index<R: Threads + Sync>(rt: &R, alloc: Global, bytes: &[u8]) -> Result<V
     ensures refused { (refusal : BoxRefusal) → IsErrOf result (IndexError.Box refusal)
         → IsRefusedBy indexable bytes.now refusal }
     ensures fault { (fault : StreamFault) → IsErrOf result (IndexError.Fault fault)
-        → Ends bytes.now (Faulty fault) }
-    ensures spelling { IsErrOf result IndexError.PadSpelling → Ends bytes.now PadSpelled }
+        → IndexEnds bytes.now (Faulty fault) }
+    ensures spelling { IsErrOf result IndexError.PadSpelling → IndexEnds bytes.now PadSpelled }
 {
     let scan = match OneScan::read(alloc, bytes, &INDEXABLE) {
         Ok(scan) => scan,
@@ -52,8 +52,8 @@ pub fn index_alone(alloc: Global, bytes: &[u8]) -> Result<Vec<u8>, IndexError>
     ensures refused { (refusal : BoxRefusal) → IsErrOf result (IndexError.Box refusal)
         → IsRefusedBy indexable bytes.now refusal }
     ensures fault { (fault : StreamFault) → IsErrOf result (IndexError.Fault fault)
-        → Ends bytes.now (Faulty fault) }
-    ensures spelling { IsErrOf result IndexError.PadSpelling → Ends bytes.now PadSpelled }
+        → IndexEnds bytes.now (Faulty fault) }
+    ensures spelling { IsErrOf result IndexError.PadSpelling → IndexEnds bytes.now PadSpelled }
 {
     let scan = match OneScan::read(alloc, bytes, &INDEXABLE) {
         Ok(scan) => scan,
@@ -74,10 +74,10 @@ fn index_by(alloc: Global, scan: &OneScan, measures: Vec<Measure>) -> Result<Vec
         → IfOk result (λ made. IsIndexOf made.items bytes) }
     ensures fault { (bytes : List ℕ) (fault : StreamFault)
         → IsBoxOf scan.now.plan scan.now.parts bytes → IsRead indexable scan.now.parts.version
-        → IsErrOf result (IndexError.Fault fault) → Ends bytes (Faulty fault) }
+        → IsErrOf result (IndexError.Fault fault) → IndexEnds bytes (Faulty fault) }
     ensures spelling { (bytes : List ℕ) → IsBoxOf scan.now.plan scan.now.parts bytes
         → IsRead indexable scan.now.parts.version
-        → IsErrOf result IndexError.PadSpelling → Ends bytes PadSpelled }
+        → IsErrOf result IndexError.PadSpelling → IndexEnds bytes PadSpelled }
     ensures checked { (refusal : BoxRefusal) → ¬ IsErrOf result (IndexError.Box refusal) }
 {
     let places = places_by(alloc, scan.view(), measures)?;

@@ -8,8 +8,8 @@ ghost use Rattle.sample_jpeg.specs.SampleWriting.{IsUnderWay, PutsMcu, PutsMcus}
 use crate::draws::Draws;
 use crate::extent::Extent;
 use crate::header::{plan_of, put_header};
+use allocation::{NoMemory, extend_from_slice};
 use bit_list::Piece;
-use growth::{NoMemory, extend_from_slice};
 use huff_table::PlanCodes;
 use scan_spec::Pads;
 use scan_write::Writer;

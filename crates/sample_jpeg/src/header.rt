@@ -5,7 +5,7 @@ ghost use Rattle.sample_jpeg.specs.declared.extent.Extent.{Extent};
 ghost use Rattle.sample_jpeg.specs.SampleHeader.{IsExtent, frame_segment, interval_segments, sample_header, sample_plan, table_segment};
 
 use crate::extent::Extent;
-use growth::{NoMemory, extend_from_slice, push};
+use allocation::{NoMemory, extend_from_slice, push};
 use jpeg_marker::{Plan, read_header};
 
 /// How many code words there are of each length: twelve of 4 bits for the categories of DC differences, and 162 of 8

@@ -14,8 +14,8 @@ ghost use Rattle.scan_decode.specs.ReadResults.{coded_at, values_at_cursor};
 use crate::dc::dc;
 use crate::skip_symbols::by_symbols_apart;
 use crate::skip_word::{NO_SKIP, SkipWord, skip_words};
+use allocation::push;
 use bit_list::BitIn;
-use growth::push;
 use huff_table::{Codes, ComponentCodes};
 use scan_spec::ScanRefusal;
 

@@ -13,7 +13,7 @@ use Rattle.scan_spec.specs.Slots.{Shape}
 use Rattle.scan_spec.specs.Spots.{is_closed, interval_number}
 use Rattle.scan_spec.specs.Scans.{no_dcs}
 use Rattle.scan_spec.specs.ScanSymbols.{code_refusal, bits_refusal, Symbol, Value, Sixteen, End, Past, Loose, Unknown, symbol_of, pad_of, restart_at}
-use Rattle.scan_spec.specs.Items.{Due, DcWord, DcBits, AcWord, AcBits, Pads, Marker, Over, Wrong, Run, Stage, slots_due, mcu_due, mcu_over, after_slots, block_over, size_over, dc_over, acs_due, symbol_over, pads_over, Item, Coded, Restart, IsWord, Stands, Path, IsStuck, first_stage, Refuses, Ends}
+use Rattle.scan_spec.specs.Items.{Due, DcWord, DcBits, AcWord, AcBits, Pads, Marker, Over, Wrong, Run, Stage, slots_due, mcu_due, mcu_over, after_slots, block_over, size_over, dc_over, acs_due, symbol_over, pads_over, Item, Coded, Restart, IsWord, Stands, Path, IsStuck, first_stage, Refuses, IsOverAt}
 use Rattle.scan_spec.specs.ScanLaws.{IsSlot, IsShape}
 use Rattle.scan_spec.specs.declared.slot.Slot.{Slot}
 use Rattle.scan_spec.specs.declared.refusal.ScanRefusal.{ScanRefusal}
@@ -267,7 +267,7 @@ good_first : (shape : Shape) → IsShape shape → Good (first_stage shape)
 good_first shape is = good_slots shape.slots (record { slots = []; before = no_dcs; count = 0; pads = [] }) is.slots
 
 pub one_outcome : (shape : Shape) (bytes : List ℕ) (place after : ℕ) (pads : List Bool) (refusal other : ScanRefusal) → IsShape shape → Refuses shape bytes place refusal
-    → (Refuses shape bytes place other → refusal ≡ other) × (Ends shape bytes place pads after → ⊥)
+    → (Refuses shape bytes place other → refusal ≡ other) × (IsOverAt shape bytes place pads after → ⊥)
 one_outcome shape bytes place after pads refusal other is r = (
   λ s. one_refusal r.items s.items shape bytes (first_stage shape) r.last s.last (starting place 0) r.end s.end refusal other is (good_first shape is) r.path r.stuck s.path s.stuck,
   λ s. never_both r.items s.items shape bytes (first_stage shape) r.last s.last (starting place 0) r.end s.end refusal is (good_first shape is) r.path r.stuck s.path s.over,

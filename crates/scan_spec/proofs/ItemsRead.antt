@@ -16,7 +16,7 @@ use Rattle.scan_spec.specs.Spots.{interval_number}
 use Rattle.scan_spec.specs.ScanReading.{and_then, refused_as, symbol_at, extended_at, within_dc, difference_at, dc_at, prefixed_values, by_symbol, acs_at, block_at, BlocksRead, blocks_at, Standing, standing_at, padded_or, pads_at, after_pads, after_mcu, mcu_at, mcus_at, scan_at}
 use Rattle.scan_spec.specs.ScanSymbols.{code_refusal, bits_refusal, Symbol, Value, Sixteen, End, Past, Loose, Unknown, symbol_of, pad_of, restart_at}
 use Rattle.scan_spec.specs.ScanPads.{pad_told, pads_told, scan_pads}
-use Rattle.scan_spec.specs.Items.{DcWord, DcBits, AcWord, AcBits, Pads, Marker, Over, Wrong, Run, Stage, slots_due, mcu_due, mcu_over, after_slots, block_over, size_over, dc_over, acs_due, symbol_over, pads_over, Item, Coded, Restart, IsWord, Stands, Path, IsStuck, first_stage, Refuses, Ends}
+use Rattle.scan_spec.specs.Items.{DcWord, DcBits, AcWord, AcBits, Pads, Marker, Over, Wrong, Run, Stage, slots_due, mcu_due, mcu_over, after_slots, block_over, size_over, dc_over, acs_due, symbol_over, pads_over, Item, Coded, Restart, IsWord, Stands, Path, IsStuck, first_stage, Refuses, IsOverAt}
 use Rattle.scan_spec.specs.ScanLaws.{IsSlot, IsShape}
 use Rattle.scan_spec.proofs.PadsTold.{pads_more, no_pads_told}
 use Rattle.scan_spec.specs.declared.slot.Slot.{Slot}
@@ -430,7 +430,7 @@ refused_so shape bytes place refusal is e =
     record { items = f.2.0; last = f.0; end = f.1; path = f.2.1; stuck = f.3 }
 
 -- and what is read ends
-pub ends_so : (shape : Shape) (bytes : List ℕ) (place : ℕ) (blocks : List (List (List ℤ))) (end : Standing) → IsShape shape → scan_at shape bytes place ≡ Ok (blocks, end) → Ends shape bytes place (scan_pads shape bytes place) end.cursor.next
+pub ends_so : (shape : Shape) (bytes : List ℕ) (place : ℕ) (blocks : List (List (List ℤ))) (end : Standing) → IsShape shape → scan_at shape bytes place ≡ Ok (blocks, end) → IsOverAt shape bytes place (scan_pads shape bytes place) end.cursor.next
 ends_so shape bytes place blocks end is e =
     let f = told_ok shape bytes (first_stage shape) (starting place 0) (scan_at shape bytes place) (λ x. Reaches shape bytes (first_stage shape) (starting place 0) (stage_at shape (scan_pads shape bytes place) x.1) x.1.cursor × (x.1.count ≡ shape.mcus)) (blocks, end) e (scan_told shape bytes place is) in
     let all : (end.count == shape.mcus) ≡ true = eq-eqb end.count shape.mcus f.1 in

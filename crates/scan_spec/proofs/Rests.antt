@@ -58,11 +58,11 @@ same_bytes a b e = cc
 -- ---- the text of intervals, and what is left of them
 
 -- bytes that go on with a text, up to a place
-pub record HasWritten (bytes : List ℕ) (place : ℕ) (text : List ℕ) (after : ℕ) : Type 0 where
+pub record HasTextAt (bytes : List ℕ) (place : ℕ) (text : List ℕ) (after : ℕ) : Type 0 where
   pub there : drop place bytes ≡ text ++ drop after bytes
   pub long : after ≡ place + length text
 
-last_rest : (slots : List Slot) (pads : ℕ → Bool) (bytes : List ℕ) (after n place : ℕ) (first : List Mcu) (text : List ℕ) (t : Text) → mcus_bits slots first ≡ t → bytes_of (interval_bytes (pads n)) t ≡ Ok text → HasWritten bytes place text after
+last_rest : (slots : List Slot) (pads : ℕ → Bool) (bytes : List ℕ) (after n place : ℕ) (first : List Mcu) (text : List ℕ) (t : Text) → mcus_bits slots first ≡ t → bytes_of (interval_bytes (pads n)) t ≡ Ok text → HasTextAt bytes place text after
     → Rest slots pads bytes after n no_dcs (starting place 0) (pad_bits_of t) first []
 unfolding mcus_bits
 last_rest slots pads bytes after n place first text (Err stop) is e goes = absurd (bytes_stop stop text e)
@@ -79,7 +79,7 @@ last_rest slots pads bytes after n place first text (Ok bits) is e goes =
     }
 
 more_rest : (slots : List Slot) (pads : ℕ → Bool) (bytes : List ℕ) (after n place : ℕ) (first next : List Mcu) (others : List (List Mcu)) (text : List ℕ) (t : Text) (b : Bytes) → mcus_bits slots first ≡ t
-    → intervals_bytes slots pads (n + 1) (next ∷ others) ≡ b → then_bytes (bytes_of (λ bits. interval_bytes (pads n) bits ++ restart_marker n) t) b ≡ Ok text → HasWritten bytes place text after
+    → intervals_bytes slots pads (n + 1) (next ∷ others) ≡ b → then_bytes (bytes_of (λ bits. interval_bytes (pads n) bits ++ restart_marker n) t) b ≡ Ok text → HasTextAt bytes place text after
     → Rest slots pads bytes after n no_dcs (starting place 0) (pad_bits_of t) first (next ∷ others)
 unfolding mcus_bits
 more_rest slots pads bytes after n place first next others text (Err stop) b is those e goes = absurd (bytes_stop stop text e)
@@ -102,7 +102,7 @@ more_rest slots pads bytes after n place first next others text (Ok bits) (Ok la
     }
 
 start_rest : (slots : List Slot) (pads : ℕ → Bool) (bytes : List ℕ) (after n place : ℕ) (first : List Mcu) (others : List (List Mcu)) (text : List ℕ) → intervals_bytes slots pads n (first ∷ others) ≡ Ok text
-    → HasWritten bytes place text after → Rest slots pads bytes after n no_dcs (starting place 0) (pad_bits_of (mcus_bits slots first)) first others
+    → HasTextAt bytes place text after → Rest slots pads bytes after n no_dcs (starting place 0) (pad_bits_of (mcus_bits slots first)) first others
 unfolding intervals_bytes
 start_rest slots pads bytes after n place first [] text e goes = last_rest slots pads bytes after n place first text (mcus_bits slots first) refl e goes
 start_rest slots pads bytes after n place first (next ∷ others) text e goes =
@@ -110,7 +110,7 @@ start_rest slots pads bytes after n place first (next ∷ others) text e goes =
 
 -- and back
 abbrev pub TextOf : List Slot → (ℕ → Bool) → List ℕ → ℕ → ℕ → ℕ → List (List Mcu) → Type 0
-TextOf slots pads bytes after n place all = (text : List ℕ) × (intervals_bytes slots pads n all ≡ Ok text) × HasWritten bytes place text after
+TextOf slots pads bytes after n place all = (text : List ℕ) × (intervals_bytes slots pads n all ≡ Ok text) × HasTextAt bytes place text after
 
 rest_text : (slots : List Slot) (pads : ℕ → Bool) (bytes : List ℕ) (after n place k : ℕ) (first : List Mcu) (others : List (List Mcu)) → AllByRecursion IsByte bytes
     → Rest slots pads bytes after n no_dcs (starting place 0) k first others → (k ≡ pad_bits_of (mcus_bits slots first)) × TextOf slots pads bytes after n place (first ∷ others)

@@ -29,7 +29,7 @@ use Rattle.scan_spec.proofs.AcsAgain.{text_parts}
 use Rattle.scan_spec.proofs.ZigzagLaws.{zigzag_tells}
 use Rattle.scan_spec.proofs.BlocksTaken.{McuTaken, blocks_read, blocks_again}
 use Rattle.scan_spec.proofs.Intervals.{Agrees, pad_after, none_told, pad_is, pads_read, pads_fine, pads_are, restart_fine, restart_again}
-use Rattle.scan_spec.proofs.Rests.{blocks_in, Later, Rest, RestOf, HasWritten, TextOf, text_of_rest, rest_of_text, closed_rest, onto_rest}
+use Rattle.scan_spec.proofs.Rests.{blocks_in, Later, Rest, RestOf, HasTextAt, TextOf, text_of_rest, rest_of_text, closed_rest, onto_rest}
 
 -- ---- after the blocks of an MCU
 
@@ -510,7 +510,7 @@ more_again true n shape bytes s mcu next mcus pads told after k old is one on cl
     let st = place_standing place s.count (pad_after None k pad) in
     let number : interval_number shape (s.count + 1) ≡ interval_number shape s.count + 1 = number_next_of (shape.interval == 0) shape.interval s.count refl closes in
     let long = t.3 in
-    let goes : HasWritten bytes place t.0 after = record { there = marker.1; long = omega (arith, long) } in
+    let goes : HasTextAt bytes place t.0 after = record { there = marker.1; long = omega (arith, long) } in
     let text : TextOf shape.slots pads bytes after (interval_number shape (s.count + 1)) place intervals =
     (t.0, ap (λ (m : ℕ). intervals_bytes shape.slots pads m intervals) number ∙ t.1, goes) in
     let f = list_split intervals some in
@@ -576,7 +576,7 @@ again_by (mcu ∷ mcus) shape bytes place after pads is b =
     let count = w.grid.count in
     let intervals = intervals_after shape.interval 0 all in
     let f = list_split intervals (intervals_some shape.interval 0 mcu mcus) in
-    let goes : HasWritten bytes place b.scan after = record { there = b.text; long = b.long } in
+    let goes : HasTextAt bytes place b.scan after = record { there = b.text; long = b.long } in
     let text : TextOf shape.slots (pad_at pads) bytes after (interval_number shape 0) place intervals = (b.scan, ap (λ (n : ℕ). intervals_bytes shape.slots (pad_at pads) n intervals) (first_number shape) ∙ w.text, goes) in
     let rest = rest_of_text shape (pad_at pads) bytes after 0 place all f.0 f.1 f.2 text in
     let are = subst (λ (is : List (List Mcu)). ArePads (pad_counts shape.slots is) pads) f.2 w.told in

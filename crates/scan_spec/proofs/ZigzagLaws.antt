@@ -4,24 +4,20 @@ use Rattle.std.specs.Prelude.{nat_lt}
 use Rattle.std.proofs.lemmas.Bool.{eqb-true, cases_eq, agree_below_at}
 use Rattle.std.proofs.lemmas.Bool.Decides.{nat_tests}
 use Rattle.std.proofs.lemmas.List.{drop_all, get_or-map, get_or-set_same, get_or-set_other, length-set}
+use Rattle.std.specs.List.{range_with_len}
 use Rattle.coef_block.specs.Zigzag.{zigzag}
 use Rattle.scan_spec.specs.BlockBits.{coefficient_at, ac_values, in_zigzag}
 use Rattle.scan_spec.specs.ScanLaws.{ZigzagDetermines, IsSetInZigzag}
 
--- so many numbers from one on
-abbrev pub numbers : ℕ → ℕ → List ℕ
-numbers from zero = []
-numbers from (suc n) = from ∷ numbers (from + 1) n
-
 -- a list by its items
-items_from : (n from : ℕ) (l : List ℤ) → from + n ≡ length l → map (λ i. get_or l i (pos 0)) (numbers from n) ≡ drop from l
+items_from : (n from : ℕ) (l : List ℤ) → from + n ≡ length l → map (λ i. get_or l i (pos 0)) (range_with_len from n) ≡ drop from l
 items_from zero from l e = sym (drop_all from l (omega (arith, e)))
 items_from (suc n) from l e =
     ap (λ (r : List ℤ). get_or l from (pos 0) ∷ r) (items_from n (from + 1) l (omega (arith, e)))
     ∙ ap (λ (k : ℕ). get_or l from (pos 0) ∷ drop k l) (add-one from)
     ∙ sym (drop-cons l from (pos 0) (omega (arith, e)))
 
-pub by_items : (n : ℕ) (l : List ℤ) → length l ≡ n → map (λ i. get_or l i (pos 0)) (numbers 0 n) ≡ l
+pub by_items : (n : ℕ) (l : List ℤ) → length l ≡ n → map (λ i. get_or l i (pos 0)) (range_with_len 0 n) ≡ l
 by_items n l e = items_from n 0 l (omega (arith, e))
 
 -- the zigzag index of each natural place

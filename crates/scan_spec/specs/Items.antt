@@ -180,7 +180,7 @@ pub record Refuses (shape : Shape) (bytes : List ℕ) (place : ℕ)
 
 -- from a place on they continue until the scan is over; these are the pad bits of its intervals, 1 if one pads none,
 -- and the place after it
-pub record Ends (shape : Shape) (bytes : List ℕ) (place : ℕ) (pads : List Bool)
+pub record IsOverAt (shape : Shape) (bytes : List ℕ) (place : ℕ) (pads : List Bool)
     (after : ℕ) : Type 0 where
   pub items : List Item
   pub last : Stage

@@ -11,7 +11,7 @@ IsWritten (Err (Stop stop)) old new text = text ≡ Err stop
 IsWritten (Err NoMemory) old new text = Prim.Unit {0}
 
 -- a prefix of the whole text was appended to bits, and this is left
-pub record HasWritten (whole : Text) (old now : List Bool) (rest : Text) : Type 0 where
+pub record HasPutPrefix (whole : Text) (old now : List Bool) (rest : Text) : Type 0 where
   pub prefix : List Bool
   pub put : now ≡ old ++ prefix
   pub parts : whole ≡ prefixed prefix rest

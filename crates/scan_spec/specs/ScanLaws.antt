@@ -16,7 +16,7 @@ use Rattle.scan_spec.specs.Scans.{Mcu, Bytes, IsMcu, AreMcus, IsScan, intervals_
 use Rattle.scan_spec.specs.Spots.{Spot, Put, first_spot, interval_number, then_put, mcu_put, mcus_put, put_first, bytes_done, spot_at}
 use Rattle.scan_spec.specs.ScanReading.{and_then, Standing, block_at, BlocksRead, blocks_at, after_mcu, mcu_at, scan_at}
 use Rattle.scan_spec.specs.ScanPads.{scan_pads, scan_sum}
-use Rattle.scan_spec.specs.Items.{Item, Stage, Path, IsStuck, first_stage, Refuses, Ends}
+use Rattle.scan_spec.specs.Items.{Item, Stage, Path, IsStuck, first_stage, Refuses, IsOverAt}
 use Rattle.scan_spec.specs.declared.slot.Slot.{Slot}
 use Rattle.scan_spec.specs.declared.refusal.ScanRefusal.{ScanRefusal}
 
@@ -181,14 +181,14 @@ abbrev pub IsEndOfItems : Type 0
 IsEndOfItems =
     (shape : Shape) (bytes : List ℕ) (place : ℕ) (blocks : List (List (List ℤ))) (end : Standing)
     → IsShape shape → scan_at shape bytes place ≡ Ok (blocks, end)
-    → Ends shape bytes place (scan_pads shape bytes place) end.cursor.next
+    → IsOverAt shape bytes place (scan_pads shape bytes place) end.cursor.next
 
 -- bytes have one outcome, so that both hold the other way round too
 abbrev pub OneOutcome : Type 0
 OneOutcome =
     (shape : Shape) (bytes : List ℕ) (place after : ℕ) (pads : List Bool)
     (refusal other : ScanRefusal) → IsShape shape → Refuses shape bytes place refusal
-    → (Refuses shape bytes place other → refusal ≡ other) × (Ends shape bytes place pads after → ⊥)
+    → (Refuses shape bytes place other → refusal ≡ other) × (IsOverAt shape bytes place pads after → ⊥)
 
 -- no items that are there continue past those that stop, so that these are the longest list
 abbrev pub IsLongest : Type 0

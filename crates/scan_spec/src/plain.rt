@@ -7,7 +7,7 @@ ghost use Rattle.coef_block.specs.Categories.{category};
 ghost use Rattle.scan_spec.specs.ValueBits.{mag};
 ghost use Rattle.scan_spec.specs.BlockBits.{Text, word_text, value_text, zeros_text, coefficient_text, ac_text, dc_text, block_text, ac_values};
 ghost use Rattle.scan_spec.specs.Blocks.{blocks_text};
-ghost use Rattle.scan_spec.specs.PlainWriting.{HasWritten, IsWritten};
+ghost use Rattle.scan_spec.specs.PlainWriting.{HasPutPrefix, IsWritten};
 ghost use Rattle.scan_spec.specs.declared.plain.PlainError.TheVariants.{NoMemory};
 
 use crate::additional_bits::value_bits;
@@ -121,11 +121,11 @@ fn put_next(codes: &Codes, zeros: u8, value: i32, bits: &mut Vec<bool>) -> Resul
     requires value { IsAc value }
     requires zeros { zeros ≤ 63 }
     ensures ok { IfOk result (λ next. (whole : Text) (old : List Bool) (values : List ℤ)
-        → HasWritten whole old bits.old.items (ac_text codes.now zeros (value ∷ values))
-        → HasWritten whole old bits.new.items (ac_text codes.now next values)) }
+        → HasPutPrefix whole old bits.old.items (ac_text codes.now zeros (value ∷ values))
+        → HasPutPrefix whole old bits.new.items (ac_text codes.now next values)) }
     ensures few { IfOk result (λ next. next ≤ zeros + 1) }
     ensures err { IfErr result (λ error. (whole : Text) (old : List Bool) (values : List ℤ)
-        → HasWritten whole old bits.old.items (ac_text codes.now zeros (value ∷ values))
+        → HasPutPrefix whole old bits.old.items (ac_text codes.now zeros (value ∷ values))
         → IsWritten (Err error) old bits.new.items whole) }
 {
     if value == 0 {

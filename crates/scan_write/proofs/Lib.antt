@@ -1,3 +1,4 @@
+pub mod LeftInBlock
 pub mod OutputLemmas
 pub mod AppendedTexts
 pub mod ValueCodes

@@ -11,7 +11,7 @@ use Rattle.jpeg_marker.specs.HuffmanTables.{TableFields}
 use Rattle.scan_spec.specs.BlockBits.{Text, then_text, ac_text, ac_values, coefficient_at, coefficient_text}
 use Rattle.scan_spec.proofs.Words.{ac_zero, ac_value, length-ac_values}
 use Rattle.scan_write.specs.Appending.{HasAppended}
-use Rattle.scan_write.specs.LeftInBlock.{AreLeft}
+use Rattle.scan_write.proofs.LeftInBlock.{AreLeft}
 use Rattle.scan_write.specs.Outputs.{OutputState}
 
 -- the coefficient at an index

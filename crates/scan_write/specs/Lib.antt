@@ -1,4 +1,3 @@
 pub mod Outputs
 pub mod Appending
-pub mod LeftInBlock
 pub mod WriterInside

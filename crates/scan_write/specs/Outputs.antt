@@ -1,5 +1,5 @@
 -- Steps: what was put out, bits of a byte begun and stuffed bytes, and the room for more (own).
-use Rattle.std.specs.Prelude.{ℕ, ◌+◌, ◌/◌, ◌<◌, ◌≤◌, Bool, List, ◌++◌, length}
+use Rattle.std.specs.Prelude.{ℕ, ◌+◌, ◌/◌, ◌<◌, ◌≤◌, Bool, List, [], ◌++◌, length}
 use Rattle.bit_list.specs.Bits.{bytes_after, begun_after, stuffed}
 use Rattle.bit_list.specs.Pieces.{piece_room}
 use Rattle.scan_spec.specs.TextBounds.{quarters}
@@ -23,6 +23,10 @@ appended output bits = record {
   begun = begun_after output.begun bits;
   bytes = output.bytes ++ stuffed (bytes_after output.begun bits);
 }
+
+-- bytes, and after them the bits that wait in a buffer
+abbrev pub output_with : List Bool → List ℕ → OutputState
+output_with waiting bytes = appended (output_of [] bytes) waiting
 
 -- room for n more bits, and four bytes after them
 abbrev pub HasRoom : ℕ → List Bool → List ℕ → Type 0

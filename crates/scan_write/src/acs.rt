@@ -6,12 +6,12 @@ ghost use Rattle.coef_block.specs.Categories.{category};
 ghost use Rattle.coef_block.specs.Nonzeros.{is_nonzero};
 ghost use Rattle.coef_block.specs.Zigzag.{zigzag};
 ghost use Rattle.scan_spec.specs.BlockBits.{zeros_text, coefficient_at, coefficient_text, ac_text, ac_values};
-ghost use Rattle.scan_write.specs.Outputs.{output_of, HasRoom, IsBegun};
+ghost use Rattle.scan_write.specs.Outputs.{output_with, HasRoom};
 ghost use Rattle.scan_spec.specs.TextBounds.{quarters, word_bits, coefficient_bits, ac_bits};
 ghost use Rattle.scan_write.specs.Appending.{IsWritten, HasAppended, IsStopped};
 
 use crate::values::{value, word};
-use bit_list::{BitOut, Piece};
+use bit_list::{BitBuffer, Piece};
 use coef_block::{Block, natural_position};
 use huff_table::Codes;
 use scan_spec::WriteStop;
@@ -26,16 +26,13 @@ const END_OF_BLOCK: u8 = 0x00;
 pub(crate) fn acs(
     codes: &Codes,
     block: &Block,
-    output: &mut BitOut,
+    output: &mut BitBuffer,
     out: &mut Piece,
 ) -> Result<(), WriteStop>
-    requires begun { IsBegun output.old }
     requires room { HasRoom ac_bits output.old out.old }
-    ensures is { IsWritten result (output_of output.old out.old) (output_of output.new out.new)
+    ensures is { IsWritten result (output_with output.old out.old) (output_with output.new out.new)
         (ac_text codes.now 0 (ac_values block.now)) }
-    ensures begun { IsBegun output.new }
-    ensures spent { OnOk result
-        (quarters output.new out.new ≤ ac_bits + quarters output.old out.old) }
+    ensures spent { quarters output.new out.new ≤ ac_bits + quarters output.old out.old }
 {
     let last = coefficients(codes, block, output, out)?;
     if last == 63 {
@@ -49,22 +46,21 @@ pub(crate) fn acs(
 fn coefficients(
     codes: &Codes,
     block: &Block,
-    output: &mut BitOut,
+    output: &mut BitBuffer,
     out: &mut Piece,
 ) -> Result<usize, WriteStop>
-    requires begun { IsBegun output.old }
     requires room { HasRoom ac_bits output.old out.old }
     ensures ok { IfOk result
         (λ last. HasAppended (ac_text codes.now 0 (ac_values block.now))
-        (output_of output.old out.old) (output_of output.new out.new)
+        (output_with output.old out.old) (output_with output.new out.new)
         (ac_text codes.now (63 - last) [])) }
     ensures err { IfErr result
-        (λ stop. IsStopped stop (output_of output.old out.old) (output_of output.new out.new)
+        (λ stop. IsStopped stop (output_with output.old out.old) (output_with output.new out.new)
         (ac_text codes.now 0 (ac_values block.now))) }
     ensures few { IfOk result (λ last. last < 64) }
-    ensures spent { IfOk result (λ last. quarters output.new out.new
+    ensures spent { quarters output.new out.new ≤ ac_bits + quarters output.old out.old }
+    ensures spent_so_far { IfOk result (λ last. quarters output.new out.new
         ≤ coefficient_bits * last + quarters output.old out.old) }
-    ensures begun { IsBegun output.new }
 {
     let mut left = without(block.nonzeros(), 0);
     let mut last = 0;
@@ -118,18 +114,16 @@ fn after(
     block: &Block,
     last: usize,
     index: usize,
-    output: &mut BitOut,
+    output: &mut BitBuffer,
     out: &mut Piece,
 ) -> Result<(), WriteStop>
     requires after { last < index }
     requires within { index < 64 }
     requires some { is_nonzero block.now index ≡ true }
-    requires begun { IsBegun output.old }
     requires room { HasRoom (coefficient_bits * (index - last)) output.old out.old }
-    ensures is { IsWritten result (output_of output.old out.old) (output_of output.new out.new)
+    ensures is { IsWritten result (output_with output.old out.old) (output_with output.new out.new)
         (coefficient_text codes.now (index - last - 1)
         (coefficient_at block.now (slice_index zigzag index))) }
-    ensures begun { IsBegun output.new }
     ensures spent { quarters output.new out.new
         ≤ coefficient_bits * (index - last) + quarters output.old out.old }
 {
@@ -144,17 +138,15 @@ fn coefficient(
     codes: &Codes,
     zeros: u8,
     number: i32,
-    output: &mut BitOut,
+    output: &mut BitBuffer,
     out: &mut Piece,
 ) -> Result<(), WriteStop>
     requires value { IsAc number }
     requires some { 0 < unsigned_abs number }
     requires zeros { zeros < 63 }
-    requires begun { IsBegun output.old }
     requires room { HasRoom (coefficient_bits * (zeros + 1)) output.old out.old }
-    ensures is { IsWritten result (output_of output.old out.old) (output_of output.new out.new)
+    ensures is { IsWritten result (output_with output.old out.old) (output_with output.new out.new)
         (coefficient_text codes.now zeros number) }
-    ensures begun { IsBegun output.new }
     ensures spent { quarters output.new out.new
         ≤ coefficient_bits * (zeros + 1) + quarters output.old out.old }
 {
@@ -176,12 +168,15 @@ fn size(number: i32) -> u8
 
 // The code word of sixteen zeros, `count` times.
 #[inline(always)]
-fn sixteens(codes: &Codes, count: u8, output: &mut BitOut, out: &mut Piece) -> Result<(), WriteStop>
-    requires begun { IsBegun output.old }
+fn sixteens(
+    codes: &Codes,
+    count: u8,
+    output: &mut BitBuffer,
+    out: &mut Piece,
+) -> Result<(), WriteStop>
     requires room { HasRoom (word_bits * count) output.old out.old }
-    ensures is { IsWritten result (output_of output.old out.old) (output_of output.new out.new)
+    ensures is { IsWritten result (output_with output.old out.old) (output_with output.new out.new)
         (zeros_text codes.now count) }
-    ensures begun { IsBegun output.new }
     ensures spent { quarters output.new out.new
         ≤ word_bits * count + quarters output.old out.old }
 {

@@ -17,7 +17,7 @@ ghost use Rattle.scan_write.specs.WriterInside.{McuIsTried};
 
 use crate::blocks::blocks;
 use crate::pads::restart;
-use bit_list::{BitOut, Piece};
+use bit_list::{BitBuffer, BitOut, Piece};
 use coef_block::Block;
 use handover::{Handover, PadSum};
 use huff_table::PlanCodes;
@@ -163,8 +163,10 @@ impl<'a> Writer<'a> {
     {
         let (codes, slots) = self.shape.slots();
         let mut before = self.before;
-        let mut output = self.output;
-        blocks(codes, slots, &mut before, mcu, &mut output, out)?;
+        let mut buffer = BitBuffer::of(self.output);
+        let done = blocks(codes, slots, &mut before, mcu, &mut buffer, out);
+        let output = buffer.begun(out);
+        done?;
         self.before = before;
         self.output = output;
         if self.shape.is_closed(self.count + 1) {

@@ -7,7 +7,7 @@ use crate::lock::{FREE, Lock, VALUE};
 use crate::pass::Pass;
 use crate::rule::Rule;
 use crate::steps::Part;
-use growth::{NoMemory, new_table, push};
+use allocation::{NoMemory, new_table, push};
 use std::alloc::Global;
 use std::sync::atomic::AtomicU64;
 

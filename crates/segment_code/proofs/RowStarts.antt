@@ -3,8 +3,8 @@ use Rattle.std.proofs.Common.{◌≡◌, ℕ, ◌+◌, ◌-◌, ◌*◌, ◌/◌
 use Rattle.std.specs.Prelude.{map, min}
 use Rattle.std.proofs.Math.Nat.{mul-div_cancel}
 use Rattle.std.proofs.lemmas.List.{map-id}
+use Rattle.std.specs.List.{range_with_len}
 use Rattle.cut_spec.specs.Cuts.{cut_of, row_of}
-use Rattle.box_format.specs.Raws.{numbers}
 use Rattle.container_spec.proofs.Numbered.{mapped_same}
 
 -- of as many segments as rows, the i-th starts at row i
@@ -16,10 +16,10 @@ own_row across down i some =
     rw e (none ∙ rw same (mul-div_cancel i some))
 
 pub own_rows : (across down : ℕ) → 0 < down
-    → map (row_of (cut_of across down down)) (numbers 0 (cut_of across down down).segments)
-    ≡ numbers 0 down
+    → map (row_of (cut_of across down down)) (range_with_len 0 (cut_of across down down).segments)
+    ≡ range_with_len 0 down
 own_rows across down some =
     let e : min down down ≡ down = omega arith in
     mapped_same (row_of (cut_of across down down)) (λ i. i) 0 (min down down)
     (λ k from to. own_row across down k some)
-    ∙ map-id (numbers 0 (min down down)) ∙ ap (numbers 0) e
+    ∙ map-id (range_with_len 0 (min down down)) ∙ ap (range_with_len 0) e

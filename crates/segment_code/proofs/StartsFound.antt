@@ -1,7 +1,7 @@
 -- The starts that a reader finds are those of the file.
 use Rattle.std.proofs.Common.{◌≡◌, ℕ, ◌+◌, ◌*◌, ◌<◌, ◌≤◌, Bool, List, [], ◌∷◌, ◌++◌, map, refl, ap, ap₂, ◌∙◌, sym, arith}
 use Rattle.std.specs.Prelude.{ℤ, Ok, min}
-use Rattle.std.specs.List.{AllByRecursion}
+use Rattle.std.specs.List.{AllByRecursion, range_with_len}
 use Rattle.bit_list.specs.Bits.{IsByte}
 use Rattle.jpeg_marker.specs.Plans.{PlanFields}
 use Rattle.jpeg_marker.specs.AcceptedPlans.{CanScan}
@@ -20,7 +20,6 @@ use Rattle.cut_spec.specs.Cuts.{Cut, first_mcu, row_of}
 use Rattle.cut_spec.specs.HandedOver.{spot_in}
 use Rattle.cut_spec.specs.RowHandovers.{handover_of, handover_at}
 use Rattle.cut_spec.proofs.SegmentsRead.{first_are_read}
-use Rattle.box_format.specs.Raws.{numbers}
 use Rattle.container_spec.specs.Files.{plan_cut, segment_start, told_pads}
 use Rattle.segment_code.specs.FileStarts.{StartsFields, starts_of}
 use Rattle.segment_code.specs.CodedMcus.{AreReadOn}
@@ -45,14 +44,14 @@ pub found_more : (first reader : ScanReader) (cut : Cut) (i row : ℕ) (mcus : L
     → starts_more s row place handover ≡ found first cut (i + 1)
 found_more first reader cut i row mcus so row_is s is place place_is handover handover_is =
     let there = stands_there (first_mcu cut i) first reader mcus so in
-    let r : map (row_of cut) (numbers 0 (i + 1)) ≡ map (row_of cut) (numbers 0 i) ++ row ∷ [] =
+    let r : map (row_of cut) (range_with_len 0 (i + 1)) ≡ map (row_of cut) (range_with_len 0 i) ++ row ∷ [] =
     map_more (row_of cut) i row row_is in
-    let p : map (λ j. place_after first (first_mcu cut j)) (numbers 0 (i + 1))
-    ≡ map (λ j. place_after first (first_mcu cut j)) (numbers 0 i) ++ place ∷ [] =
+    let p : map (λ j. place_after first (first_mcu cut j)) (range_with_len 0 (i + 1))
+    ≡ map (λ j. place_after first (first_mcu cut j)) (range_with_len 0 i) ++ place ∷ [] =
     map_more (λ j. place_after first (first_mcu cut j)) i place
     (place_is ∙ ap (λ (at : Standing). resume_place at.cursor) (sym there)) in
-    let h : map (λ j. handover_after first (first_mcu cut j)) (numbers 0 (i + 1))
-    ≡ map (λ j. handover_after first (first_mcu cut j)) (numbers 0 i) ++ handover ∷ [] =
+    let h : map (λ j. handover_after first (first_mcu cut j)) (range_with_len 0 (i + 1))
+    ≡ map (λ j. handover_after first (first_mcu cut j)) (range_with_len 0 i) ++ handover ∷ [] =
     map_more (λ j. handover_after first (first_mcu cut j)) i handover
     (handover_is ∙ ap (λ (at : Standing). handover_of first.shape (spot_in first.bytes at))
     (sym there)) in
@@ -97,15 +96,15 @@ starts_are plan mcus pads bytes after most is begins some =
     let first = reader_at (shape_of plan) bytes plan.header_length in
     let at = λ (i : ℕ) (under : i < cut.segments). found_at plan mcus pads bytes after
     (first_mcu cut i) is begins (start_within cut i refl (omega (arith, under)) some) in
-    let places : map (λ i. place_after first (first_mcu cut i)) (numbers 0 cut.segments)
+    let places : map (λ i. place_after first (first_mcu cut i)) (range_with_len 0 cut.segments)
     ≡ map (λ i. plan.header_length + bytes_done (shape_of plan) (pad_at pads) mcus
-    (first_mcu cut i)) (numbers 0 cut.segments) =
+    (first_mcu cut i)) (range_with_len 0 cut.segments) =
     map_alike _ _ cut.segments (λ i under. (at i under).place) in
-    let handovers : map (λ i. handover_after first (first_mcu cut i)) (numbers 0 cut.segments)
-    ≡ map (segment_start plan mcus pads most) (numbers 0 cut.segments) =
+    let handovers : map (λ i. handover_after first (first_mcu cut i)) (range_with_len 0 cut.segments)
+    ≡ map (segment_start plan mcus pads most) (range_with_len 0 cut.segments) =
     map_alike _ _ cut.segments (λ i under. (at i under).handover) in
     ap₂ (λ (ps : List ℕ) (hs : List HandoverFields). starts_with
-    (map (row_of cut) (numbers 0 cut.segments)) ps hs (told_pads plan mcus pads) after) places
+    (map (row_of cut) (range_with_len 0 cut.segments)) ps hs (told_pads plan mcus pads) after) places
     handovers
 
 pub are_starts : (bytes : List ℕ) (plan : PlanFields) (most : ℕ) (read : List (List (List ℤ)))

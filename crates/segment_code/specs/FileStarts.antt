@@ -1,5 +1,6 @@
 -- View: where the segments of a file start (docs/FORMAT.md, Segments).
 use Rattle.std.specs.Prelude.{ℕ, ◌+◌, Bool, List, map}
+use Rattle.std.specs.List.{range_with_len}
 use Rattle.jpeg_marker.specs.Plans.{PlanFields}
 use Rattle.scan_spec.specs.Pads.{PadBits}
 use Rattle.scan_spec.specs.Scans.{Mcu, pad_at}
@@ -7,7 +8,6 @@ use Rattle.scan_spec.specs.Slots.{shape_of}
 use Rattle.scan_spec.specs.Spots.{bytes_done}
 use Rattle.handover.specs.Handovers.{HandoverFields}
 use Rattle.cut_spec.specs.Cuts.{first_mcu, row_of}
-use Rattle.box_format.specs.Raws.{numbers}
 use Rattle.container_spec.specs.Files.{plan_cut, segment_start, told_pads}
 
 -- where segments start: of each its row, the place of its first byte that the MCUs before don't complete, and its
@@ -23,7 +23,7 @@ pub record StartsFields : Type 0 where
 abbrev pub starts_of : PlanFields → List Mcu → List Bool → ℕ → ℕ → StartsFields
 starts_of plan mcus pads trailer most =
     let cut = plan_cut plan most in
-    let segments = numbers 0 cut.segments in
+    let segments = range_with_len 0 cut.segments in
     record {
       rows = map (row_of cut) segments;
       places = map (λ i. plan.header_length

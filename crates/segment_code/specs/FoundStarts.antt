@@ -1,5 +1,6 @@
 -- Steps: the starts that a reader finds in its pass over a scan (own).
 use Rattle.std.specs.Prelude.{ℕ, true, map, Ok, Err}
+use Rattle.std.specs.List.{range_with_len}
 use Rattle.scan_spec.specs.Pads.{Same}
 use Rattle.scan_spec.specs.ScanCalls.{ScanReader, resume_place}
 use Rattle.scan_spec.specs.ScanReading.{Standing}
@@ -7,7 +8,6 @@ use Rattle.handover.specs.Handovers.{HandoverFields}
 use Rattle.cut_spec.specs.Cuts.{Cut, row_of, first_mcu}
 use Rattle.cut_spec.specs.HandedOver.{spot_in}
 use Rattle.cut_spec.specs.RowHandovers.{handover_of}
-use Rattle.box_format.specs.Raws.{numbers}
 use Rattle.segment_code.specs.FileStarts.{StartsFields}
 use Rattle.segment_code.specs.CodedMcus.{McusRead, next_of}
 
@@ -32,7 +32,7 @@ handover_after reader n = handover_of reader.shape (spot_in reader.bytes (stands
 -- (own)
 abbrev pub found : ScanReader → Cut → ℕ → StartsFields
 found reader cut count =
-    let segments = numbers 0 count in
+    let segments = range_with_len 0 count in
     record {
       rows = map (row_of cut) segments;
       places = map (λ i. place_after reader (first_mcu cut i)) segments;

@@ -1,5 +1,5 @@
 // Why a scan is not read as segments.
-use growth::NoMemory;
+use allocation::NoMemory;
 use scan_spec::ScanRefusal;
 
 /// Why a scan gives no starts, or no stream of a segment.

@@ -11,9 +11,9 @@ ghost use Rattle.segment_code.specs.FileDecoding.{FileOwes, FilePays, ScanOwes, 
 
 use crate::decoder::SegmentDecoder;
 use crate::step::Step;
+use allocation::{NoMemory, push};
 use bit_list::{Piece, ROOM};
 use box_format::{BoxView, FileView};
-use growth::{NoMemory, push};
 use handover::StreamFault;
 use jpeg_marker::Plan;
 use std::alloc::Global;

@@ -1,7 +1,7 @@
 // Where the segments of a file start, in one pass over its scan.
 ghost use Rattle.std.specs.Prelude.{◌≡◌, ◌+◌, ◌<◌, ◌≤◌, ℤ, List, length, None, Ok, Err, IfOk, OnOk, IsErrOf};
+ghost use Rattle.std.specs.List.{range_with_len};
 ghost use Rattle.jpeg_marker.specs.AcceptedPlans.{CanScan};
-ghost use Rattle.box_format.specs.Raws.{numbers};
 ghost use Rattle.scan_spec.specs.Items.{Refuses};
 ghost use Rattle.scan_spec.specs.ScanCalls.{ScanReader};
 ghost use Rattle.scan_spec.specs.ScanReading.{mcu_at};
@@ -15,7 +15,7 @@ use crate::error::ScanError;
 use crate::pads::PadsFound;
 use crate::pass::ScanPass;
 use crate::starts::Starts;
-use growth::NoMemory;
+use allocation::NoMemory;
 use huff_table::PlanCodes;
 use jpeg_marker::Plan;
 use scan_decode::Reader;
@@ -47,7 +47,7 @@ pub fn find_starts(
 pub fn find_rows(alloc: Global, plan: &Plan, bytes: &[u8]) -> Result<Starts, ScanError>
     requires plan { CanScan bytes.now plan.now }
     ensures starts { IfOk result (λ starts. AreStarts plan.now bytes.now plan.now.down starts) }
-    ensures rows { IfOk result (λ starts. starts.rows ≡ numbers 0 plan.now.down) }
+    ensures rows { IfOk result (λ starts. starts.rows ≡ range_with_len 0 plan.now.down) }
     ensures refused { (refusal : ScanRefusal) → IsErrOf result (ScanError.Scan refusal)
         → Refuses (shape_of plan.now) bytes.now plan.now.header_length refusal }
 {

@@ -5,7 +5,7 @@ ghost use Rattle.segment_code.specs.FoundPads.{none_found};
 ghost use Rattle.scan_spec.specs.Pads.{pad_list};
 ghost use Rattle.scan_spec.specs.ScanPads.{pad_sum};
 
-use growth::{NoMemory, push, with_capacity};
+use allocation::{NoMemory, push, with_capacity};
 use handover::PadSum;
 use jpeg_marker::Plan;
 use std::alloc::Global;

@@ -20,7 +20,7 @@ use crate::part::SegmentPart;
 use crate::ready::{READY_ROOM, ReadyPart};
 use crate::segment_stream::code_segment;
 use crate::starts::Starts;
-use growth::NoMemory;
+use allocation::NoMemory;
 use huff_table::PlanCodes;
 use jpeg_marker::Plan;
 use scan_decode::Reader;

@@ -8,7 +8,7 @@ use crate::encoder::SegmentEncoder;
 use crate::error::ScanError;
 use crate::pads::PadsFound;
 use crate::part::SegmentPart;
-use growth::{NoMemory, with_capacity};
+use allocation::{NoMemory, with_capacity};
 use scan_decode::Reader;
 use std::alloc::Global;
 use std::marker::Model;

@@ -5,7 +5,7 @@ ghost use Rattle.scan_spec.specs.Pads.{pads_given, spelling_of};
 ghost use Rattle.segment_code.specs.StartsInside.{no_starts, starts_more};
 
 use crate::pads::PadsFound;
-use growth::{NoMemory, push};
+use allocation::{NoMemory, push};
 use handover::{Handover, PadSum};
 use scan_spec::Pads;
 use std::alloc::Global;

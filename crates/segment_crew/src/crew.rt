@@ -10,10 +10,10 @@ ghost use Rattle.segment_crew.specs.Teams.{IsIdleWorker, IsNewLead, emitter_memb
 
 use crate::team::{Emitter, Shared, Worker, team_of};
 use crate::threads::lead_beside;
+use allocation::NoMemory;
 use bit_list::Piece;
 use box_format::FileView;
 use byte_window::Window;
-use growth::NoMemory;
 use output_board::Board;
 use outside_core::{Gate, Sink};
 use segment_code::FileDecoder;

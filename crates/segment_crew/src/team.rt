@@ -6,10 +6,10 @@ ghost use Rattle.segment_worker.specs.Contents.{Stretch};
 ghost use Rattle.segment_crew.specs.Teams.{IsIdleWorker, AreNewSeats};
 
 use crate::threads::{Lead, Task};
+use allocation::{NoMemory, push};
 use bit_list::Piece;
 use box_format::FileView;
 use byte_window::Window;
-use growth::{NoMemory, push};
 use output_board::{Board, EmitterSeat, WorkerSeat};
 use outside_core::{Gate, Sink};
 use segment_code::FileDecoder;

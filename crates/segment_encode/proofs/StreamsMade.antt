@@ -1,19 +1,19 @@
 -- Streams that come of segments in order.
 use Rattle.std.proofs.Common.{◌≡◌, ℕ, zero, suc, ◌+◌, List, [], ◌∷◌, ◌++◌, length, map, refl, sym, ap, ap₂, subst, ◌∙◌, arith}
-use Rattle.box_format.specs.Raws.{numbers}
+use Rattle.std.specs.List.{range_with_len}
 use Rattle.segment_code.specs.ReadyParts.{ReadyFields}
 use Rattle.segment_encode.specs.Lanes.{AreMade, GiveEach}
 
-pub numbers_on : (from k n : ℕ) → numbers from (k + n) ≡ numbers from k ++ numbers (from + k) n
+pub numbers_on : (from k n : ℕ) → range_with_len from (k + n) ≡ range_with_len from k ++ range_with_len (from + k) n
 numbers_on from zero n =
     let e : zero + n ≡ n = omega arith in
     let f : from + zero ≡ from = omega arith in
-    ap (numbers from) e ∙ ap (λ (m : ℕ). numbers m n) (sym f)
+    ap (range_with_len from) e ∙ ap (λ (m : ℕ). range_with_len m n) (sym f)
 numbers_on from (suc k) n =
     let e : suc k + n ≡ suc (k + n) = omega arith in
     let f : (from + 1) + k ≡ from + suc k = omega arith in
-    ap (numbers from) e ∙ ap (λ (l : List ℕ). from ∷ l) (numbers_on (from + 1) k n)
-    ∙ ap (λ (m : ℕ). from ∷ (numbers (from + 1) k ++ numbers m n)) f
+    ap (range_with_len from) e ∙ ap (λ (l : List ℕ). from ∷ l) (numbers_on (from + 1) k n)
+    ∙ ap (λ (m : ℕ). from ∷ (range_with_len (from + 1) k ++ range_with_len m n)) f
 
 pub mapped_on : {A B : Type 0} (f : A → B) (xs ys : List A) → map f (xs ++ ys) ≡ map f xs ++ map f ys
 mapped_on f [] ys = refl
@@ -21,13 +21,13 @@ mapped_on f (x ∷ xs) ys = ap (λ (l : List _). f x ∷ l) (mapped_on f xs ys)
 
 -- what comes of `k` numbers and of `n` after them
 pub each_on : (f : ℕ → List ℕ) (from k n : ℕ)
-    → map f (numbers from k) ++ map f (numbers (from + k) n) ≡ map f (numbers from (k + n))
+    → map f (range_with_len from k) ++ map f (range_with_len (from + k) n) ≡ map f (range_with_len from (k + n))
 each_on f from k n =
-    sym (ap (map f) (numbers_on from k n) ∙ mapped_on f (numbers from k) (numbers (from + k) n))
+    sym (ap (map f) (numbers_on from k n) ∙ mapped_on f (range_with_len from k) (range_with_len (from + k) n))
 
 -- what was made is what the segments give
 pub given : (f : ℕ → List ℕ) (first : ℕ) (rs : List ReadyFields) (streams : List (List ℕ))
-    → GiveEach f first rs → AreMade rs streams → streams ≡ map f (numbers first (length rs))
+    → GiveEach f first rs → AreMade rs streams → streams ≡ map f (range_with_len first (length rs))
 given f first [] [] give made = refl
 given f first [] (stream ∷ streams) give made = absurd made
 given f first (r ∷ rs) [] give made = absurd made

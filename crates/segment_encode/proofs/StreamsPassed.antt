@@ -2,8 +2,8 @@
 use Rattle.std.proofs.Common.{◌≡◌, ℕ, ◌+◌, ◌++◌, ◌∷◌, Bool, List, [], length, map, ap, ap₂, ◌∙◌, sym, subst, arith}
 use Rattle.std.specs.Prelude.{IfOk, OnOk, Result, Ok, Err}
 use Rattle.std.proofs.lemmas.List.Elements.{All-push}
+use Rattle.std.specs.List.{range_with_len}
 use Rattle.scan_spec.specs.Scans.{Mcu}
-use Rattle.box_format.specs.Raws.{numbers}
 use Rattle.container_spec.specs.Files.{plan_cut, segment_mcus}
 use Rattle.container_spec.specs.ScanStream.{stream_of}
 use Rattle.jpeg_marker.specs.Plans.{PlanFields}
@@ -117,19 +117,19 @@ lane_joined n old mid end rs first rest on long passed_are made are =
       same = same_on old mid end on.same are.same;
       each = λ mcus pads trailer file.
           let f : ℕ → List ℕ = λ i. stream_of old.plan (segment_mcus old.plan mcus old.most i) in
-          let so : first ≡ map f (numbers (passed old) n) =
+          let so : first ≡ map f (range_with_len (passed old) n) =
           given f (passed old) rs first (passed_are mcus pads trailer file).0 made
-          ∙ ap (λ (m : ℕ). map f (numbers (passed old) m)) long in
-          let others : rest ≡ map f (numbers (passed old + n) (segments_left mid)) =
+          ∙ ap (λ (m : ℕ). map f (range_with_len (passed old) m)) long in
+          let others : rest ≡ map f (range_with_len (passed old + n) (segments_left mid)) =
           are.each mcus pads trailer (file_on old mid mcus pads trailer k file)
           ∙ ap₂ (λ (plan : PlanFields) (most : ℕ). map (λ i. stream_of plan
-          (segment_mcus plan mcus most i)) (numbers (passed mid) (segments_left mid))) k.plan k.most
-          ∙ ap (λ (m : ℕ). map f (numbers m (segments_left mid))) on.more in
+          (segment_mcus plan mcus most i)) (range_with_len (passed mid) (segments_left mid))) k.plan k.most
+          ∙ ap (λ (m : ℕ). map f (range_with_len m (segments_left mid))) on.more in
           let left = fewer_left n old mid on in
           let all : n + segments_left mid ≡ segments_left old = omega (arith, left) in
           ap₂ (λ (a b : List (List ℕ)). a ++ b) so others
           ∙ each_on f (passed old) n (segments_left mid)
-          ∙ ap (λ (m : ℕ). map f (numbers (passed old) m)) all;
+          ∙ ap (λ (m : ℕ). map f (range_with_len (passed old) m)) all;
     }
 
 -- the streams of the segments that a pass has coded so far
@@ -138,7 +138,7 @@ AreSoFar n old streams =
     (mcus : List Mcu) (pads : List Bool) (trailer : ℕ)
     → IsFileAt old.bytes old.plan mcus pads trailer
     → streams ≡ map (λ i. stream_of old.plan (segment_mcus old.plan mcus old.most i))
-    (numbers (passed old) n)
+    (range_with_len (passed old) n)
 
 pub one_more : (n : ℕ) (old mid : PassFields) (streams : List (List ℕ)) (stream : List ℕ)
     → HasPassedOn n old mid → AreSoFar n old streams → IsNextStream mid stream
@@ -158,7 +158,7 @@ all_coded n old new streams on all so =
       same = on.same;
       each = λ mcus pads trailer file. so mcus pads trailer file
           ∙ ap (λ (m : ℕ). map (λ i. stream_of old.plan (segment_mcus old.plan mcus old.most i))
-          (numbers (passed old) m)) all;
+          (range_with_len (passed old) m)) all;
     }
 
 -- after the last segment the bytes are a file's
@@ -186,17 +186,17 @@ pub all_passed : (old new : PassFields) (plan : PlanFields) (bytes : List ℕ) (
     → old.most ≡ most → passed old ≡ 0
     → (mcus : List Mcu) (pads : List Bool) (trailer : ℕ) → IsFileAt bytes plan mcus pads trailer
     → streams ≡ map (λ i. stream_of plan (segment_mcus plan mcus most i))
-    (numbers 0 (plan_cut plan most).segments)
+    (range_with_len 0 (plan_cut plan most).segments)
 all_passed old new plan bytes most streams are plan_is bytes_is most_is none mcus pads trailer file =
     let here : IsFileAt old.bytes old.plan mcus pads trailer =
     subst (λ (b : List ℕ). IsFileAt b old.plan mcus pads trailer) (sym bytes_is)
     (subst (λ (p : PlanFields). IsFileAt bytes p mcus pads trailer) (sym plan_is) file) in
     let left : segments_left old ≡ (plan_cut old.plan old.most).segments = omega (arith, none) in
     are.each mcus pads trailer here
-    ∙ ap₂ (λ n k. map (λ i. stream_of old.plan (segment_mcus old.plan mcus old.most i)) (numbers n k))
+    ∙ ap₂ (λ n k. map (λ i. stream_of old.plan (segment_mcus old.plan mcus old.most i)) (range_with_len n k))
     none left
     ∙ ap₂ (λ (p : PlanFields) m. map (λ i. stream_of p (segment_mcus p mcus m i))
-    (numbers 0 (plan_cut p m).segments)) plan_is most_is
+    (range_with_len 0 (plan_cut p m).segments)) plan_is most_is
 
 -- a lane that was passed: with its streams, those of the segments after it are all
 pub lane_gives : {E : Type 0} (n : ℕ) (old mid : PassFields) (result : Result Lane E)

@@ -1,5 +1,6 @@
 -- Steps: segments that one thread codes (own).
-use Rattle.std.specs.Prelude.{ℕ, ◌≡◌, ◌+◌, ◌≤◌, List, [], ◌∷◌, All, Some, None, length, map, vec_capacity}
+use Rattle.std.specs.Prelude.{ℕ, ◌≡◌, ◌+◌, ◌/◌, ◌≤◌, min, max, List, [], ◌∷◌, All, Some, None, length, map, vec_capacity}
+use Rattle.std.specs.Int.{div_ceil}
 use Rattle.scan_spec.specs.declared.refusal.ScanRefusal.{ScanRefusal}
 use Rattle.segment_code.specs.ReadyParts.{EncoderSeen, IsEncoderFor, IsReady, ReadyFields}
 use Rattle.segment_code.specs.ScanPasses.{IsNoPart, IsPartStream}
@@ -9,6 +10,14 @@ use Rattle.segment_encode.specs.declared.lanes.Lane.{Lane}
 -- the most lanes
 abbrev pub most_lanes : ℕ
 most_lanes = 16
+
+-- how many lanes a scan of so many blocks is worth: one for each 8,192 of them, but one at least
+abbrev pub lanes_worth : ℕ → ℕ
+lanes_worth blocks = min (max (blocks / 8192) 1) most_lanes
+
+-- how many of these segments a lane has: an equal share, rounded up
+abbrev pub in_a_lane : ℕ → ℕ → ℕ
+in_a_lane segments blocks = div_ceil segments (lanes_worth blocks)
 
 -- a segment is ready for an encoder
 pub record CanCode (e : EncoderSeen) (r : ReadyFields) : Type 0 where

@@ -1,10 +1,10 @@
 -- Steps: the streams of the segments between two passes over a scan (own).
 use Rattle.std.specs.Prelude.{ℕ, ◌≡◌, ◌+◌, Bool, List, map}
+use Rattle.std.specs.List.{range_with_len}
 use Rattle.scan_spec.specs.Items.{Refuses}
 use Rattle.scan_spec.specs.Scans.{Mcu}
 use Rattle.scan_spec.specs.Slots.{shape_of}
 use Rattle.scan_spec.specs.declared.refusal.ScanRefusal.{ScanRefusal}
-use Rattle.box_format.specs.Raws.{numbers}
 use Rattle.container_spec.specs.Files.{segment_mcus}
 use Rattle.container_spec.specs.ScanStream.{stream_of}
 use Rattle.segment_code.specs.ReadyParts.{ReadyFields}
@@ -21,7 +21,7 @@ pub record AreStreams (old new : PassFields) (streams : List (List ℕ)) : Type 
   pub each : (mcus : List Mcu) (pads : List Bool) (trailer : ℕ)
       → IsFileAt old.bytes old.plan mcus pads trailer
       → streams ≡ map (λ i. stream_of old.plan (segment_mcus old.plan mcus old.most i))
-      (numbers (passed old) (segments_left old))
+      (range_with_len (passed old) (segments_left old))
 
 -- from one pass to another of the same scan, past `count` segments more
 pub record HasPassedOn (count : ℕ) (old new : PassFields) : Type 0 where

@@ -1,12 +1,12 @@
 // The streams of segments, coded one after another on the calling thread.
 ghost use Rattle.jpeg_marker.specs.AcceptedPlans.{CanScan};
 ghost use Rattle.std.specs.Prelude.{◌≡◌, ◌<◌, ◌≤◌, ◌+◌, ◌-◌, ℕ, Bool, List, map, IfOk, IsErrOf};
+ghost use Rattle.std.specs.List.{range_with_len};
 ghost use Rattle.scan_spec.specs.Items.{Refuses};
 ghost use Rattle.scan_spec.specs.Scans.{Mcu};
 ghost use Rattle.scan_spec.specs.Slots.{shape_of};
 ghost use Rattle.scan_spec.specs.declared.refusal.ScanRefusal.{ScanRefusal};
 ghost use Rattle.box_format.specs.Parts.{box_cut, box_rows};
-ghost use Rattle.box_format.specs.Raws.{numbers};
 ghost use Rattle.cut_spec.specs.Cuts.{first_mcu};
 ghost use Rattle.cut_spec.specs.RowHandovers.{mcus_between};
 ghost use Rattle.container_spec.specs.Files.{plan_cut, segment_mcus};
@@ -16,8 +16,8 @@ ghost use Rattle.segment_code.specs.Starting.{AreStarts, IsFileAt};
 
 use crate::streams::{code_rest, lane_of};
 use crate::tasks::Task;
+use allocation::NoMemory;
 use box_format::Chunk;
-use growth::NoMemory;
 use huff_table::PlanCodes;
 use jpeg_marker::Plan;
 use segment_code::{ScanError, ScanPass, Starts};
@@ -37,7 +37,7 @@ pub fn encode_scan_alone(
         → IsFileAt bytes.now plan.now mcus pads trailer
         → IfOk result (λ made. map (λ v. v.items) made.1.items
         ≡ map (λ i. stream_of plan.now (segment_mcus plan.now mcus segments i))
-        (numbers 0 (plan_cut plan.now segments).segments)) }
+        (range_with_len 0 (plan_cut plan.now segments).segments)) }
     ensures refused { (refusal : ScanRefusal) → IsErrOf result (ScanError.Scan refusal)
         → Refuses (shape_of plan.now) bytes.now plan.now.header_length refusal }
 {
@@ -67,10 +67,10 @@ pub fn encode_all_alone(
         → starts.now ≡ starts_of plan.now mcus pads starts.now.trailer plan.now.down
         → IfOk result (λ streams. map (λ v. v.items) streams.items
         ≡ map (λ i. stream_of plan.now (mcus_between mcus (first_mcu (box_cut plan.now chunk count) i)
-        (first_mcu (box_cut plan.now chunk count) (i + 1)))) (numbers 0 count)) }
+        (first_mcu (box_cut plan.now chunk count) (i + 1)))) (range_with_len 0 count)) }
 {
     let codes = PlanCodes::build(alloc, plan)?;
-    let mut lane = lane_of(alloc, plan, &codes, bytes, starts, chunk, count, 0, count)?;
+    let mut lane = lane_of(alloc, plan, &codes, bytes, starts, chunk, count, 0..count)?;
     lane.perform();
     match lane.streams() {
         Ok(streams) => Ok(streams),

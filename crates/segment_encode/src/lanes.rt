@@ -5,10 +5,10 @@ ghost use Rattle.scan_spec.specs.declared.refusal.ScanRefusal.{ScanRefusal};
 ghost use Rattle.segment_code.specs.declared.error.ScanError.TheVariants.{Scan};
 ghost use Rattle.segment_code.specs.ReadyParts.{IsEncoderFor, IsReady, ReadyFields};
 ghost use Rattle.segment_code.specs.ScanPasses.{IsNoPart};
-ghost use Rattle.segment_encode.specs.Lanes.{AreMade, AreOfAFile, CanCode, IsNewLane, most_lanes};
+ghost use Rattle.segment_encode.specs.Lanes.{AreMade, AreOfAFile, CanCode, IsNewLane, in_a_lane, most_lanes};
 
 use crate::tasks::Task;
-use growth::{NoMemory, push, with_capacity};
+use allocation::{NoMemory, push, with_capacity};
 use jpeg_marker::Plan;
 use segment_code::{ReadyPart, ScanError, SegmentEncoder};
 use std::alloc::Global;
@@ -22,6 +22,7 @@ const WORTH_A_THREAD: u32 = 8_192;
 /// How many of these segments of a scan of `blocks` blocks a lane has, if there is a lane for each `WORTH_A_THREAD`
 /// blocks, but one at least and `MOST_LANES` at most.
 pub(crate) fn in_a_lane(segments: u32, blocks: u32) -> u32
+    ensures value { result ≡ in_a_lane segments blocks }
     ensures some { 0 < segments → 0 < result }
     ensures most { segments ≤ most_lanes * result }
 {

@@ -5,11 +5,11 @@ ghost use Rattle.std.specs.Prelude.{◌≡◌, ◌+◌, ◌*◌, ◌<◌, ◌≤
 ghost use denote.Param.Send.{IsSend, IsSync};
 ghost use Rattle.scan_spec.specs.declared.refusal.ScanRefusal.{ScanRefusal};
 ghost use Rattle.segment_code.specs.declared.error.ScanError.TheVariants.{Scan};
-ghost use Rattle.growth.specs.Bounds.{most_at_once};
+ghost use Rattle.allocation.specs.Bounds.{most_at_once};
 ghost use Rattle.segment_encode.specs.Lanes.{most_lanes};
 
 use crate::tasks::Task;
-use growth::{push, with_capacity};
+use allocation::{push, with_capacity};
 use segment_code::ScanError;
 use std::alloc::Global;
 use std::thread;

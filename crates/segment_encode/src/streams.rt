@@ -1,13 +1,13 @@
 // The streams of the segments of a file, or of a chunk's rows of it, side by side.
 ghost use Rattle.jpeg_marker.specs.AcceptedPlans.{CanScan};
 ghost use Rattle.std.specs.Prelude.{◌≡◌, ◌<◌, ◌≤◌, ◌+◌, ◌-◌, ◌++◌, ℕ, Bool, List, [], All, map, flat_map, length, IfOk, OnOk, IsErrOf};
+ghost use Rattle.std.specs.List.{range_with_len};
 ghost use Rattle.huff_table.specs.ComponentTables.{codes_of};
 ghost use Rattle.scan_spec.specs.Items.{Refuses};
 ghost use Rattle.scan_spec.specs.Scans.{Mcu};
 ghost use Rattle.scan_spec.specs.Slots.{shape_of};
 ghost use Rattle.scan_spec.specs.declared.refusal.ScanRefusal.{ScanRefusal};
 ghost use Rattle.box_format.specs.Parts.{box_cut, box_rows};
-ghost use Rattle.box_format.specs.Raws.{numbers};
 ghost use Rattle.cut_spec.specs.Cuts.{first_mcu};
 ghost use Rattle.cut_spec.specs.RowHandovers.{mcus_between};
 ghost use Rattle.container_spec.specs.Files.{plan_cut, segment_mcus};
@@ -22,12 +22,13 @@ ghost use Rattle.segment_encode.specs.StreamsFound.{ArePassed, AreStreams, HasPa
 use crate::lanes::{Lane, MOST_LANES, in_a_lane};
 use crate::relay::{Pass, joined, make_all};
 use crate::tasks::{Task, perform_all};
+use allocation::{NoMemory, push, with_capacity};
 use box_format::Chunk;
-use growth::{NoMemory, push, with_capacity};
 use huff_table::PlanCodes;
 use jpeg_marker::Plan;
 use segment_code::{ScanError, ScanPass, Starts, ready_segment};
 use std::alloc::Global;
+use std::ops::Range;
 use std::thread::Threads;
 
 /// Where the segments of the scan of a plan start, which follows the bytes that the plan has as its header, and the
@@ -49,7 +50,7 @@ pub fn encode_scan<R: Threads + Sync>(
         → IsFileAt bytes.now plan.now mcus pads trailer
         → IfOk result (λ made. map (λ v. v.items) made.1.items
         ≡ map (λ i. stream_of plan.now (segment_mcus plan.now mcus segments i))
-        (numbers 0 (plan_cut plan.now segments).segments)) }
+        (range_with_len 0 (plan_cut plan.now segments).segments)) }
     ensures refused { (refusal : ScanRefusal) → IsErrOf result (ScanError.Scan refusal)
         → Refuses (shape_of plan.now) bytes.now plan.now.header_length refusal }
 {
@@ -150,7 +151,7 @@ pub fn encode_all<R: Threads + Sync>(
         → starts.now ≡ starts_of plan.now mcus pads starts.now.trailer plan.now.down
         → IfOk result (λ streams. map (λ v. v.items) streams.items
         ≡ map (λ i. stream_of plan.now (mcus_between mcus (first_mcu (box_cut plan.now chunk count) i)
-        (first_mcu (box_cut plan.now chunk count) (i + 1)))) (numbers 0 count)) }
+        (first_mcu (box_cut plan.now chunk count) (i + 1)))) (range_with_len 0 count)) }
 {
     let codes = PlanCodes::build(alloc, plan)?;
     let mut lanes = lanes_of(alloc, plan, &codes, bytes, starts, chunk, count)?;
@@ -195,14 +196,23 @@ fn lanes_of<'a>(
     let mut first = 0;
     while first < count {
         let some = each.min(count - first);
-        let lane = lane_of(alloc, plan, codes, bytes, starts, chunk, count, first, some)?;
+        let lane = lane_of(
+            alloc,
+            plan,
+            codes,
+            bytes,
+            starts,
+            chunk,
+            count,
+            first..first + some,
+        )?;
         push(&mut lanes, lane)?;
         first += some;
     }
     Ok(lanes)
 }
 
-// The lane of `some` segments from number `first` on.
+// The lane of the segments with these numbers.
 #[inline(never)]
 pub(crate) fn lane_of<'a>(
     alloc: Global,
@@ -212,27 +222,27 @@ pub(crate) fn lane_of<'a>(
     starts: &Starts,
     chunk: Option<Chunk>,
     count: u32,
-    first: u32,
-    some: u32,
+    segments: Range<u32>,
 ) -> Result<Lane<'a>, NoMemory>
     requires codes { codes.now ≡ codes_of plan.now.components }
     requires starts { AreStarts plan.now bytes.now plan.now.down starts.now }
     requires order { (box_rows plan.now chunk).from ≤ (box_rows plan.now chunk).to }
     requires grid { (box_rows plan.now chunk).to ≤ plan.now.down }
     requires rows { count ≤ (box_rows plan.now chunk).to - (box_rows plan.now chunk).from }
-    requires within { first + some ≤ count }
+    requires rising { segments.start ≤ segments.end }
+    requires within { segments.end ≤ count }
     ensures new { IfOk result IsNewLane }
     ensures file { IfOk result (λ lane. AreOfAFile (parts_in lane)) }
-    ensures count { IfOk result (λ lane. length (parts_in lane) ≡ some) }
+    ensures count { IfOk result (λ lane. length (parts_in lane) ≡ segments.end - segments.start) }
     ensures streams { (mcus : List Mcu) (pads : List Bool)
         → IsFileAt bytes.now plan.now mcus pads starts.now.trailer
         → starts.now ≡ starts_of plan.now mcus pads starts.now.trailer plan.now.down
         → IfOk result (λ lane. GiveEach (λ i. stream_of plan.now
         (mcus_between mcus (first_mcu (box_cut plan.now chunk count) i)
-        (first_mcu (box_cut plan.now chunk count) (i + 1)))) first (parts_in lane)) }
+        (first_mcu (box_cut plan.now chunk count) (i + 1)))) segments.start (parts_in lane)) }
 {
     let mut parts = Vec::new(alloc);
-    for segment in first..first + some {
+    for segment in segments.start..segments.end {
         let part = ready_segment(alloc, plan, codes, bytes, starts, chunk, count, segment)?;
         push(&mut parts, part)?;
     }

@@ -1,7 +1,8 @@
 -- The bytes and the outcomes that the board of a stretch is for.
-use Rattle.std.proofs.Common.{◌≡◌, ℕ, ◌+◌, ◌-◌, ◌^◌, ◌<◌, ◌≤◌, Bool, true, false, if◌then◌else◌, List, [], ◌∷◌, length, get_or, sym, ap, subst, ◌∙◌, arith, length-append, Some, None, ⊎_elim}
+use Rattle.std.proofs.Common.{◌≡◌, ℕ, ◌+◌, ◌-◌, ◌^◌, ◌<◌, ◌≤◌, Bool, true, false, if◌then◌else◌, List, [], ◌∷◌, length, get_or, refl, sym, ap, subst, ◌∙◌, arith, length-append, Some, None, ⊎_elim}
 use Rattle.std.specs.Prelude.{◌==◌, ◌&&◌, slice_get}
 use Rattle.std.proofs.lemmas.Bool.{cases_lt, lt-ltb, le-ltb}
+use Rattle.std.proofs.lemmas.List.FromFn.{length-map-range_with_len, get_or-map-range_with_len}
 use Rattle.jpeg_marker.specs.Walks.{Walk, next_walk}
 use Rattle.jpeg_marker.specs.FirstWalks.{opening_walk}
 use Rattle.handover.specs.PadSums.{no_pads}
@@ -13,7 +14,7 @@ use Rattle.box_format.specs.Containers.{AreBoxes, IsContainer}
 use Rattle.container_spec.specs.ScansMeanings.{lead_of, led_output, output_from, output_at}
 use Rattle.container_spec.specs.Segments.{Output, segment_output}
 use Rattle.container_spec.specs.Meanings.{segment_in}
-use Rattle.container_spec.proofs.Numbered.{mapped_long, mapped_at, got_at, got_none}
+use Rattle.container_spec.proofs.Numbered.{got_at, got_none}
 use Rattle.container_spec.proofs.ShortSegments.{segment_is_short}
 use Rattle.segment_worker.specs.Contents.{Stretch, segments_bytes, segments_outcomes, segment_room, AreShort}
 use Rattle.segment_worker.proofs.Tails.{mapped_twice, past_end}
@@ -30,12 +31,12 @@ output_of v i = output_in v (v.first + i)
 pub bytes_long : (v : Stretch) → length (segments_bytes v) ≡ v.count
 bytes_long v =
     ap length (mapped_twice (λ (o : Output). o.0) (output_in v) v.first v.count)
-    ∙ mapped_long (λ i. (output_in v i).0) v.first v.count
+    ∙ length-map-range_with_len (λ i. (output_in v i).0) v.first v.count
 
 pub outcomes_long : (v : Stretch) → length (segments_outcomes v) ≡ v.count
 outcomes_long v =
     ap length (mapped_twice (λ (o : Output). o.1) (output_in v) v.first v.count)
-    ∙ mapped_long (λ i. (output_in v i).1) v.first v.count
+    ∙ length-map-range_with_len (λ i. (output_in v i).1) v.first v.count
 
 -- each is its segment's
 pub bytes_of : (v : Stretch) (i : ℕ) → i < v.count
@@ -43,7 +44,7 @@ pub bytes_of : (v : Stretch) (i : ℕ) → i < v.count
 bytes_of v i within =
     ap (λ (xs : List (List ℕ)). get_or xs i [])
     (mapped_twice (λ (o : Output). o.0) (output_in v) v.first v.count)
-    ∙ mapped_at (λ i. (output_in v i).0) v.first v.count i [] within
+    ∙ get_or-map-range_with_len (λ i. (output_in v i).0) v.first v.count i (v.first + i) [] within refl
 
 pub outcome_of : (v : Stretch) (i : ℕ) → i < v.count
     → slice_get (segments_outcomes v) i ≡ Some (output_of v i).1
@@ -53,7 +54,7 @@ outcome_of v i within =
     ∙ ap (λ (o : Outcome). Some o)
     (ap (λ (xs : List Outcome). get_or xs i (Good no_pads))
     (mapped_twice (λ (o : Output). o.1) (output_in v) v.first v.count)
-    ∙ mapped_at (λ i. (output_in v i).1) v.first v.count i (Good no_pads) within)
+    ∙ get_or-map-range_with_len (λ i. (output_in v i).1) v.first v.count i (v.first + i) (Good no_pads) within refl)
 
 -- an outcome is a segment's
 pub outcome_within : (v : Stretch) (i : ℕ) (o : Outcome) → slice_get (segments_outcomes v) i ≡ Some o

@@ -16,8 +16,9 @@ use Rattle.handover.specs.declared.outcome.StreamFault.{StreamFault}
 use Rattle.board_core.specs.BoardInvariants.{bytes_at}
 use Rattle.box_format.specs.Parts.{BoxSeen}
 use Rattle.container_spec.specs.ScansMeanings.{output_at, scan_of}
-use Rattle.container_spec.specs.ScansJoined.{ScansJoined, no_sums, scanned_from, scanned_with, scans_joined, sums_of, sums_with}
-use Rattle.container_spec.specs.declared.scan_pads.ScanPads.{ScanPads}
+use Rattle.handover.specs.ScanSums.{no_sums, sums_of, sums_with}
+use Rattle.container_spec.specs.ScansJoined.{ScansJoined, scanned_from, scanned_with, scans_joined}
+use Rattle.handover.specs.declared.scan_pads.ScanPads.{ScanPads}
 use Rattle.segment_code.specs.FileDecoding.{FileDecoderSeen}
 use Rattle.output_board.specs.declared.view.EmitterView.{EmitterView}
 use Rattle.output_board.specs.declared.answers.Take.{Take}

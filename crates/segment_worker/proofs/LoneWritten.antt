@@ -8,8 +8,9 @@ use Rattle.handover.specs.declared.pads.PadSum.{PadSum}
 use Rattle.handover.specs.declared.outcome.Outcome.TheVariants.{Good, Bad}
 use Rattle.handover.specs.declared.outcome.StreamFault.{StreamFault}
 use Rattle.box_format.specs.Containers.{all_plans}
-use Rattle.container_spec.specs.ScansJoined.{ScansJoined, no_sums, scanned_from, scans_joined, sums_of, sums_with}
-use Rattle.container_spec.specs.declared.scan_pads.ScanPads.{ScanPads}
+use Rattle.handover.specs.ScanSums.{no_sums, sums_of, sums_with}
+use Rattle.container_spec.specs.ScansJoined.{ScansJoined, scanned_from, scans_joined}
+use Rattle.handover.specs.declared.scan_pads.ScanPads.{ScanPads}
 use Rattle.segment_code.specs.FileDecoding.{FileDecoderSeen}
 use Rattle.segment_worker.specs.Joining.{joined_from, joined_onto}
 use Rattle.segment_worker.specs.Contents.{Stretch}

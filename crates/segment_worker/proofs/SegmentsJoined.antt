@@ -6,8 +6,9 @@ use Rattle.handover.specs.declared.outcome.Outcome.TheVariants.{Good, Bad}
 use Rattle.handover.specs.declared.outcome.StreamFault.{StreamFault}
 use Rattle.container_spec.proofs.PutParts.{sums_none}
 use Rattle.container_spec.specs.ScansMeanings.{scan_of}
-use Rattle.container_spec.specs.ScansJoined.{ScansJoined, no_sums, scanned_from, scanned_with, scans_joined, sums_of, sums_with}
-use Rattle.container_spec.specs.declared.scan_pads.ScanPads.{ScanPads}
+use Rattle.handover.specs.ScanSums.{no_sums, sums_of, sums_with}
+use Rattle.container_spec.specs.ScansJoined.{ScansJoined, scanned_from, scanned_with, scans_joined}
+use Rattle.handover.specs.declared.scan_pads.ScanPads.{ScanPads}
 use Rattle.container_spec.proofs.JoinedLists.{same_sums, sums_of_more}
 use Rattle.segment_worker.specs.Contents.{Stretch}
 use Rattle.segment_worker.specs.Emitting.{joined_in}

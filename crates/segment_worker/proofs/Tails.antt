@@ -1,9 +1,9 @@
 -- Lists from an item on.
 use Rattle.std.proofs.Common.{◌≡◌, ℕ, zero, suc, ◌+◌, ◌≤◌, List, [], ◌∷◌, ◌++◌, length, take, drop, map, min, refl, sym, ap, ◌∙◌, arith, length-append}
 use Rattle.std.specs.Prelude.{slice_index_or}
+use Rattle.std.specs.List.{range_with_len}
 use lib.Seq.{take-append-le, take_all, take-append_seam, drop-append_seam, drop-drop}
 use lib.ListN.{length-drop, length-take}
-use Rattle.box_format.specs.Raws.{numbers}
 
 -- what is left after a first part of a rest
 pub rest_after : (xs out more : List ℕ) (from : ℕ) → drop from xs ≡ out ++ more
@@ -40,7 +40,7 @@ past_end (x ∷ xs) (suc i) past = past_end xs i (omega (arith, past))
 
 -- parts of items by their numbers
 pub mapped_twice : {A B : Type 0} (part : A → B) (f : ℕ → A) (from count : ℕ)
-    → map part (map f (numbers from count)) ≡ map (λ i. part (f i)) (numbers from count)
+    → map part (map f (range_with_len from count)) ≡ map (λ i. part (f i)) (range_with_len from count)
 mapped_twice part f from zero = refl
 mapped_twice {B = B} part f from (suc count) =
     ap (λ (xs : List B). part (f from) ∷ xs) (mapped_twice part f (from + 1) count)

@@ -1,9 +1,9 @@
 -- Steps: the bytes and outcomes that the board of some of a container's segments is for (own).
 use Rattle.std.specs.Prelude.{ℕ, ◌+◌, ◌*◌, ◌^◌, ◌≤◌, List, length, map}
+use Rattle.std.specs.List.{range_with_len}
 use Rattle.handover.specs.declared.outcome.Outcome.{Outcome}
 use Rattle.scan_spec.specs.TextBounds.{mcu_room}
 use Rattle.board_core.specs.BoardInvariants.{bytes_at}
-use Rattle.box_format.specs.Raws.{numbers}
 use Rattle.box_format.specs.Parts.{BoxSeen}
 use Rattle.container_spec.specs.Segments.{Output}
 use Rattle.container_spec.specs.ScansMeanings.{output_at}
@@ -19,7 +19,7 @@ stretch scans first count = record { container = scans; first = first; count = c
 
 -- the bytes and the outcome of each of its segments
 abbrev pub outputs_in : Stretch → List Output
-outputs_in s = map (λ i. output_at s.container i) (numbers s.first s.count)
+outputs_in s = map (λ i. output_at s.container i) (range_with_len s.first s.count)
 
 -- the bytes of each
 abbrev pub segments_bytes : Stretch → List (List ℕ)

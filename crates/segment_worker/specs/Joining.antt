@@ -1,7 +1,8 @@
 -- Steps: the segments of a stretch joined, from one of them on (own).
 use Rattle.std.specs.Prelude.{ℕ, ◌+◌, ◌-◌, List, ◌++◌}
-use Rattle.container_spec.specs.ScansJoined.{ScansJoined, scanned_from, scans_joined, sums_with}
-use Rattle.container_spec.specs.declared.scan_pads.ScanPads.{ScanPads}
+use Rattle.handover.specs.ScanSums.{sums_with}
+use Rattle.container_spec.specs.ScansJoined.{ScansJoined, scanned_from, scans_joined}
+use Rattle.handover.specs.declared.scan_pads.ScanPads.{ScanPads}
 use Rattle.segment_worker.specs.Contents.{Stretch}
 
 -- its segments from the one with an index on, one after another

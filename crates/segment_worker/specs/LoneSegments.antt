@@ -7,7 +7,7 @@ use Rattle.byte_window.specs.Windows.{window}
 use Rattle.bit_list.specs.Pieces.{piece_room}
 use Rattle.handover.specs.declared.outcome.Outcome.{Outcome}
 use Rattle.box_format.specs.Containers.{all_plans}
-use Rattle.container_spec.specs.declared.scan_pads.ScanPads.{ScanPads}
+use Rattle.handover.specs.declared.scan_pads.ScanPads.{ScanPads}
 use Rattle.segment_code.specs.FileDecoding.{FileDecoderSeen, FileOwes, steps_left}
 use Rattle.segment_worker.specs.Contents.{Stretch}
 use Rattle.segment_worker.specs.Emitting.{joined_in}

@@ -16,8 +16,7 @@ use crate::lengths::segments_are_short;
 use bit_list::Piece;
 use box_format::FileView;
 use byte_window::Window;
-use container_spec::ScanPads;
-use handover::Outcome;
+use handover::{Outcome, ScanPads};
 use outside_core::{Gate, Sink};
 use segment_code::{FileDecoder, Step, segment_at};
 

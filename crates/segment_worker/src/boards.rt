@@ -6,8 +6,8 @@ ghost use Rattle.segment_worker.specs.Contents.{stretch};
 
 use crate::content::Told;
 use crate::lengths::segments_are_short;
+use allocation::NoMemory;
 use box_format::FileView;
-use growth::NoMemory;
 use output_board::{Board, EmitterSeat, WorkerSeat};
 use std::alloc::Global;
 

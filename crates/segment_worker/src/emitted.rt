@@ -1,6 +1,5 @@
 // What an emitter returns.
-use container_spec::ScanPads;
-use handover::StreamFault;
+use handover::{ScanPads, StreamFault};
 
 /// All segments were written, as far as they go through the window, none with a fault.
 #[derive(Clone, Copy, Debug, PartialEq, Eq)]

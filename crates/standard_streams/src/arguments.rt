@@ -1,5 +1,5 @@
 // The arguments that the program was started with.
-use growth::{NoMemory, push, string_from_str, string_from_utf8_lossy};
+use allocation::{NoMemory, push, string_from_str, string_from_utf8_lossy};
 use std::alloc::Global;
 use std::env::{Env, FillError};
 

@@ -7,8 +7,8 @@
 ghost use Rattle.std.specs.Prelude.{◌≡◌, ◌+◌, ◌<◌, ◌≤◌, All, IfOk, length};
 ghost use Rattle.container_spec.specs.Limits.{most_of_a_file};
 
+use allocation::{NoMemory, extend_from_slice, push};
 use blob_store::{Key, VecKeeper};
-use growth::{NoMemory, extend_from_slice, push};
 use outside_core::read_all;
 use photo_store::{Caller, Find, Put, Store, key_of};
 use standard_streams::ReaderSource;

@@ -1,8 +1,8 @@
 // Calls on stores of photos.
 ghost use Rattle.std.specs.Prelude.{◌≡◌, [], IfOk};
 
+use allocation::NoMemory;
 use blob_store::{FakeKeeper, Keeper, Key, Stop, VecKeeper};
-use growth::NoMemory;
 use photo_store::{Caller, Find, Put, Store, show};
 use std::alloc::Global;
 use std::process::Abort;

@@ -3,8 +3,8 @@ ghost use Rattle.std.specs.Prelude.{◌≡◌, ◌≤◌, length, IfOk};
 ghost use Rattle.std.specs.List.{All};
 ghost use Rattle.container_spec.specs.Limits.{most_of_a_file};
 
+use allocation::{NoMemory, push};
 use blob_store::VecKeeper;
-use growth::{NoMemory, push};
 use photo_store::{Caller, Find, Put, Remove, Store, Ticket, key_of, show};
 use std::alloc::Global;
 use std::process::Abort;

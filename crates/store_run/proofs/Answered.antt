@@ -6,7 +6,7 @@ use Rattle.std.specs.declared.result.Result.{Result}
 use Rattle.std.specs.declared.result.Result.TheVariants.{Ok, Err}
 use Rattle.std.proofs.lemmas.Slice.Eq.{bytes_eq-Decides}
 use Rattle.sha2.specs.Sha256.{sha256}
-use Rattle.growth.specs.declared.no_memory.NoMemory.{NoMemory as OutOfMemory}
+use Rattle.allocation.specs.declared.no_memory.NoMemory.{NoMemory as OutOfMemory}
 use Rattle.byteorder.specs.Endian.{big_bytes}
 use Rattle.blob_store.specs.declared.record.Call.TheVariants.{Put, Find, Remove}
 use Rattle.blob_store.specs.declared.record.Record.{Record}

@@ -8,7 +8,7 @@ use Rattle.byteorder.specs.Endian.{big_bytes, big_number}
 use Rattle.byteorder.specs.Numbers.{big_number-reads_back, length-bytes_high_first}
 use Rattle.container_spec.specs.Limits.{most_of_a_file}
 use Rattle.photo_store.specs.FileStores.{FileCall, PutFile, FindFile, RemoveFile}
-use Rattle.store_run.specs.Records.{IsBad, IsCut, IsForeign, IsWhole, find_mark, key_length, most_records, put_mark, record_bytes, remove_mark}
+use Rattle.store_run.specs.Records.{IsBad, IsCut, IsForeign, FitsRecord, find_mark, key_length, most_records, put_mark, record_bytes, remove_mark}
 use Rattle.store_run.specs.RecordLaws.{EndsBy, OneReading}
 use Rattle.store_run.specs.declared.ending.Ending.{Ending}
 use Rattle.store_run.specs.declared.ending.Ending.TheVariants.{Answered, BadRecord, ReadFailed, WriteFailed, NoMemory, KeeperFailed, Full}
@@ -80,7 +80,7 @@ key_front call mark key tail is =
       drop_at key tail key_length is,
     ) refl
 
-record_front : (call : FileCall) (tail : List ℕ) → IsWhole call
+record_front : (call : FileCall) (tail : List ℕ) → FitsRecord call
     → front (record_bytes call ++ tail) ≡ Begins call tail
 unfolding front
 record_front (PutFile file) tail whole = put_front file tail whole
@@ -174,7 +174,7 @@ IsStuck : ℕ → List ℕ → Type 0
 IsStuck count bytes = (begins (front bytes) ≡ false) ⊎ (count ≡ most_records)
 
 none_there : (call : FileCall) (calls : List FileCall) (bytes tail : List ℕ) (count : ℕ)
-    → IsWhole call → bytes ≡ flat_map record_bytes (call ∷ calls) ++ tail
+    → FitsRecord call → bytes ≡ flat_map record_bytes (call ∷ calls) ++ tail
     → IsStuck count bytes → count < most_records → ⊥
 unfolding IsStuck begins
 none_there call calls bytes tail count whole is (inr most) few = omega (arith, most, few)
@@ -184,7 +184,7 @@ none_there call calls bytes tail count whole is (inl none) few =
     absurd (true≢false (sym (ap begins there) ∙ none))
 
 same_records : (records others : List FileCall) (tail end : List ℕ) (count : ℕ)
-    → AllByRecursion IsWhole records → AllByRecursion IsWhole others
+    → AllByRecursion FitsRecord records → AllByRecursion FitsRecord others
     → flat_map record_bytes records ++ tail ≡ flat_map record_bytes others ++ end
     → IsStuck (count + length records) tail → IsStuck (count + length others) end
     → count + length records ≤ most_records → count + length others ≤ most_records

@@ -5,13 +5,13 @@ use Rattle.std.specs.Io.KnownBytes.{Consumes}
 use Rattle.std.proofs.KnownBytes.{Consumes-trans}
 use Rattle.outside_core.specs.Takes.{MovesOn, TakesNext}
 use Rattle.photo_store.specs.FileStores.{Files, FileCall}
-use Rattle.store_run.specs.Records.{IsWhole, record_bytes}
+use Rattle.store_run.specs.Records.{FitsRecord, record_bytes}
 use Rattle.store_run.specs.TakesReplies.{TakesReplies}
 use Rattle.store_run.specs.Turns.{reply_in}
 use Rattle.store_run.specs.declared.ending.Ending.{Ending}
 
 module _ {Sink : Type 0} (takes : Sink → List ℕ → Type 0) (old new : Option (List ℕ)) (call : FileCall)
-    (whole : IsWhole call) (read : Consumes old new (record_bytes call)) where
+    (whole : FitsRecord call) (read : Consumes old new (record_bytes call)) where
   -- the sink takes each reply to a record that was read
   pub takes_reply : (sink : Sink) → TakesReplies takes old sink
       → (files : Files) → TakesNext takes sink (reply_in files call)

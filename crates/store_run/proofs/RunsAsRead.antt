@@ -1,7 +1,7 @@
 -- A run without a fault ends as its input says.
 use Rattle.std.proofs.Common.{◌≡◌, ◌⊎◌, inl, inr, ℕ, List, [], ◌∷◌, ◌++◌, length, flat_map, Option, Some, None, ◌∙◌, subst, refl, append_assoc}
 use Rattle.std.specs.Io.KnownBytes.{Consumes, IsAtEnd}
-use Rattle.growth.specs.declared.no_memory.NoMemory.{NoMemory as OutOfMemory}
+use Rattle.allocation.specs.declared.no_memory.NoMemory.{NoMemory as OutOfMemory}
 use Rattle.photo_store.specs.FileStores.{FileCall}
 use Rattle.store_run.specs.Records.{IsBad, record_bytes}
 use Rattle.store_run.specs.RunEnds.{HasAnsweredAll}

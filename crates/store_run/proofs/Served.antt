@@ -15,8 +15,8 @@ use Rattle.photo_store.specs.FileEntries.{AreSame}
 use Rattle.photo_store.specs.FileStores.{Files, FileCall, files_after, no_files}
 use Rattle.store_run.specs.Answering.{IsLater, IsTied}
 use Rattle.store_run.specs.Kept.{HasKept}
-use Rattle.store_run.specs.Records.{IsWhole, files_by, most_records, record_bytes, replies}
-use Rattle.store_run.specs.RunEnds.{Ends, HasAnswered, HasAnsweredAll, HasAnsweredSome}
+use Rattle.store_run.specs.Records.{FitsRecord, files_by, most_records, record_bytes, replies}
+use Rattle.store_run.specs.RunEnds.{RunEnds, HasAnswered, HasAnsweredAll, HasAnsweredSome}
 use Rattle.store_run.specs.Turns.{CallTurns, Calls, IsServing, Stops, StopsFirst, Turns, reply_in}
 use Rattle.store_run.specs.declared.ending.Ending.{Ending}
 use Rattle.store_run.specs.declared.ending.Ending.TheVariants.{Answered, BadRecord, ReadFailed, WriteFailed, NoMemory, KeeperFailed, Full}
@@ -42,8 +42,8 @@ replies_more files (r ∷ rs) c =
     ap (λ (l : List ℕ). reply_in files r ++ l) (replies_more (files_after files r) rs c)
     ∙ sym (append_assoc (reply_in files r) (replies (files_after files r) rs) (reply_in (files_by files (r ∷ rs)) c))
 
-all_more : (rs : List FileCall) (c : FileCall) → AllByRecursion IsWhole rs → IsWhole c
-    → AllByRecursion IsWhole (rs ++ c ∷ [])
+all_more : (rs : List FileCall) (c : FileCall) → AllByRecursion FitsRecord rs → FitsRecord c
+    → AllByRecursion FitsRecord (rs ++ c ∷ [])
 all_more [] c all whole = (whole, tt)
 all_more (r ∷ rs) c all whole = (all.0, all_more rs c all.1 whole)
 
@@ -139,7 +139,7 @@ module _ {Source Sink : Type 0} (left : Source → Option (List ℕ)) (held : Si
     rose_later rose = subst (λ (k : ℕ). (k < source_faults new) ⊎ source_full new) s.source_worked rose
 
     abbrev End : Type 0 → Ending → Type 0
-    End = Ends left held source_faults source_full sink_faults sink_full old new from to
+    End = RunEnds left held source_faults source_full sink_faults sink_full old new from to
 
     by_stop : (rose : Type 0) (ending : Ending) → count < most_records → to ≡ mid
         → Stops left held source_faults source_full sink_faults sink_full now new ending
@@ -181,7 +181,7 @@ module _ {Source Sink : Type 0} (left : Source → Option (List ℕ)) (held : Si
         subst (λ (x : Ending). End rose x) same (by_stop rose f.ending room f.sink f.stops)
 
     -- the replies so far, and a part of one more
-    cut_here : (call : FileCall) → IsWhole call → Consumes (left now) (left new) (record_bytes call)
+    cut_here : (call : FileCall) → FitsRecord call → Consumes (left now) (left new) (record_bytes call)
         → (written : ℕ) → Appends (held mid) (held to) (take written (reply_in (files_by no_files s.records) call))
         → HasAnswered left held old new from to (s.records ++ call ∷ []) [] (length (replies no_files s.records) + written)
     cut_here call whole read written wrote =
@@ -198,7 +198,7 @@ module _ {Source Sink : Type 0} (left : Source → Option (List ℕ)) (held : Si
               (Appends-trans (held from) (held mid) (held to) text (take written reply) s.wrote wrote);
         }
 
-    cut_so_far : (call : FileCall) → IsWhole call → Consumes (left now) (left new) (record_bytes call)
+    cut_so_far : (call : FileCall) → FitsRecord call → Consumes (left now) (left new) (record_bytes call)
         → (written : ℕ) → Appends (held mid) (held to) (take written (reply_in (files_by no_files s.records) call))
         → HasAnsweredSome left held old new from to
     cut_so_far call whole read written wrote = record {
@@ -210,7 +210,7 @@ module _ {Source Sink : Type 0} (left : Source → Option (List ℕ)) (held : Si
 
     by_call : (rose : Type 0) (ending : Ending) → count < most_records → AreBy 0 after.view.seen
         → (HasRisen before.view.faults after.view.faults → rose)
-        → (call : FileCall) → IsWhole call → Consumes (left now) (left new) (record_bytes call)
+        → (call : FileCall) → FitsRecord call → Consumes (left now) (left new) (record_bytes call)
         → source_faults new ≡ source_faults now
         → CallTurns held sink_faults sink_full mid to before after call (Some ending)
         → End rose ending
@@ -280,7 +280,7 @@ module _ {Source Sink : Type 0} (left : Source → Option (List ℕ)) (held : Si
     keeps_stop Full still same h = absurd h
 
     keeps_call : (ending : Ending) → count < most_records → AreBy 0 after.view.seen
-        → (call : FileCall) → IsWhole call → Consumes (left now) (left new) (record_bytes call)
+        → (call : FileCall) → FitsRecord call → Consumes (left now) (left new) (record_bytes call)
         → CallTurns held sink_faults sink_full mid to before after call (Some ending) → Holds ending
     keeps_call Answered room sole call whole read h = absurd h
     keeps_call BadRecord room sole call whole read h = absurd h
@@ -339,7 +339,7 @@ module _ {Source Sink : Type 0} (left : Source → Option (List ℕ)) (held : Si
   module _ (old now new : Source) (from to : Sink) (caller : CallerValue)
       (s : Serving old now from to caller most_records) where
     abbrev EndHere : Type 0 → Ending → Type 0
-    EndHere = Ends left held source_faults source_full sink_faults sink_full old new from to
+    EndHere = RunEnds left held source_faults source_full sink_faults sink_full old new from to
 
     pub last_answered : (rose : Type 0) → Consumes (left now) (left new) [] → IsAtEnd (left new)
         → source_faults new ≡ source_faults now → EndHere rose Answered

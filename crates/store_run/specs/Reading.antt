@@ -4,7 +4,7 @@ use Rattle.std.specs.Io.KnownBytes.{Consumes, IsAtEnd}
 use Rattle.std.specs.declared.result.Result.{Result}
 use Rattle.std.specs.declared.result.Result.TheVariants.{Ok, Err}
 use Rattle.photo_store.specs.FileStores.{FileCall, PutFile, FindFile, RemoveFile}
-use Rattle.store_run.specs.Records.{IsBad, IsBegun, IsWhole, record_bytes}
+use Rattle.store_run.specs.Records.{IsBad, IsBegun, FitsRecord, record_bytes}
 use Rattle.store_run.specs.declared.calls.Asked.{Asked}
 use Rattle.store_run.specs.declared.calls.Asked.TheVariants.{Put, Find, Remove}
 use Rattle.store_run.specs.declared.calls.RecordStop.{RecordStop}
@@ -26,7 +26,7 @@ stop_of (BytesMemory short) = NoMemory short
 
 -- these bytes of a record were read
 abbrev pub IsRead : List ℕ → Option (List ℕ) → Result Asked RecordStop → Type 0
-IsRead bytes left (Ok asked) = (bytes ≡ record_bytes (call_of asked)) × IsWhole (call_of asked)
+IsRead bytes left (Ok asked) = (bytes ≡ record_bytes (call_of asked)) × FitsRecord (call_of asked)
 IsRead bytes left (Err Bad) = IsBad bytes left
 IsRead bytes left (Err ReadFault) = IsBegun bytes
 IsRead bytes left (Err (NoMemory short)) = IsBegun bytes

@@ -1,11 +1,11 @@
 -- Law: an input has one reading as records, and a run without a fault answers it (docs/STORE.md, Records).
 use Rattle.std.specs.Prelude.{ℕ, ◌≡◌, ◌<◌, ◌≤◌, ◌⊎◌, List, [], ◌∷◌, ◌++◌, length, flat_map, Option, Some}
 use Rattle.std.specs.List.{AllByRecursion}
-use Rattle.growth.specs.declared.no_memory.NoMemory.{NoMemory as OutOfMemory}
+use Rattle.allocation.specs.declared.no_memory.NoMemory.{NoMemory as OutOfMemory}
 use Rattle.outside_core.specs.Faults.{Rose}
 use Rattle.photo_store.specs.FileStores.{FileCall}
-use Rattle.store_run.specs.Records.{IsBad, IsWhole, most_records, record_bytes}
-use Rattle.store_run.specs.RunEnds.{Ends, HasAnsweredAll, KeeperRose}
+use Rattle.store_run.specs.Records.{IsBad, FitsRecord, most_records, record_bytes}
+use Rattle.store_run.specs.RunEnds.{RunEnds, HasAnsweredAll, KeeperRose}
 use Rattle.store_run.specs.declared.ending.Ending.{Ending}
 use Rattle.store_run.specs.declared.ending.Ending.TheVariants.{Answered, BadRecord, NoMemory, Full}
 
@@ -20,7 +20,7 @@ EndsBy count rest after other = ⊥
 -- an input as whole records, the bytes that are read after them, and what is left
 pub record IsReading (input : List ℕ) (records : List FileCall) (rest after : List ℕ)
     (ending : Ending) : Type 0 where
-  pub whole : AllByRecursion IsWhole records
+  pub whole : AllByRecursion FitsRecord records
   pub is : input ≡ flat_map record_bytes records ++ (rest ++ after)
   pub ends : EndsBy (length records) rest after ending
 
@@ -42,7 +42,7 @@ module _ {Source Sink Keeper : Type 0} (left : Source → Option (List ℕ))
   RunsAsRead =
       (old new : Source) (from to : Sink) (given : Keeper) (back : Option Keeper) (input : List ℕ)
       (records : List FileCall) (rest after : List ℕ) (ending expected : Ending)
-      → Ends left held source_faults source_full sink_faults sink_full old new from to
+      → RunEnds left held source_faults source_full sink_faults sink_full old new from to
       (KeeperRose keeper_faults given back) ending
       → left old ≡ Some input → IsReading input records rest after expected
       → (Rose source_faults source_full old new → ⊥) → (Rose sink_faults sink_full from to → ⊥)

@@ -30,10 +30,10 @@ record_bytes (FindFile key) = find_mark ∷ key
 record_bytes (RemoveFile key) = remove_mark ∷ key
 
 -- a record is as long as it may be
-abbrev pub IsWhole : FileCall → Type 0
-IsWhole (PutFile file) = length file ≤ most_of_a_file
-IsWhole (FindFile key) = length key ≡ key_length
-IsWhole (RemoveFile key) = length key ≡ key_length
+abbrev pub FitsRecord : FileCall → Type 0
+FitsRecord (PutFile file) = length file ≤ most_of_a_file
+FitsRecord (FindFile key) = length key ≡ key_length
+FitsRecord (RemoveFile key) = length key ≡ key_length
 
 -- bytes with which no record begins: another first byte, or a length above the most
 abbrev pub IsForeign : List ℕ → Type 0
@@ -58,7 +58,7 @@ IsBegun bytes = (bytes ≡ []) ⊎ IsCut bytes
 
 -- one record was read
 abbrev pub IsRecord : List ℕ → Type 0
-IsRecord bytes = (call : FileCall) × IsWhole call × (bytes ≡ record_bytes call)
+IsRecord bytes = (call : FileCall) × FitsRecord call × (bytes ≡ record_bytes call)
 
 -- a bad record was read, and this is left: no record begins with its bytes, or the input ended in it
 abbrev pub IsBad : List ℕ → Option (List ℕ) → Type 0

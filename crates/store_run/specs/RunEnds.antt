@@ -6,7 +6,7 @@ use Rattle.outside_core.specs.Faults.{Rose}
 use Rattle.blob_store.specs.States.{HasRisen}
 use Rattle.photo_store.specs.FileStores.{FileCall, no_files}
 use Rattle.outside_core.specs.Written.{HasFailed}
-use Rattle.store_run.specs.Records.{IsBad, IsBegun, IsRecord, IsWhole, most_records, record_bytes, replies}
+use Rattle.store_run.specs.Records.{IsBad, IsBegun, IsRecord, FitsRecord, most_records, record_bytes, replies}
 use Rattle.store_run.specs.declared.ending.Ending.{Ending}
 use Rattle.store_run.specs.declared.ending.Ending.TheVariants.{Answered, BadRecord, ReadFailed, WriteFailed, NoMemory, KeeperFailed, Full}
 
@@ -47,7 +47,7 @@ module _ {Source Sink : Type 0} (left : Source → Option (List ℕ)) (held : Si
     -- whole records were read, and these bytes after them, and of the replies N bytes were written
     pub record HasAnswered (old new : Source) (from to : Sink) (records : List FileCall)
         (rest : List ℕ) (written : ℕ) : Type 0 where
-      pub whole : AllByRecursion IsWhole records
+      pub whole : AllByRecursion FitsRecord records
       pub read : Consumes (left old) (left new) (flat_map record_bytes records ++ rest)
       pub wrote : Appends (held from) (held to) (take written (replies no_files records))
 
@@ -61,7 +61,7 @@ module _ {Source Sink : Type 0} (left : Source → Option (List ℕ)) (held : Si
     -- all of them were
     pub record HasAnsweredAll (old new : Source) (from to : Sink) (records : List FileCall)
         (rest : List ℕ) : Type 0 where
-      pub whole : AllByRecursion IsWhole records
+      pub whole : AllByRecursion FitsRecord records
       pub read : Consumes (left old) (left new) (flat_map record_bytes records ++ rest)
       pub wrote : Appends (held from) (held to) (replies no_files records)
 
@@ -76,31 +76,31 @@ module _ {Source Sink : Type 0} (left : Source → Option (List ℕ)) (held : Si
       SinkWorked from to = sink_faults to ≡ sink_faults from
 
       -- how it ends; `KeeperRose` is that the keeper's count of faults rose, or can't rise any more
-      abbrev pub Ends : Source → Source → Sink → Sink → Type 0 → Ending → Type 0
-      Ends old new from to KeeperRose Answered =
+      abbrev pub RunEnds : Source → Source → Sink → Sink → Type 0 → Ending → Type 0
+      RunEnds old new from to KeeperRose Answered =
           (records : List FileCall) × HasAnsweredAll old new from to records []
           × IsAtEnd (left new) × (length records ≤ most_records)
           × SourceWorked old new × SinkWorked from to
-      Ends old new from to KeeperRose BadRecord =
+      RunEnds old new from to KeeperRose BadRecord =
           (records : List FileCall) × (bytes : List ℕ)
           × HasAnsweredAll old new from to records bytes × IsBad bytes (left new)
           × (length records < most_records) × SourceWorked old new × SinkWorked from to
-      Ends old new from to KeeperRose Full =
+      RunEnds old new from to KeeperRose Full =
           (records : List FileCall) × (byte : ℕ)
           × HasAnsweredAll old new from to records (byte ∷ []) × (length records ≡ most_records)
           × SourceWorked old new × SinkWorked from to
-      Ends old new from to KeeperRose ReadFailed =
+      RunEnds old new from to KeeperRose ReadFailed =
           (records : List FileCall) × (bytes : List ℕ)
           × HasAnsweredAll old new from to records bytes × IsBegun bytes
           × Rose source_faults source_full old new × SinkWorked from to
-      Ends old new from to KeeperRose WriteFailed =
+      RunEnds old new from to KeeperRose WriteFailed =
           HasAnsweredSome old new from to × Rose sink_faults sink_full from to
           × SourceWorked old new
-      Ends old new from to KeeperRose KeeperFailed =
-          (records : List FileCall) × (call : FileCall) × IsWhole call
+      RunEnds old new from to KeeperRose KeeperFailed =
+          (records : List FileCall) × (call : FileCall) × FitsRecord call
           × HasAnsweredAll old new from to records (record_bytes call) × KeeperRose
           × SourceWorked old new × SinkWorked from to
-      Ends old new from to KeeperRose (NoMemory short) =
+      RunEnds old new from to KeeperRose (NoMemory short) =
           (records : List FileCall) × (bytes : List ℕ)
           × HasAnsweredAll old new from to records bytes × (IsBegun bytes ⊎ IsRecord bytes)
           × SourceWorked old new × SinkWorked from to

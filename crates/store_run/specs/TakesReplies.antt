@@ -3,7 +3,7 @@ use Rattle.std.specs.Prelude.{ℕ, ◌≡◌, List, [], ◌∷◌, ◌++◌, fla
 use Rattle.std.specs.List.{AllByRecursion}
 use Rattle.std.specs.Io.KnownBytes.{Consumes}
 use Rattle.photo_store.specs.FileStores.{Files, FileCall, key_asked, file_reply}
-use Rattle.store_run.specs.Records.{IsWhole, record_bytes, reply_bytes}
+use Rattle.store_run.specs.Records.{FitsRecord, record_bytes, reply_bytes}
 
 -- a text of replies to these records, each as some store of files would give it
 abbrev pub AreReplies : List FileCall → List ℕ → Type 0
@@ -16,7 +16,7 @@ AreReplies (call ∷ calls) text =
 -- whole records that a source may give next
 abbrev pub MayGive : Option (List ℕ) → List FileCall → Type 0
 MayGive left records =
-    AllByRecursion IsWhole records
+    AllByRecursion FitsRecord records
     × ((rest : Option (List ℕ)) × Consumes left rest (flat_map record_bytes records))
 
 -- a sink takes replies to the records that a source may give, whichever they are

@@ -8,7 +8,7 @@ use Rattle.blob_store.specs.Journals.{AreBy}
 use Rattle.blob_store.specs.States.{HasRisen}
 use Rattle.photo_store.specs.FileStores.{Files, FileCall, key_asked, file_reply, files_after, no_files}
 use Rattle.store_run.specs.Answering.{IsTied, KeepsFiles}
-use Rattle.store_run.specs.Records.{IsBad, IsBegun, IsWhole, files_by, most_records, record_bytes, replies, reply_bytes}
+use Rattle.store_run.specs.Records.{IsBad, IsBegun, FitsRecord, files_by, most_records, record_bytes, replies, reply_bytes}
 use Rattle.store_run.specs.declared.ending.Ending.{Ending}
 use Rattle.store_run.specs.declared.ending.Ending.TheVariants.{Answered, BadRecord, ReadFailed, WriteFailed, NoMemory, KeeperFailed, Full}
 use Rattle.store_run.specs.declared.calls.RecordStop.{RecordStop}
@@ -71,7 +71,7 @@ module _ {Source Sink : Type 0} (left : Source → Option (List ℕ)) (held : Si
   pub record Calls (old new : Source) (from to : Sink) (before after : CallerValue)
       (result : Option Ending) : Type 0 where
     pub call : FileCall
-    pub whole : IsWhole call
+    pub whole : FitsRecord call
     pub read : Consumes (left old) (left new) (record_bytes call)
     pub worked : source_faults new ≡ source_faults old
     pub turns : CallTurns held sink_faults sink_full from to before after call result
@@ -95,7 +95,7 @@ module _ {Source Sink : Type 0} (left : Source → Option (List ℕ)) (held : Si
   pub record IsServing (old new : Source) (from to : Sink) (caller : CallerValue) (count : ℕ)
       : Type 0 where
     pub records : List FileCall
-    pub whole : AllByRecursion IsWhole records
+    pub whole : AllByRecursion FitsRecord records
     pub long : length records ≡ count
     pub read : Consumes (left old) (left new) (flat_map record_bytes records)
     pub wrote : Appends (held from) (held to) (replies no_files records)

@@ -6,7 +6,7 @@ ghost use Rattle.outside_core.specs.Takes.{TakesNext};
 ghost use Rattle.outside_core.specs.Written.{HasWritten, HasFailed};
 ghost use Rattle.store_run.specs.Answering.{HasAnswered, IsShort, answer_bytes, put_answer, remove_answer};
 ghost use Rattle.store_run.specs.Reading.{call_of};
-ghost use Rattle.store_run.specs.Records.{IsWhole};
+ghost use Rattle.store_run.specs.Records.{FitsRecord};
 
 use crate::calls::Asked;
 use blob_store::{Keeper, Key, Stop};
@@ -51,7 +51,7 @@ pub(crate) fn answer_call<R: Threads + Wait + Sync, P: Keeper>(
     asked: &Asked,
 ) -> Result<Answer, Stop>
     requires own { caller.old.table ≡ store.now }
-    requires whole { IsWhole (call_of asked.now) }
+    requires whole { FitsRecord (call_of asked.now) }
     ensures { HasAnswered caller.old caller.new (call_of asked.now) result }
 {
     match asked {

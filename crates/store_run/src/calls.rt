@@ -9,9 +9,9 @@ ghost use Rattle.store_run.specs.Records.{key_length, put_mark};
 ghost use Rattle.store_run.specs.declared.calls.RecordStop.TheVariants.{Bad, ReadFault};
 
 use crate::reading::{ReadStop, next_byte, read_exactly};
+use allocation::NoMemory;
 use blob_store::Key;
 use byteorder::{BigEndian, ByteOrder};
-use growth::NoMemory;
 use outside_core::{Failed, Source};
 use std::alloc::Global;
 

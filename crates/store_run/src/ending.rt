@@ -2,7 +2,7 @@
 ghost use Rattle.std.specs.Prelude.{◌≡◌};
 ghost use Rattle.store_run.specs.RunEnds.{line_of, status_of};
 
-use growth::NoMemory;
+use allocation::NoMemory;
 
 /// How a run ends.
 #[derive(Clone, Copy, Debug, PartialEq, Eq)]

@@ -4,7 +4,7 @@ ghost use Rattle.std.specs.Io.KnownBytes.{Consumes, IsAtEnd, Keeps};
 ghost use Rattle.outside_core.specs.Faults.{Rose};
 ghost use Rattle.store_run.specs.declared.reading.ReadStop.TheVariants.{AtEnd, ReadFault};
 
-use growth::{NoMemory, resize};
+use allocation::{NoMemory, resize};
 use outside_core::{Failed, Source};
 use std::alloc::Global;
 

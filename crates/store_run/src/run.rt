@@ -8,8 +8,8 @@ ghost use Rattle.photo_store.specs.FileStores.{Files, no_files};
 ghost use Rattle.store_run.specs.Answering.{IsLater, IsSameCaller};
 ghost use Rattle.store_run.specs.Kept.{HasKept, HaveFiles};
 ghost use Rattle.store_run.specs.Reading.{call_of};
-ghost use Rattle.store_run.specs.Records.{IsWhole, files_by, most_records};
-ghost use Rattle.store_run.specs.RunEnds.{Ends, KeeperRose, Notes, line_of, status_of};
+ghost use Rattle.store_run.specs.Records.{FitsRecord, files_by, most_records};
+ghost use Rattle.store_run.specs.RunEnds.{RunEnds, KeeperRose, Notes, line_of, status_of};
 ghost use Rattle.store_run.specs.TakesReplies.{TakesReplies};
 ghost use Rattle.store_run.specs.Turns.{CallTurns, Turns, ending_by, reply_in};
 
@@ -58,7 +58,7 @@ pub fn run_store<R: Threads + Wait + Sync, S: Source, K: Sink, N: Sink, P: Keepe
     requires notes { TakesAll N.takes note.old }
 
     // How it ends: what was read, and which replies were written.
-    ensures ends { Ends S.left K.held S.faults S.full K.faults K.full source.old source.new
+    ensures ends { RunEnds S.left K.held S.faults S.full K.faults K.full source.old source.new
         sink.old sink.new (KeeperRose P.fault_count keeper result.1) result.0 }
 
     // However it ends, the keeper that is given back has the blob of each file that the answered records leave in the
@@ -119,7 +119,7 @@ fn serve<R: Threads + Wait + Sync, S: Source, K: Sink, P: Keeper>(
     requires readable { S.readable source.old }
     requires takes { TakesReplies K.takes (S.left source.old) sink.old }
     ensures ends { AreBy 0 caller.new.view.seen
-        → Ends S.left K.held S.faults S.full K.faults K.full
+        → RunEnds S.left K.held S.faults S.full K.faults K.full
         source.old source.new sink.old sink.new
         (HasRisen caller.old.view.faults caller.new.view.faults) result }
     ensures kept { AreBy 0 caller.new.view.seen
@@ -190,7 +190,7 @@ fn answer_asked<R: Threads + Wait + Sync, K: Sink, P: Keeper>(
     sink: &mut K,
 ) -> Option<Ending>
     requires own { caller.old.table ≡ store.now }
-    requires whole { IsWhole (call_of asked.now) }
+    requires whole { FitsRecord (call_of asked.now) }
     requires takes { (files : Files)
         → TakesNext K.takes sink.old (reply_in files (call_of asked.now)) }
     ensures turns { CallTurns K.held K.faults K.full

@@ -1,8 +1,8 @@
 // Stores of small blobs, each call with the answer that is expected. Any blob suits any key.
 ghost use Rattle.std.specs.Prelude.{◌≡◌, [], IfOk};
 
+use allocation::{NoMemory, from_slice};
 use blob_store::{BlobCaller, BlobStore, FakeKeeper, Form, Keeper, Key, Reply, Stop, VecKeeper};
-use growth::{NoMemory, from_slice};
 use std::alloc::Global;
 use std::process::Abort;
 use std::sync::Wait;

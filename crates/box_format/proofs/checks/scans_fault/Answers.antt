@@ -5,7 +5,7 @@ use Rattle.box_format.specs.declared.refusal.BoxRefusal.{BoxRefusal}
 use Rattle.box_format.specs.Versions.{layout_of}
 use Rattle.box_format.specs.Fields.{scan_raw, scans_in, segments_at}
 use Rattle.box_format.specs.Checks.{scans_fault}
-use Rattle.box_format.specs.Whole.{raws_from}
+use Rattle.box_format.proofs.RawParts.{raws_from}
 use Rattle.box_format.proofs.ScansFaults.{fault_next, handover_count, plan_next, segments_next}
 use Rattle.box_format.proofs.checks.scans_fault.Goals as goal
 

@@ -1,7 +1,7 @@
 use Rattle.std.proofs.Common.{◌≡◌, ◌+◌, ◌*◌, ◌≤◌}
 use Rattle.box_format.specs.Fields.{raws_as}
 use Rattle.box_format.specs.Checks.{segments_of}
-use Rattle.box_format.specs.Whole.{raws_from}
+use Rattle.box_format.proofs.RawParts.{raws_from}
 use Rattle.box_format.proofs.checks.segments_in.Given as goal
 
 abbrev pub invariant-loop-scan : goal.invariant-loop-scan

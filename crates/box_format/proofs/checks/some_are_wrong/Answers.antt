@@ -2,7 +2,7 @@ use Rattle.std.proofs.Common.{◌<◌, ◌||◌, ◌+◌, Bool, drop, length, sy
 use Rattle.box_format.specs.Versions.{layout_of}
 use Rattle.box_format.specs.Fields.{scans_in}
 use Rattle.box_format.specs.Checks.{some_are_wrong}
-use Rattle.box_format.specs.Whole.{raws_from}
+use Rattle.box_format.proofs.RawParts.{raws_from}
 use Rattle.box_format.proofs.ScansFaults.{plan_next, wrong_next}
 use Rattle.box_format.proofs.checks.some_are_wrong.Goals as goal
 

@@ -2,7 +2,7 @@ use Rattle.std.proofs.Common.{◌≡◌, drop}
 use Rattle.box_format.specs.Versions.{layout_of}
 use Rattle.box_format.specs.Fields.{raws_as}
 use Rattle.box_format.specs.Checks.{some_are_wrong}
-use Rattle.box_format.specs.Whole.{raws_from}
+use Rattle.box_format.proofs.RawParts.{raws_from}
 use Rattle.box_format.proofs.checks.some_are_wrong.Given as goal
 
 abbrev pub invariant-loop-scan : goal.invariant-loop-scan

@@ -1,6 +1,6 @@
 use Rattle.std.proofs.Common.{◌≡◌, ◌+◌, length, take}
 use Rattle.jpeg_marker.specs.Walks.{walk_from}
-use Rattle.jpeg_marker.specs.HeaderWalks.{Walked}
+use Rattle.jpeg_marker.proofs.HeaderWalks.{Walked}
 use Rattle.jpeg_marker.proofs.header.walk.Given as goal
 
 abbrev pub invariant-segments : goal.invariant-segments

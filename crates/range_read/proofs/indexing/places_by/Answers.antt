@@ -1,4 +1,5 @@
 use Rattle.std.proofs.Common.{rules, ◌≡◌, ◌<◌, ◌≤◌, ◌^◌, ◌∷◌, length, sym, ap, ◌∙◌, arith, true, false}
+use Rattle.std.proofs.lemmas.List.FromFn.{length-map-range_with_len}
 use Rattle.handover.specs.declared.outcome.Outcome.{Outcome}
 use Rattle.handover.specs.declared.outcome.Outcome.TheVariants.{Bad}
 use Rattle.handover.specs.declared.outcome.StreamFault.{StreamFault}
@@ -7,7 +8,6 @@ use Rattle.box_format.specs.Versions.{most_segments}
 use Rattle.container_spec.specs.Segments.{segment_output}
 use Rattle.container_spec.specs.Indexed.{outputs_of}
 use Rattle.container_spec.specs.Meanings.{segment_in}
-use Rattle.container_spec.proofs.Numbered.{mapped_long}
 use Rattle.range_read.proofs.FoundPlaces.{all_places, all_spelled, bad_place, good_place, next_fits, no_places}
 use Rattle.range_read.proofs.indexing.places_by.Goals as goal
 
@@ -16,7 +16,7 @@ loop-measure-init c =
     let plan = c.args.view.now.plan in
     let b = c.args.view.now.parts in
     let bytes = c.header.ensures.bytes in
-    let long = mapped_long (λ i. segment_output (segment_in plan b i)) 0 (length b.handovers) in
+    let long = length-map-range_with_len (λ i. segment_output (segment_in plan b i)) 0 (length b.handovers) in
     let count = c.segments.ensures.count in
     let most = c.segments.ensures.few in
     let few : length (outputs_of plan b) ≤ most_segments = omega (arith, long, count, most) in

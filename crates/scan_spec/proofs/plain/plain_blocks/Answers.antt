@@ -6,7 +6,7 @@ use Rattle.std.specs.Int.{w16}
 use mir.Val.{to_z, of_z}
 use Rattle.scan_spec.specs.BlockBits.{Text, block_text}
 use Rattle.scan_spec.specs.Blocks.{last_dc, dcs_after_block, blocks_text}
-use Rattle.scan_spec.specs.PlainWriting.{HasWritten, IsWritten}
+use Rattle.scan_spec.specs.PlainWriting.{HasPutPrefix, IsWritten}
 use Rattle.scan_spec.specs.declared.plain.PlainError.{PlainError}
 use Rattle.scan_spec.specs.declared.plain.PlainError.TheVariants.{Stop}
 use Rattle.scan_spec.specs.declared.slot.Slot.{Slot}
@@ -29,7 +29,7 @@ returns-in_err-put_block-clause-stop c =
     let kept = kept_half (last_dc l.last slot) (l.invariant.small slot.component (pos 0) there) in
     let text = block_text slot.codes (last_dc l.last slot) block in
     let rest = blocks_text (drop (l.i + 1) slots) (dcs_after_block l.last slot block) (drop (l.i + 1) blocks) in
-    let at = subst (λ (t : Text). HasWritten whole [] l.bits.items t) (next_block slots l.last blocks l.i slot block c.loop-i-test.true c.requires.long c.index-slots-i.is c.index-blocks-i.is) l.invariant.goes in
+    let at = subst (λ (t : Text). HasPutPrefix whole [] l.bits.items t) (next_block slots l.last blocks l.i slot block c.loop-i-test.true c.requires.long c.index-slots-i.is c.index-blocks-i.is) l.invariant.goes in
     let wrote = subst (λ (dc : ℤ). IsWritten (Err c.in_err-put_block.field-0.0) l.bits.items c.put_block.new.bits.items (block_text slot.codes dc block)) kept c.in_err-put_block.ensures in
     let stopped = goes_stop whole [] l.bits.items c.put_block.new.bits.items text rest c.in_err-put_block.field-0.0 at wrote in
     let p = err_from_is_err_and c.from_residual.result c.from_residual.ensures.1 in
@@ -50,7 +50,7 @@ loop-i-preserved c =
     let kept = kept_half (last_dc l.last slot) (l.invariant.small slot.component (pos 0) there) in
     let text = block_text slot.codes (last_dc l.last slot) block in
     let rest = blocks_text (drop (l.i + 1) slots) (dcs_after_block l.last slot block) (drop (l.i + 1) blocks) in
-    let at = subst (λ (t : Text). HasWritten whole [] l.bits.items t) (next_block slots l.last blocks l.i slot block c.loop-i-test.true c.requires.long c.index-slots-i.is c.index-blocks-i.is) l.invariant.goes in
+    let at = subst (λ (t : Text). HasPutPrefix whole [] l.bits.items t) (next_block slots l.last blocks l.i slot block c.loop-i-test.true c.requires.long c.index-slots-i.is c.index-blocks-i.is) l.invariant.goes in
     let wrote = subst (λ (dc : ℤ). IsWritten (Ok tt) l.bits.items c.put_block.new.bits.items (block_text slot.codes dc block)) kept c.in_ok-put_block.ensures in
     let dc = kept_half c.get.result (dc_small c.get.result c.get.ensures.coefficient) in
     let next = dc ∙ sym (value_is block 0 c.get.result c.get.ensures.value) in
@@ -58,7 +58,7 @@ loop-i-preserved c =
     record {
       size = length-set l.last slot.component (to_z w16 (of_z w16 c.get.result)) ∙ l.invariant.size;
       small = All-set (λ (z : ℤ). unsigned_abs z ≤ 32767) l.last slot.component (to_z w16 (of_z w16 c.get.result)) bound l.invariant.small;
-      goes = subst (λ (z : ℤ). HasWritten whole [] c.put_block.new.bits.items (blocks_text (drop (l.i + 1) slots) (set l.last slot.component z) (drop (l.i + 1) blocks))) (sym next)
+      goes = subst (λ (z : ℤ). HasPutPrefix whole [] c.put_block.new.bits.items (blocks_text (drop (l.i + 1) slots) (set l.last slot.component z) (drop (l.i + 1) blocks))) (sym next)
           (goes_more whole [] l.bits.items c.put_block.new.bits.items text rest tt at wrote);
     }
 
@@ -68,6 +68,6 @@ returns-clause-bits c =
     let slots = c.args.slots.now in
     let blocks = c.args.blocks.now in
     let whole = blocks_text slots c.args.before blocks in
-    let at = subst (λ (t : Text). HasWritten whole [] l.bits.items t) (no_block slots l.last blocks l.i c.loop-i-test.false) l.invariant.goes in
+    let at = subst (λ (t : Text). HasPutPrefix whole [] l.bits.items t) (no_block slots l.last blocks l.i c.loop-i-test.false) l.invariant.goes in
     let done = goes_end whole [] l.bits.items tt at in
     done.1 ∙ ap Ok (sym done.2)

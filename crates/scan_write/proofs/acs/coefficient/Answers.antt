@@ -3,7 +3,7 @@ use Rattle.std.proofs.lemmas.Int.{to_z-of_z}
 use Rattle.std.specs.Int.{w32}
 use Rattle.coef_block.specs.Categories.{category}
 use Rattle.scan_spec.specs.BlockBits.{Text, zeros_text, value_text, coefficient_text}
-use Rattle.scan_write.specs.Outputs.{output_of}
+use Rattle.scan_write.specs.Outputs.{output_with}
 use Rattle.scan_write.specs.Appending.{IsWritten}
 use Rattle.scan_write.proofs.AppendedTexts.{texts_start, texts_more, texts_last}
 use Rattle.scan_write.proofs.acs.coefficient.Goals as goal
@@ -29,9 +29,9 @@ returns-clause-is c =
     let value = value_text codes (symbol + category (unsigned_abs c.args.number)) c.args.number in
     let zeros = zeros_text codes (c.args.zeros / 16) in
     let whole = coefficient_text codes c.args.zeros c.args.number in
-    let old = output_of c.args.output.now c.args.out.now in
-    let now = output_of c.sixteens.new.output c.sixteens.new.out in
-    let new = output_of c.value.new.output c.value.new.out in
+    let old = output_with c.args.output.now c.args.out.now in
+    let now = output_with c.sixteens.new.output c.sixteens.new.out in
+    let new = output_with c.value.new.output c.value.new.out in
     let last = subst (λ (t : Text). IsWritten c.value.result now new t) (ap₂ (λ n v. value_text codes (symbol + n) v) sized same) c.value.ensures.is in
     texts_last whole old now new value c.value.result (texts_more whole old old now zeros value (texts_start whole old) c.in_ok-sixteens.ensures.is) last
 

@@ -1,6 +1,6 @@
 use Rattle.std.proofs.lemmas.Result.{err_from_is_err_and}
 use Rattle.scan_spec.specs.BlockBits.{dc_text, ac_text, ac_values, block_text}
-use Rattle.scan_write.specs.Outputs.{output_of}
+use Rattle.scan_write.specs.Outputs.{output_with}
 use Rattle.scan_write.proofs.AppendedTexts.{texts_more, texts_stop, texts_last_stop, texts_whole}
 use Rattle.scan_write.proofs.DueTexts.{dc_due}
 use Rattle.scan_write.proofs.SmallNumbers.{half}
@@ -11,8 +11,8 @@ returns-in_err-dc-clause-is c =
     let codes = c.args.codes.now in
     let block = c.args.block.now in
     let whole = block_text codes c.args.before block in
-    let old = output_of c.args.output.now c.args.out.now in
-    let new = output_of c.dc.new.output c.dc.new.out in
+    let old = output_with c.args.output.now c.args.out.now in
+    let new = output_with c.dc.new.output c.dc.new.out in
     let text = dc_text codes.dc (half c.args.before) (half c.get-value.result) in
     let rest = ac_text codes.ac 0 (ac_values block) in
     let due = dc_due codes c.args.before c.get-value.result block old c.requires.before c.get-value.ensures.value c.get-value.ensures.coefficient in
@@ -24,9 +24,9 @@ returns-in_err-acs-clause-is c =
     let codes = c.args.codes.now in
     let block = c.args.block.now in
     let whole = block_text codes c.args.before block in
-    let old = output_of c.args.output.now c.args.out.now in
-    let now = output_of c.dc.new.output c.dc.new.out in
-    let new = output_of c.acs.new.output c.acs.new.out in
+    let old = output_with c.args.output.now c.args.out.now in
+    let now = output_with c.dc.new.output c.dc.new.out in
+    let new = output_with c.acs.new.output c.acs.new.out in
     let text = dc_text codes.dc (half c.args.before) (half c.get-value.result) in
     let rest = ac_text codes.ac 0 (ac_values block) in
     let due = dc_due codes c.args.before c.get-value.result block old c.requires.before c.get-value.ensures.value c.get-value.ensures.coefficient in
@@ -38,9 +38,9 @@ returns-clause-is c =
     let codes = c.args.codes.now in
     let block = c.args.block.now in
     let whole = block_text codes c.args.before block in
-    let old = output_of c.args.output.now c.args.out.now in
-    let now = output_of c.dc.new.output c.dc.new.out in
+    let old = output_with c.args.output.now c.args.out.now in
+    let now = output_with c.dc.new.output c.dc.new.out in
     let text = dc_text codes.dc (half c.args.before) (half c.get-value.result) in
     let rest = ac_text codes.ac 0 (ac_values block) in
     let due = dc_due codes c.args.before c.get-value.result block old c.requires.before c.get-value.ensures.value c.get-value.ensures.coefficient in
-    texts_whole whole old now (output_of c.acs.new.output c.acs.new.out) rest (texts_more whole old old now text rest due c.in_ok-dc.ensures.is) c.in_ok-acs.ensures.is
+    texts_whole whole old now (output_with c.acs.new.output c.acs.new.out) rest (texts_more whole old old now text rest due c.in_ok-dc.ensures.is) c.in_ok-acs.ensures.is

@@ -6,7 +6,7 @@ use Rattle.scan_spec.specs.BlockBits.{Text, block_text}
 use Rattle.scan_spec.specs.Blocks.{dcs_after_block, dcs_after, blocks_text}
 use Rattle.scan_spec.specs.ShapeInside.{slot_in}
 use Rattle.scan_spec.proofs.SignedValues.{kept_half}
-use Rattle.scan_write.specs.Outputs.{output_of}
+use Rattle.scan_write.specs.Outputs.{output_with}
 use Rattle.scan_write.specs.Appending.{HasAppended}
 use Rattle.scan_write.proofs.AppendedTexts.{texts_more, texts_stop, texts_end}
 use Rattle.scan_write.proofs.McuWriting.{is_slot_at, block_due, next_dcs, no_text, no_dcs_more, slot_dcs}
@@ -23,9 +23,9 @@ returns-in_err-before-clause-is c =
     let tables = c.index-codes-component.result in
     let block = c.index-mcu-i.result in
     let whole = blocks_text (map (slot_in codes) slots) c.args.before.now mcu in
-    let old = output_of c.args.output.now c.args.out.now in
-    let now = output_of l.output l.out in
-    let new = output_of c.block.new.output c.block.new.out in
+    let old = output_with c.args.output.now c.args.out.now in
+    let now = output_with l.output l.out in
+    let new = output_with c.block.new.output c.block.new.out in
     let text = block_text tables (half (get_or l.before component (pos 0))) block in
     let rest = blocks_text (map (slot_in codes) (drop (l.i + 1) slots)) (dcs_after_block l.before (slot_in codes (get_or slots l.i 0)) block) (drop (l.i + 1) mcu) in
     let at =
@@ -46,9 +46,9 @@ loop-i-preserved c =
     let dc = c.in_ok-before.field-0 in
     let small = c.in_ok-before.ensures.small in
     let whole = blocks_text (map (slot_in codes) slots) c.args.before.now mcu in
-    let old = output_of c.args.output.now c.args.out.now in
-    let now = output_of l.output l.out in
-    let new = output_of c.block.new.output c.block.new.out in
+    let old = output_with c.args.output.now c.args.out.now in
+    let now = output_with l.output l.out in
+    let new = output_with c.block.new.output c.block.new.out in
     let text = block_text tables (half (get_or l.before component (pos 0))) block in
     let rest = blocks_text (map (slot_in codes) (drop (l.i + 1) slots)) (dcs_after_block l.before (slot_in codes (get_or slots l.i 0)) block) (drop (l.i + 1) mcu) in
     let at =
@@ -60,7 +60,6 @@ loop-i-preserved c =
     record {
       four = length-set l.before component (half dc) ∙ l.invariant.four;
       small = All-set (λ (z : ℤ). unsigned_abs z ≤ 32767) l.before component (half dc) bound l.invariant.small;
-      begun = c.block.ensures.begun;
       spent = omega (arith, spent, l.invariant.spent);
       dcs =
           ap (λ (b : List ℤ). dcs_after (map (slot_in codes) (drop (l.i + 1) slots)) b (drop (l.i + 1) mcu)) (sym after)
@@ -76,8 +75,8 @@ returns-clause-is c =
     let slots = c.args.slots.now in
     let mcu = c.args.mcu.now in
     let whole = blocks_text (map (slot_in codes) slots) c.args.before.now mcu in
-    let old = output_of c.args.output.now c.args.out.now in
-    let now = output_of l.output l.out in
+    let old = output_with c.args.output.now c.args.out.now in
+    let now = output_with l.output l.out in
     texts_end whole old now (subst (λ (t : Text). HasAppended whole old now t) (no_text codes slots l.before mcu l.i c.loop-i-test.false) l.invariant.going)
 
 pub returns-clause-dcs : goal.returns-clause-dcs

@@ -1,7 +1,7 @@
-use Rattle.std.proofs.Common.{◌+◌, ◌∙◌, ℕ, List, map, ap}
+use Rattle.std.proofs.Common.{◌≡◌, ◌+◌, ◌∙◌, ℕ, List, length, map, ap, arith}
 use Rattle.std.specs.Prelude.{Err}
+use Rattle.std.specs.List.{range_with_len}
 use Rattle.box_format.specs.Parts.{box_cut}
-use Rattle.box_format.specs.Raws.{numbers}
 use Rattle.container_spec.specs.ScanStream.{stream_of}
 use Rattle.cut_spec.specs.Cuts.{first_mcu}
 use Rattle.cut_spec.specs.RowHandovers.{mcus_between}
@@ -19,8 +19,9 @@ pub returns-in-Ok : goal.returns-in-Ok
 returns-in-Ok c = λ mcus pads file are.
     let plan = c.args.plan.now in
     let cut = box_cut plan c.args.chunk c.args.count in
+    let count : length (parts_in c.in_ok-lane.lane) ≡ c.args.count = omega (arith, c.in_ok-lane.ensures.count) in
     let f : ℕ → List ℕ = λ i. stream_of plan (mcus_between mcus (first_mcu cut i) (first_mcu cut (i + 1))) in
     given f 0 (parts_in c.in_ok-lane.lane) (map (λ v. v.items) c.in-Ok.streams.items)
     (c.in_ok-lane.ensures.streams mcus pads file are)
     (c.in-Ok.ensures.made c.in_ok-lane.lane c.perform.ensures)
-    ∙ ap (λ (n : ℕ). map f (numbers 0 n)) c.in_ok-lane.ensures.count
+    ∙ ap (λ (n : ℕ). map f (range_with_len 0 n)) count

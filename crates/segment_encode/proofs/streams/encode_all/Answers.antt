@@ -1,8 +1,8 @@
 use Rattle.std.proofs.Common.{rules, ◌≡◌, ◌+◌, ◌∙◌, ℕ, List, length, map, sym, ap, subst}
 use Rattle.std.specs.Prelude.{All, Err, flat_map, vec_len}
 use Rattle.std.proofs.lemmas.List.{with_items_is}
+use Rattle.std.specs.List.{range_with_len}
 use Rattle.box_format.specs.Parts.{box_cut}
-use Rattle.box_format.specs.Raws.{numbers}
 use Rattle.container_spec.specs.ScanStream.{stream_of}
 use Rattle.cut_spec.specs.Cuts.{first_mcu}
 use Rattle.cut_spec.specs.RowHandovers.{mcus_between}
@@ -38,4 +38,4 @@ returns-in-Ok g c = λ mcus pads file are.
     given f 0 (flat_map parts_in c.as_mut_slice.result.now) (map (λ v. v.items) c.in-Ok.streams.items)
     (rw same (c.in_ok-lanes.ensures.streams mcus pads file are))
     (c.in-Ok.ensures.made c.as_mut_slice.result.now coded)
-    ∙ ap (λ (n : ℕ). map f (numbers 0 n)) (ap length same ∙ c.in_ok-lanes.ensures.count)
+    ∙ ap (λ (n : ℕ). map f (range_with_len 0 n)) (ap length same ∙ c.in_ok-lanes.ensures.count)

@@ -25,7 +25,7 @@ loop-segment-preserved c =
           let plan = c.args.plan.now in
           let cut = box_cut plan c.args.chunk c.args.count in
           one_given (λ i. stream_of plan (mcus_between mcus (first_mcu cut i) (first_mcu cut (i + 1))))
-          c.args.first c.loop-segment.segment rs next r (before.streams mcus pads file are) was
+          c.args.segments.start c.loop-segment.segment rs next r (before.streams mcus pads file are) was
           (λ stream. c.in_ok-part.ensures.stream mcus pads stream file are) kept;
     }
 
@@ -39,5 +39,5 @@ returns-clause-streams c = λ mcus pads file are.
     let plan = c.args.plan.now in
     let cut = box_cut plan c.args.chunk c.args.count in
     if_ok_parts (GiveEach (λ i. stream_of plan (mcus_between mcus (first_mcu cut i) (first_mcu cut (i + 1))))
-    c.args.first) c.prepare.result c.loop-segment.parts.items c.prepare.ensures.parts
+    c.args.segments.start) c.prepare.result c.loop-segment.parts.items c.prepare.ensures.parts
     (c.loop-segment.invariant.streams mcus pads file are)

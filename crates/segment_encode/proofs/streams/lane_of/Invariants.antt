@@ -16,10 +16,10 @@ invariant-loop-segment l = record {
   ready : All IsReady l.parts.items;
   plan : All (λ r. r.part.plan ≡ l.plan) l.parts.items;
   file : AreOfAFile l.parts.items;
-  long : l.first + length l.parts.items ≡ l.segment;
+  long : l.fn.segments.start + length l.parts.items ≡ l.segment;
   streams : (mcus : List Mcu) (pads : List Bool)
       → IsFileAt l.bytes l.plan mcus pads l.starts.trailer
       → l.starts ≡ starts_of l.plan mcus pads l.starts.trailer l.plan.down
       → GiveEach (λ i. stream_of l.plan (mcus_between mcus (first_mcu (box_cut l.plan l.chunk l.count) i)
-      (first_mcu (box_cut l.plan l.chunk l.count) (i + 1)))) l.first l.parts.items;
+      (first_mcu (box_cut l.plan l.chunk l.count) (i + 1)))) l.fn.segments.start l.parts.items;
 }

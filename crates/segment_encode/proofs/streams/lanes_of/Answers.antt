@@ -24,7 +24,7 @@ loop-first-preserved c =
     record {
       so_far = more_lanes c.args.count c.in_a_lane-each.result c.loop-first.first c.min-some.result
           lanes next lane so_far c.loop-first-test.true c.min-some.ensures c.in_ok-lane.ensures.new
-          c.in_ok-lane.ensures.file c.in_ok-lane.ensures.count c.in_ok-push.ensures.items;
+          c.in_ok-lane.ensures.file (omega (arith, c.in_ok-lane.ensures.count)) c.in_ok-push.ensures.items;
       streams = λ mcus pads file are.
           let plan = c.args.plan.now in
           let cut = box_cut plan c.args.chunk c.args.count in

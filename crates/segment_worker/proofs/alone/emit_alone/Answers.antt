@@ -2,7 +2,7 @@ use Rattle.std.proofs.Common.{◌≡◌, ◌+◌, ◌∙◌, sym, ap, subst, ari
 use Rattle.outside_core.specs.Takes.{TakesNext}
 use Rattle.byte_window.specs.declared.window.Window.{Window}
 use Rattle.byte_window.specs.Windows.{window}
-use Rattle.container_spec.specs.ScansJoined.{sums_of, sums_with}
+use Rattle.handover.specs.ScanSums.{sums_of, sums_with}
 use Rattle.segment_worker.specs.Contents.{stretch}
 use Rattle.outside_core.specs.Written.{HasWritten, HasFailed}
 use Rattle.segment_worker.specs.Emitting.{Emits, joined_in, seen_through}

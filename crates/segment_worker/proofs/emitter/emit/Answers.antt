@@ -5,7 +5,7 @@ use Rattle.byte_window.specs.declared.window.Window.{Window}
 use Rattle.byte_window.specs.Windows.{window}
 use Rattle.output_board.specs.declared.view.EmitterView.{EmitterView}
 use Rattle.container_spec.specs.ScansMeanings.{scan_of}
-use Rattle.container_spec.specs.ScansJoined.{sums_of, sums_with}
+use Rattle.handover.specs.ScanSums.{sums_of, sums_with}
 use Rattle.segment_worker.proofs.Emissions.{starts_emitting, taken_next, own_next, bytes_taken, taken_failed, good_taken, good_cur, good_within, bad_taken, same_emitted, own_emitted, own_failed, all_came, all_emitted}
 use Rattle.segment_worker.proofs.ContentsTold.{bytes_long}
 use Rattle.segment_worker.specs.Contents.{Stretch, stretch}
