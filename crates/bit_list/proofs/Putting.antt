@@ -20,7 +20,7 @@ put_bytes out final whole left rest short same =
     sym (append-nil final) ∙ ap (λ (bs : List ℕ). final ++ stuffed bs) (sym none) ∙ same
 
 -- a number's bits as the first of a word. Without bits it is 0, and a shift by 64 is one by 0.
-pub shifted_word : (count number : ℕ) → count ≤ 34 → number < 2 ^ count → number * 2 ^ ((64 - count) % 64) % 2 ^ 64 ≡ number * 2 ^ (64 - count)
+pub shifted_word : (count number : ℕ) → count ≤ 32 → number < 2 ^ count → number * 2 ^ ((64 - count) % 64) % 2 ^ 64 ≡ number * 2 ^ (64 - count)
 shifted_word count number few below =
     elim (cases_eq count 0) [
       | inl none ↦

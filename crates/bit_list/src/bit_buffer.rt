@@ -102,11 +102,11 @@ impl BitBuffer {
     }
 }
 
-// Puts the whole bytes of a number of up to 34 bits: by one store, if none of them is 0xff. The byte begun after them
+// Puts the whole bytes of a number of up to 32 bits: by one store, if none of them is 0xff. The byte begun after them
 // isn't 0xff, since its free bits are 0.
 #[inline(always)]
 fn put_whole(number: u64, count: u32, out: &mut Piece)
-    requires few { count ≤ 34 }
+    requires few { count ≤ 32 }
     requires below { number < 2 ^ count }
     requires room { length out.old + 2 * (count / 8) ≤ piece_room }
     ensures bytes { out.new ≡ out.old ++ stuffed (bytes_after [] (low_bits count number)) }
@@ -134,7 +134,7 @@ fn may_have_full_byte(eight: u64) -> bool
 #[cold]
 #[inline(never)]
 fn put_one_by_one(number: u64, count: u32, out: &mut Piece)
-    requires few { count ≤ 34 }
+    requires few { count ≤ 32 }
     requires room { length out.old + 2 * (count / 8) ≤ piece_room }
     ensures bytes { out.new ≡ out.old ++ stuffed (bytes_after [] (low_bits count number)) }
     ensures few { length out.new ≤ length out.old + 2 * (count / 8) }

@@ -1,8 +1,6 @@
 // From bits to stuffed bytes.
-ghost use Rattle.std.specs.Int.{bytes_high_first};
-ghost use Rattle.std.specs.List.{AllByRecursion};
-ghost use Rattle.std.specs.Prelude.{◌≡◌, ◌≢◌, ◌+◌, ◌-◌, ◌*◌, ◌/◌, ◌%◌, ◌^◌, ◌<◌, ◌≤◌, ◌↔◌, [], ◌∷◌, ◌++◌, false, length, take, replicate, IsTrue};
-ghost use Rattle.bit_list.specs.Bits.{low_bits, bytes_after, begun_after, padding, stuffed};
+ghost use Rattle.std.specs.Prelude.{◌≡◌, ◌+◌, ◌-◌, ◌%◌, ◌^◌, ◌<◌, ◌≤◌, ◌↔◌, [], ◌∷◌, ◌++◌, false, length, take, replicate, IsTrue};
+ghost use Rattle.bit_list.specs.Bits.{low_bits, bytes_after, padding, stuffed};
 ghost use Rattle.bit_list.specs.Pieces.{piece_room};
 
 use crate::piece::Piece;
