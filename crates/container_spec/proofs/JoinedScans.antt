@@ -13,7 +13,8 @@ use Rattle.container_spec.specs.Segments.{Output, segment_output}
 use Rattle.container_spec.proofs.JoinedSegments.{Joined, joined}
 use Rattle.container_spec.specs.Indexed.{outputs_of}
 use Rattle.container_spec.specs.Meanings.{Meaning, Restored, PadSpelled, Faulty, segment_in}
-use Rattle.container_spec.specs.Portions.{OfFile, ending_by, whole}
+use Rattle.container_spec.specs.declared.kind.Kind.TheVariants.{File}
+use Rattle.container_spec.specs.Portions.{ending_by, whole}
 use Rattle.container_spec.proofs.PutParts.{sums_none}
 use Rattle.container_spec.proofs.RestoredMeanings.{IsRestored, pad_told, restored}
 use Rattle.box_format.specs.Containers.{all_parts, segment_count, trailer_of}
@@ -299,13 +300,13 @@ meaning bytes spelled = record { bytes = bytes; verdict = if spelled then Restor
 
 pub file_means : (scans : List BoxSeen) (all : ScansJoined) (file : List ℕ)
     → AreFile (first_header scans) 0 scans all file
-    → ending_by OfFile scans (whole scans) all all.fault ≡ restored file
+    → ending_by File scans (whole scans) all all.fault ≡ restored file
 file_means scans all file are =
-    ap (ending_by OfFile scans (whole scans) all) are.none ∙ ap₂ meaning (sym are.text) are.spelled
+    ap (ending_by File scans (whole scans) all) are.none ∙ ap₂ meaning (sym are.text) are.spelled
 
 pub means_file : (scans : List BoxSeen) (all : ScansJoined) (fault : Option StreamFault)
     (file : List ℕ) → all.fault ≡ fault
-    → restored file ≡ ending_by OfFile scans (whole scans) all fault
+    → restored file ≡ ending_by File scans (whole scans) all fault
     → AreFile (first_header scans) 0 scans all file
 means_file scans all (Some fault) file is e =
     absurd (let f : Restored ≡ Faulty fault = ap (λ (m : Meaning). m.verdict) e in cc)

@@ -13,7 +13,8 @@ use Rattle.box_format.proofs.Lists.{sum_first}
 use Rattle.container_spec.proofs.JoinedSegments.{joined, joined_alone}
 use Rattle.container_spec.specs.Indexed.{outputs_of}
 use Rattle.container_spec.specs.ScansJoined.{ScansJoined, scanned_from, scans_joined}
-use Rattle.container_spec.specs.Portions.{OfFile, OfChunk, chunk_portion, ending_by, meaning_with, meaning_of, only_chunk, played, portion_meaning, scans_meaning, whole}
+use Rattle.container_spec.specs.declared.kind.Kind.TheVariants.{File, Chunk as OfChunk}
+use Rattle.container_spec.specs.Portions.{chunk_portion, ending_by, meaning_with, meaning_of, only_chunk, played, portion_meaning, scans_meaning, whole}
 use Rattle.container_spec.proofs.JoinedScans.{means_file}
 use Rattle.container_spec.proofs.OneScans.{one_is_joined}
 use Rattle.container_spec.proofs.RestoredMeanings.{IsRestored, restored}
@@ -28,7 +29,7 @@ of_file (s ∷ t ∷ scans) none = refl
 
 pub whole_meaning : (scans : List BoxSeen)
     → AllByRecursion (λ (s : BoxSeen). s.parts.chunk ≡ None) scans
-    → scans_meaning scans ≡ portion_meaning OfFile scans (whole scans)
+    → scans_meaning scans ≡ portion_meaning File scans (whole scans)
 unfolding scans_meaning
 whole_meaning scans none = ap (λ (c : Option Chunk). meaning_with c scans) (of_file scans none)
 
@@ -47,10 +48,10 @@ all_alone s =
 pub file_alone : (s : BoxSeen) → s.parts.chunk ≡ None
     → scans_meaning (s ∷ [])
     ≡ (let j = joined (outputs_of s.plan s.parts) in
-    ending_by OfFile (s ∷ []) (whole (s ∷ [])) (joined_alone j) j.fault)
+    ending_by File (s ∷ []) (whole (s ∷ [])) (joined_alone j) j.fault)
 file_alone s none =
     whole_meaning (s ∷ []) (none, tt)
-    ∙ ap (λ (all : ScansJoined). ending_by OfFile (s ∷ []) (whole (s ∷ [])) all all.fault)
+    ∙ ap (λ (all : ScansJoined). ending_by File (s ∷ []) (whole (s ∷ [])) all all.fault)
     (all_alone s)
 
 pub is_restored : (plan : PlanFields) (b : BoxParts) (file : List ℕ) → b.chunk ≡ None

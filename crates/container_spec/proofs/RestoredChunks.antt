@@ -21,7 +21,8 @@ use Rattle.box_format.proofs.Singles.{one_is_container}
 use Rattle.container_spec.specs.Files.{told_pads}
 use Rattle.container_spec.specs.Meanings.{Meaning, Restored}
 use Rattle.container_spec.specs.Indexed.{outputs_of}
-use Rattle.container_spec.specs.Portions.{OfChunk, chunk_portion, ending_by, faultless_end, meaning_of}
+use Rattle.container_spec.specs.declared.kind.Kind.TheVariants.{Chunk as OfChunk}
+use Rattle.container_spec.specs.Portions.{chunk_portion, ending_by, faultless_end, meaning_of}
 use Rattle.container_spec.proofs.JoinedSegments.{Joined, all_sum, good_join, joined, joined_alone}
 use Rattle.container_spec.proofs.PortionsMeant.{chunk_alone}
 use Rattle.container_spec.proofs.SlicesMeant.{slice_sum}

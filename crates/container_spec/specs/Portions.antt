@@ -10,6 +10,8 @@ use Rattle.box_format.specs.Containers.{IsContainer, all_parts, segment_count, t
 use Rattle.box_format.specs.Checks.{IsRefused}
 use Rattle.box_format.specs.declared.chunk.Chunk.{Chunk}
 use Rattle.box_format.specs.declared.refusal.BoxRefusal.{BoxRefusal}
+use Rattle.container_spec.specs.declared.kind.Kind.{Kind}
+use Rattle.container_spec.specs.declared.kind.Kind.TheVariants.{File, Chunk as OfChunk, Range}
 use Rattle.container_spec.specs.Meanings.{Meaning, Restored, PadSpelled, ChunkShort, Faulty, NoBox}
 use Rattle.container_spec.specs.ScansJoined.{ScansJoined, all_spelled, first_header, scanned_from, scans_joined}
 
@@ -33,22 +35,16 @@ begun p all = p.before ++ window p.within all.bytes
 abbrev pub ended : Portion → ScansJoined → List ℕ
 ended p all = begun p all ++ p.after
 
--- what it is a portion of: the whole file, whose pad bits are looked at; a chunk, whose length is; or a range
-pub data Kind : Type 0 where
-  OfFile : Kind
-  OfChunk : Chunk → Kind
-  OfRange : Kind
-
 -- how it ends without a fault
 abbrev pub faultless_end : Kind → List BoxSeen → Portion → ScansJoined → Meaning
-faultless_end OfFile scans p all =
+faultless_end File scans p all =
     let verdict = if all_spelled 0 scans all.padded then Restored else PadSpelled in
     record { bytes = ended p all; verdict = verdict }
 faultless_end (OfChunk c) scans p all =
     if nat_lt (length all.bytes) (c.skip + rows_most c (first_header scans) p.after)
     then record { bytes = begun p all; verdict = ChunkShort }
     else record { bytes = ended p all; verdict = Restored }
-faultless_end OfRange scans p all = record { bytes = ended p all; verdict = Restored }
+faultless_end Range scans p all = record { bytes = ended p all; verdict = Restored }
 
 -- by the first fault, if there is one: nothing of the trailer then
 abbrev pub ending_by : Kind → List BoxSeen → Portion → ScansJoined → Option StreamFault → Meaning
@@ -85,7 +81,7 @@ only_chunk other = None
 
 -- the whole file without a chunk, or that chunk
 abbrev pub meaning_with : Option Chunk → List BoxSeen → Meaning
-meaning_with None scans = portion_meaning OfFile scans (whole scans)
+meaning_with None scans = portion_meaning File scans (whole scans)
 meaning_with (Some c) scans = portion_meaning (OfChunk c) scans (chunk_portion c scans)
 
 -- what the scans of a container stand for

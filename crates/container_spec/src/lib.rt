@@ -10,8 +10,10 @@
 //! through the scans. A chunk is a slice of a file with its rows of MCUs as parts (see `byte_window`).
 #![tactic(auto)]
 
+mod kind;
 mod laws;
 
+pub use kind::Kind;
 pub use laws::{
     chunks_are_restored, containers_stand_for_files, files_have_one_container,
     good_segments_have_their_stream, indexed_containers_stand_for_files, rows_of_chunks,

@@ -8,18 +8,18 @@ use Rattle.byte_window.specs.Windows.{window}
 use Rattle.byte_window.proofs.WindowParts.{through_none}
 use Rattle.handover.specs.declared.outcome.StreamFault.{StreamFault}
 use Rattle.box_format.specs.Parts.{BoxSeen, rows_most}
+use Rattle.container_spec.specs.declared.kind.Kind.{Kind}
+use Rattle.container_spec.specs.declared.kind.Kind.TheVariants.{File, Chunk, Range}
 use Rattle.container_spec.specs.Meanings.{Meaning, Restored, PadSpelled, ChunkShort}
-use Rattle.container_spec.specs.Portions.{Portion, begun, ending_by, faultless_end, played}
+use Rattle.container_spec.specs.Portions.{Portion, begun, ending_by, faultless_end, played, portion_meaning}
 use Rattle.container_spec.specs.ScansJoined.{ScansJoined, first_header, scanned_from, scans_joined}
 use Rattle.segment_worker.specs.Contents.{Stretch}
 use Rattle.segment_worker.specs.declared.emitted.Emitted.{Emitted}
 use Rattle.segment_worker.specs.declared.emitted.EmitStop.{EmitStop}
 use Rattle.segment_worker.specs.Emitting.{Emits, joined_in, seen_through}
 use Rattle.segment_worker.proofs.Writing.{written_later, failed_first, failed_later, next_first, next_between}
-use Rattle.lepton_decode.specs.declared.portion.Kind.{Kind}
-use Rattle.lepton_decode.specs.declared.portion.Kind.TheVariants.{File, Chunk, Range}
 use Rattle.lepton_decode.specs.Ends.{Ends}
-use Rattle.lepton_decode.specs.Played.{IsEmitted, IsWindowed, are_spelled, ends_before, falls_short, kind_of, meaning_as, stretch_of}
+use Rattle.lepton_decode.specs.Played.{IsEmitted, IsWindowed, are_spelled, ends_before, falls_short, stretch_of}
 
 -- bytes that are too few, or all
 abbrev pub good_after : Bool → Bool → List ℕ → List ℕ → Meaning
@@ -37,7 +37,7 @@ chunk_after false begun after = refl
 -- its end without a fault, by whether bytes are missing and whether pad bits are spelled
 good_is : (kind : Kind) (scans : List BoxSeen) (p : Portion) (all : ScansJoined)
     → IsWindowed kind scans p
-    → faultless_end (kind_of kind) scans p all
+    → faultless_end kind scans p all
     ≡ good_after (falls_short kind p.within (length all.bytes)) (are_spelled kind scans all.padded) (begun p all)
     p.after
 good_is File scans p all windowed = refl
@@ -57,7 +57,7 @@ good_bytes false spelled before rows after = (after, append_assoc before rows af
 module _ (kind : Kind) (scans : List BoxSeen) (p : Portion) (windowed : IsWindowed kind scans p) where
   -- what it stands for, its segments, and what goes through of them
   abbrev m : Meaning
-  m = meaning_as kind scans p
+  m = portion_meaning kind scans p
 
   abbrev all : ScansJoined
   all = played scans p
@@ -67,7 +67,7 @@ module _ (kind : Kind) (scans : List BoxSeen) (p : Portion) (windowed : IsWindow
 
   bytes_by : (fault : Option StreamFault)
       → (more : List ℕ)
-      × ((ending_by (kind_of kind) scans p all fault).bytes ≡ p.before ++ (rows ++ more))
+      × ((ending_by kind scans p all fault).bytes ≡ p.before ++ (rows ++ more))
   bytes_by (Some fault) = ([], ap (λ (l : List ℕ). p.before ++ l) (sym (append-nil rows)))
   bytes_by None =
       let g = good_bytes (falls_short kind p.within (length all.bytes))
@@ -83,7 +83,7 @@ module _ (kind : Kind) (scans : List BoxSeen) (p : Portion) (windowed : IsWindow
       → falls_short kind p.within e.came ≡ short → are_spelled kind scans e.pads ≡ spelled
       → m ≡ good_after short spelled (begun p all) p.after
   good e short spelled is few told =
-      ap (ending_by (kind_of kind) scans p all) is.good
+      ap (ending_by kind scans p all) is.good
       ∙ good_is kind scans p all windowed
       ∙ ap₂ (λ (s t : Bool). good_after s t (begun p all) p.after)
       (ap (falls_short kind p.within) (sym is.came) ∙ few)

@@ -6,14 +6,13 @@ use Rattle.box_format.specs.Parts.{BoxSeen, rows_most}
 use Rattle.box_format.specs.Versions.{most_segments}
 use Rattle.box_format.specs.Containers.{segment_count}
 use Rattle.container_spec.specs.Meanings.{Meaning}
-use Rattle.container_spec.specs.Portions as portions
+use Rattle.container_spec.specs.declared.kind.Kind.{Kind}
+use Rattle.container_spec.specs.declared.kind.Kind.TheVariants.{File, Chunk, Range}
 use Rattle.container_spec.specs.Portions.{Portion, played, portion_meaning}
 use Rattle.container_spec.specs.ScansJoined.{all_spelled, first_header}
 use Rattle.handover.specs.declared.scan_pads.ScanPads.{ScanPads}
 use Rattle.segment_worker.specs.Contents.{Stretch, segment_room, stretch}
 use Rattle.segment_worker.specs.declared.emitted.Emitted.{Emitted}
-use Rattle.lepton_decode.specs.declared.portion.Kind.{Kind}
-use Rattle.lepton_decode.specs.declared.portion.Kind.TheVariants.{File, Chunk, Range}
 
 -- all segments of a container
 abbrev pub all_segments : List BoxSeen → Stretch
@@ -22,16 +21,6 @@ all_segments scans = stretch scans 0 (segment_count scans)
 -- those of a portion
 abbrev pub stretch_of : List BoxSeen → Portion → Stretch
 stretch_of scans p = stretch scans p.first p.count
-
--- what it is a portion of
-abbrev pub kind_of : Kind → portions.Kind
-kind_of File = portions.OfFile
-kind_of (Chunk c) = portions.OfChunk c
-kind_of Range = portions.OfRange
-
--- what it stands for
-abbrev pub meaning_as : Kind → List BoxSeen → Portion → Meaning
-meaning_as kind scans p = portion_meaning (kind_of kind) scans p
 
 -- a chunk's window is for the bytes that the chunk has of its segments
 abbrev pub IsWindowed : Kind → List BoxSeen → Portion → Type 0

@@ -3,18 +3,19 @@ ghost use Rattle.std.specs.Prelude.{◌≡◌, ◌*◌, ◌≤◌, ℕ, length, 
 ghost use Rattle.outside_core.specs.Takes.{TakesNext};
 ghost use Rattle.outside_core.specs.Written.{HasFailed, HasWritten};
 ghost use Rattle.box_format.specs.Versions.{most_segments};
-ghost use Rattle.container_spec.specs.Portions.{begun, played};
+ghost use Rattle.container_spec.specs.Portions.{begun, played, portion_meaning};
 ghost use Rattle.container_spec.specs.ScansJoined.{all_spelled};
 ghost use Rattle.output_board.specs.declared.view.EmitterView.{EmitterView};
 ghost use Rattle.segment_worker.specs.Contents.{segment_room};
 ghost use Rattle.segment_worker.specs.Emitting.{Emits, IsThrough, seen_through};
 ghost use Rattle.lepton_decode.specs.Ends.{Ends, HasEmitted};
-ghost use Rattle.lepton_decode.specs.Played.{IsEmitted, IsWindowed, are_spelled, falls_short, meaning_as};
+ghost use Rattle.lepton_decode.specs.Played.{IsEmitted, IsWindowed, are_spelled, falls_short};
 
 use crate::error::DecodeError;
-use crate::portion::{Kind, Portion};
+use crate::portion::Portion;
 use box_format::FileView;
 use byte_window::Window;
+use container_spec::Kind;
 use handover::ScanPads;
 use outside_core::{Sink, WriteFault, write_all};
 use segment_worker::{EmitStop, Emitted};
@@ -46,7 +47,7 @@ pub(crate) fn end<K: Sink>(
         emitted.came ≡ length (played view.now portion.now).bytes) }
     requires few { length (played view.now portion.now).bytes ≤ segment_room * most_segments }
     requires so_far { (first mid : K)
-        × TakesNext K.takes first (meaning_as kind view.now portion.now).bytes
+        × TakesNext K.takes first (portion_meaning kind view.now portion.now).bytes
         × HasWritten K.held K.takes K.faults first mid portion.now.before
         × Emits K.held K.takes K.faults K.full mid sink.old
         (seen_through portion.now.within (played view.now portion.now)) emitted }
@@ -55,7 +56,7 @@ pub(crate) fn end<K: Sink>(
         → Emits K.held K.takes K.faults K.full mid sink.old
         (seen_through portion.now.within (played view.now portion.now)) emitted
         → Ends K.held K.takes K.faults K.full first sink.new
-        (meaning_as kind view.now portion.now) result }
+        (portion_meaning kind view.now portion.now) result }
     ensures emitted { (count : ℕ) (view : EmitterView) → OnOk emitted (IsThrough count view)
         → OnErr emitted (view.stopped ≡ true) → HasEmitted count view result }
     ensures whole { (n m : ℕ) → OnOk emitted (n ≡ m) → OnOk result (n ≡ m) }
@@ -82,14 +83,14 @@ pub(crate) fn finish<K: Sink>(
     requires windowed { IsWindowed kind view.now portion.now }
     requires emitted { IsEmitted view.now portion.now emitted }
     requires so_far { (first : K)
-        × TakesNext K.takes first (meaning_as kind view.now portion.now).bytes
+        × TakesNext K.takes first (portion_meaning kind view.now portion.now).bytes
         × HasWritten K.held K.takes K.faults first sink.old
         (begun portion.now (played view.now portion.now)) }
     ensures ends { (first : K)
         → HasWritten K.held K.takes K.faults first sink.old
         (begun portion.now (played view.now portion.now))
         → Ends K.held K.takes K.faults K.full first sink.new
-        (meaning_as kind view.now portion.now) result }
+        (portion_meaning kind view.now portion.now) result }
     ensures emitted { (count : ℕ) (view : EmitterView) → IsThrough count view
         → HasEmitted count view result }
     ensures lasting { K.faults sink.old ≤ K.faults sink.new }

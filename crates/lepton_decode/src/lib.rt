@@ -24,5 +24,5 @@ mod ready;
 pub use alone::{ReadyAlone, prepare_alone, run_alone};
 pub use error::DecodeError;
 pub use playing::{Lone, play, play_alone, play_bare};
-pub use portion::{Kind, Portion};
+pub use portion::Portion;
 pub use ready::{Ready, ample_ring, crew_for, prepare, prepare_worth, run};

@@ -2,16 +2,18 @@
 ghost use Rattle.std.specs.Prelude.{◌≡◌, ◌+◌, ◌≤◌, All, IfOk, OnOk, false, length};
 ghost use Rattle.outside_core.specs.Takes.{TakesNext};
 ghost use Rattle.box_format.specs.Containers.{all_plans, segment_count};
+ghost use Rattle.container_spec.specs.Portions.{portion_meaning};
 ghost use Rattle.segment_crew.specs.Crews.{HasBegunItsClaims};
 ghost use Rattle.lepton_decode.specs.Ends.{Ends, HasEmitted, HaveLeft};
-ghost use Rattle.lepton_decode.specs.Played.{IsWindowed, meaning_as, stretch_of};
+ghost use Rattle.lepton_decode.specs.Played.{IsWindowed, stretch_of};
 
 use crate::around::{end, finish, put};
 use crate::error::DecodeError;
-use crate::portion::{Kind, Portion};
+use crate::portion::Portion;
 use allocation::NoMemory;
 use bit_list::Piece;
 use box_format::FileView;
+use container_spec::Kind;
 use handover::ScanPads;
 use outside_core::{Gate, Sink};
 use segment_code::FileDecoder;
@@ -38,9 +40,9 @@ pub fn play<'a, R: Threads + Wait + Sync, K: Sink + Send, G: Gate + Sync>(
     requires windowed { IsWindowed kind view.now portion.now }
     requires fresh { crew.old.used ≡ false }
     requires segments { crew.old.segments ≡ stretch_of view.now portion.now }
-    requires takes { TakesNext K.takes sink.old (meaning_as kind view.now portion.now).bytes }
+    requires takes { TakesNext K.takes sink.old (portion_meaning kind view.now portion.now).bytes }
     ensures ends { Ends K.held K.takes K.faults K.full sink.old sink.new
-        (meaning_as kind view.now portion.now) result }
+        (portion_meaning kind view.now portion.now) result }
     ensures emitted { HasEmitted portion.now.count crew.new.emitter.view result }
     ensures left { HaveLeft crew.new.team result }
     ensures emitter { HasBegunItsClaims crew.new.emitter }
@@ -93,9 +95,9 @@ pub fn play_alone<'a, K: Sink, G: Gate>(
     requires within { portion.now.first + portion.now.count ≤ segment_count view.now }
     requires plans { lone.old.decoder.plans ≡ all_plans view.now }
     requires fresh { lone.old.decoder.begun ≡ 0 }
-    requires takes { TakesNext K.takes sink.old (meaning_as kind view.now portion.now).bytes }
+    requires takes { TakesNext K.takes sink.old (portion_meaning kind view.now portion.now).bytes }
     ensures ends { Ends K.held K.takes K.faults K.full sink.old sink.new
-        (meaning_as kind view.now portion.now) result }
+        (portion_meaning kind view.now portion.now) result }
     ensures begun { OnOk result (lone.new.decoder.begun ≡ portion.now.count) }
     ensures most { lone.new.decoder.begun ≤ portion.now.count }
     ensures plans { lone.new.decoder.plans ≡ lone.old.decoder.plans }
@@ -127,9 +129,9 @@ pub fn play_bare<K: Sink>(
 ) -> Result<u64, DecodeError>
     requires windowed { IsWindowed kind view.now portion.now }
     requires none { portion.now.count ≡ 0 }
-    requires takes { TakesNext K.takes sink.old (meaning_as kind view.now portion.now).bytes }
+    requires takes { TakesNext K.takes sink.old (portion_meaning kind view.now portion.now).bytes }
     ensures ends { Ends K.held K.takes K.faults K.full sink.old sink.new
-        (meaning_as kind view.now portion.now) result }
+        (portion_meaning kind view.now portion.now) result }
     ensures lasting { K.faults sink.old ≤ K.faults sink.new }
 {
     match put(sink, portion.before) {

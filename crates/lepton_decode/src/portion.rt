@@ -1,24 +1,14 @@
 // What is written of a container: its file, a chunk or a range.
 ghost use Rattle.std.specs.Prelude.{◌≡◌};
 ghost use Rattle.box_format.specs.Containers.{segment_count};
-ghost use Rattle.container_spec.specs.Portions.{chunk_portion, only_chunk, scans_meaning, whole};
+ghost use Rattle.container_spec.specs.Portions.{chunk_portion, only_chunk, portion_meaning, scans_meaning, whole};
 ghost use Rattle.container_spec.specs.ScansJoined.{first_header};
-ghost use Rattle.lepton_decode.specs.Played.{IsWindowed, meaning_as};
+ghost use Rattle.lepton_decode.specs.Played.{IsWindowed};
 
 use box_format::{BoxView, Chunk, FileView};
 use byte_window::Window;
+use container_spec::Kind;
 use std::marker::Model;
-
-/// What a portion is of, which says what is looked at after its last segment.
-#[derive(Clone, Copy, Debug, PartialEq, Eq)]
-pub enum Kind {
-    /// The file: whether the pad bits of each scan are spelled as a file's.
-    File,
-    /// A chunk: whether none of its bytes is missing.
-    Chunk(Chunk),
-    /// A range: nothing.
-    Range,
-}
 
 /// What is written of a container: a part of the header, what the window lets through of `count` segments from number
 /// `first` on, and a part of the trailer.
@@ -50,7 +40,7 @@ impl<'a> Model for Portion<'a> {
 
 /// The portion that a container stands for: its chunk, if it has one, or the whole file.
 pub(crate) fn meant<'a>(view: &FileView<'a>) -> (Kind, Portion<'a>)
-    ensures meaning { meaning_as result.0 view.now result.1 ≡ scans_meaning view.now }
+    ensures meaning { portion_meaning result.0 view.now result.1 ≡ scans_meaning view.now }
     ensures windowed { IsWindowed result.0 view.now result.1 }
     ensures first { result.1.first ≡ 0 }
     ensures count { result.1.count ≡ segment_count view.now }

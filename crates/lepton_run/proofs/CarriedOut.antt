@@ -14,7 +14,9 @@ use Rattle.container_spec.specs.Meanings.{Meaning, Verdict, Restored, PadSpelled
 use Rattle.box_format.specs.declared.chunk.Chunk.{Chunk}
 use Rattle.box_format.specs.Containers.{IsContainer}
 use Rattle.box_format.specs.Checks.{IsRefused}
-use Rattle.container_spec.specs.Portions.{Kind, OfFile, OfChunk, OfRange, Portion, begun as begun_of, chunk_portion, ended as ended_of, ending_by, faultless_end, meaning_with, only_chunk, played, portion_meaning, scans_meaning, whole}
+use Rattle.container_spec.specs.declared.kind.Kind.{Kind}
+use Rattle.container_spec.specs.declared.kind.Kind.TheVariants.{File, Chunk as OfChunk, Range}
+use Rattle.container_spec.specs.Portions.{Portion, begun as begun_of, chunk_portion, ended as ended_of, ending_by, faultless_end, meaning_with, only_chunk, played, portion_meaning, scans_meaning, whole}
 use Rattle.container_spec.specs.ScansJoined.{ScansJoined, all_spelled, first_header}
 use Rattle.outside_core.specs.Written.{HasFailed, HasWritten}
 use Rattle.command_words.specs.declared.command.Command.{Command}
@@ -61,11 +63,11 @@ by_length few bytes false = tt
 
 at_end : (kind : Kind) (scans : List BoxSeen) (p : Portion) (all : ScansJoined)
     → IsOfBox (faultless_end kind scans p all).verdict
-at_end OfFile scans p all = by_pad (all_spelled 0 scans all.padded)
+at_end File scans p all = by_pad (all_spelled 0 scans all.padded)
 at_end (OfChunk c) scans p all =
     by_length (begun_of p all) (ended_of p all)
     (nat_lt (length all.bytes) (c.skip + rows_most c (first_header scans) p.after))
-at_end OfRange scans p all = tt
+at_end Range scans p all = tt
 
 by_fault : (kind : Kind) (scans : List BoxSeen) (p : Portion) (all : ScansJoined)
     (fault : Option StreamFault) → IsOfBox (ending_by kind scans p all fault).verdict
@@ -80,7 +82,7 @@ portion_written kind scans p =
     written_of m.bytes m.verdict (by_fault kind scans p all all.fault)
 
 written_with : (chunk : Option Chunk) (scans : List BoxSeen) → Written (meaning_with chunk scans)
-written_with None scans = portion_written OfFile scans (whole scans)
+written_with None scans = portion_written File scans (whole scans)
 written_with (Some c) scans = portion_written (OfChunk c) scans (chunk_portion c scans)
 
 scans_written : (scans : List BoxSeen) → Written (scans_meaning scans)

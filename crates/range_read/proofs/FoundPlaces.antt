@@ -15,7 +15,8 @@ use Rattle.container_spec.specs.Segments.{Output, segment_output}
 use Rattle.container_spec.specs.Meanings.{Faulty, Meaning, PadSpelled, Restored, segment_in}
 use Rattle.container_spec.proofs.JoinedSegments.{Joined, joined, joined_alone, joined_with}
 use Rattle.container_spec.proofs.PortionsMeant.{file_alone}
-use Rattle.container_spec.specs.Portions.{OfFile, ending_by, meaning_of, whole}
+use Rattle.container_spec.specs.declared.kind.Kind.TheVariants.{File}
+use Rattle.container_spec.specs.Portions.{ending_by, meaning_of, whole}
 use Rattle.container_spec.specs.Indexed.{places_after, places_found, outputs_of}
 use Rattle.container_spec.proofs.PlacesFound.{found_long}
 use Rattle.container_spec.proofs.PutParts.{sums_more, sums_none}
@@ -33,7 +34,7 @@ faulty plan b fault none some =
     let s : BoxSeen = record { plan = plan; parts = b } in
     let all = joined_alone (joined (outputs_of plan b)) in
     ap (λ (m : Meaning). m.verdict) (file_alone s none)
-    ∙ ap (λ (f : Option StreamFault). (ending_by OfFile (s ∷ []) (whole (s ∷ [])) all f).verdict) some
+    ∙ ap (λ (f : Option StreamFault). (ending_by File (s ∷ []) (whole (s ∷ [])) all f).verdict) some
 
 -- without one a file whose pad bits are spelled so or not
 pub spelled : (plan : PlanFields) (b : BoxParts) (padded : PadSum) (t : Bool) → b.chunk ≡ None
@@ -45,7 +46,7 @@ spelled plan b padded t none good sum is =
     let j = joined (outputs_of plan b) in
     let all = joined_alone j in
     ap (λ (m : Meaning). m.verdict) (file_alone s none)
-    ∙ ap (λ (f : Option StreamFault). (ending_by OfFile (s ∷ []) (whole (s ∷ [])) all f).verdict) good
+    ∙ ap (λ (f : Option StreamFault). (ending_by File (s ∷ []) (whole (s ∷ [])) all f).verdict) good
     ∙ ap (λ (p : Bool). if p then Restored else PadSpelled)
     (and_true (is_spelled b.pads j.padded) ∙ ap (λ (p : PadSum). is_spelled b.pads p) sum ∙ is)
 

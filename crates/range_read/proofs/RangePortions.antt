@@ -9,7 +9,8 @@ use Rattle.box_format.specs.Parts.{BoxParts, BoxSeen}
 use Rattle.container_spec.specs.Segments.{segment_output}
 use Rattle.container_spec.proofs.JoinedSegments.{Joined, joined, joined_alone}
 use Rattle.container_spec.specs.Meanings.{Meaning, segment_in}
-use Rattle.container_spec.specs.Portions.{OfRange, ending_by}
+use Rattle.container_spec.specs.declared.kind.Kind.TheVariants.{Range}
+use Rattle.container_spec.specs.Portions.{ending_by}
 use Rattle.container_spec.specs.ScansJoined.{ScansJoined}
 use Rattle.container_spec.proofs.OneScans.{one_is_joined}
 use Rattle.byte_window.specs.PartedFiles.{PartedFile, parts_within, begun_within, window_within, header_within, trailer_within}
@@ -40,7 +41,7 @@ as_range begun m = record { bytes = m.bytes; fault = fault_in m.verdict; begun =
 range_end : (scans : List BoxSeen) (f : PartedFile) (from to : ℕ) (j : Joined)
     (fault : Option StreamFault)
     → as_range (begun_within f from to)
-    (ending_by OfRange scans (range_portion f from to) (joined_alone j) fault)
+    (ending_by Range scans (range_portion f from to) (joined_alone j) fault)
     ≡ range_by f from to (window (window_within f from to) j.bytes) fault
 range_end scans f from to j (Some fault) = refl
 range_end scans f from to j None =
@@ -62,7 +63,7 @@ as_read plan b from to =
     let order = within.0 in
     let fits = within.1 in
     ap (λ (k : ScansJoined). as_range (begun_within f from to)
-    (ending_by OfRange (s ∷ []) (range_portion f from to) k k.fault))
+    (ending_by Range (s ∷ []) (range_portion f from to) k k.fault))
     (one_is_joined s (parts_within f from to).from (begun_within f from to)
     (omega (arith, order, fits)))
     ∙ range_end (s ∷ []) f from to j j.fault

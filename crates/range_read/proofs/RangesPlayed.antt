@@ -5,14 +5,13 @@ use Rattle.byte_window.proofs.PartedFacts.{parts_are_in_file}
 use Rattle.box_format.specs.Parts.{BoxSeen}
 use Rattle.box_format.specs.Containers.{segment_count}
 use Rattle.box_format.proofs.Lists.{sum_first}
+use Rattle.container_spec.specs.declared.kind.Kind.TheVariants.{Range}
 use Rattle.container_spec.specs.Meanings.{Meaning}
-use Rattle.container_spec.specs.Portions.{Portion}
+use Rattle.container_spec.specs.Portions.{Portion, portion_meaning}
 use Rattle.segment_worker.specs.declared.emitted.EmitStop.{EmitStop}
 use Rattle.lepton_decode.specs.declared.error.DecodeError.{DecodeError}
 use Rattle.lepton_decode.specs.declared.error.DecodeError.TheVariants as errors
-use Rattle.lepton_decode.specs.declared.portion.Kind.TheVariants.{Range}
 use Rattle.lepton_decode.specs.Ends.{Ends}
-use Rattle.lepton_decode.specs.Played.{meaning_as}
 use Rattle.range_read.specs.RangeEnds.{IsRanged, RangeEnds}
 use Rattle.range_read.specs.RangeMeanings.{RangeMeaning, fault_in, placed_file, range_meaning, range_portion}
 use Rattle.range_read.specs.declared.reading.Ranged.{Ranged}
@@ -24,7 +23,7 @@ module _ (v : BoxSeen) (from to : ℕ) (scans : List BoxSeen) (p : Portion) (alo
   r = range_meaning v.plan v.parts from to
 
   abbrev m : Meaning
-  m = meaning_as Range scans p
+  m = portion_meaning Range scans p
 
   r_is : r ≡ record { bytes = m.bytes; fault = fault_in m.verdict; begun = p.count }
   unfolding range_meaning

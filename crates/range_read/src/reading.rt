@@ -7,7 +7,8 @@ ghost use Rattle.range_read.specs.RangeEnds.{CanEndRange, IsRanged, RangeEnds, r
 
 use crate::portion::range_portion;
 use crate::ready::ReadyRange;
-use lepton_decode::{DecodeError, Kind, play, play_bare};
+use container_spec::Kind;
+use lepton_decode::{DecodeError, play, play_bare};
 use outside_core::{Gate, Sink};
 use segment_worker::EmitStop;
 use std::sync::Wait;

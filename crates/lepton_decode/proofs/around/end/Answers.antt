@@ -1,11 +1,10 @@
 use Rattle.std.proofs.Common.{◌≡◌, ◌+◌, ◌∙◌, ap, length, subst, sym, ℕ, Result, Err}
 use Rattle.std.specs.Prelude.{OnOk}
 use Rattle.outside_core.specs.Written.{HasFailed}
-use Rattle.container_spec.specs.Portions.{Portion, played}
+use Rattle.container_spec.specs.Portions.{Portion, played, portion_meaning}
 use Rattle.segment_worker.specs.Emitting.{Emits, IsThrough, seen_through}
 use Rattle.segment_worker.specs.declared.emitted.Emitted.{Emitted}
 use Rattle.segment_worker.specs.declared.emitted.EmitStop.{EmitStop}
-use Rattle.lepton_decode.specs.Played.{meaning_as}
 use Rattle.lepton_decode.proofs.EndsMet.{on_ok}
 use Rattle.lepton_decode.proofs.PortionsWritten.{failed_between, has_begun}
 use Rattle.lepton_decode.proofs.around.end.Goals as goal
@@ -33,7 +32,7 @@ pub returns-in-Err-WriteFault-clause-ends : goal.returns-in-Err-WriteFault-claus
 returns-in-Err-WriteFault-clause-ends g c = λ first mid has emits.
     let all = seen_through c.args.portion.now.within (played c.args.view.now c.args.portion.now) in
     let e = c.in-Err-WriteFault.is ∙ ap (λ (stop : EmitStop). Err stop) c.in-Err-WriteFault.field-0-is in
-    subst (λ (n : ℕ). HasFailed g.K.Sink.held g.K.Sink.faults g.K.Sink.full first c.args.sink.now (meaning_as c.args.kind c.args.view.now c.args.portion.now).bytes (length c.portion.inside.before.now + n))
+    subst (λ (n : ℕ). HasFailed g.K.Sink.held g.K.Sink.faults g.K.Sink.full first c.args.sink.now (portion_meaning c.args.kind c.args.view.now c.args.portion.now).bytes (length c.portion.inside.before.now + n))
     (sym c.in-Err-WriteFault.written-is)
     (failed_between c.args.kind c.args.view.now c.args.portion.now c.requires.windowed g.K.Sink.held g.K.Sink.takes
     g.K.Sink.faults g.K.Sink.full first mid c.args.sink.now _ c.in-Err-WriteFault.written
