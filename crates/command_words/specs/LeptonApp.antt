@@ -7,21 +7,17 @@ use Rattle.clap.specs.Simple.{on_top}
 use Rattle.clap.specs.declared.builder.value_parser.ValueParser.{ValueParser}
 use Rattle.clap.specs.declared.builder.value_parser.ValueParser.TheVariants.{Signed, Unsigned}
 
--- an option `--name` with a number, `usual` where it is left out
-abbrev pub number_rule : Text → ValueParser → Text → Rule
-number_rule name numbers usual = record (new_rule name) {
-  long = Some name;
-  parser = Some numbers;
-  defaults = usual ∷ [];
-}
+-- an option `--name` with a number
+abbrev pub long_rule : Text → ValueParser → Rule
+long_rule name numbers = record (new_rule name) { long = Some name; parser = Some numbers }
 
--- an option `--name` with a number that has to be given
+-- one that is `usual` where it is left out
+abbrev pub number_rule : Text → ValueParser → Text → Rule
+number_rule name numbers usual = record (long_rule name numbers) { defaults = usual ∷ [] }
+
+-- one that has to be given
 abbrev pub required_rule : Text → ValueParser → Rule
-required_rule name numbers = record (new_rule name) {
-  long = Some name;
-  parser = Some numbers;
-  required = true;
-}
+required_rule name numbers = record (long_rule name numbers) { required = true }
 
 -- `encode`, with `--segments` from 1 to 64, 8 where it is left out
 abbrev pub encode_app : App
