@@ -129,19 +129,12 @@ impl<'a> SegmentDecoder<'a> {
         let count = mcus_in(plan, chunk, segments as u32, segment as u32);
         let next = start_after(view, segment);
         let kept = kept_in(view, segment);
-        self.begin_at(
-            segment,
-            stream,
-            handover,
-            row,
-            count,
-            next,
-            kept,
-            view.pad(),
-        );
+        let met = (next, kept);
+        self.begin_at(segment, stream, handover, row, count, met, view.pad());
     }
 
-    // Begins a segment, given its parts.
+    // Begins a segment, given its parts. At its end it meets the next segment's handover, and has as many bytes as places
+    // are kept for it, if there are such.
     fn begin_at(
         &mut self,
         number: u8,
@@ -149,8 +142,7 @@ impl<'a> SegmentDecoder<'a> {
         handover: Handover,
         row: u32,
         count: u32,
-        next: Option<Handover>,
-        kept: Option<u64>,
+        met: (Option<Handover>, Option<u64>),
         pads: Pads<'a>,
     )
         requires suits { Suits (shape_of self.old.plan) (grid_of self.old.plan) }
@@ -162,7 +154,7 @@ impl<'a> SegmentDecoder<'a> {
             ≤ self.old.plan.across * self.old.plan.down }
         requires begun { self.old.begun < 2 ^ 32 - 1 }
         requires pads { is_long_for (shape_of self.old.plan) (pads_given pads) ≡ true }
-        ensures stands { let s = segment_with self.old.plan number stream.now handover row count next kept
+        ensures stands { let s = segment_with self.old.plan number stream.now handover row count met.0 met.1
             (pads_given pads.entry) in StandsAt self.new s count (first_progress s) }
         ensures given { self.new.given ≡ 0 }
         ensures few { self.new.left < 2 ^ 32 }
@@ -174,8 +166,7 @@ impl<'a> SegmentDecoder<'a> {
         self.started = open(&mut self.coder, stream);
         self.number = number;
         self.left = count;
-        self.next = next;
-        self.kept = kept;
+        (self.next, self.kept) = met;
         self.given = 0;
         self.running = true;
         self.begun += 1;

@@ -17,8 +17,8 @@ returns-clause-stands c =
       running = true;
       number = c.args.number;
       left = c.args.count;
-      next = c.args.next;
-      kept = c.args.kept;
+      next = c.args.met.0;
+      kept = c.args.met.1;
       given = 0;
       started = c.open-self-inside.result;
       coder = c.open-self-inside.new.coder;
@@ -26,7 +26,7 @@ returns-clause-stands c =
       writer = c.move_to.new.self;
     } in
     stands_first new c.args.self.now.plan c.args.number c.args.stream.now c.args.handover c.args.row
-    c.args.count c.args.next c.args.kept (pads_given c.args.pads) (record {
+    c.args.count c.args.met.0 c.args.met.1 (pads_given c.args.pads) (record {
       suits = c.requires.suits;
       some = c.requires.some;
       within = c.requires.within;
