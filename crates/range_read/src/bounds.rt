@@ -25,7 +25,7 @@ impl<'a> Places for SegmentPlaces<'a> {
 
     fn place(&self, part: u32) -> u64 {
         // Called for its clauses: a segment's number has one byte.
-        let _count = self.view.segments();
+        let _segments = self.view.segments();
         place_of(self.view, part as u8)
     }
 }
@@ -48,7 +48,7 @@ pub(crate) fn segments_within(view: &BoxView, from: u64, to: u64) -> (u8, u8)
     ensures within { result.1 ≤ length view.now.parts.handovers }
 {
     // Called for its clauses: a segment's number has one byte.
-    let _count = view.segments();
+    let _segments = view.segments();
     let (first, past) = byte_window::parts_within(&SegmentPlaces { view }, from, to);
     (first as u8, past as u8)
 }
