@@ -6,11 +6,14 @@ use crate::samples::Visits;
 use crate::trial::{NONE, assert_holds, run_past};
 use box_format::read_box;
 use lepton_encode::{encode, encode_placed};
-use range_read::index;
+use outside_core::{MemSink, OpenGate};
+use range_read::{Ranged, index, prepare_range, run_range};
 use sample_jpeg::sample;
-use std::alloc::Global;
+use segment_worker::EmitStop;
+use std::alloc::{AllocError, Global};
 use std::process::Abort;
 use std::sync::Wait;
+use std::test::Fail;
 use std::thread::Threads;
 
 // Words for a range of the file of two intervals, a bit for each segment that the one thread begins, and the bytes.
@@ -66,6 +69,65 @@ fn begins<R: Threads + Wait + Sync + Abort>(
     let visits = Visits::none();
     let tried = run_past(rt, alloc, words, container, NONE, &visits);
     tried.status == 0 && tried.written.as_slice() == bytes && visits.segments() == segments
+}
+
+// Ranges of this file, how many of its two segments are begun for them, and their bytes.
+const READ: &[(u64, u64, u8, &[u8])] = &[
+    (76, 78, 1, &[0xff, 0xd0]),
+    (77, 79, 2, &[0xd0, 0x3f]),
+    (0, 2, 0, &[0xff, 0xd8]),
+    (78, 78, 0, &[]),
+];
+
+// They are read by as many workers as are asked for, with rings of two bytes.
+#[test]
+fn workers_read_ranges(rt: HostRuntime) -> Result<(), Fail> {
+    let file = TWO_INTERVALS.file(&rt, rt.alloc());
+    let made = placed(&rt, rt.alloc(), file.as_slice(), 2);
+    for (from, to, begun, bytes) in READ {
+        for workers in [0, 1, 3] {
+            let range = (*from, *to);
+            assert!(rt;
+                is_read(
+                    &rt,
+                    rt.alloc(),
+                    made.as_slice(),
+                    range,
+                    workers,
+                    *begun,
+                    bytes
+                )?,
+                "from {from} to {to}, {workers} workers"
+            );
+        }
+    }
+    Ok(())
+}
+
+fn is_read<R: Threads + Wait + Sync>(
+    rt: &R,
+    alloc: Global,
+    container: &[u8],
+    range: (u64, u64),
+    workers: u8,
+    begun: u8,
+    bytes: &[u8],
+) -> Result<bool, AllocError> {
+    let mut sink = MemSink::new(alloc, 100, 100, &[])?;
+    match prepare_range(alloc, container, range.0, range.1, workers, 2) {
+        Ok(mut ready) => {
+            let segments = segments_of(run_range(&mut ready, rt, &mut sink, &OpenGate));
+            Ok(segments == Some(begun) && sink.bytes() == bytes)
+        }
+        Err(_) => Ok(false),
+    }
+}
+
+fn segments_of(read: Result<Ranged, EmitStop>) -> Option<u8> {
+    match read {
+        Ok(ranged) => Some(ranged.begun),
+        Err(_) => None,
+    }
 }
 
 // The container with places that a file is encoded to is the one that its container is indexed to.
