@@ -52,16 +52,15 @@ above_zero zero some = absurd (some refl)
 above_zero (suc n) some = omega arith
 
 -- what is kept of counts whose share isn't 0
-pub is_bin : (both prob : ℕ) → prob ≡ share_at both → (prob ≡ 0 → ⊥) → IsBin (record { both = both; prob = prob })
-is_bin both prob is some =
-    let least : 1 ≤ prob = above_zero prob some in
+pub is_bin : (both zeros ones prob : ℕ) → zeros ≡ both % 256 → ones ≡ both / 256 → prob ≡ share_at both
+    → (prob ≡ 0 → ⊥) → IsBin (record { zeros = zeros; ones = ones; prob = prob })
+is_bin both less more prob low high is some =
     let share : share_at both ≡ 0 → ⊥ = λ none. some (is ∙ none) in
     record {
-      zeros = has_zeros both share;
-      ones = has_ones both share;
-      both = omega arith;
-      prob = is ∙ is_share (both % 256) (both / 256) (has_ones both share);
-      some = least;
+      zeros = rw low (has_zeros both share);
+      ones = rw high (has_ones both share);
+      prob = rw (low, high) (is ∙ is_share (both % 256) (both / 256) (has_ones both share));
+      some = above_zero prob some;
     }
 
 -- a zero more, where there is room for it
@@ -75,26 +74,26 @@ one_more zeros ones room =
     ap (λ t. raised (if t then halved (counts zeros ones) else counts zeros ones) true) room
 
 -- the counts after a bit, if both are from 1 on in one sum
-after_bit : (old new : ℕ) (bit : Bool) → 1 ≤ old % 256 → old < 65536 → new ≡ (old + (if bit then 256 else 1)) % 65536
-    → 1 ≤ new % 256 → 1 ≤ new / 256
-    → counts (new % 256) (new / 256) ≡ counted (counts (old % 256) (old / 256)) bit
-after_bit old new true some most is zeros ones =
-    let room : old / 256 < 255 = omega (arith, some, most, is, zeros, ones) in
-    let test : (old / 256 == 255) ≡ false = grind (arith, nat_tests) in
-    let e : new % 256 ≡ old % 256 = omega (arith, some, most, is, room) in
-    let f : new / 256 ≡ old / 256 + 1 = omega (arith, some, most, is, room) in
-    rw (one_more (old % 256) (old / 256) test, e, f) refl
-after_bit old new false some most is zeros ones =
-    let room : old % 256 < 255 = omega (arith, some, most, is, zeros, ones) in
-    let test : (old % 256 == 255) ≡ false = grind (arith, nat_tests) in
-    let e : new % 256 ≡ old % 256 + 1 = omega (arith, some, most, is, room) in
-    let f : new / 256 ≡ old / 256 = omega (arith, some, most, is, room) in
-    rw (zero_more (old % 256) (old / 256) test, e, f) refl
+after_bit : (zeros ones new : ℕ) (bit : Bool) → 1 ≤ zeros → zeros < 256 → ones < 256
+    → new ≡ (zeros + 256 * ones + (if bit then 256 else 1)) % 65536 → 1 ≤ new % 256 → 1 ≤ new / 256
+    → counts (new % 256) (new / 256) ≡ counted (counts zeros ones) bit
+after_bit zeros ones new true some low high is more_zeros more_ones =
+    let room : ones < 255 = omega (arith, some, low, high, is, more_zeros, more_ones) in
+    let test : (ones == 255) ≡ false = grind (arith, nat_tests) in
+    let e : new % 256 ≡ zeros = omega (arith, some, low, is, room) in
+    let f : new / 256 ≡ ones + 1 = omega (arith, some, low, is, room) in
+    rw (one_more zeros ones test, e, f) refl
+after_bit zeros ones new false some low high is more_zeros more_ones =
+    let room : zeros < 255 = omega (arith, some, low, high, is, more_zeros, more_ones) in
+    let test : (zeros == 255) ≡ false = grind (arith, nat_tests) in
+    let e : new % 256 ≡ zeros + 1 = omega (arith, some, high, is, room) in
+    let f : new / 256 ≡ ones = omega (arith, some, high, is, room) in
+    rw (zero_more zeros ones test, e, f) refl
 
 -- a bin after a bit, by a share that isn't 0
-pub counts_bit : (old new prob : ℕ) (bit : Bool) → 1 ≤ old % 256 → old < 65536
-    → new ≡ (old + (if bit then 256 else 1)) % 65536 → prob ≡ share_at new → (prob ≡ 0 → ⊥)
-    → counts (new % 256) (new / 256) ≡ counted (counts (old % 256) (old / 256)) bit
-counts_bit old new prob bit zeros most is share some =
-    let bin = is_bin new prob share some in
-    after_bit old new bit zeros most is bin.zeros bin.ones
+pub counts_bit : (zeros ones new prob : ℕ) (bit : Bool) → 1 ≤ zeros → zeros < 256 → ones < 256
+    → new ≡ (zeros + 256 * ones + (if bit then 256 else 1)) % 65536 → prob ≡ share_at new → (prob ≡ 0 → ⊥)
+    → counts (new % 256) (new / 256) ≡ counted (counts zeros ones) bit
+counts_bit zeros ones new prob bit least low high is share some =
+    let s : share_at new ≡ 0 → ⊥ = λ none. some (share ∙ none) in
+    after_bit zeros ones new bit least low high is (has_zeros new s) (has_ones new s)

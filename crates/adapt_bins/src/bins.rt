@@ -1,5 +1,5 @@
 // A bin's two counts, and tables of bins.
-ghost use Rattle.std.specs.Prelude.{◌≡◌, [], ◌+◌, ◌/◌, ◌%◌, ◌^◌, ◌<◌, ◌≤◌, ℕ, if◌then◌else◌, IfOk, length, slice_set, replicate, get_or};
+ghost use Rattle.std.specs.Prelude.{◌≡◌, [], ◌+◌, ◌*◌, ◌/◌, ◌%◌, ◌^◌, ◌<◌, ◌≤◌, if◌then◌else◌, IfOk, length, slice_set, replicate, get_or};
 ghost use Rattle.adapt_bins.specs.Counts.{unseen, counts, seen, most_count, halved, with_room, raised, counted, prob_of};
 ghost use Rattle.adapt_bins.specs.Shares.{AreShares};
 
@@ -17,8 +17,8 @@ const MOST_COUNT: u8 = 255;
 /// bit is 255, both are halved first, so that later bits weigh more.
 #[derive(Clone, Copy)]
 pub struct Bin {
-    // The count of zeros, and 256 times that of ones.
-    both: u16,
+    zeros: u8,
+    ones: u8,
     // The probability of a zero, kept so that it is at hand for the next bit.
     prob: u8,
 }
@@ -36,7 +36,7 @@ impl Model for Bin {
 
     ghost inverse = { inside_of };
 
-    ghost inverse_ok = { λ b h. let k = h.both in let e = h.prob in Prim.rw k (Prim.rw e refl) };
+    ghost inverse_ok = { λ b h. let e = h.prob in Prim.rw e refl };
 }
 
 impl Bin {
@@ -45,7 +45,8 @@ impl Bin {
         ensures { result ≡ unseen }
     {
         Bin {
-            both: 0x101,
+            zeros: 1,
+            ones: 1,
             prob: 128,
         }
     }
@@ -65,12 +66,10 @@ impl Bin {
     pub fn count(&mut self, bit: bool)
         ensures { self.new ≡ counted self.old bit }
     {
-        let (zeros, ones) = parted(self.both);
-        let (zeros, ones) = room_for(zeros, ones, bit);
+        let (zeros, ones) = room_for(self.zeros, self.ones, bit);
         let (zeros, ones) = raised(zeros, ones, bit);
         let prob = share(zeros, ones);
-        self.both = u16::from(zeros) + 256 * u16::from(ones);
-        self.prob = prob;
+        *self = Bin { zeros, ones, prob };
     }
 
     // `count`, by the shares of all counts. A share of 0 says that a count would be above 255, which is seldom; so
@@ -80,33 +79,35 @@ impl Bin {
         requires { AreShares shares.now }
         ensures { self.new ≡ counted self.old bit }
     {
-        let both = one_more(self.both, bit);
+        let both = one_more(self.zeros, self.ones, bit);
         let prob = shares[usize::from(both)];
         if prob == 0 {
             self.count(bit);
         } else {
-            self.both = both;
-            self.prob = prob;
+            let (zeros, ones) = parted(both);
+            *self = Bin { zeros, ones, prob };
         }
     }
 }
 
-// The count of zeros, and that of ones.
+// Both counts after one more of a bit, in one number: that of the zeros, and 256 times that of the ones. A count that
+// would be 256 is 0, and if that is the zeros' the other isn't right.
+#[inline(always)]
+fn one_more(zeros: u8, ones: u8, bit: bool) -> u16
+    ensures { result ≡ (zeros + 256 * ones + (if bit then 256 else 1)) % 65536 }
+{
+    let both = u16::from(zeros) + 256 * u16::from(ones);
+    let one = if bit { 256 } else { 1 };
+    both.wrapping_add(one)
+}
+
+// The count of zeros in this number, and that of ones.
 #[inline(always)]
 fn parted(both: u16) -> (u8, u8)
     ensures zeros { result.0 ≡ both % 256 }
     ensures ones { result.1 ≡ both / 256 }
 {
     ((both % 256) as u8, (both / 256) as u8)
-}
-
-// Both counts after one more of a bit. A count that would be 256 is 0, and if that is the zeros' the other isn't right.
-#[inline(always)]
-fn one_more(both: u16, bit: bool) -> u16
-    ensures { result ≡ (both + (if bit then 256 else 1)) % 65536 }
-{
-    let one = if bit { 256 } else { 1 };
-    both.wrapping_add(one)
 }
 
 // Both counts, halved if that of the bit can't rise.
