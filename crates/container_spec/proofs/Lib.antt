@@ -54,3 +54,7 @@ pub mod ChunkedFiles
 pub mod RestoredChunks
 pub mod JoinedChunks
 pub mod ChunkSizes
+mod KeptPlaces
+mod GoodParts
+mod RangePortions
+pub mod RestoredRanges

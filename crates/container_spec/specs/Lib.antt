@@ -16,3 +16,6 @@ pub mod ScansMeaningRows
 pub mod Chunks
 pub mod ChunkLaws
 pub mod ChunkRows
+pub mod RangeMeanings
+pub mod RangeMeaningLaws
+pub mod RangeMeaningRows

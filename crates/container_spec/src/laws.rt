@@ -6,6 +6,8 @@ ghost use Rattle.container_spec.specs.ScansMeaningRows.{shares, two_segments, tw
 ghost use Rattle.container_spec.specs.ScansMeaningLaws.{RefusedIsNone, StandsForOne, FileIsRestored, ContainerIsRestored, RestoredIsContainer, OneContainer, OneContainerOfFile, ContainedIsNotRefused, AcceptedIsNotRefused, SeveralIsNotOne, OneFileRefusal, ContainerIsShort, ContainerOfFileIsShort};
 ghost use Rattle.container_spec.specs.ChunkLaws.{ChunkIsRestored, ChunkIsShort, ChunkedIsNotRefused, ChunkedIsOne, ChunksAreRestored, OneChunk, RowsArePlaced, SegmentsAreTheRows};
 ghost use Rattle.container_spec.specs.ChunkRows.{chunks_of_four_rows, one_byte_across_four_rows};
+ghost use Rattle.container_spec.specs.RangeMeaningLaws.{EndIsKept, RangeIsSlice};
+ghost use Rattle.container_spec.specs.RangeMeaningRows.{misplaced_ranges, ranges_on_the_seam};
 
 /// MCUs that a stream gives are put, and so a segment of a scan stands for its slice of the scan.
 pub fn segments_are_slices()
@@ -100,4 +102,17 @@ pub fn rows_of_scans()
 pub fn rows_of_chunks()
     ensures seam { one_byte_across_four_rows }
     ensures containers { chunks_of_four_rows }
+{}
+
+/// If a container of version 5 stands for a file, the place where it says that the file ends is the file's end, and
+/// each range of it is the file's slice.
+pub fn ranges_of_containers_are_slices()
+    ensures end { EndIsKept }
+    ensures slice { RangeIsSlice }
+{}
+
+/// The definitions computed on worked ranges.
+pub fn rows_of_ranges_of_containers()
+    ensures seam { ranges_on_the_seam }
+    ensures misplaced { misplaced_ranges }
 {}

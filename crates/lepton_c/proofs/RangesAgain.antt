@@ -19,6 +19,7 @@ use Rattle.container_spec.specs.Files.{parts_of_file}
 use Rattle.container_spec.specs.Indexed.{indexed}
 use Rattle.container_spec.specs.Limits.{most_of_a_container}
 use Rattle.container_spec.specs.Portions.{StandsFor, meaning_of}
+use Rattle.container_spec.specs.RangeMeanings.{RangeMeaning, is_bad_range, range_meaning}
 use Rattle.container_spec.proofs.FileParts.{box_is}
 use Rattle.container_spec.proofs.FilesAlone.{as_one, of_one}
 use Rattle.container_spec.proofs.FilesOfContainers.{indexed_is, some, without}
@@ -27,9 +28,8 @@ use Rattle.container_spec.proofs.ReachedSegments.{whole}
 use Rattle.container_spec.proofs.PortionsMeant.{is_restored}
 use Rattle.container_spec.proofs.ScansRestored.{container_is_restored, file_is_restored}
 use Rattle.container_spec.proofs.ScansSizes.{container_is_short}
+use Rattle.container_spec.proofs.RestoredRanges.{range_of_container_is_slice}
 use Rattle.range_read.specs.IndexEnds.{IsIndexOf}
-use Rattle.range_read.specs.RangeMeanings.{RangeMeaning, is_bad_range, range_meaning}
-use Rattle.range_read.proofs.RestoredRanges.{range_of_container_is_slice}
 use Rattle.lepton_c.specs.Gives.{EncodeGives, IndexGives, IsEncoded, Puts, RangeGives}
 use Rattle.lepton_c.specs.Numbers.{numbers_of}
 use Rattle.lepton_c.specs.declared.answer.Answer.{Answer}

@@ -1,13 +1,13 @@
 -- What a decode, or the reading of a range, wrote into an empty sink in memory.
 use Rattle.std.proofs.Common.{◌≡◌, ℕ, ◌++◌, List, [], Some, Result, Ok, Err, ap, ◌∙◌}
 use Rattle.container_spec.specs.Meanings.{Meaning}
+use Rattle.container_spec.specs.RangeMeanings.{RangeMeaning}
 use Rattle.outside_core.specs.Memory.{Store, StoreFull, store_faults}
 use Rattle.outside_core.specs.Takes.{Anything}
 use Rattle.lepton_decode.specs.Ends.{Ends}
 use Rattle.lepton_decode.specs.declared.error.DecodeError.{DecodeError}
 use Rattle.lepton_decode.specs.declared.error.DecodeError.TheVariants as errors
 use Rattle.range_read.specs.RangeEnds.{RangeEnds}
-use Rattle.range_read.specs.RangeMeanings.{RangeMeaning}
 use Rattle.range_read.specs.declared.reading.Ranged.{Ranged}
 use Rattle.segment_worker.specs.declared.emitted.EmitStop.{EmitStop}
 use Rattle.segment_worker.specs.declared.emitted.EmitStop.TheVariants as stops

@@ -11,8 +11,8 @@ use Rattle.box_format.specs.Containers.{IsContainer}
 use Rattle.container_spec.specs.ScansFiles.{FileIsRefused, HasSeveralScans, IsContainerOfFile, Header as FileHeader, Scan as FileScan}
 use Rattle.container_spec.specs.Portions.{scans_meaning}
 use Rattle.container_spec.specs.Chunks.{IsChunkOf, IsOneScanFile}
+use Rattle.container_spec.specs.RangeMeanings.{RangeMeaning, is_bad_range, range_meaning}
 use Rattle.range_read.specs.IndexEnds.{IndexEnds, IsIndexOf}
-use Rattle.range_read.specs.RangeMeanings.{RangeMeaning, is_bad_range, range_meaning}
 use Rattle.lepton_c.specs.declared.answer.Answer.{Answer}
 use Rattle.lepton_c.specs.declared.answer.Answer.TheVariants.{Done, Counted, Header, Scan, Box, Fault, PadSpelling, ChunkShort, TooLong, NoChunk, ManyScans, RangeBad, BadCall, NoRoom, Larger, NoMemory}
 

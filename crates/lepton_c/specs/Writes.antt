@@ -1,9 +1,9 @@
 -- Steps: what a decode, or the reading of a range, wrote into a sink in memory (own).
 use Rattle.std.specs.Prelude.{ℕ, ◌≡◌, ◌<◌, List, length, take, Some, None, Result, Ok, Err}
 use Rattle.container_spec.specs.Meanings.{Meaning, Restored, PadSpelled, ChunkShort as ShortChunk, Faulty}
+use Rattle.container_spec.specs.RangeMeanings.{RangeMeaning}
 use Rattle.lepton_decode.specs.declared.error.DecodeError.{DecodeError}
 use Rattle.lepton_decode.specs.declared.error.DecodeError.TheVariants as errors
-use Rattle.range_read.specs.RangeMeanings.{RangeMeaning}
 use Rattle.range_read.specs.declared.reading.Ranged.{Ranged}
 use Rattle.segment_worker.specs.declared.emitted.EmitStop.{EmitStop}
 use Rattle.segment_worker.specs.declared.emitted.EmitStop.TheVariants as stops

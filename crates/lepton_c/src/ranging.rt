@@ -5,7 +5,7 @@ ghost use Rattle.jpeg_marker.specs.Plans.{PlanFields};
 ghost use Rattle.box_format.specs.Parts.{BoxParts};
 ghost use Rattle.box_format.specs.Single.{IsBoxOf};
 ghost use Rattle.box_format.specs.Versions.{IsRead, ranged};
-ghost use Rattle.range_read.specs.RangeMeanings.{is_bad_range, range_meaning};
+ghost use Rattle.container_spec.specs.RangeMeanings.{is_bad_range, range_meaning};
 ghost use Rattle.lepton_c.specs.Gives.{EncodeGives, IndexGives, Puts, RangeGives};
 ghost use Rattle.lepton_c.specs.Numbers.{numbers_of};
 ghost use Rattle.lepton_c.specs.Writes.{Reads};

@@ -12,6 +12,7 @@ use Rattle.container_spec.specs.Files.{parts_of_file}
 use Rattle.container_spec.specs.Indexed.{indexed}
 use Rattle.container_spec.specs.Meanings.{Verdict, Restored, PadSpelled, ChunkShort, Faulty, NoBox}
 use Rattle.container_spec.specs.Portions.{scans_meaning, meaning_of}
+use Rattle.container_spec.specs.RangeMeanings.{RangeMeaning}
 use Rattle.container_spec.proofs.FileParts.{box_is}
 use Rattle.box_format.proofs.Singles.{version_said}
 use Rattle.container_spec.proofs.FilesAlone.{of_one}
@@ -19,8 +20,7 @@ use Rattle.container_spec.proofs.IndexedFiles.{indexed_is_container}
 use Rattle.container_spec.proofs.BoxesOnce.{meant_alone}
 use Rattle.container_spec.proofs.ScansRestored.{file_is_restored}
 use Rattle.container_spec.proofs.ScansSizes.{container_is_short}
-use Rattle.range_read.specs.RangeMeanings.{RangeMeaning}
-use Rattle.range_read.proofs.RestoredRanges.{range_of_container_is_slice}
+use Rattle.container_spec.proofs.RestoredRanges.{range_of_container_is_slice}
 use Rattle.command_words.specs.declared.command.Command.TheVariants.{Encode, Decode, Index, Range}
 use Rattle.lepton_run.specs.Answers.{Answers, IndexMakes, Made, answer_by, early, limit_of, range_answer}
 use Rattle.lepton_run.proofs.BothWays.{container_are, one_few}

@@ -12,11 +12,11 @@ use Rattle.box_format.specs.Versions.{IsRead, indexable, ranged}
 use Rattle.container_spec.specs.Indexed.{indexed}
 use Rattle.container_spec.specs.Meanings.{Verdict}
 use Rattle.container_spec.specs.Portions.{scans_meaning}
+use Rattle.container_spec.specs.RangeMeanings.{RangeMeaning, is_bad_range, range_meaning}
 use Rattle.segment_worker.specs.declared.emitted.EmitStop.{EmitStop}
 use Rattle.segment_worker.specs.declared.emitted.EmitStop.TheVariants as stops
 use Rattle.range_read.specs.IndexEnds.{IndexEnds, IsIndexOf}
 use Rattle.range_read.specs.RangeEnds.{RangeEnds}
-use Rattle.range_read.specs.RangeMeanings.{RangeMeaning, is_bad_range, range_meaning}
 use Rattle.range_read.specs.declared.reading.Ranged.{Ranged}
 use Rattle.command_words.specs.declared.command.Command.TheVariants.{Index, Range}
 use Rattle.lepton_run.specs.Answers.{Answer, Answers, Early, Late, Made, TakesAnswers, Writes, bytes_of, answer_by, early, limit_of, range_answer, read_answer}

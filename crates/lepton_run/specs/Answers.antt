@@ -18,7 +18,7 @@ use Rattle.container_spec.specs.Meanings.{Meaning, Verdict, Restored, PadSpelled
 use Rattle.container_spec.specs.ScansFiles.{FileIsRefused, HasSeveralScans, IsContainerOfFile, Header as FileHeader, Scan as FileScan}
 use Rattle.container_spec.specs.Portions.{StandsFor, scans_meaning}
 use Rattle.container_spec.specs.Chunks.{IsChunkOf, IsOneScanFile}
-use Rattle.range_read.specs.RangeMeanings.{is_bad_range, range_meaning}
+use Rattle.container_spec.specs.RangeMeanings.{is_bad_range, range_meaning}
 use Rattle.command_words.specs.declared.command.Command.{Command}
 use Rattle.command_words.specs.declared.command.Command.TheVariants.{Encode, Decode, Migrate, Chunk, Index, Range, Sample}
 use Rattle.lepton_run.specs.Lines.{refusal_line}

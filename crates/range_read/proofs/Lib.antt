@@ -1,7 +1,3 @@
-pub mod KeptPlaces
-pub mod GoodParts
-mod RangePortions
-pub mod RestoredRanges
 mod RangesPlayed
 mod CountedSteps
 mod MeasuredSegments

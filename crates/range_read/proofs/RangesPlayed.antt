@@ -8,12 +8,12 @@ use Rattle.box_format.proofs.Lists.{sum_first}
 use Rattle.container_spec.specs.declared.kind.Kind.TheVariants.{Range}
 use Rattle.container_spec.specs.Meanings.{Meaning}
 use Rattle.container_spec.specs.Portions.{Portion, portion_meaning}
+use Rattle.container_spec.specs.RangeMeanings.{RangeMeaning, fault_in, placed_file, range_meaning, range_portion}
 use Rattle.segment_worker.specs.declared.emitted.EmitStop.{EmitStop}
 use Rattle.lepton_decode.specs.declared.error.DecodeError.{DecodeError}
 use Rattle.lepton_decode.specs.declared.error.DecodeError.TheVariants as errors
 use Rattle.lepton_decode.specs.Ends.{Ends}
 use Rattle.range_read.specs.RangeEnds.{IsRanged, RangeEnds}
-use Rattle.range_read.specs.RangeMeanings.{RangeMeaning, fault_in, placed_file, range_meaning, range_portion}
 use Rattle.range_read.specs.declared.reading.Ranged.{Ranged}
 
 module _ (v : BoxSeen) (from to : ℕ) (scans : List BoxSeen) (p : Portion) (alone : scans ≡ v ∷ [])

@@ -1,7 +1,7 @@
 -- View: the value of a range that is ready for one thread, and its invariant (own).
 use Rattle.std.specs.Prelude.{◌≡◌, [], ◌∷◌, false, is_some, IfSome, nat_lt, option_map}
+use Rattle.container_spec.specs.RangeMeanings.{is_bad_range}
 use Rattle.range_read.specs.RangeEnds.{LoneRangeSeen, stretch_between}
-use Rattle.range_read.specs.RangeMeanings.{is_bad_range}
 use Rattle.range_read.specs.declared.alone.ReadyRangeAlone.TheInside.{Inside}
 
 -- its container, its bounds, how many segments were begun, and whether it was read

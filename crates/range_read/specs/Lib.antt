@@ -1,6 +1,3 @@
-pub mod RangeMeanings
-pub mod RangeMeaningLaws
-pub mod RangeMeaningRows
 pub mod IndexEnds
 pub mod Lanes
 pub mod Measures

@@ -3,6 +3,7 @@ use Rattle.std.specs.Prelude.{ℕ, ◌≡◌, Bool, List, [], ◌∷◌, length,
 use Rattle.jpeg_marker.specs.Plans.{PlanFields}
 use Rattle.box_format.specs.Parts.{BoxParts, BoxSeen}
 use Rattle.byte_window.specs.PartedFiles.{begun_within, parts_within}
+use Rattle.container_spec.specs.RangeMeanings.{RangeMeaning, placed_file, range_meaning}
 use Rattle.segment_crew.specs.Crews.{CrewSeen}
 use Rattle.segment_crew.specs.Worth.{workers_worth}
 use Rattle.segment_worker.specs.Contents.{Stretch, stretch}
@@ -11,7 +12,6 @@ use Rattle.segment_worker.specs.declared.emitted.EmitStop.{EmitStop}
 use Rattle.segment_worker.specs.declared.emitted.EmitStop.TheVariants.{Fault, WriteFault}
 use Rattle.lepton_decode.specs.declared.error.DecodeError.{DecodeError}
 use Rattle.lepton_decode.specs.declared.error.DecodeError.TheVariants as errors
-use Rattle.range_read.specs.RangeMeanings.{RangeMeaning, placed_file, range_meaning}
 use Rattle.range_read.specs.declared.reading.Ranged.{Ranged}
 
 -- a range that is ready: its container's plan and parts, from where to before where it is, what is seen of the crew of

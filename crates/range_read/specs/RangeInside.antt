@@ -1,7 +1,7 @@
 -- View: the value of a range that is ready, and its invariant (own).
 use Rattle.std.specs.Prelude.{◌≡◌, false, is_some, IfSome, nat_lt}
+use Rattle.container_spec.specs.RangeMeanings.{is_bad_range}
 use Rattle.range_read.specs.RangeEnds.{RangeSeen, stretch_in}
-use Rattle.range_read.specs.RangeMeanings.{is_bad_range}
 use Rattle.range_read.specs.declared.ready.ReadyRange.TheInside.{Inside}
 
 -- its container, its bounds, and what is seen of its crew

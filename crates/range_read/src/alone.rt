@@ -7,8 +7,8 @@ ghost use Rattle.box_format.specs.Single.{IsBoxOf};
 ghost use Rattle.box_format.specs.Versions.{IsRead, ranged};
 ghost use Rattle.box_format.specs.declared.refusal.BoxRefusal.{BoxRefusal};
 ghost use Rattle.outside_core.specs.Takes.{TakesNext};
+ghost use Rattle.container_spec.specs.RangeMeanings.{is_bad_range};
 ghost use Rattle.range_read.specs.RangeEnds.{RangeEnds, lone_range_in, lone_stretch_in};
-ghost use Rattle.range_read.specs.RangeMeanings.{is_bad_range};
 
 use crate::bounds::segments_within;
 use crate::error::RangeError;

@@ -1,7 +1,7 @@
 // Which of a container's segments have a place in a range, and what of their bytes goes into it.
 ghost use Rattle.std.specs.Prelude.{◌≡◌, ◌≤◌, length};
 ghost use Rattle.byte_window.specs.PartedFiles.{parts_within, window_within};
-ghost use Rattle.range_read.specs.RangeMeanings.{is_bad_range, placed_file};
+ghost use Rattle.container_spec.specs.RangeMeanings.{is_bad_range, placed_file};
 
 use box_format::BoxView;
 use byte_window::{Places, Window};
@@ -13,7 +13,7 @@ struct SegmentPlaces<'a> {
 }
 
 impl<'a> Places for SegmentPlaces<'a> {
-    ghost use Rattle.range_read.specs.RangeMeanings.{placed_file};
+    ghost use Rattle.container_spec.specs.RangeMeanings.{placed_file};
 
     ghost count = { λ s. (placed_file s.view.now.plan s.view.now.parts).count };
 

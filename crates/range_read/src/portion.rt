@@ -1,7 +1,7 @@
 // The portion of a container that a range of its file is.
 ghost use Rattle.std.specs.Prelude.{◌≡◌, ◌≤◌};
 ghost use Rattle.byte_window.specs.Slices.{slice};
-ghost use Rattle.range_read.specs.RangeMeanings.{placed_file, range_portion};
+ghost use Rattle.container_spec.specs.RangeMeanings.{placed_file, range_portion};
 
 use crate::bounds::{place_of, segments_within, window_within};
 use crate::one_scan::OneScan;

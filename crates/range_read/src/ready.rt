@@ -6,9 +6,9 @@ ghost use Rattle.box_format.specs.Parts.{BoxParts};
 ghost use Rattle.box_format.specs.Single.{IsBoxOf};
 ghost use Rattle.box_format.specs.Versions.{IsRead, ranged};
 ghost use Rattle.box_format.specs.declared.refusal.BoxRefusal.{BoxRefusal};
+ghost use Rattle.container_spec.specs.RangeMeanings.{is_bad_range};
 ghost use Rattle.lepton_decode.specs.Ends.{team_in};
 ghost use Rattle.range_read.specs.RangeEnds.{stretch_in, workers_in};
-ghost use Rattle.range_read.specs.RangeMeanings.{is_bad_range};
 
 use crate::bounds::{is_bad_range, segments_within};
 use crate::error::RangeError;

@@ -1,5 +1,5 @@
 use Rattle.std.proofs.Common.{Err, ap, subst, ◌∙◌}
-use Rattle.range_read.specs.RangeMeanings.{range_meaning}
+use Rattle.container_spec.specs.RangeMeanings.{range_meaning}
 use Rattle.segment_worker.specs.declared.emitted.EmitStop.{EmitStop}
 use Rattle.lepton_c.specs.Gives.{RangeGives}
 use Rattle.lepton_c.specs.Writes.{Reads}

@@ -1,7 +1,7 @@
 use Rattle.std.proofs.Common.{List, ℕ, ap, ap₂, subst, sym}
 use Rattle.outside_core.specs.Memory.{Store}
+use Rattle.container_spec.specs.RangeMeanings.{RangeMeaning, range_meaning}
 use Rattle.range_read.specs.RangeEnds.{lone_range_in}
-use Rattle.range_read.specs.RangeMeanings.{RangeMeaning, range_meaning}
 use Rattle.lepton_c.specs.Writes.{Reads}
 use Rattle.lepton_c.proofs.Written.{reads}
 use Rattle.lepton_c.proofs.ranging.range.Goals as goal

@@ -1,8 +1,8 @@
 use Rattle.std.proofs.Common.{rules, ap, Err, inl, inr, ℕ, refl, sym, subst}
 use Rattle.bool_coder.proofs.FirstBits.{all_bytes}
 use Rattle.outside_core.specs.Takes.{TakesNext}
+use Rattle.container_spec.specs.RangeMeanings.{range_meaning}
 use Rattle.range_read.specs.RangeEnds.{RangeEnds}
-use Rattle.range_read.specs.RangeMeanings.{range_meaning}
 use Rattle.range_read.specs.declared.error.RangeError.{RangeError}
 use Rattle.command_words.specs.declared.command.Command.TheVariants.{Range}
 use Rattle.lepton_run.specs.CommandEnds.{CarriedOut}

@@ -1,6 +1,6 @@
 use Rattle.std.proofs.Common.{◌∙◌, arith}
 use Rattle.byte_window.proofs.PartedFacts.{parts_are_in_file}
-use Rattle.range_read.specs.RangeMeanings.{placed_file}
+use Rattle.container_spec.specs.RangeMeanings.{placed_file}
 use Rattle.range_read.proofs.bounds.window_within.Goals as goal
 
 pub window_within-requires-clause-order : goal.window_within-requires-clause-order

@@ -1,6 +1,6 @@
 use Rattle.std.proofs.Common.{◌≡◌, ◌∙◌, true, ap, sym}
 use Rattle.box_format.specs.Parts.{BoxSeen}
-use Rattle.range_read.specs.RangeMeanings.{is_bad_range}
+use Rattle.container_spec.specs.RangeMeanings.{is_bad_range}
 use Rattle.range_read.proofs.ready.read_ranged.Goals as goal
 
 pub returns-then-is_bad_range-clause-bad : goal.returns-then-is_bad_range-clause-bad

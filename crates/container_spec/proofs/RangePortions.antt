@@ -12,9 +12,9 @@ use Rattle.container_spec.specs.Meanings.{Meaning, segment_in}
 use Rattle.container_spec.specs.declared.kind.Kind.TheVariants.{Range}
 use Rattle.container_spec.specs.Portions.{ending_by}
 use Rattle.container_spec.specs.ScansJoined.{ScansJoined}
+use Rattle.container_spec.specs.RangeMeanings.{RangeMeaning, fault_in, placed_file, range_meaning, range_portion}
 use Rattle.container_spec.proofs.OneScans.{one_is_joined}
 use Rattle.byte_window.specs.PartedFiles.{PartedFile, parts_within, begun_within, window_within, header_within, trailer_within}
-use Rattle.range_read.specs.RangeMeanings.{RangeMeaning, fault_in, placed_file, range_meaning, range_portion}
 use Rattle.byte_window.proofs.PartedFacts.{parts_are_in_file}
 
 -- segments from one to before another, one after another

@@ -16,9 +16,9 @@ use Rattle.scan_spec.specs.Spots.{mcu_put, mcus_put}
 use Rattle.handover.specs.HandoverBytes.{handover_bytes}
 use Rattle.container_spec.specs.ScanStream.{blocks_stream}
 use Rattle.container_spec.specs.Segments.{mcu_step, ending, mcus_output}
-use Rattle.range_read.specs.RangeMeaningRows.{seam_parts, seam_plan}
-use Rattle.range_read.proofs.RangePortions.{as_read}
-use Rattle.range_read.proofs.laws.rows_of_ranges_of_containers.Goals as goal
+use Rattle.container_spec.specs.RangeMeaningRows.{seam_parts, seam_plan}
+use Rattle.container_spec.proofs.laws.rows_of_ranges_of_containers.Goals as goal
+use Rattle.container_spec.proofs.RangePortions.{as_read}
 
 pub returns-clause-seam : goal.returns-clause-seam
 unfolding after first_bits stream blocks_stream value_events count_events values_events inner_positions values_in guess prediction dc_spread block_events inner_count_events edge_events dc_events ac_events cell_at block_at segment_events events_at around_in told_by asked_number asked_count asked_category asked_rest asked_value asked_values asked_edge asked_residue placed block_with asked_coefficients asked_block block_read blocks_read block_text dc_text ac_text ac_values value_text zeros_text word_text word_of words_of blocks_text dcs_after mcu_put mcus_put handover_bytes mcu_step ending mcus_output

@@ -7,7 +7,7 @@ use Rattle.handover.specs.declared.outcome.StreamFault.{StreamFault}
 use Rattle.box_format.specs.Rows.{byteless_parts, grey_header, grey_plan, image_end}
 use Rattle.box_format.specs.Parts.{BoxParts, file_end}
 use Rattle.box_format.specs.declared.version.Version.TheVariants.{Fifth}
-use Rattle.range_read.specs.RangeMeanings.{RangeMeaning, is_bad_range, range_meaning}
+use Rattle.container_spec.specs.RangeMeanings.{RangeMeaning, is_bad_range, range_meaning}
 
 -- two intervals of one MCU, each in a segment of its own, of which the first ends with a restart marker
 abbrev pub seam_plan : PlanFields

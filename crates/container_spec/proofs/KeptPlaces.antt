@@ -13,7 +13,7 @@ use Rattle.box_format.specs.declared.version.Version.TheVariants.{Fifth}
 use Rattle.container_spec.specs.Segments.{Output, segment_output}
 use Rattle.container_spec.specs.Indexed.{outputs_of}
 use Rattle.container_spec.specs.Meanings.{segment_in}
-use Rattle.range_read.specs.RangeMeanings.{places_of}
+use Rattle.container_spec.specs.RangeMeanings.{places_of}
 
 -- places that are kept
 pub record AreKeptPlaces (b : BoxParts) : Type 0 where

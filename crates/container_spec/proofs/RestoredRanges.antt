@@ -13,18 +13,18 @@ use Rattle.container_spec.specs.Segments.{Output, segment_output}
 use Rattle.container_spec.proofs.JoinedSegments.{Joined, joined}
 use Rattle.container_spec.specs.Indexed.{outputs_of}
 use Rattle.container_spec.specs.Meanings.{segment_in}
+use Rattle.container_spec.specs.RangeMeanings.{places_of, placed_file, is_bad_range, range_meaning}
+use Rattle.container_spec.specs.RangeMeaningLaws.{RestoresFile, EndIsKept, RangeIsSlice}
 use Rattle.container_spec.proofs.PlacesOfContainers.{place_is}
 use Rattle.container_spec.proofs.PortionsMeant.{is_restored}
 use Rattle.container_spec.proofs.RestoredMeanings.{IsRestored}
+use Rattle.container_spec.proofs.RangePortions.{as_read, joined_between, range_by}
+use Rattle.container_spec.proofs.KeptPlaces.{AreKeptPlaces, no_chunk, kept_places, segments_long}
+use Rattle.container_spec.proofs.GoodParts.{IsPart, good_bytes, good_part, numbers_between}
 use Rattle.byte_window.specs.PartedFiles as parted
 use Rattle.byte_window.specs.PartedFiles.{PartedFile, IsPlaced, file_bytes, parts_bytes, parts_end, parts_within, begun_within, bytes_within, slice_bytes, header_within, window_within, trailer_within, listed}
 use Rattle.byte_window.proofs.BegunParts.{list_is_placed, one_more}
 use Rattle.byte_window.proofs.PartedFacts.{parts_are_in_file, place_rises, slice_of_file}
-use Rattle.range_read.specs.RangeMeanings.{places_of, placed_file, is_bad_range, range_meaning}
-use Rattle.range_read.proofs.RangePortions.{as_read, joined_between, range_by}
-use Rattle.range_read.specs.RangeMeaningLaws.{RestoresFile, EndIsKept, RangeIsSlice}
-use Rattle.range_read.proofs.KeptPlaces.{AreKeptPlaces, no_chunk, kept_places, segments_long}
-use Rattle.range_read.proofs.GoodParts.{IsPart, good_bytes, good_part, numbers_between}
 
 module _ (plan : PlanFields) (b : BoxParts) (file : List ℕ) (s : RestoresFile plan b file) where
   abbrev count : ℕ

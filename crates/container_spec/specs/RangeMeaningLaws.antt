@@ -8,7 +8,7 @@ use Rattle.box_format.specs.Single.{IsBox}
 use Rattle.box_format.specs.declared.version.Version.TheVariants.{Fifth}
 use Rattle.container_spec.specs.Meanings.{Restored}
 use Rattle.container_spec.specs.Portions.{meaning_of}
-use Rattle.range_read.specs.RangeMeanings.{is_bad_range, placed_file, places_of, range_meaning}
+use Rattle.container_spec.specs.RangeMeanings.{is_bad_range, placed_file, places_of, range_meaning}
 
 -- a container of the fifth version stands for this file
 pub record RestoresFile (plan : PlanFields) (b : BoxParts) (file : List ℕ) : Type 0 where
