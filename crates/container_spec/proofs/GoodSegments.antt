@@ -18,6 +18,7 @@ use Rattle.handover.specs.declared.outcome.Outcome.{Outcome}
 use Rattle.handover.specs.declared.outcome.Outcome.TheVariants.{Good}
 use Rattle.handover.specs.declared.outcome.StreamCause.{StreamCause}
 use Rattle.handover.specs.declared.outcome.StreamCause.TheVariants.{Seam, StreamBad}
+use Rattle.handover.proofs.PadsSummed.{sums_more, sums_none}
 use Rattle.cut_spec.specs.RowHandovers.{handover_of}
 use Rattle.block_spec.specs.declared.fault.BlockFault.{BlockFault}
 use Rattle.block_spec.specs.declared.fault.BlockFault.TheVariants as faults
@@ -27,7 +28,6 @@ use Rattle.block_spec.proofs.BlocksRead.{blocks_are_given}
 use Rattle.container_spec.specs.ScanStream.{blocks_of, blocks_stream}
 use Rattle.container_spec.specs.Segments.{SegmentFields, Progress, Output, progress_after, fault_cause, stop_cause, stopped, stream_ending, seam_ending, ending, after_step, mcu_step, mcus_output}
 use Rattle.container_spec.specs.SegmentLaws.{Meets, IsGood, IsSpot, CanMeet, GoodHasItsStream, mcus_sum}
-use Rattle.container_spec.proofs.PutParts.{sums_more, sums_none}
 use Rattle.container_spec.proofs.SpotsKept.{spot_kept, handover_is}
 use Rattle.container_spec.proofs.McusPut.{here}
 

@@ -4,7 +4,6 @@ use Rattle.std.specs.Prelude.{◌==◌, option_map}
 use Rattle.std.proofs.lemmas.Bool.Decides.{nat_tests}
 use Rattle.std.proofs.lemmas.List.{map-append}
 use Rattle.std.specs.List.{range_with_len}
-use Rattle.handover.specs.PadSums.{no_pads, pads_with}
 use Rattle.handover.specs.declared.pads.PadSum.{PadSum}
 use Rattle.handover.specs.declared.outcome.StreamFault.{StreamFault}
 use Rattle.handover.specs.declared.outcome.Outcome.{Outcome}
@@ -12,11 +11,10 @@ use Rattle.handover.specs.declared.outcome.Outcome.TheVariants.{Good, Bad}
 use Rattle.container_spec.specs.Segments.{Output, with_prefix}
 use Rattle.container_spec.proofs.JoinedSegments.{Joined, joined, joined_with}
 use Rattle.container_spec.proofs.Numbered.{mapped_same}
-use Rattle.container_spec.proofs.PutParts.{sums_more}
 use Rattle.container_spec.specs.ScansMeanings.{fault_after, outcome_after, lead_of}
-use Rattle.handover.specs.ScanSums.{no_sums, sums_of, sums_with, sum_in}
+use Rattle.handover.specs.ScanSums.{ScanPads, no_sums, sums_of, sums_with}
+use Rattle.handover.proofs.PadsSummed.{of_none, of_with, sums_of_more}
 use Rattle.container_spec.specs.ScansJoined.{Scanned, ScansJoined, scanned_with, scans_joined}
-use Rattle.handover.specs.declared.scan_pads.ScanPads.{ScanPads}
 
 -- ---- numbers
 
@@ -52,87 +50,6 @@ mapped_in_two f g h k n here more =
     (ap (λ m. map f (range_with_len m n)) z ∙ shifted f k 0 n
     ∙ mapped_same (λ i. f (k + i)) h 0 n (λ i low within. more i))
 
--- ---- sums by scan
-
--- intervals of one of four scans, by which of the first three it is
-abbrev put : Bool → Bool → Bool → PadSum → ScanPads
-put x y z p =
-    if x then record no_sums { first = p }
-    else if y then record no_sums { second = p }
-    else if z then record no_sums { third = p }
-    else record no_sums { fourth = p }
-
-abbrev got : Bool → Bool → Bool → ScanPads → PadSum
-got x y z sums =
-    if x then sums.first else if y then sums.second else if z then sums.third else sums.fourth
-
--- what holds of each of the four
-four_cases : (P : Bool → Bool → Bool → Type 0) → ((y z : Bool) → P true y z)
-    → ((z : Bool) → P false true z) → P false false true → P false false false
-    → (scan : ℕ) → P (scan == 0) (scan == 1) (scan == 2)
-four_cases P a b c d scan = by_test (scan == 0) (scan == 1) (scan == 2) where
-  by_test : (x y z : Bool) → P x y z
-  by_test true y z = a y z
-  by_test false true z = b z
-  by_test false false true = c
-  by_test false false false = d
-
-of_none : (scan : ℕ) → sums_of scan no_pads ≡ no_sums
-of_none =
-    four_cases (λ x y z. put x y z no_pads ≡ no_sums) (λ y z. refl) (λ z. refl) refl refl
-
-of_with : (scan : ℕ) (p q : PadSum)
-    → sums_with (sums_of scan p) (sums_of scan q) ≡ sums_of scan (pads_with p q)
-of_with scan p q =
-    four_cases (λ x y z. sums_with (put x y z p) (put x y z q) ≡ put x y z (pads_with p q))
-    (λ y z. refl) (λ z. refl) refl refl scan
-
-pub in_none : (scan : ℕ) → sum_in no_sums scan ≡ no_pads
-in_none =
-    four_cases (λ x y z. got x y z no_sums ≡ no_pads) (λ y z. refl) (λ z. refl) refl refl
-
--- a scan's own intervals
-pub in_own : (scan : ℕ) (p : PadSum) → sum_in (sums_of scan p) scan ≡ p
-in_own scan p =
-    four_cases (λ x y z. got x y z (put x y z p) ≡ p) (λ y z. refl) (λ z. refl) refl refl scan
-
-pub in_with : (scan : ℕ) (a b : ScanPads)
-    → sum_in (sums_with a b) scan ≡ pads_with (sum_in a scan) (sum_in b scan)
-in_with scan a b =
-    four_cases (λ x y z. got x y z (sums_with a b) ≡ pads_with (got x y z a) (got x y z b))
-    (λ y z. refl) (λ z. refl) refl refl scan
-
--- those of another scan
-pub in_later : (m n : ℕ) (p : PadSum) → m < n → n ≤ 3 → sum_in (sums_of m p) n ≡ no_pads
-in_later zero (suc zero) p less few = refl
-in_later zero (suc (suc zero)) p less few = refl
-in_later zero (suc (suc (suc zero))) p less few = refl
-in_later (suc zero) (suc (suc zero)) p less few = refl
-in_later (suc zero) (suc (suc (suc zero))) p less few = refl
-in_later (suc (suc zero)) (suc (suc (suc zero))) p less few = refl
-in_later m n p less few = absurd (omega arith)
-
-pub in_earlier : (m n : ℕ) (p : PadSum) → n < m → m ≤ 3 → sum_in (sums_of m p) n ≡ no_pads
-in_earlier (suc zero) zero p less few = refl
-in_earlier (suc (suc zero)) zero p less few = refl
-in_earlier (suc (suc zero)) (suc zero) p less few = refl
-in_earlier (suc (suc (suc zero))) zero p less few = refl
-in_earlier (suc (suc (suc zero))) (suc zero) p less few = refl
-in_earlier (suc (suc (suc zero))) (suc (suc zero)) p less few = refl
-in_earlier m n p less few = absurd (omega arith)
-
-pub same_sums : (a b c d e f g h : PadSum) → a ≡ e → b ≡ f → c ≡ g → d ≡ h
-    → (let s : ScanPads = record { first = a; second = b; third = c; fourth = d } in s)
-    ≡ (record { first = e; second = f; third = g; fourth = h })
-same_sums a b c d e f g h p q r s = rw (p, q, r, s) refl
-
-pub sums_of_more : (a b c : ScanPads)
-    → sums_with a (sums_with b c) ≡ sums_with (sums_with a b) c
-sums_of_more a b c =
-    same_sums _ _ _ _ _ _ _ _ (sym (sums_more a.first b.first c.first))
-    (sym (sums_more a.second b.second c.second)) (sym (sums_more a.third b.third c.third))
-    (sym (sums_more a.fourth b.fourth c.fourth))
-
 -- ---- segments of several scans, one after another
 
 abbrev result : List ℕ → Option StreamFault → ScanPads → ScansJoined
@@ -163,10 +80,21 @@ with_followed : (scan : ℕ) (bytes : List ℕ) (outcome : Outcome) (a b : Scans
 with_followed scan bytes (Good p) a b = good_followed scan bytes p a a.fault b
 with_followed scan bytes (Bad fault) a b = refl
 
+-- joined segments after no intervals
+none_before : (xs : List Scanned) → sums_with no_sums (scans_joined xs).padded ≡ (scans_joined xs).padded
+none_before [] = refl
+none_before (s ∷ xs) = by s.1.1 where
+  by : (outcome : Outcome)
+      → sums_with no_sums (scanned_with s.0 s.1.0 outcome (scans_joined xs)).padded
+      ≡ (scanned_with s.0 s.1.0 outcome (scans_joined xs)).padded
+  by (Good p) = refl
+  by (Bad fault) = refl
+
 pub joined_on : (xs ys : List Scanned)
     → scans_joined (xs ++ ys)
     ≡ followed (scans_joined xs) (scans_joined xs).fault (scans_joined ys)
-joined_on [] ys = refl
+joined_on [] ys =
+    ap (λ (p : ScanPads). result (scans_joined ys).bytes (scans_joined ys).fault p) (sym (none_before ys))
 joined_on (s ∷ xs) ys =
     ap (scanned_with s.0 s.1.0 s.1.1) (joined_on xs ys)
     ∙ with_followed s.0 s.1.0 s.1.1 (scans_joined xs) (scans_joined ys)

@@ -15,14 +15,13 @@ use Rattle.container_spec.specs.Indexed.{outputs_of}
 use Rattle.container_spec.specs.Meanings.{Meaning, Restored, PadSpelled, Faulty, segment_in}
 use Rattle.container_spec.specs.declared.kind.Kind.TheVariants.{File}
 use Rattle.container_spec.specs.Portions.{ending_by, whole}
-use Rattle.container_spec.proofs.PutParts.{sums_none}
 use Rattle.container_spec.proofs.RestoredMeanings.{IsRestored, pad_told, restored}
 use Rattle.box_format.specs.Containers.{all_parts, segment_count, trailer_of}
 use Rattle.container_spec.specs.ScansMeanings.{fault_after, lead_of, led_output, output_from, scan_of}
-use Rattle.handover.specs.ScanSums.{sums_of, sums_with, sum_in}
+use Rattle.handover.specs.ScanSums.{ScanPads, sums_of, sums_with, sum_in}
+use Rattle.handover.proofs.PadsSummed.{sums_none, in_none, in_own, in_with, in_later, in_earlier}
 use Rattle.container_spec.specs.ScansJoined.{Scanned, ScansJoined, scans_joined, all_spelled, first_header}
-use Rattle.handover.specs.declared.scan_pads.ScanPads.{ScanPads}
-use Rattle.container_spec.proofs.JoinedLists.{mapped_in_two, in_none, in_own, in_with, in_later, in_earlier, followed, joined_on, of_scan, led, one_scan}
+use Rattle.container_spec.proofs.JoinedLists.{mapped_in_two, followed, joined_on, of_scan, led, one_scan}
 
 -- ---- the segments of scans from one on
 
@@ -82,7 +81,7 @@ spelled_without k scan p sums [] less few = refl
 spelled_without k scan p sums (s ∷ scans) less few =
     let below : k ≤ 3 = omega arith in
     ap₂ (λ (q : PadSum) (t : Bool). is_spelled s.parts.pads q && t)
-    (in_with k (sums_of scan p) sums
+    (in_with k (sums_of scan p) sums below
     ∙ ap (λ (q : PadSum). pads_with q (sum_in sums k)) (in_later scan k p less below))
     (spelled_without (k + 1) scan p sums scans (omega arith) (omega arith))
 
@@ -91,9 +90,10 @@ spelled_next : (scan : ℕ) (p : PadSum) (sums : ScanPads) (s : BoxSeen) (scans 
     → all_spelled scan (s ∷ scans) (sums_with (sums_of scan p) sums)
     ≡ is_spelled s.parts.pads p && all_spelled (scan + 1) scans sums
 spelled_next scan p sums s scans few none =
+    let below : scan ≤ 3 = omega arith in
     ap₂ (λ (q : PadSum) (t : Bool). is_spelled s.parts.pads q && t)
-    (in_with scan (sums_of scan p) sums
-    ∙ ap₂ pads_with (in_own scan p) none ∙ sums_none p)
+    (in_with scan (sums_of scan p) sums below
+    ∙ ap₂ pads_with (in_own scan p below) none ∙ sums_none p)
     (spelled_without (scan + 1) scan p sums scans (omega arith) (omega arith))
 
 followed_before : (k scan first : ℕ) (lead : List ℕ) (j : Joined) (f : Option StreamFault)
@@ -102,7 +102,7 @@ followed_before : (k scan first : ℕ) (lead : List ℕ) (j : Joined) (f : Optio
 followed_before k scan first lead j (Some fault) y less few none =
     in_earlier scan k j.padded less few
 followed_before k scan first lead j None y less few none =
-    in_with k (sums_of scan j.padded) y.padded
+    in_with k (sums_of scan j.padded) y.padded (omega arith)
     ∙ ap₂ pads_with (in_earlier scan k j.padded less few) none
 
 -- each scan has a segment

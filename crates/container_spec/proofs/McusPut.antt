@@ -7,6 +7,7 @@ use Rattle.scan_spec.specs.Scans.{Mcu, IsMcu}
 use Rattle.scan_spec.specs.Spots.{Spot, mcu_put, mcus_put, spot_in}
 use Rattle.handover.specs.PadSums.{pads_with}
 use Rattle.handover.specs.declared.pads.PadSum.{PadSum}
+use Rattle.handover.proofs.PadsSummed.{sums_more, sums_none}
 use Rattle.block_spec.specs.BlockReading.{and_then, blocks_read}
 use Rattle.block_spec.specs.ReadingLaws.{HaveGiven}
 use Rattle.block_spec.proofs.BlocksRead.{given_blocks_are_read}
@@ -14,7 +15,7 @@ use Rattle.block_spec.proofs.FirstGiven.{given_first}
 use Rattle.container_spec.specs.ScanStream.{blocks_of}
 use Rattle.container_spec.specs.Segments.{SegmentFields, Progress, Output, progress_after, with_prefix, after_step, ending, fault_cause, stop_cause, mcu_step, mcus_output}
 use Rattle.container_spec.specs.SegmentLaws.{mcus_sum, progress_through, McusArePut}
-use Rattle.container_spec.proofs.PutParts.{bytes_in, put_parts, sums_more, sums_none}
+use Rattle.container_spec.proofs.PutParts.{bytes_in, put_parts}
 
 -- bytes before an output, and more before these
 pub prefix_twice : (a b : List ℕ) (output : Output)

@@ -1,13 +1,12 @@
 -- MCUs that were put in parts.
-use Rattle.std.proofs.Common.{◌≡◌, ℕ, Bool, true, false, List, [], ◌∷◌, ◌++◌, Ok, Err, refl, sym, ap, ◌∙◌}
-use Rattle.std.specs.Prelude.{◌||◌}
+use Rattle.std.proofs.Common.{◌≡◌, ℕ, List, [], ◌∷◌, ◌++◌, Ok, Err, refl, sym, ap, ◌∙◌}
 use Rattle.scan_spec.specs.Blocks.{blocks_text}
 use Rattle.scan_spec.specs.Pads.{PadBits, bit_for, text_sum}
 use Rattle.scan_spec.specs.Scans.{Mcu}
 use Rattle.scan_spec.specs.Slots.{Shape}
 use Rattle.scan_spec.specs.Spots.{Spot, Put, prefixed_put, then_put, mcu_put, mcus_put, spot_in}
-use Rattle.handover.specs.PadSums.{no_pads, pads_with}
-use Rattle.handover.specs.declared.pads.PadSum.{PadSum}
+use Rattle.handover.specs.PadSums.{pads_with}
+use Rattle.handover.proofs.PadsSummed.{sums_more}
 use Rattle.cut_spec.proofs.Slices.{InParts}
 use Rattle.container_spec.specs.SegmentLaws.{mcus_sum}
 
@@ -31,28 +30,6 @@ put_parts (Ok x) f bytes end h = inner (f x.1) refl h where
     then = e ∙ ap (λ (s : Spot). Ok (y.0, s)) (ap spot_in h);
     joined = sym (ap bytes_in h);
   }
-
-pub or_more : (a b c : Bool) → (a || b) || c ≡ a || (b || c)
-or_more true b c = refl
-or_more false b c = refl
-
-pub or_none : (a : Bool) → a || false ≡ a
-or_none true = refl
-or_none false = refl
-
--- what was padded, by its parts
-sum_of : (a b c d e f : Bool) → a ≡ d → b ≡ e → c ≡ f
-    → ◌≡◌ {A = PadSum} (record { zero = a; one = b; vain = c })
-    (record { zero = d; one = e; vain = f })
-sum_of a b c d e f g h k = rw (g, h, k) refl
-
-pub sums_more : (a b c : PadSum) → pads_with (pads_with a b) c ≡ pads_with a (pads_with b c)
-sums_more a b c =
-    sum_of _ _ _ _ _ _ (or_more a.zero b.zero c.zero) (or_more a.one b.one c.one)
-    (or_more a.vain b.vain c.vain)
-
-pub sums_none : (a : PadSum) → pads_with a no_pads ≡ a
-sums_none a = sum_of _ _ _ _ _ _ (or_none a.zero) (or_none a.one) (or_none a.vain)
 
 -- what was padded, in two parts
 pub sums_parts : (xs ys : List Mcu) (shape : Shape) (pads : PadBits) (spot end : Spot)

@@ -1,6 +1,7 @@
 -- Rows: a worked container of two scans, by what it and its segments stand for (own).
 use Rattle.std.specs.Prelude.{ℕ, ◌≡◌, List, [], ◌∷◌, ◌++◌, map}
 use Rattle.scan_spec.specs.Pads.{Listed}
+use Rattle.handover.specs.PadSums.{no_pads}
 use Rattle.handover.specs.declared.outcome.Outcome.TheVariants.{Good, Bad}
 use Rattle.handover.specs.declared.outcome.StreamCause.TheVariants.{StreamBad}
 use Rattle.handover.specs.declared.outcome.StreamFault.{StreamFault}
@@ -10,7 +11,6 @@ use Rattle.container_spec.specs.Meanings.{Restored, PadSpelled, Faulty}
 use Rattle.container_spec.specs.MeaningRows.{ones_padded}
 use Rattle.box_format.specs.ScansRows.{header_one, header_two, plain_parts, plan_one, plan_two, two}
 use Rattle.container_spec.specs.ScansFiles.{share_of}
-use Rattle.handover.specs.ScanSums.{no_sums}
 use Rattle.container_spec.specs.ScansMeanings.{output_at, scan_of}
 use Rattle.container_spec.specs.Portions.{played, scans_meaning, whole}
 
@@ -68,7 +68,7 @@ two_segments =
     × (output_at two 1 ≡ (header_two ++ 0x3f ∷ [], Good ones_padded))
     × (output_at (both first (mute second)) 1 ≡ (header_two, Bad (bad_stream 1)))
     × ((played two (whole two)).bytes ≡ 0x3f ∷ header_two ++ 0x3f ∷ [])
-    × ((played two (whole two)).padded ≡ record no_sums { first = ones_padded; second = ones_padded })
+    × ((played two (whole two)).padded ≡ ones_padded ∷ ones_padded ∷ no_pads ∷ no_pads ∷ [])
 
 -- how many segments scans are given
 abbrev pub shares : Type 0

@@ -1,1 +1,2 @@
 pub mod FieldBytes
+pub mod PadsSummed

@@ -1,32 +1,25 @@
 -- Statement: what restart intervals were padded with, scan by scan (docs/FORMAT.md, Pad bits).
-use Rattle.std.specs.Prelude.{ℕ, ◌==◌, if◌then◌else◌}
+use Rattle.std.specs.Prelude.{ℕ, List, map, replicate, get_or, set}
+use Rattle.std.specs.List.{range_with_len}
 use Rattle.handover.specs.PadSums.{no_pads, pads_with}
 use Rattle.handover.specs.declared.pads.PadSum.{PadSum}
-use Rattle.handover.specs.declared.scan_pads.ScanPads.{ScanPads}
+
+-- one for each scan that a file may have
+abbrev pub ScanPads : Type 0
+ScanPads = List PadSum
 
 -- no interval of any of four scans
 abbrev pub no_sums : ScanPads
-no_sums = record { first = no_pads; second = no_pads; third = no_pads; fourth = no_pads }
-
--- these intervals of one scan
-abbrev pub sums_of : ℕ → PadSum → ScanPads
-sums_of scan padded =
-    if scan == 0 then record no_sums { first = padded }
-    else if scan == 1 then record no_sums { second = padded }
-    else if scan == 2 then record no_sums { third = padded }
-    else record no_sums { fourth = padded }
-
--- some intervals and others, scan by scan
-abbrev pub sums_with : ScanPads → ScanPads → ScanPads
-sums_with a b = record {
-  first = pads_with a.first b.first;
-  second = pads_with a.second b.second;
-  third = pads_with a.third b.third;
-  fourth = pads_with a.fourth b.fourth;
-}
+no_sums = replicate 4 no_pads
 
 -- those of one scan
 abbrev pub sum_in : ScanPads → ℕ → PadSum
-sum_in sums scan =
-    if scan == 0 then sums.first else if scan == 1 then sums.second
-    else if scan == 2 then sums.third else sums.fourth
+sum_in sums scan = get_or sums scan no_pads
+
+-- these intervals of one scan
+abbrev pub sums_of : ℕ → PadSum → ScanPads
+sums_of scan padded = set no_sums scan padded
+
+-- some intervals and others, scan by scan
+abbrev pub sums_with : ScanPads → ScanPads → ScanPads
+sums_with a b = map (λ scan. pads_with (sum_in a scan) (sum_in b scan)) (range_with_len 0 4)

@@ -19,4 +19,4 @@ pub use handover::Handover;
 pub use laws::handovers_have_one_spelling;
 pub use outcome::{Outcome, StreamCause, StreamFault};
 pub use pads::PadSum;
-pub use scan_pads::ScanPads;
+pub use scan_pads::{ScanPads, add_sum, no_sums, sum_in};

@@ -4,9 +4,8 @@ use Rattle.std.specs.Prelude.{slice_get}
 use Rattle.std.proofs.lemmas.Option.{slice_get_within, get_or_from_slice_get}
 use Rattle.scan_spec.specs.Pads.{is_spelled}
 use Rattle.box_format.specs.Parts.{BoxSeen}
-use Rattle.handover.specs.ScanSums.{sum_in}
+use Rattle.handover.specs.ScanSums.{ScanPads, sum_in}
 use Rattle.container_spec.specs.ScansJoined.{all_spelled}
-use Rattle.handover.specs.declared.scan_pads.ScanPads.{ScanPads}
 
 -- those from one scan on, by that one's
 pub spelled_next : (scans : List BoxSeen) (j : ℕ) (s : BoxSeen) (sums : ScanPads) (told : Bool)

@@ -2,15 +2,14 @@
 use Rattle.std.specs.Prelude.{ℕ, ◌+◌, ◌*◌, ◌≡◌, ◌≤◌, nat_lt, Bool, true, false, List, length, Option, Some, None}
 use Rattle.byte_window.specs.declared.window.Window.{Window}
 use Rattle.byte_window.specs.Windows.{window}
+use Rattle.handover.specs.ScanSums.{ScanPads}
 use Rattle.box_format.specs.Parts.{BoxSeen, rows_most}
 use Rattle.box_format.specs.Versions.{most_segments}
 use Rattle.box_format.specs.Containers.{segment_count}
-use Rattle.container_spec.specs.Meanings.{Meaning}
 use Rattle.container_spec.specs.declared.kind.Kind.{Kind}
 use Rattle.container_spec.specs.declared.kind.Kind.TheVariants.{File, Chunk, Range}
-use Rattle.container_spec.specs.Portions.{Portion, played, portion_meaning}
+use Rattle.container_spec.specs.Portions.{Portion, played}
 use Rattle.container_spec.specs.ScansJoined.{all_spelled, first_header}
-use Rattle.handover.specs.declared.scan_pads.ScanPads.{ScanPads}
 use Rattle.segment_worker.specs.Contents.{Stretch, segment_room, stretch}
 use Rattle.segment_worker.specs.declared.emitted.Emitted.{Emitted}
 

@@ -16,7 +16,7 @@ use crate::portion::Portion;
 use box_format::FileView;
 use byte_window::Window;
 use container_spec::Kind;
-use handover::ScanPads;
+use handover::{ScanPads, sum_in};
 use outside_core::{Sink, WriteFault, write_all};
 use segment_worker::{EmitStop, Emitted};
 
@@ -144,7 +144,7 @@ fn are_all_spelled(view: &FileView, pads: &ScanPads) -> bool
     let scans = view.scans();
     for scan in 0..scans {
         let part = view.scan(scan);
-        if !part.pad().is_spelled(&pads.scan(scan)) {
+        if !part.pad().is_spelled(&sum_in(pads, scan)) {
             return false;
         }
     }

@@ -8,7 +8,7 @@
 //!
 //!     run     the portion of all, or the chunk's, of the container that is ready --play--> sink
 //!
-//! `prepare` takes the memory; `run` is given no allocator, so that nothing is lost for want of it once bytes are
+//! `prepare` takes the memory; `run` is given no allocator, so memory can't run out once bytes are
 //! written. `prepare_alone`, `run_alone` and `play_alone` do the same on the calling thread, with no board: nothing in
 //! them waits, so they are proved to return. Ranges are portions too, and are made in `range_read`. What a container
 //! stands for is `container_spec`'s; what a crew does is `segment_crew`'s.

@@ -14,7 +14,7 @@ use allocation::NoMemory;
 use bit_list::Piece;
 use box_format::FileView;
 use container_spec::Kind;
-use handover::ScanPads;
+use handover::no_sums;
 use outside_core::{Gate, Sink};
 use segment_code::FileDecoder;
 use segment_crew::Crew;
@@ -141,7 +141,7 @@ pub fn play_bare<K: Sink>(
     let emitted = Emitted {
         bytes: 0,
         came: 0,
-        pads: ScanPads::none(),
+        pads: no_sums(),
     };
     finish(view, kind, portion, emitted, sink)
 }

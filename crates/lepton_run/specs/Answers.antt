@@ -1,6 +1,6 @@
 -- Statement: the one answer to a command and the bytes that it reads: the bytes that it writes and its line
 -- (README.md, Use).
-use Rattle.std.specs.Prelude.{ℕ, ◌≡◌, ◌⊎◌, ◌+◌, ◌*◌, ◌<◌, ◌≤◌, Bool, true, false, if◌then◌else◌, List, [], ◌∷◌, length, take, Option, Some, None}
+use Rattle.std.specs.Prelude.{ℕ, ◌≡◌, ◌⊎◌, ◌+◌, ◌*◌, ◌<◌, ◌≤◌, Bool, true, false, if◌then◌else◌, List, [], length, take, Option, Some, None}
 use Rattle.std.specs.List.{AllByRecursion}
 use Rattle.std.specs.Io.KnownBytes.{Appends, Consumes, IsAtEnd}
 use Rattle.bit_list.specs.Bits.{IsByte}
@@ -16,7 +16,7 @@ use Rattle.container_spec.specs.Indexed.{indexed}
 use Rattle.container_spec.specs.Limits.{most_of_a_container, most_of_a_file}
 use Rattle.container_spec.specs.Meanings.{Meaning, Verdict, Restored, PadSpelled, ChunkShort as ShortChunk, Faulty, NoBox}
 use Rattle.container_spec.specs.ScansFiles.{FileIsRefused, HasSeveralScans, IsContainerOfFile, Header as FileHeader, Scan as FileScan}
-use Rattle.container_spec.specs.Portions.{StandsFor, scans_meaning}
+use Rattle.container_spec.specs.Portions.{StandsFor, meaning_of}
 use Rattle.container_spec.specs.Chunks.{IsChunkOf, IsOneScanFile}
 use Rattle.container_spec.specs.RangeMeanings.{is_bad_range, range_meaning}
 use Rattle.command_words.specs.declared.command.Command.{Command}
@@ -130,7 +130,7 @@ early other = other
 abbrev pub IndexMakes : List ℕ → Answer → Type 0
 IndexMakes =
     BoxMakes indexable (λ plan b. early (answer_by (box_bytes (indexed plan b))
-    (scans_meaning (record { plan = plan; parts = b } ∷ [])).verdict))
+    (meaning_of plan b).verdict))
 
 -- the answer that a range is, by its bytes and by the fault that ends them
 abbrev pub range_answer : List ℕ → Option StreamFault → Answer

@@ -8,6 +8,7 @@ use Rattle.handover.specs.declared.outcome.Outcome.{Outcome}
 use Rattle.handover.specs.declared.outcome.Outcome.TheVariants.{Good, Bad}
 use Rattle.handover.specs.declared.outcome.StreamFault.{StreamFault}
 use Rattle.handover.specs.declared.pads.PadSum.{PadSum}
+use Rattle.handover.proofs.PadsSummed.{sums_more, sums_none}
 use Rattle.box_format.specs.Parts.{BoxParts, BoxSeen}
 use Rattle.box_format.specs.Versions.{most_segments}
 use Rattle.box_format.proofs.ScansFaults.{and_true}
@@ -19,7 +20,6 @@ use Rattle.container_spec.specs.declared.kind.Kind.TheVariants.{File}
 use Rattle.container_spec.specs.Portions.{ending_by, meaning_of, whole}
 use Rattle.container_spec.specs.Indexed.{places_after, places_found, outputs_of}
 use Rattle.container_spec.proofs.PlacesFound.{found_long}
-use Rattle.container_spec.proofs.PutParts.{sums_more, sums_none}
 use Rattle.segment_worker.specs.Contents.{segment_room}
 use Rattle.range_read.specs.Measures.{After, AreMeasures, IsCounted}
 use Rattle.range_read.specs.declared.measure.Measure.{Measure}

@@ -166,6 +166,7 @@ impl<'a> FileDecoder<'a> {
 pub fn segment_at(view: &FileView, segment: u8) -> (u8, u8)
     requires { segment < segment_count view.now }
     ensures scan { result.0 ≡ scan_of 0 view.now segment }
+    ensures few { result.0 < 4 }
     ensures within { result.1 ≤ segment }
     ensures segment { (s : BoxSeen) × (slice_get view.now result.0 ≡ Some s)
         × (segment - result.1 < length s.parts.handovers)

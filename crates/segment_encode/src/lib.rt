@@ -6,7 +6,7 @@
 //! A *lane* is segments in order that one thread codes, one after another, with the memory for all of them. There are
 //! at most 16 lanes, so at most 16 segments are coded at the same time. A lane's memory is allocated on the calling
 //! thread before the lane's thread starts; the thread asks for more only if a stream is longer than its list has room
-//! for. What a segment's stream is `segment_code` says.
+//! for. `container_spec` says what a segment's stream is.
 //!
 //! `encode_scan_alone` and `encode_all_alone` give the same on the calling thread: they are given no `Threads`.
 #![tactic(auto)]

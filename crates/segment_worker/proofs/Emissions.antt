@@ -16,15 +16,16 @@ use Rattle.handover.specs.declared.outcome.StreamFault.{StreamFault}
 use Rattle.board_core.specs.BoardInvariants.{bytes_at}
 use Rattle.box_format.specs.Parts.{BoxSeen}
 use Rattle.container_spec.specs.ScansMeanings.{output_at, scan_of}
-use Rattle.handover.specs.ScanSums.{no_sums, sums_of, sums_with}
+use Rattle.handover.specs.ScanSums.{ScanPads, no_sums, sums_of, sums_with}
+use Rattle.handover.proofs.PadsSummed.{sums_with_none}
 use Rattle.container_spec.specs.ScansJoined.{ScansJoined, scanned_from, scanned_with, scans_joined}
-use Rattle.handover.specs.declared.scan_pads.ScanPads.{ScanPads}
 use Rattle.segment_code.specs.FileDecoding.{FileDecoderSeen}
 use Rattle.output_board.specs.declared.view.EmitterView.{EmitterView}
 use Rattle.output_board.specs.declared.answers.Take.{Take}
 use Rattle.output_board.specs.declared.answers.Take.TheVariants.{Bytes, Ended}
 use Rattle.output_board.specs.Seats.{SeatValue, HasHeldOnce}
 use Rattle.output_board.specs.Answers.{TakeGives}
+use Rattle.container_spec.proofs.JoinedLists.{joined_on}
 use Rattle.segment_worker.specs.declared.emitted.EmitStop.TheVariants.{Fault}
 use Rattle.segment_worker.specs.Contents.{Stretch, segments_bytes, segments_outcomes, segment_room, AreShort}
 use Rattle.outside_core.specs.Written.{HasWritten, HasFailed}
@@ -33,7 +34,7 @@ use Rattle.segment_worker.specs.Emitting.{joined_in, seen_through, IsNewEmitter,
 use Rattle.segment_worker.specs.OwnSegments.{own_rest, OwnEnds}
 use Rattle.segment_worker.proofs.Tails.{past_end, front}
 use Rattle.segment_worker.proofs.ContentsTold.{output_in, output_of, bytes_of, bytes_long, outcome_of, outcome_within}
-use Rattle.segment_worker.proofs.SegmentsJoined.{scan_at, sums_with_none, good_next, bad_next, bytes_next}
+use Rattle.segment_worker.proofs.SegmentsJoined.{scan_at, good_next, bad_next, bytes_next}
 use Rattle.segment_worker.proofs.Writing.{written_nothing, written_on, failed_in, failed_on, next_on, next_in}
 
 some_same : {A : Type 0} (a b : A) → ◌≡◌ {A = Option A} (Some a) (Some b) → a ≡ b
@@ -113,7 +114,9 @@ module _ {Sink : Type 0} (held : Sink → Option (List ℕ))
     all =
         let e : v.count ≡ v.count - 0 = omega arith in
         let f : v.first ≡ v.first + 0 = omega arith in
-        ap₂ (λ (m n : ℕ). scans_joined (scanned_from v.container m n)) f e;
+        ap₂ (λ (m n : ℕ). scans_joined (scanned_from v.container m n)) f e
+        ∙ joined_on [] (scanned_from v.container (v.first + 0) (v.count - 0));
+    four = refl;
     has = written_nothing held takes faults full w sink;
     count = refl;
     within = omega arith;
@@ -132,6 +135,7 @@ module _ {Sink : Type 0} (held : Sink → Option (List ℕ))
       let s = bytes_at (segments_bytes v) cur in record {
         bytes = is.bytes;
         all = is.all;
+        four = is.four;
         has = subst (λ (l : List ℕ). HasWritten held takes faults old new (window w l))
             (append_assoc is.bytes (take taken s) (take n (drop taken s))
             ∙ ap (λ (l : List ℕ). is.bytes ++ l) (sym (take-add taken n s)))
@@ -161,6 +165,7 @@ module _ {Sink : Type 0} (held : Sink → Option (List ℕ))
         all = good_next v cur is.bytes padded more under is.all end
             ∙ ap (λ (l : List ℕ). joined_onto (is.bytes ++ l) (sums_with padded (sums_of (scan_at v cur) more))
             (joined_from v (cur + 1))) (sym same);
+        four = refl;
         has = subst (λ (l : List ℕ). HasWritten held takes faults old new (window w l))
             (ap (λ (l : List ℕ). is.bytes ++ l) all ∙ sym (append-nil (is.bytes ++ s))) is.has;
         count =
@@ -240,7 +245,7 @@ module _ {Sink : Type 0} (held : Sink → Option (List ℕ))
       let empty = ap length none in (
         ap (λ (j : ScansJoined). j.fault) last,
         ap (through w) (all_came cur taken old new came padded is over) ∙ sym (is_counted w (joined_in v).bytes).0,
-        sym (ap (λ (j : ScansJoined). j.padded) last ∙ sums_with_none padded),
+        sym (ap (λ (j : ScansJoined). j.padded) last ∙ sums_with_none padded is.four),
         subst (λ (l : List ℕ). HasWritten held takes faults old new (window w l))
             (ap (λ (l : List ℕ). is.bytes ++ l)
             (ap (take taken) none ∙ take_all taken [] (omega (arith, within, empty)))

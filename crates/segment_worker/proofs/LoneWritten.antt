@@ -8,17 +8,18 @@ use Rattle.handover.specs.declared.pads.PadSum.{PadSum}
 use Rattle.handover.specs.declared.outcome.Outcome.TheVariants.{Good, Bad}
 use Rattle.handover.specs.declared.outcome.StreamFault.{StreamFault}
 use Rattle.box_format.specs.Containers.{all_plans}
-use Rattle.handover.specs.ScanSums.{no_sums, sums_of, sums_with}
+use Rattle.handover.specs.ScanSums.{ScanPads, no_sums, sums_of, sums_with}
+use Rattle.handover.proofs.PadsSummed.{sums_with_none}
 use Rattle.container_spec.specs.ScansJoined.{ScansJoined, scanned_from, scans_joined}
-use Rattle.handover.specs.declared.scan_pads.ScanPads.{ScanPads}
 use Rattle.segment_code.specs.FileDecoding.{FileDecoderSeen}
+use Rattle.container_spec.proofs.JoinedLists.{joined_on}
 use Rattle.segment_worker.specs.Joining.{joined_from, joined_onto}
 use Rattle.segment_worker.specs.Contents.{Stretch}
 use Rattle.segment_worker.specs.Emitting.{Emits, joined_in, seen_through}
 use Rattle.segment_worker.specs.LoneSegments.{SegmentsWritten, pieces_room}
 use Rattle.outside_core.specs.Written.{HasWritten, HasFailed}
 use Rattle.segment_worker.proofs.ContentsTold.{output_of}
-use Rattle.segment_worker.proofs.SegmentsJoined.{scan_at, sums_with_none, good_next, bad_next, bytes_next}
+use Rattle.segment_worker.proofs.SegmentsJoined.{scan_at, good_next, bad_next, bytes_next}
 use Rattle.segment_worker.proofs.Writing.{written_nothing, written_on, failed_on, next_on}
 
 module _ {Sink : Type 0} (held : Sink → Option (List ℕ))
@@ -32,7 +33,9 @@ module _ {Sink : Type 0} (held : Sink → Option (List ℕ))
     all =
         let e : v.count ≡ v.count - 0 = omega arith in
         let f : v.first ≡ v.first + 0 = omega arith in
-        ap₂ (λ (m n : ℕ). scans_joined (scanned_from v.container m n)) f e;
+        ap₂ (λ (m n : ℕ). scans_joined (scanned_from v.container m n)) f e
+        ∙ joined_on [] (scanned_from v.container (v.first + 0) (v.count - 0));
+    four = refl;
     has = written_nothing held takes faults full w sink;
     count = refl;
     few = omega arith;
@@ -64,6 +67,7 @@ module _ {Sink : Type 0} (held : Sink → Option (List ℕ))
         bytes = s.bytes ++ (output_of v i).0;
         all = good_next v i s.bytes padded more under s.all good
             ∙ ap (λ (p : ScanPads). joined_onto (s.bytes ++ (output_of v i).0) p (joined_from v (i + 1))) (sym sum);
+        four = ap length sum;
         has = written_on held takes faults full w old mid sink s.bytes (output_of v i).0 came s.count s.has has;
         count = ap₂ (λ (m n : ℕ). m + n) s.count e ∙ sym (length-append s.bytes (output_of v i).0);
         few = let f = s.few in omega (arith, f, room);
@@ -112,6 +116,6 @@ module _ {Sink : Type 0} (held : Sink → Option (List ℕ))
       let all : came ≡ length (joined_in v).bytes = s.count ∙ ap length (sym bytes) in (
         ap (λ (j : ScansJoined). j.fault) last,
         ap (through w) all ∙ sym (is_counted w (joined_in v).bytes).0,
-        sym (ap (λ (j : ScansJoined). j.padded) last ∙ sums_with_none padded),
+        sym (ap (λ (j : ScansJoined). j.padded) last ∙ sums_with_none padded s.four),
         subst (λ (l : List ℕ). HasWritten held takes faults old sink (window w l)) (sym bytes) s.has,
       )

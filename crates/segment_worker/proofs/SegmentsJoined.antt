@@ -4,12 +4,10 @@ use Rattle.handover.specs.declared.pads.PadSum.{PadSum}
 use Rattle.handover.specs.declared.outcome.Outcome.{Outcome}
 use Rattle.handover.specs.declared.outcome.Outcome.TheVariants.{Good, Bad}
 use Rattle.handover.specs.declared.outcome.StreamFault.{StreamFault}
-use Rattle.container_spec.proofs.PutParts.{sums_none}
 use Rattle.container_spec.specs.ScansMeanings.{scan_of}
-use Rattle.handover.specs.ScanSums.{no_sums, sums_of, sums_with}
+use Rattle.handover.specs.ScanSums.{ScanPads, no_sums, sums_of, sums_with}
+use Rattle.handover.proofs.PadsSummed.{sums_of_more}
 use Rattle.container_spec.specs.ScansJoined.{ScansJoined, scanned_from, scanned_with, scans_joined}
-use Rattle.handover.specs.declared.scan_pads.ScanPads.{ScanPads}
-use Rattle.container_spec.proofs.JoinedLists.{same_sums, sums_of_more}
 use Rattle.segment_worker.specs.Contents.{Stretch}
 use Rattle.segment_worker.specs.Emitting.{joined_in}
 use Rattle.segment_worker.specs.Joining.{joined_from, joined_onto}
@@ -18,12 +16,6 @@ use Rattle.segment_worker.proofs.ContentsTold.{output_of}
 -- the number of the scan that has the stretch's segment with an index
 abbrev pub scan_at : Stretch → ℕ → ℕ
 scan_at v i = scan_of 0 v.container (v.first + i)
-
--- no intervals after others
-pub sums_with_none : (a : ScanPads) → sums_with a no_sums ≡ a
-sums_with_none a =
-    same_sums _ _ _ _ _ _ _ _ (sums_none a.first) (sums_none a.second) (sums_none a.third)
-    (sums_none a.fourth)
 
 -- the segment with an index comes before those after it
 from_next : (v : Stretch) (i : ℕ) → i < v.count

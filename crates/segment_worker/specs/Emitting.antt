@@ -4,9 +4,9 @@ use Rattle.byte_window.specs.declared.window.Window.{Window}
 use Rattle.byte_window.specs.Windows.{window}
 use Rattle.atomic_table.specs.Seated.{TableId}
 use Rattle.board_core.specs.BoardInvariants.{bytes_at}
+use Rattle.handover.specs.ScanSums.{ScanPads}
 use Rattle.box_format.specs.Containers.{all_plans}
 use Rattle.container_spec.specs.ScansJoined.{ScansJoined, scanned_from, scans_joined}
-use Rattle.handover.specs.declared.scan_pads.ScanPads.{ScanPads}
 use Rattle.segment_code.specs.FileDecoding.{FileDecoderSeen}
 use Rattle.output_board.specs.declared.view.EmitterView.{EmitterView}
 use Rattle.output_board.specs.Seats.{SeatValue}
@@ -75,6 +75,7 @@ pub record IsWrittenTo {Sink : Type 0} (held : Sink → Option (List ℕ))
     (cur taken : ℕ) (old new : Sink) (came : ℕ) (padded : ScanPads) : Type 0 where
   pub bytes : List ℕ
   pub all : joined_in v ≡ joined_onto bytes padded (joined_from v cur)
+  pub four : length padded ≡ 4
   pub has : HasWritten held takes faults old new
       (window w (bytes ++ take taken (bytes_at (segments_bytes v) cur)))
   pub count : came ≡ length bytes + taken

@@ -1,8 +1,7 @@
 -- Steps: the segments of a stretch joined, from one of them on (own).
 use Rattle.std.specs.Prelude.{ℕ, ◌+◌, ◌-◌, List, ◌++◌}
-use Rattle.handover.specs.ScanSums.{sums_with}
+use Rattle.handover.specs.ScanSums.{ScanPads, sums_with}
 use Rattle.container_spec.specs.ScansJoined.{ScansJoined, scanned_from, scans_joined}
-use Rattle.handover.specs.declared.scan_pads.ScanPads.{ScanPads}
 use Rattle.segment_worker.specs.Contents.{Stretch}
 
 -- its segments from the one with an index on, one after another

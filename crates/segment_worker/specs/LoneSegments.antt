@@ -6,8 +6,8 @@ use Rattle.byte_window.specs.declared.window.Window.{Window}
 use Rattle.byte_window.specs.Windows.{window}
 use Rattle.bit_list.specs.Pieces.{piece_room}
 use Rattle.handover.specs.declared.outcome.Outcome.{Outcome}
+use Rattle.handover.specs.ScanSums.{ScanPads}
 use Rattle.box_format.specs.Containers.{all_plans}
-use Rattle.handover.specs.declared.scan_pads.ScanPads.{ScanPads}
 use Rattle.segment_code.specs.FileDecoding.{FileDecoderSeen, FileOwes, steps_left}
 use Rattle.segment_worker.specs.Contents.{Stretch}
 use Rattle.segment_worker.specs.Emitting.{joined_in}
@@ -66,6 +66,7 @@ pub record SegmentsWritten {Sink : Type 0} (held : Sink → Option (List ℕ))
     (came : ℕ) (padded : ScanPads) : Type 0 where
   pub bytes : List ℕ
   pub all : joined_in v ≡ joined_onto bytes padded (joined_from v i)
+  pub four : length padded ≡ 4
   pub has : HasWritten held takes faults old new (window w bytes)
   pub count : came ≡ length bytes
   pub few : came ≤ pieces_room * i

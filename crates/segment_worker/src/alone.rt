@@ -16,7 +16,7 @@ use crate::lengths::segments_are_short;
 use bit_list::Piece;
 use box_format::FileView;
 use byte_window::Window;
-use handover::{Outcome, ScanPads};
+use handover::{Outcome, add_sum, no_sums};
 use outside_core::{Gate, Sink};
 use segment_code::{FileDecoder, Step, segment_at};
 
@@ -57,7 +57,7 @@ pub fn emit_alone<'a, K: Sink, G: Gate>(
 {
     segments_are_short(view);
     let mut came = 0;
-    let mut pads = ScanPads::none();
+    let mut pads = no_sums();
     for segment in 0..count {
         let number = first + segment;
         gate.before_own(number);
@@ -67,7 +67,7 @@ pub fn emit_alone<'a, K: Sink, G: Gate>(
             Ok((passed, Outcome::Good { pads: more })) => {
                 came += passed;
                 let (scan, _) = segment_at(view, number);
-                pads = pads.with(scan, &more);
+                add_sum(&mut pads, scan, &more);
             }
             Ok((_, Outcome::Bad(fault))) => return Err(EmitStop::Fault(fault)),
             Err(more) => {

@@ -15,7 +15,7 @@ use crate::shared::Shared;
 use bit_list::Piece;
 use box_format::FileView;
 use byte_window::Window;
-use handover::{Outcome, ScanPads};
+use handover::{Outcome, add_sum, no_sums};
 use output_board::{Board, EmitterSeat, Take};
 use outside_core::{Gate, Sink};
 use segment_code::{FileDecoder, segment_at};
@@ -70,7 +70,7 @@ pub fn emit<'a, R: Wait, K: Sink, G: Gate>(
     };
     let mut buffer = [0; MOST_TAKEN];
     let mut came = 0;
-    let mut pads = ScanPads::none();
+    let mut pads = no_sums();
     let mut current = 0;
     for _ in rt.forever() {
         match board.take(rt, seat, &mut buffer) {
@@ -85,7 +85,7 @@ pub fn emit<'a, R: Wait, K: Sink, G: Gate>(
             }
             Take::Ended(Outcome::Good { pads: more }) => {
                 let (scan, _) = segment_at(view, first + current);
-                pads = pads.with(scan, &more);
+                add_sum(&mut pads, scan, &more);
                 current += 1;
             }
             Take::Ended(Outcome::Bad(fault)) => {

@@ -6,14 +6,14 @@ use Rattle.lepton_decode.proofs.around.are_all_spelled.Goals as goal
 
 pub returns-then-not-is_spelled : goal.returns-then-not-is_spelled
 returns-then-not-is_spelled c =
-    let told = ap₂ (λ (p : PadBits) (s : PadSum). is_spelled p s) (sym c.pad.ensures.value) (sym c.scan.ensures)
+    let told = ap₂ (λ (p : PadBits) (s : PadSum). is_spelled p s) (sym c.pad.ensures.value) (sym c.sum_in.ensures)
     ∙ sym c.is_spelled.ensures ∙ c.if-not-is_spelled.true in
     sym (spelled_next c.args.view.now c.loop-scan.scan c.scan-part.result c.args.pads.now false c.scan-part.ensures told)
     ∙ c.loop-scan.invariant
 
 pub loop-scan-preserved : goal.loop-scan-preserved
 loop-scan-preserved c =
-    let told = ap₂ (λ (p : PadBits) (s : PadSum). is_spelled p s) (sym c.pad.ensures.value) (sym c.scan.ensures)
+    let told = ap₂ (λ (p : PadBits) (s : PadSum). is_spelled p s) (sym c.pad.ensures.value) (sym c.sum_in.ensures)
     ∙ sym c.is_spelled.ensures ∙ c.if-not-is_spelled.false in
     sym (spelled_next c.args.view.now c.loop-scan.scan c.scan-part.result c.args.pads.now true c.scan-part.ensures told)
     ∙ c.loop-scan.invariant

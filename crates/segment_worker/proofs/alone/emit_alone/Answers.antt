@@ -13,7 +13,7 @@ use Rattle.segment_worker.proofs.alone.emit_alone.Goals as goal
 
 pub loop-segment-init : goal.loop-segment-init
 loop-segment-init g c =
-    rw (c.none-pads.ensures)
+    rw (c.no_sums-pads.ensures)
     (no_segments g.K.Sink.held g.K.Sink.takes g.K.Sink.faults g.K.Sink.full c.args.window (stretch c.args.view.now c.args.first c.args.count) c.args.decoder.now
     c.args.sink.now c.requires.plans c.requires.fresh)
 
@@ -60,7 +60,7 @@ loop-segment-preserved g c =
     ended.0 (sym c.in-Ok-default-Good.field-0-1-is ∙ ended.1) has c.in-Ok-default-Good.ensures.few
     (c.in-Ok-default-Good.ensures.plans ∙ c.begin.ensures.plans)
     (c.in-Ok-default-Good.ensures.begun ∙ c.begin.ensures.begun)
-    (c.with-pads.ensures
+    (c.add_sum.ensures
     ∙ ap (λ (k : ℕ). sums_with c.loop-segment.pads (sums_of k c.in-Ok-default-Good.more)) c.segment_at-scan.ensures.scan)
 
 pub returns-in-Err-clause-ends : goal.returns-in-Err-clause-ends

@@ -16,7 +16,7 @@ use Rattle.segment_worker.proofs.emitter.emit.Goals as goal
 
 pub loop-init : goal.loop-init
 loop-init g c = record {
-  emitting = rw (c.none-pads.ensures)
+  emitting = rw (c.no_sums-pads.ensures)
       (starts_emitting g.K.Sink.held g.K.Sink.takes g.K.Sink.faults g.K.Sink.full c.args.board.now (stretch c.args.view.now c.args.first c.args.count) c.args.window
       c.args.seat.now c.args.decoder.now c.args.sink.now c.requires.new);
   current = sym c.requires.new.cur;
@@ -71,7 +71,7 @@ loop-preserved-in-Ended-Good g c =
           c.loop.seat c.take.new.seat c.loop.decoder c.args.sink.now c.loop.sink c.loop.came c.loop.pads
           c.in-Ended-Good.more _ _ c.loop.buffer c.take.new.buf c.loop.invariant.emitting c.take.ensures.hold
           c.in-Ended-Good.field-0-is
-          (c.with-pads.ensures
+          (c.add_sum.ensures
           ∙ ap (λ (k : ℕ). sums_with c.loop.pads (sums_of k c.in-Ended-Good.more))
           (c.segment_at-scan.ensures.scan
           ∙ ap (λ (n : ℕ). scan_of 0 c.args.view.now (c.args.first + n)) c.loop.invariant.current))
