@@ -1,5 +1,5 @@
 // From a stream to bits.
-ghost use Rattle.std.specs.Prelude.{◌≡◌, ◌<◌, ◌↔◌, [], ◌∷◌, IfOk, IfSome, IsTrue, length, replicate, List, ℕ, Bool};
+ghost use Rattle.std.specs.Prelude.{◌≡◌, ◌<◌, ◌↔◌, [], IsTrue, length, replicate, List, ℕ, Bool};
 ghost use Rattle.bool_coder.specs.BoolStream.{coded, stream};
 ghost use Rattle.bool_coder.specs.DecoderSeen.{Reads};
 ghost use Rattle.adapt_bins.specs.Counts.{unseen};

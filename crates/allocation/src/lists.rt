@@ -1,5 +1,5 @@
 // Lists and texts of std.
-ghost use Rattle.std.specs.Prelude.{◌≡◌, ◌+◌, ◌-◌, ◌*◌, ◌<◌, ◌≤◌, ℕ, [], ◌∷◌, ◌++◌, length, take, replicate, insert as inserted, is_ok, if◌then◌else◌, vec_len, vec_capacity, IfOk, IsOk, OnErr, string_bytes};
+ghost use Rattle.std.specs.Prelude.{◌≡◌, ◌+◌, ◌-◌, ◌*◌, ◌<◌, ◌≤◌, [], ◌∷◌, ◌++◌, length, take, replicate, insert as inserted, is_ok, if◌then◌else◌, vec_len, vec_capacity, IfOk, IsOk, OnErr, string_bytes};
 ghost use Rattle.std.specs.Mem.{type_size};
 ghost use Rattle.std.specs.Str.Lossy.{utf8_lossy};
 ghost use Rattle.allocation.specs.Bounds.{most_at_once};

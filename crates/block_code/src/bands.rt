@@ -1,5 +1,5 @@
 // The inner band and the edges.
-ghost use Rattle.std.specs.Prelude.{◌≡◌, ℕ, Bool, ◌<◌, ◌≤◌, ◌+◌, ◌-◌, ◌++◌, IfOk, OnOk, OnErr, IsTrue, slice_index};
+ghost use Rattle.std.specs.Prelude.{◌≡◌, ◌<◌, ◌≤◌, ◌+◌, ◌-◌, OnOk, OnErr, IsTrue, slice_index};
 ghost use Rattle.coef_block.specs.Block.{IsBlock};
 ghost use Rattle.coef_context.specs.Runs.{edge_values, inner_values, bin_count};
 ghost use Rattle.block_spec.specs.Around.{inner_count, inner_positions, values_in};

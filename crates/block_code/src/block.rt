@@ -1,5 +1,5 @@
 // A block as events in a stream, there and back.
-ghost use Rattle.std.specs.Prelude.{◌≡◌, ℕ, ◌<◌, ◌≤◌, IfOk, OnOk, OnErr, IfSome, IfNone, IsTrue, None, Ok, Err, Result, List, ℤ, length, MatchResult, Bool};
+ghost use Rattle.std.specs.Prelude.{◌≡◌, ℕ, ◌<◌, ◌≤◌, OnOk, OnErr, IfSome, IfNone, None, Ok, Err, Result, length};
 ghost use Rattle.coef_block.specs.Block.{IsBlock, IsDc};
 ghost use Rattle.coef_block.specs.TwoRows.{width, height};
 ghost use Rattle.adapt_bins.specs.PutEvents.{PutsEvents};

@@ -1,5 +1,5 @@
 // Where the blocks of an MCU are.
-ghost use Rattle.std.specs.Prelude.{ℕ, ◌≡◌, ◌<◌, ◌≤◌, ◌*◌, ◌^◌, length, slice_index};
+ghost use Rattle.std.specs.Prelude.{ℕ, ◌≡◌, ◌<◌, ◌≤◌, ◌*◌, ◌^◌, slice_index};
 ghost use Rattle.coef_block.specs.TwoRows.{block_count, width};
 ghost use Rattle.block_spec.specs.Grid.{component_of, cell_in};
 

@@ -1,9 +1,9 @@
 // The blocks around one, and what they say of it.
-ghost use Rattle.std.specs.Prelude.{◌≡◌, ℕ, ◌<◌, ◌≤◌, ◌+◌, ◌*◌, ◌/◌, ◌^◌, unsigned_abs, option_map, IfSome};
+ghost use Rattle.std.specs.Prelude.{◌≡◌, ◌<◌, ◌≤◌, ◌+◌, ◌/◌, ◌^◌, option_map, IfSome};
 ghost use Rattle.coef_block.specs.Block.{IsDc};
 ghost use Rattle.coef_block.specs.Categories.{category};
-ghost use Rattle.coef_context.specs.Runs.{inner_values, spreads, weights};
-ghost use Rattle.block_spec.specs.Around.{magnitude, inner_weight, edge_weight, inner_count, guess, prediction, dc_spread, dc, mean};
+ghost use Rattle.coef_context.specs.Runs.{inner_values, spreads};
+ghost use Rattle.block_spec.specs.Around.{inner_count, guess, prediction, dc_spread, dc};
 ghost use Rattle.block_code.specs.NeighbourBlocks.{around_of, HasCorner};
 
 use crate::coefficients::inner_count;

@@ -1,9 +1,9 @@
 // The parts of a block in the order of their events, put or got by one body.
-ghost use Rattle.std.specs.Prelude.{◌≡◌, ℕ, Bool, ◌<◌, ◌≤◌, ◌+◌, ◌-◌, ◌++◌, IfOk, OnOk, OnErr, IfSome, IfNone, IsTrue, Some, pos, replicate, List};
+ghost use Rattle.std.specs.Prelude.{◌≡◌, ◌<◌, ◌≤◌, ◌-◌, IfOk, OnOk, OnErr, IfSome, IfNone, IsTrue, Some, pos, replicate};
 ghost use Rattle.coef_block.specs.Block.{IsBlock};
 ghost use Rattle.coef_context.specs.Runs.{bin_count, inner_values, spreads};
 ghost use Rattle.block_spec.specs.Around.{Around, column_positions, dc_spread, inner_count, row_positions, values_in};
-ghost use Rattle.block_spec.specs.BlockEvents.{ac_events, inner_count_events, dc_events};
+ghost use Rattle.block_spec.specs.BlockEvents.{inner_count_events, dc_events};
 ghost use Rattle.block_spec.specs.ReadBlocks.{IsBlockCount, residue_events};
 ghost use Rattle.block_spec.specs.Values.{nonzeros};
 ghost use Rattle.block_code.specs.BandPositions.{HaveSameAcs};

@@ -1,5 +1,5 @@
 // A value: its size in steps, its sign, and its bits below the highest.
-ghost use Rattle.std.specs.Prelude.{ℕ, Bool, false, nat_lt, ◌+◌, ◌-◌, ◌/◌, ◌^◌, ◌<◌, ◌≤◌, IfOk, OnOk, None, length, ◌≡◌, OnErr, IfSome, IsTrue, unsigned_abs, int_lt, pos, ◌∷◌, ◌++◌};
+ghost use Rattle.std.specs.Prelude.{false, nat_lt, ◌+◌, ◌-◌, ◌^◌, ◌<◌, ◌≤◌, IfOk, None, ◌≡◌, OnErr, IfSome, IsTrue, unsigned_abs, int_lt, pos};
 ghost use Rattle.std.specs.Option.{option_map};
 ghost use Rattle.coef_context.specs.Runs.{dc_sizes, bin_count};
 ghost use Rattle.block_spec.specs.Values.{category_of, rest_events, value_events};

@@ -1,5 +1,5 @@
 // The values of a band, place after place, while some that are not 0 remain.
-ghost use Rattle.std.specs.Prelude.{◌≡◌, ℕ, List, ◌+◌, ◌-◌, ◌<◌, ◌≤◌, ◌==◌, IfOk, IfSome, OnErr, OnOk, IsTrue, unsigned_abs, pos, length, slice_index, if◌then◌else◌};
+ghost use Rattle.std.specs.Prelude.{◌≡◌, ℕ, List, ◌+◌, ◌-◌, ◌<◌, ◌≤◌, ◌==◌, IfOk, IfSome, OnErr, OnOk, IsTrue, unsigned_abs, slice_index, if◌then◌else◌};
 ghost use Rattle.coef_block.specs.Block.{IsBlock};
 ghost use Rattle.coef_block.specs.Zigzag.{zigzag};
 ghost use Rattle.coef_context.specs.Runs.{inner_values, bin_count};

@@ -1,5 +1,5 @@
 // What holds of the definitions.
-ghost use Rattle.std.specs.Prelude.{suc, ◌*◌, true, false, ◌≡◌, ◌<◌, ◌≤◌, ◌++◌, ◌∷◌, [], ℕ, ℤ, List, Bool, Result, length};
+ghost use Rattle.std.specs.Prelude.{suc, ◌*◌, ◌≡◌, ◌<◌, ◌≤◌, ◌++◌, ◌∷◌, [], ℕ, ℤ, List, Bool, Result, length};
 ghost use Rattle.coef_block.specs.Block.{IsBlock, IsDc};
 ghost use Rattle.coef_block.specs.TwoRows.{TwoRows, AreCleared, block_count, stored};
 ghost use Rattle.std.specs.List.{AllByRecursion};

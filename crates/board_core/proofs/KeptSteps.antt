@@ -1,5 +1,5 @@
 -- Each lawful event keeps what always holds of the board.
-use Rattle.std.proofs.Common.{◌≡◌, ◌≢◌, ℕ, zero, suc, ◌+◌, ◌-◌, ◌<◌, ◌≤◌, Bool, true, false, List, [], ◌∷◌, ◌++◌, length, take, drop, set, sym, ap, ◌∙◌, subst, refl, ⊎_elim, ◌⊎◌, inl, inr, true≢false, Some, None, Option, arith, length-drop, length-append, length-set}
+use Rattle.std.proofs.Common.{◌≡◌, ◌≢◌, ℕ, suc, ◌+◌, ◌-◌, ◌<◌, ◌≤◌, true, false, List, ◌++◌, length, take, drop, set, sym, ap, ◌∙◌, subst, refl, ⊎_elim, ◌⊎◌, inl, inr, true≢false, Some, None, Option, arith, length-drop, length-append, length-set}
 use Rattle.std.specs.Prelude.{slice_get, slice_range}
 use Rattle.std.proofs.lemmas.List.{length-map}
 use mathlib.Core.Logic.{dite}

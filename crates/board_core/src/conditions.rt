@@ -1,5 +1,5 @@
 // Whether an event may happen.
-ghost use Rattle.std.specs.Prelude.{◌≡◌, ℕ, ◌+◌, ◌<◌, ◌↔◌, IsTrue};
+ghost use Rattle.std.specs.Prelude.{ℕ, ◌+◌, ◌<◌, ◌↔◌, IsTrue};
 ghost use Rattle.board_core.specs.declared.actor.Actor.TheVariants.{Worker};
 ghost use Rattle.board_core.specs.BoardStates.{segment_at, Owns, OwnsNothing, IsPresent};
 ghost use Rattle.board_core.specs.BoardSteps.{IsEnabled, count_limit, CountsFit, CanClaim, CanPut, CanPass, CanFinish, CanTake, CanAdvance, CanLeave};

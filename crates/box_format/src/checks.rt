@@ -1,11 +1,11 @@
 // The checks on bytes that may be a container, but for those on the headers.
-ghost use Rattle.std.specs.Prelude.{◌≡◌, ◌+◌, ◌^◌, ◌≤◌, ◌<◌, ◌&&◌, nat_lt, not, true, length, take, drop, slice_index, bytes_eq, IfSome};
+ghost use Rattle.std.specs.Prelude.{◌≡◌, ◌+◌, ◌^◌, ◌≤◌, ◌<◌, ◌&&◌, nat_lt, not, true, length, take, slice_index, bytes_eq, IfSome};
 ghost use Rattle.std.specs.Bool.{then_some};
 ghost use Rattle.std.specs.List.{list_any};
 ghost use Rattle.scan_spec.specs.FileParts.{is_last};
 ghost use Rattle.scan_spec.specs.Slots.{shape_of};
 ghost use Rattle.box_format.specs.Parts.{magic, bad_start, box_cut, header_part, are_rising};
-ghost use Rattle.box_format.specs.Versions.{layout_of, version_in, is_version, fewest_scans, most_scans, most_segments};
+ghost use Rattle.box_format.specs.Versions.{layout_of, is_version, fewest_scans, most_scans, most_segments};
 ghost use Rattle.box_format.specs.Fields.{scans_in, segments_at, record_place, scan_raw, raws_as, named_end};
 ghost use Rattle.box_format.specs.Checks.{early_fault, late_fault, is_cut, are_complete, some_are_wrong, segments_of, scan_fault, scans_fault, are_wrong, is_bad_chunk, are_bad_places};
 ghost use Rattle.box_format.specs.Whole.{IsUncut, are_not_all, record_fault, listed_at};

@@ -2,7 +2,7 @@
 ghost use Rattle.std.specs.Prelude.{◌≡◌, ◌+◌, ◌*◌, ◌^◌, ◌≤◌, ◌<◌, ◌&&◌, ◌==◌, true, drop, get_or, length, not};
 ghost use Rattle.std.specs.List.{list_all};
 ghost use Rattle.bit_list.specs.Bits.{bits_of};
-ghost use Rattle.scan_spec.specs.Pads.{interval_count, list_room};
+ghost use Rattle.scan_spec.specs.Pads.{interval_count};
 ghost use Rattle.scan_spec.specs.Slots.{shape_of};
 ghost use Rattle.box_format.specs.Checks.{is_bad_pad};
 ghost use Rattle.box_format.specs.Parts.{is_list};

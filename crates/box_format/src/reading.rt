@@ -1,5 +1,5 @@
 // From bytes to the scans of a container.
-ghost use Rattle.std.specs.Prelude.{◌≡◌, [], ◌∷◌, true, IfOk, IsErrOf, List, ℕ};
+ghost use Rattle.std.specs.Prelude.{◌≡◌, true, IfOk, IsErrOf, List};
 ghost use Rattle.box_format.specs.Versions.{are_single, one_scan, version_in, IsRead};
 ghost use Rattle.box_format.specs.Parts.{BoxSeen};
 ghost use Rattle.box_format.specs.Containers.{IsContainer, segment_count};

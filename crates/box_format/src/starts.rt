@@ -1,5 +1,5 @@
 // Whether a segment can start from what its record has.
-ghost use Rattle.std.specs.Prelude.{◌≡◌, ◌+◌, ◌<◌, ◌≤◌, ◌==◌, ◌^◌, length, true, unsigned_abs, IfSome};
+ghost use Rattle.std.specs.Prelude.{◌≡◌, ◌+◌, ◌<◌, ◌≤◌, ◌==◌, length, true, unsigned_abs, IfSome};
 ghost use Rattle.std.specs.List.{list_all};
 ghost use Rattle.handover.specs.HandoverBytes.{is_handover};
 ghost use Rattle.scan_spec.specs.Slots.{shape_of};

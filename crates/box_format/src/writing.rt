@@ -6,7 +6,7 @@ ghost use Rattle.handover.specs.HandoverBytes.{handover_bytes};
 ghost use Rattle.scan_spec.specs.Pads.{pads_given};
 ghost use Rattle.box_format.specs.Versions.{layout_of};
 ghost use Rattle.box_format.specs.Parts.{chunk_bytes, list_bytes, magic, pad_byte, place_bytes, records};
-ghost use Rattle.box_format.specs.Containers.{container_bytes, scan_fields, scan_header, scan_streams, scans_said, trailer_of};
+ghost use Rattle.box_format.specs.Containers.{container_bytes, scan_fields, scan_header, scan_streams, trailer_of};
 ghost use Rattle.box_format.specs.Given.{AreGiven, CanGive, all_given, parts_given, scan_room, scans_room};
 ghost use Rattle.box_format.specs.declared.parts.Parts.{Parts as PartsSeen};
 

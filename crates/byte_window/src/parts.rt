@@ -1,6 +1,6 @@
 // Which parts of a file have a place in a slice of it, and what of their bytes goes into it.
 ghost use Rattle.std.specs.Prelude.{◌≡◌, ◌<◌, ◌≤◌, ℕ};
-ghost use Rattle.byte_window.specs.Slices.{cover_of, has_place, with_part};
+ghost use Rattle.byte_window.specs.Slices.{cover_of};
 ghost use Rattle.byte_window.specs.PartedFiles.{window_of};
 
 use crate::window::Window;

@@ -1,5 +1,5 @@
 // A window on bytes that come in pieces.
-ghost use Rattle.std.specs.Prelude.{◌≡◌, ◌-◌, ◌≤◌, length};
+ghost use Rattle.std.specs.Prelude.{◌≡◌, ◌-◌, ◌≤◌};
 ghost use Rattle.byte_window.specs.Windows.{after, at_most_of, everything, fewer, through, window};
 
 /// Which of the bytes to come go through.

@@ -1,5 +1,5 @@
 // The arguments that are known, as clap needs them.
-ghost use Rattle.std.specs.Prelude.{◌≡◌, false, IfOk, Some, [], ◌∷◌, codes, pos};
+ghost use Rattle.std.specs.Prelude.{◌≡◌, false, IfOk, codes, pos};
 ghost use Rattle.clap.specs.declared.builder.value_parser.ValueParser.TheVariants.{Signed};
 ghost use Rattle.clap.specs.Words.{app_of, rule_of, with_subcommand};
 ghost use Rattle.command_words.specs.LeptonApp.{chunk_app, decode_app, encode_app, index_app, lepton_app, migrate_app, number_rule, range_app, required_rule, sample_app};

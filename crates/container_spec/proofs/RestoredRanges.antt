@@ -22,7 +22,7 @@ use Rattle.container_spec.proofs.RangePortions.{as_read, joined_between, range_b
 use Rattle.container_spec.proofs.KeptPlaces.{AreKeptPlaces, no_chunk, kept_places, segments_long}
 use Rattle.container_spec.proofs.GoodParts.{IsPart, good_bytes, good_part, numbers_between}
 use Rattle.byte_window.specs.PartedFiles as parted
-use Rattle.byte_window.specs.PartedFiles.{PartedFile, IsPlaced, file_bytes, parts_bytes, parts_end, parts_within, begun_within, bytes_within, slice_bytes, header_within, window_within, trailer_within, listed}
+use Rattle.byte_window.specs.PartedFiles.{PartedFile, IsPlaced, file_bytes, parts_bytes, parts_within, begun_within, bytes_within, slice_bytes, header_within, window_within, trailer_within}
 use Rattle.byte_window.proofs.BegunParts.{list_is_placed, one_more}
 use Rattle.byte_window.proofs.PartedFacts.{parts_are_in_file, place_rises, slice_of_file}
 

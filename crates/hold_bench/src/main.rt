@@ -2,7 +2,7 @@
 //! it, and add 1 each time. Prints what a last hold finds. Ends with 2 where the words aren't two such numbers.
 #![tactic(auto)]
 
-ghost use Rattle.std.specs.Prelude.{◌≡◌, ◌<◌, All, IfOk};
+ghost use Rattle.std.specs.Prelude.{◌<◌, All, IfOk};
 ghost use Rattle.seat_lock.specs.Passes.{IsFirst, IsFor, IsReady};
 
 use seat_lock::{Lock, Pass, Rule};

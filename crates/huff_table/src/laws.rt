@@ -1,5 +1,5 @@
 // What holds of all code words.
-ghost use Rattle.std.specs.Prelude.{◌≡◌, ℕ, ◌<◌, ◌↔◌, Bool, List, ◌++◌, length, Ok, Err, Some};
+ghost use Rattle.std.specs.Prelude.{◌≡◌, ℕ, ◌↔◌, Bool, List, ◌++◌, length, Ok, Err, Some};
 ghost use Rattle.bit_list.specs.Units.{Cursor, bits_at};
 ghost use Rattle.jpeg_marker.specs.HuffmanTables.{TableFields, IsTable};
 ghost use Rattle.huff_table.specs.CodeWords.{words_of, word_of, value_of};

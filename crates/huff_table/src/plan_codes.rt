@@ -1,5 +1,5 @@
 // The code words of all components.
-ghost use Rattle.std.specs.Prelude.{◌≡◌, ◌<◌, length, slice_get, Some, IfOk, IfSome};
+ghost use Rattle.std.specs.Prelude.{◌≡◌, ◌<◌, length, slice_get, IfOk, IfSome};
 
 use crate::codes::Codes;
 use allocation::{NoMemory, from_elem, from_slice};

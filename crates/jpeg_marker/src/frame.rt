@@ -55,7 +55,7 @@ impl Frame {
     }
 }
 
-ghost use Rattle.std.specs.Prelude.{ℕ, ◌≡◌, ◌≤◌, ◌+◌, ◌-◌, ◌*◌, ◌++◌, length, take, replicate, map, sum_by, slice_index, drop, IfOk, OnOk, Option, None};
+ghost use Rattle.std.specs.Prelude.{◌≡◌, ◌≤◌, ◌+◌, ◌-◌, ◌*◌, ◌++◌, length, take, replicate, map, sum_by, slice_index, drop, IfOk, OnOk, None};
 ghost use Rattle.std.specs.List.{list_all};
 ghost use Rattle.jpeg_marker.specs.MarkerSegments.{number_at};
 ghost use Rattle.jpeg_marker.specs.HeaderRefusals.{fault_in};

@@ -1,5 +1,5 @@
 // How many MCUs and blocks a scan has (ITU-T T.81, A.1.1, A.2).
-ghost use Rattle.std.specs.Prelude.{◌≡◌, ◌≤◌, ◌<◌, ◌*◌, ◌^◌, length, IsTrue};
+ghost use Rattle.std.specs.Prelude.{◌≡◌, ◌≤◌, ◌*◌, length};
 ghost use Rattle.std.specs.List.{AllByRecursion};
 ghost use Rattle.jpeg_marker.specs.Frames.{IsFrame};
 ghost use Rattle.jpeg_marker.specs.Plans.{IsWithin, largest, sampled, cover, across_of, down_of, blocks_in_mcu};

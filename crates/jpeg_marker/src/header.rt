@@ -1,5 +1,5 @@
 // The headers of a file (ITU-T T.81, B.2.1).
-ghost use Rattle.std.specs.Prelude.{◌≡◌, ◌≤◌, ◌<◌, ◌+◌, ◌^◌, length, take, IfOk, IfErr};
+ghost use Rattle.std.specs.Prelude.{◌≤◌, ◌<◌, ◌+◌, ◌^◌, length, take, IfOk, IfErr};
 ghost use Rattle.jpeg_marker.specs.AcceptedPlans.{BegunHasPlan, AcceptedHasPlan, NextHasPlan, OneIsLast, OneIsSeveral, SeveralIsOne};
 ghost use Rattle.jpeg_marker.specs.HeaderPlan.{Begins, Stops, Opens, OpensNot, Accepts, Refuses, AcceptsNext, RefusesNext};
 ghost use Rattle.jpeg_marker.specs.OneHeader.{OneList, OnePlan, OneRefusal, NeverBoth, OneNextPlan, OneNextRefusal, NeverBothNext};

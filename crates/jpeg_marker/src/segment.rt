@@ -1,5 +1,5 @@
 // Marker segments (ITU-T T.81, B.1.1).
-ghost use Rattle.std.specs.Prelude.{ℕ, ◌≡◌, ◌≢◌, ◌≤◌, ◌<◌, ◌+◌, ◌-◌, ◌^◌, ◌++◌, IsTrue, replicate, length, slice_index, IfOk, OnOk};
+ghost use Rattle.std.specs.Prelude.{◌≡◌, ◌≢◌, ◌≤◌, ◌<◌, ◌+◌, ◌-◌, ◌^◌, ◌++◌, IsTrue, replicate, length, slice_index, IfOk, OnOk};
 ghost use Rattle.jpeg_marker.specs.HeaderRefusals.{fault_in};
 ghost use Rattle.jpeg_marker.specs.MarkerSegments.{two_bytes, is_known};
 ghost use Rattle.jpeg_marker.specs.GoodSegments.{stuck_at, stuck_after, code_fault, length_fault};

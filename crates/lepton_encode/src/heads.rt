@@ -1,5 +1,5 @@
 // The headers of a file of one scan or of several.
-ghost use Rattle.std.specs.Prelude.{◌≡◌, ◌≤◌, ◌<◌, ◌^◌, length, List, [], ◌∷◌, ◌++◌, IfOk, OnOk, IsErrOf, ℕ};
+ghost use Rattle.std.specs.Prelude.{◌≡◌, ◌≤◌, ◌<◌, ◌^◌, length, [], ◌∷◌, ◌++◌, IfOk, OnOk, IsErrOf, ℕ};
 ghost use Rattle.jpeg_marker.specs.FirstWalks.{opening_walk};
 ghost use Rattle.jpeg_marker.specs.HeaderPlan.{RefusesNext};
 ghost use Rattle.jpeg_marker.specs.Walks.{Walk};

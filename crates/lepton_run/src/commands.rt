@@ -1,11 +1,8 @@
 // The commands, on the bytes that they took.
-ghost use Rattle.std.specs.Prelude.{◌≡◌, ◌≤◌, ℕ, Result, false, length};
-ghost use Rattle.outside_core.specs.Takes.{TakesNext};
+ghost use Rattle.std.specs.Prelude.{◌≡◌, ◌≤◌, Result, length};
 ghost use Rattle.command_words.specs.Meaning.{IsInRange};
 ghost use Rattle.command_words.specs.declared.command.Command.TheVariants.{Encode, Decode, Migrate, Chunk, Index, Range};
-ghost use Rattle.lepton_decode.specs.Ends.{Ends, lone_meaning_in, meaning_in};
 ghost use Rattle.lepton_decode.specs.declared.error.DecodeError.{DecodeError};
-ghost use Rattle.range_read.specs.RangeEnds.{RangeEnds, lone_range_in, range_in};
 ghost use Rattle.range_read.specs.declared.reading.Ranged.{Ranged};
 ghost use Rattle.segment_worker.specs.declared.emitted.EmitStop.{EmitStop};
 ghost use Rattle.lepton_run.specs.Answers.{TakesAnswers, limit_of};

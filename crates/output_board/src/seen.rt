@@ -1,5 +1,4 @@
 // What a hold finds of the board.
-ghost use Rattle.board_core.specs.declared.actor.Actor.TheVariants.{Worker};
 ghost use Rattle.output_board.specs.Releases.{IsSeenBy};
 
 use board_core::{Actor, Core};

@@ -1,5 +1,5 @@
 // Segments of a container that are measured at the same time, each with memory of its own.
-ghost use Rattle.std.specs.Prelude.{◌≡◌, ◌+◌, ◌<◌, ◌≤◌, ℕ, [], ◌∷◌, All, IfOk, length, min, slice_index_or, true, false};
+ghost use Rattle.std.specs.Prelude.{◌≡◌, ◌+◌, ◌<◌, ℕ, [], ◌∷◌, All, IfOk, length, min, slice_index_or, true, false};
 ghost use Rattle.container_spec.specs.Meanings.{segment_in};
 ghost use Rattle.container_spec.specs.Segments.{segment_output};
 ghost use Rattle.range_read.specs.Lanes.{AreAllMeasured, AreMeasuredUpTo, IsLane, IsMeasuredAt, most_at_once};

@@ -1,5 +1,5 @@
 // Ranges of a file: which segments are begun for them; and the two ways to a container with places.
-ghost use Rattle.std.specs.Prelude.{◌<◌, ◌^◌, length};
+ghost use Rattle.std.specs.Prelude.{◌<◌};
 
 use crate::rows::TWO_INTERVALS;
 use crate::samples::Visits;

@@ -1,5 +1,5 @@
 // The AC coefficients of a block.
-ghost use Rattle.std.specs.Prelude.{◌≡◌, ◌≤◌, ◌<◌, ◌-◌, List, ℤ, ◌∷◌, [], Bool, true, false, length, replicate, pos, Result, Err, IfOk, IfErr};
+ghost use Rattle.std.specs.Prelude.{◌≡◌, ◌≤◌, ◌<◌, ◌-◌, List, ℤ, ◌∷◌, [], true, false, length, replicate, pos, Result, Err, IfOk, IfErr};
 ghost use Rattle.bit_list.specs.Units.{Cursor};
 ghost use Rattle.scan_spec.specs.BlockBits.{coefficient_at, ac_values, in_zigzag};
 ghost use Rattle.scan_spec.specs.ScanReading.{prefixed_values, acs_at};

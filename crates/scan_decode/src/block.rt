@@ -1,5 +1,5 @@
 // A block.
-ghost use Rattle.std.specs.Prelude.{◌≡◌, ◌≤◌, IfOk, unsigned_abs};
+ghost use Rattle.std.specs.Prelude.{◌≡◌, IfOk};
 ghost use Rattle.coef_block.specs.Block.{IsDc};
 ghost use Rattle.scan_spec.specs.BlockBits.{coefficient_at, in_zigzag};
 ghost use Rattle.scan_decode.specs.ReadResults.{values_at_cursor, coded_at};

@@ -1,5 +1,5 @@
 // The blocks of an MCU.
-ghost use Rattle.std.specs.Prelude.{◌≡◌, ◌≤◌, ◌<◌, length, map, unsigned_abs};
+ghost use Rattle.std.specs.Prelude.{◌≡◌, ◌≤◌, ◌<◌, length, map};
 ghost use Rattle.std.specs.List.{All};
 ghost use Rattle.coef_block.specs.Block.{IsDc};
 ghost use Rattle.scan_spec.specs.ScanReading.{blocks_at};

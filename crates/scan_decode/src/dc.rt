@@ -1,5 +1,5 @@
 // The DC of a block.
-ghost use Rattle.std.specs.Prelude.{◌≡◌, ◌≤◌, IfOk, unsigned_abs};
+ghost use Rattle.std.specs.Prelude.{◌≡◌, IfOk, unsigned_abs};
 ghost use Rattle.coef_block.specs.Block.{IsDc};
 ghost use Rattle.scan_spec.specs.ScanReading.{dc_at};
 ghost use Rattle.scan_decode.specs.ReadResults.{at_cursor};

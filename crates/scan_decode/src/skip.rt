@@ -1,12 +1,10 @@
 // Blocks that are skipped: nobody keeps their coefficients.
-ghost use Rattle.std.specs.Prelude.{◌≡◌, ◌≤◌, ◌<◌, List, ℤ, ◌∷◌, [], false, length, map, Result, Err, IfSome, IfNone, IfOk, IfErr, OnOk, unsigned_abs};
+ghost use Rattle.std.specs.Prelude.{◌≡◌, ◌≤◌, ◌<◌, List, ℤ, ◌∷◌, [], false, length, map, Result, Err, IfSome, IfNone, IfOk, IfErr};
 ghost use Rattle.std.specs.List.{All};
-ghost use Rattle.bit_list.specs.Units.{Cursor};
 ghost use Rattle.coef_block.specs.Block.{IsDc};
 ghost use Rattle.scan_spec.specs.BlockBits.{coefficient_at, in_zigzag};
 ghost use Rattle.scan_spec.specs.ScanReading.{acs_at, blocks_at, prefixed_values};
 ghost use Rattle.scan_spec.specs.ShapeInside.{slot_in};
-ghost use Rattle.scan_spec.specs.declared.refusal.ScanRefusal.{ScanRefusal as Refusal};
 ghost use Rattle.scan_decode.specs.McuBlocks.{blocks_read};
 ghost use Rattle.scan_decode.specs.SkipWords.{AreSkips, AreSkipCodes, AreSkipSlots, GoesOn, IsRefused};
 ghost use Rattle.scan_decode.specs.ReadResults.{coded_at, values_at_cursor};

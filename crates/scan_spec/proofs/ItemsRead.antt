@@ -13,7 +13,7 @@ use Rattle.scan_spec.specs.Blocks.{last_dc}
 use Rattle.scan_spec.specs.Slots.{Shape}
 use Rattle.scan_spec.specs.Scans.{no_dcs, ends_interval}
 use Rattle.scan_spec.specs.Spots.{interval_number}
-use Rattle.scan_spec.specs.ScanReading.{and_then, refused_as, symbol_at, extended_at, within_dc, difference_at, dc_at, prefixed_values, by_symbol, acs_at, block_at, BlocksRead, blocks_at, Standing, standing_at, padded_or, pads_at, after_pads, after_mcu, mcu_at, mcus_at, scan_at}
+use Rattle.scan_spec.specs.ScanReading.{and_then, refused_as, symbol_at, extended_at, within_dc, difference_at, dc_at, prefixed_values, by_symbol, acs_at, block_at, BlocksRead, blocks_at, Standing, standing_at, padded_or, pads_at, after_mcu, mcu_at, mcus_at, scan_at}
 use Rattle.scan_spec.specs.ScanSymbols.{code_refusal, bits_refusal, Symbol, Value, Sixteen, End, Past, Loose, Unknown, symbol_of, pad_of, restart_at}
 use Rattle.scan_spec.specs.ScanPads.{pad_told, pads_told, scan_pads}
 use Rattle.scan_spec.specs.Items.{DcWord, DcBits, AcWord, AcBits, Pads, Marker, Over, Wrong, Run, Stage, slots_due, mcu_due, mcu_over, after_slots, block_over, size_over, dc_over, acs_due, symbol_over, pads_over, Item, Coded, Restart, IsWord, Stands, Path, IsStuck, first_stage, Refuses, IsOverAt}

@@ -1,10 +1,8 @@
 // The plain program: a block's bits, one after another, into a list.
-ghost use Rattle.std.specs.Prelude.{◌≡◌, ℕ, ◌+◌, ◌*◌, ◌^◌, ◌<◌, ◌≤◌, ◌++◌, ℤ, pos, Bool, List, length, unsigned_abs, ◌∷◌, Ok, Err, IfOk, IfErr, OnOk, IsErrOf};
+ghost use Rattle.std.specs.Prelude.{◌≡◌, ◌+◌, ◌*◌, ◌<◌, ◌≤◌, ◌++◌, ℤ, Bool, List, length, unsigned_abs, ◌∷◌, Ok, Err, IfOk, IfErr, OnOk, IsErrOf};
 ghost use Rattle.std.specs.List.{All};
 ghost use Rattle.bit_list.specs.Bits.{low_bits};
 ghost use Rattle.coef_block.specs.Block.{IsDc, IsAc, most_difference};
-ghost use Rattle.coef_block.specs.Categories.{category};
-ghost use Rattle.scan_spec.specs.ValueBits.{mag};
 ghost use Rattle.scan_spec.specs.BlockBits.{Text, word_text, value_text, zeros_text, coefficient_text, ac_text, dc_text, block_text, ac_values};
 ghost use Rattle.scan_spec.specs.Blocks.{blocks_text};
 ghost use Rattle.scan_spec.specs.PlainWriting.{HasPutPrefix, IsWritten};

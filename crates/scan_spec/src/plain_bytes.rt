@@ -2,7 +2,7 @@
 ghost use Rattle.std.specs.Prelude.{◌≡◌, ◌+◌, ◌*◌, ◌%◌, ◌<◌, ◌≤◌, ◌++◌, ◌∷◌, ◌==◌, [], length, Ok, Err, IfOk, OnOk, IsErrOf};
 ghost use Rattle.std.specs.List.{All};
 ghost use Rattle.bit_list.specs.Bits.{number_of, bytes_after, stuffed};
-ghost use Rattle.scan_spec.specs.Scans.{mcus_bits, padded, interval_bytes, restart_marker, scan_bytes};
+ghost use Rattle.scan_spec.specs.Scans.{mcus_bits, padded, interval_bytes, scan_bytes};
 ghost use Rattle.scan_spec.specs.PlainScans.{shape_with, mcus_in, slots_times, marker_between};
 
 use crate::plain::{PlainError, plain_blocks};

@@ -1,5 +1,5 @@
 // The AC coefficients of a block.
-ghost use Rattle.std.specs.Prelude.{◌≡◌, ◌≢◌, ◌+◌, ◌-◌, ◌*◌, ◌^◌, ◌<◌, ◌≤◌, ℕ, true, [], IfOk, IfErr, OnOk, slice_index, unsigned_abs};
+ghost use Rattle.std.specs.Prelude.{◌≡◌, ◌≢◌, ◌+◌, ◌-◌, ◌*◌, ◌^◌, ◌<◌, ◌≤◌, ℕ, true, [], IfOk, IfErr, slice_index, unsigned_abs};
 ghost use Rattle.std.specs.Int.{bit_at};
 ghost use Rattle.coef_block.specs.Block.{IsAc};
 ghost use Rattle.coef_block.specs.Categories.{category};

@@ -1,7 +1,7 @@
 // A hold of a lock, up to its release.
-ghost use Rattle.std.specs.Prelude.{◌≡◌, ◌+◌, ℕ, Some, []};
+ghost use Rattle.std.specs.Prelude.{◌≡◌, ◌+◌, Some, []};
 ghost use Rattle.std.specs.Borrow.{sem, Lends};
-ghost use Rattle.seat_lock.specs.Passes.{IsFor, IsReady, IsSamePass, view_of, number_of, holds_of, last_of, splits_of, rings_of};
+ghost use Rattle.seat_lock.specs.Passes.{IsFor, IsReady, IsSamePass, view_of, holds_of, last_of, splits_of, rings_of};
 ghost use Rattle.seat_lock.specs.Holding.{IsHolding, Refits, pass_of, found_of, value_of, view_after};
 
 use crate::known::Slot;

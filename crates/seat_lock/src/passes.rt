@@ -1,5 +1,5 @@
 // Making a lock, splitting off its passes, and closing it.
-ghost use Rattle.std.specs.Prelude.{◌≡◌, ◌<◌, ◌+◌, ℕ, IfOk, [], ◌∷◌};
+ghost use Rattle.std.specs.Prelude.{◌≡◌, ◌<◌, ◌+◌, IfOk, [], ◌∷◌};
 ghost use Rattle.seat_lock.specs.Passes.{IsFor, IsReady, IsFirst, IsSamePass, HasSameHolds, IsNewPass, view_of, splits_of, rings_of};
 
 use crate::known::Slot;

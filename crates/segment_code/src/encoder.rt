@@ -8,7 +8,6 @@ ghost use Rattle.scan_spec.specs.Slots.{shape_of};
 ghost use Rattle.scan_spec.specs.declared.refusal.ScanRefusal.{ScanRefusal};
 ghost use Rattle.container_spec.specs.ScanStream.{stream_of};
 ghost use Rattle.segment_code.specs.CodedMcus.{AreReadOn, next_of};
-ghost use Rattle.segment_code.specs.FoundPads.{pads_through};
 ghost use Rattle.segment_code.specs.ReadyParts.{IsEncoderFor};
 
 use crate::error::ScanError;

@@ -1,5 +1,5 @@
 // Segments of a file's scans decoded one after another, each in steps.
-ghost use Rattle.std.specs.Prelude.{◌≡◌, ◌+◌, ◌-◌, ◌<◌, ◌≤◌, ◌^◌, ℕ, List, [], ◌++◌, length, map, take, drop, nat_lt, slice_get, Some, true, false, All, IfOk};
+ghost use Rattle.std.specs.Prelude.{◌≡◌, ◌+◌, ◌-◌, ◌<◌, ◌≤◌, ◌^◌, ℕ, List, [], ◌++◌, length, nat_lt, slice_get, Some, true, All, IfOk};
 ghost use Rattle.handover.specs.declared.outcome.Outcome.{Outcome};
 ghost use Rattle.box_format.specs.Parts.{BoxSeen};
 ghost use Rattle.container_spec.specs.Meanings.{segment_in};

@@ -4,7 +4,7 @@ ghost use Rattle.coef_block.specs.TwoRows.{Extents, block_count};
 ghost use Rattle.jpeg_marker.specs.declared.component.Component.{Component};
 ghost use Rattle.jpeg_marker.specs.Plans.{IsPlan};
 ghost use Rattle.scan_spec.specs.Slots.{shape_of};
-ghost use Rattle.block_spec.specs.Grid.{Grid, IsGrid};
+ghost use Rattle.block_spec.specs.Grid.{IsGrid};
 ghost use Rattle.container_spec.specs.ScanStream.{by_index, grid_of, mcu_extents};
 
 use block_code::McuGrid;

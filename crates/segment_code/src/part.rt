@@ -1,5 +1,5 @@
 // A segment of a file that is coded apart from the pass that found where it starts.
-ghost use Rattle.std.specs.Prelude.{◌≡◌, ◌<◌, ◌≤◌, List, IfOk, IsErrOf};
+ghost use Rattle.std.specs.Prelude.{◌<◌, IfOk, IsErrOf};
 ghost use Rattle.scan_spec.specs.declared.refusal.ScanRefusal.{ScanRefusal};
 ghost use Rattle.segment_code.specs.ScanPasses.{IsNoPart, IsPart, IsPartStream};
 

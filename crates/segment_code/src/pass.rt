@@ -1,6 +1,5 @@
 // A pass over a file's scan, from segment to segment.
-ghost use Rattle.std.specs.Prelude.{◌≡◌, ◌<◌, ◌≤◌, ℕ, Bool, List, IfOk, OnOk, IsErrOf, length, None, Err, ◌^◌};
-ghost use Rattle.std.specs.List.{AllByRecursion};
+ghost use Rattle.std.specs.Prelude.{◌≡◌, ◌<◌, ◌≤◌, ℕ, Bool, List, IfOk, OnOk, IsErrOf, length, None, ◌^◌};
 ghost use Rattle.jpeg_marker.specs.AcceptedPlans.{CanScan};
 ghost use Rattle.huff_table.specs.ComponentTables.{codes_of};
 ghost use Rattle.scan_spec.specs.Items.{Refuses};

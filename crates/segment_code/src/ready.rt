@@ -1,5 +1,5 @@
 // A segment of a file that is ready to be coded, with all the memory that this needs.
-ghost use Rattle.std.specs.Prelude.{◌≡◌, ◌≤◌, ◌^◌, [], List, IfOk, OnOk, IsErrOf};
+ghost use Rattle.std.specs.Prelude.{◌≡◌, ◌≤◌, ◌^◌, IfOk, OnOk, IsErrOf};
 ghost use Rattle.scan_spec.specs.declared.refusal.ScanRefusal.{ScanRefusal};
 ghost use Rattle.segment_code.specs.ReadyParts.{IsEncoderFor, IsReady};
 ghost use Rattle.segment_code.specs.ScanPasses.{IsNoPart, IsPart, IsPartStream};

@@ -1,5 +1,5 @@
 // Where a file's segments start.
-ghost use Rattle.std.specs.Prelude.{◌≡◌, ◌^◌, ◌+◌, ◌<◌, ◌++◌, List, [], ◌∷◌, true, length, get_or, OnOk};
+ghost use Rattle.std.specs.Prelude.{◌≡◌, ◌^◌, ◌+◌, ◌<◌, length, get_or, OnOk};
 ghost use Rattle.handover.specs.Handovers.{start};
 ghost use Rattle.scan_spec.specs.Pads.{pads_given, spelling_of};
 ghost use Rattle.segment_code.specs.StartsInside.{no_starts, starts_more};

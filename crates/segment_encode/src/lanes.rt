@@ -1,10 +1,9 @@
 // Segments in lanes, each of which one thread codes.
-ghost use Rattle.std.specs.Prelude.{◌≡◌, ◌+◌, ◌*◌, ◌^◌, ◌<◌, ◌≤◌, ◌++◌, ◌∷◌, [], List, ℕ, All, IfOk, OnOk, IsErrOf, Some, None, length, map, take, vec_capacity, vec_len};
+ghost use Rattle.std.specs.Prelude.{◌≡◌, ◌+◌, ◌*◌, ◌^◌, ◌<◌, ◌≤◌, ◌++◌, ◌∷◌, [], All, IfOk, OnOk, IsErrOf, Some, None, length, map, vec_capacity, vec_len};
 ghost use Rattle.std.specs.Mem.{type_size};
 ghost use Rattle.scan_spec.specs.declared.refusal.ScanRefusal.{ScanRefusal};
 ghost use Rattle.segment_code.specs.declared.error.ScanError.TheVariants.{Scan};
-ghost use Rattle.segment_code.specs.ReadyParts.{IsEncoderFor, IsReady, ReadyFields};
-ghost use Rattle.segment_code.specs.ScanPasses.{IsNoPart};
+ghost use Rattle.segment_code.specs.ReadyParts.{IsReady, ReadyFields};
 ghost use Rattle.segment_encode.specs.Lanes.{AreMade, AreOfAFile, CanCode, IsNewLane, in_a_lane, most_lanes};
 
 use crate::tasks::Task;

@@ -1,7 +1,7 @@
 // A pass that goes over some work lane by lane, while other threads do the lanes that it has passed. The traits have
 // one impl each (`lanes.rt`, `streams.rt`): a closure over a type that names a lifetime can't be proved, one over a
 // type parameter can.
-ghost use Rattle.std.specs.Prelude.{◌≡◌, ◌+◌, ◌*◌, ◌<◌, ◌≤◌, ◌++◌, ℕ, List, [], ◌∷◌, map, IfOk, OnOk, IsErrOf};
+ghost use Rattle.std.specs.Prelude.{◌≡◌, ◌+◌, ◌*◌, ◌<◌, ◌≤◌, ◌++◌, ℕ, List, map, IfOk, OnOk, IsErrOf};
 ghost use denote.Param.Send.{IsSend, IsSync};
 ghost use Rattle.scan_spec.specs.declared.refusal.ScanRefusal.{ScanRefusal};
 ghost use Rattle.segment_code.specs.declared.error.ScanError.TheVariants.{Scan};

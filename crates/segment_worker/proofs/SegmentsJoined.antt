@@ -5,7 +5,7 @@ use Rattle.handover.specs.declared.outcome.Outcome.{Outcome}
 use Rattle.handover.specs.declared.outcome.Outcome.TheVariants.{Good, Bad}
 use Rattle.handover.specs.declared.outcome.StreamFault.{StreamFault}
 use Rattle.container_spec.specs.ScansMeanings.{scan_of}
-use Rattle.handover.specs.ScanSums.{ScanPads, no_sums, sums_of, sums_with}
+use Rattle.handover.specs.ScanSums.{ScanPads, sums_of, sums_with}
 use Rattle.handover.proofs.PadsSummed.{sums_of_more}
 use Rattle.container_spec.specs.ScansJoined.{ScansJoined, scanned_from, scanned_with, scans_joined}
 use Rattle.segment_worker.specs.Contents.{Stretch}

@@ -3,7 +3,7 @@ use Rattle.std.proofs.Common.{◌≡◌, ℕ, zero, suc, ◌<◌, List, [], ◌�
 use Rattle.std.specs.Prelude.{All, slice_index_or}
 use Rattle.std.specs.List.{AllByRecursion}
 use Rattle.atomic_table.specs.Seated.{TableId}
-use Rattle.blob_store.specs.Callers.{CallerValue, later_callers, new_caller, new_callers}
+use Rattle.blob_store.specs.Callers.{CallerValue, later_callers, new_callers}
 
 abbrev IsOf : TableId → CallerValue → Type 0
 IsOf table caller = caller.table ≡ table

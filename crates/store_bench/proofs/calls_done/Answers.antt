@@ -1,4 +1,4 @@
-use Rattle.std.proofs.Common.{◌≡◌, ◌<◌, List, length, ap, ◌∙◌, subst}
+use Rattle.std.proofs.Common.{◌<◌, List, length, ap, ◌∙◌, subst}
 use Rattle.std.specs.Prelude.{slice_index_or}
 use Rattle.blob_store.specs.Callers.{CallerValue}
 use Rattle.store_bench.proofs.NewCallers.{each_is_of}

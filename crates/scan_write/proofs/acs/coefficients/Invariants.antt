@@ -1,4 +1,4 @@
-use Rattle.std.proofs.Common.{◌-◌, ◌+◌, ◌*◌, ◌<◌, ◌≤◌, drop, length}
+use Rattle.std.proofs.Common.{◌-◌, ◌+◌, ◌*◌, ◌<◌, ◌≤◌, drop}
 use Rattle.scan_spec.specs.BlockBits.{ac_text, ac_values}
 use Rattle.scan_write.proofs.LeftInBlock.{AreLeft}
 use Rattle.scan_write.specs.Outputs.{output_with}

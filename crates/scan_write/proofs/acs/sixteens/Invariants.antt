@@ -1,4 +1,4 @@
-use Rattle.std.proofs.Common.{◌-◌, ◌+◌, ◌*◌, ◌<◌, ◌≤◌, length}
+use Rattle.std.proofs.Common.{◌-◌, ◌+◌, ◌*◌, ◌≤◌}
 use Rattle.scan_spec.specs.BlockBits.{zeros_text}
 use Rattle.scan_write.specs.Outputs.{output_with}
 use Rattle.scan_spec.specs.TextBounds.{quarters, word_bits}

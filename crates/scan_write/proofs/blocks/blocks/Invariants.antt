@@ -1,4 +1,4 @@
-use Rattle.std.proofs.Common.{◌≡◌, ◌≤◌, ◌<◌, ◌+◌, ◌*◌, map, drop, length, unsigned_abs}
+use Rattle.std.proofs.Common.{◌≡◌, ◌≤◌, ◌+◌, ◌*◌, map, drop, length, unsigned_abs}
 use Rattle.std.specs.List.{All}
 use Rattle.scan_spec.specs.Blocks.{blocks_text, dcs_after}
 use Rattle.scan_spec.specs.ShapeInside.{slot_in}
