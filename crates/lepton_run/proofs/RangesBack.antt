@@ -22,11 +22,11 @@ use Rattle.container_spec.proofs.ScansRestored.{file_is_restored}
 use Rattle.container_spec.proofs.ScansSizes.{container_is_short}
 use Rattle.container_spec.proofs.RestoredRanges.{range_of_container_is_slice}
 use Rattle.command_words.specs.declared.command.Command.TheVariants.{Encode, Decode, Index, Range}
-use Rattle.lepton_run.specs.Answers.{Answers, IndexMakes, Made, answer_by, early, limit_of, range_answer}
+use Rattle.lepton_run.specs.Answers.{Answers, IndexMakes, Made, answer_by, early, limit_of}
 use Rattle.lepton_run.proofs.BothWays.{container_are, one_few}
 use Rattle.lepton_run.proofs.ScansOfBytes.{box_are}
 use Rattle.lepton_run.proofs.ChunksBack.{is_meant}
-use Rattle.lepton_run.proofs.RangesCarried.{good_answer}
+use Rattle.lepton_run.proofs.RangesCarried.{range_answer, good_answer}
 
 -- a version that is indexed has whole files
 pub whole_file : (version : Version) → IsRead indexable version

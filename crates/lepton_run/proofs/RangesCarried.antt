@@ -6,24 +6,49 @@ use Rattle.bit_list.specs.Bits.{IsByte}
 use Rattle.outside_core.specs.Takes.{TakesNext}
 use Rattle.jpeg_marker.specs.Plans.{PlanFields}
 use Rattle.handover.specs.declared.outcome.StreamFault.{StreamFault}
-use Rattle.box_format.specs.Parts.{BoxParts}
+use Rattle.box_format.specs.Parts.{BoxParts, BoxSeen}
 use Rattle.box_format.specs.Single.{IsBoxOf, box_bytes}
 use Rattle.box_format.specs.Versions.{IsRead, indexable, ranged}
 use Rattle.container_spec.specs.Indexed.{indexed}
 use Rattle.container_spec.specs.Meanings.{Verdict}
-use Rattle.container_spec.specs.Portions.{scans_meaning}
-use Rattle.container_spec.specs.RangeMeanings.{RangeMeaning, is_bad_range, range_meaning}
+use Rattle.container_spec.specs.declared.kind.Kind.TheVariants as kinds
+use Rattle.container_spec.specs.Portions.{Portion, ending_by, played, portion_meaning, scans_meaning}
+use Rattle.container_spec.specs.ScansJoined.{ScansJoined}
+use Rattle.container_spec.specs.RangeMeanings.{RangeMeaning, fault_in, is_bad_range, placed_file, range_meaning, range_portion}
 use Rattle.segment_worker.specs.declared.emitted.EmitStop.{EmitStop}
 use Rattle.segment_worker.specs.declared.emitted.EmitStop.TheVariants as stops
 use Rattle.range_read.specs.IndexEnds.{IndexEnds, IsIndexOf}
 use Rattle.range_read.specs.RangeEnds.{RangeEnds}
 use Rattle.range_read.specs.declared.reading.Ranged.{Ranged}
 use Rattle.command_words.specs.declared.command.Command.TheVariants.{Index, Range}
-use Rattle.lepton_run.specs.Answers.{Answer, Answers, Early, Late, Made, TakesAnswers, Writes, bytes_of, answer_by, early, limit_of, range_answer, read_answer}
+use Rattle.lepton_run.specs.Answers.{Answer, Answers, Early, Late, Made, TakesAnswers, Writes, bytes_of, answer_by, early, limit_of, read_answer}
 use Rattle.lepton_run.specs.CommandEnds.{CarriedOut}
 use Rattle.lepton_run.specs.DecodeEndings.{range_ending}
 use Rattle.lepton_run.specs.declared.refusal.Refusal.TheVariants.{Fault, RangeBad}
 use Rattle.lepton_run.proofs.CarriedOut.{answers_so}
+
+-- the answer that a range is, by its bytes and by the fault that ends them
+abbrev pub range_answer : List ℕ → Option StreamFault → Answer
+range_answer bytes None = Made bytes
+range_answer bytes (Some fault) = Late bytes (Fault fault)
+
+-- it is the one by the verdict of its portion
+by_fault : (scans : List BoxSeen) (p : Portion) (all : ScansJoined) (fault : Option StreamFault)
+    → (let m = ending_by kinds.Range scans p all fault in answer_by m.bytes m.verdict
+    ≡ range_answer m.bytes (fault_in m.verdict))
+by_fault scans p all None = refl
+by_fault scans p all (Some fault) = refl
+
+by_portion : (plan : PlanFields) (b : BoxParts) (from to : ℕ)
+    → (let m =
+    portion_meaning kinds.Range (record { plan = plan; parts = b } ∷ []) (range_portion (placed_file plan b) from to) in
+    answer_by m.bytes m.verdict
+    ≡ range_answer (range_meaning plan b from to).bytes (range_meaning plan b from to).fault)
+unfolding range_meaning
+by_portion plan b from to =
+    let scans : List BoxSeen = record { plan = plan; parts = b } ∷ [] in
+    let p = range_portion (placed_file plan b) from to in
+    by_fault scans p (played scans p) (played scans p).fault
 
 -- a range is written, whatever its fault
 written : (bytes : List ℕ) (fault : Option StreamFault)
@@ -43,7 +68,7 @@ by_bad false a b e = absurd (let f : false ≡ true = e in cc)
 pub good_answer : (from to : ℕ) (plan : PlanFields) (b : BoxParts) → is_bad_range b from to ≡ false
     → read_answer from to plan b
     ≡ range_answer (range_meaning plan b from to).bytes (range_meaning plan b from to).fault
-good_answer from to plan b good = by_good (is_bad_range b from to) _ _ good
+good_answer from to plan b good = by_good (is_bad_range b from to) _ _ good ∙ by_portion plan b from to
 
 pub bad_answer : (from to : ℕ) (plan : PlanFields) (b : BoxParts) → is_bad_range b from to ≡ true
     → Early RangeBad ≡ read_answer from to plan b

@@ -1,11 +1,10 @@
 -- Statement: the one answer to a command and the bytes that it reads: the bytes that it writes and its line
 -- (README.md, Use).
-use Rattle.std.specs.Prelude.{ℕ, ◌≡◌, ◌⊎◌, ◌+◌, ◌*◌, ◌<◌, ◌≤◌, Bool, true, false, if◌then◌else◌, List, [], length, take, Option, Some, None}
+use Rattle.std.specs.Prelude.{ℕ, ◌≡◌, ◌⊎◌, ◌+◌, ◌*◌, ◌<◌, ◌≤◌, Bool, true, false, if◌then◌else◌, List, [], ◌∷◌, length, take, Option, Some}
 use Rattle.std.specs.List.{AllByRecursion}
 use Rattle.std.specs.Io.KnownBytes.{Appends, Consumes, IsAtEnd}
 use Rattle.bit_list.specs.Bits.{IsByte}
 use Rattle.jpeg_marker.specs.Plans.{PlanFields}
-use Rattle.handover.specs.declared.outcome.StreamFault.{StreamFault}
 use Rattle.box_format.specs.Checks.{IsRefusedBy}
 use Rattle.box_format.specs.Parts.{BoxParts, migrated}
 use Rattle.box_format.specs.Single.{IsBoxOf, box_bytes}
@@ -16,9 +15,10 @@ use Rattle.container_spec.specs.Indexed.{indexed}
 use Rattle.container_spec.specs.Limits.{most_of_a_container, most_of_a_file}
 use Rattle.container_spec.specs.Meanings.{Meaning, Verdict, Restored, PadSpelled, ChunkShort as ShortChunk, Faulty, NoBox}
 use Rattle.container_spec.specs.ScansFiles.{FileIsRefused, HasSeveralScans, IsContainerOfFile, Header as FileHeader, Scan as FileScan}
-use Rattle.container_spec.specs.Portions.{StandsFor, meaning_of}
+use Rattle.container_spec.specs.declared.kind.Kind.TheVariants as kinds
+use Rattle.container_spec.specs.Portions.{StandsFor, meaning_of, portion_meaning}
 use Rattle.container_spec.specs.Chunks.{IsChunkOf, IsOneScanFile}
-use Rattle.container_spec.specs.RangeMeanings.{is_bad_range, range_meaning}
+use Rattle.container_spec.specs.RangeMeanings.{is_bad_range, placed_file, range_portion}
 use Rattle.command_words.specs.declared.command.Command.{Command}
 use Rattle.command_words.specs.declared.command.Command.TheVariants.{Encode, Decode, Migrate, Chunk, Index, Range, Sample}
 use Rattle.lepton_run.specs.Lines.{refusal_line}
@@ -132,16 +132,13 @@ IndexMakes =
     BoxMakes indexable (λ plan b. early (answer_by (box_bytes (indexed plan b))
     (meaning_of plan b).verdict))
 
--- the answer that a range is, by its bytes and by the fault that ends them
-abbrev pub range_answer : List ℕ → Option StreamFault → Answer
-range_answer bytes None = Made bytes
-range_answer bytes (Some fault) = Late bytes (Fault fault)
-
--- what `range` makes of a container: the range, whatever the number of workers, if it is one of the file
+-- what `range` makes of a container: what the range's portion stands for, whatever the number of workers, if it is one
+-- of the file
 abbrev pub read_answer : ℕ → ℕ → PlanFields → BoxParts → Answer
 read_answer from to plan b =
-    if is_bad_range b from to then Early RangeBad
-    else range_answer (range_meaning plan b from to).bytes (range_meaning plan b from to).fault
+    let portion = range_portion (placed_file plan b) from to in
+    let m = portion_meaning kinds.Range (record { plan = plan; parts = b } ∷ []) portion in
+    if is_bad_range b from to then Early RangeBad else answer_by m.bytes m.verdict
 
 abbrev pub RangeMakes : ℕ → ℕ → List ℕ → Answer → Type 0
 RangeMakes from to = BoxMakes ranged (read_answer from to)
