@@ -12,3 +12,4 @@ pub mod FrameComponents
 pub mod PlanComponents
 pub mod ShortReading
 pub mod NoWords
+pub mod LongReading

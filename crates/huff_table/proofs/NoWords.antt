@@ -28,5 +28,5 @@ no_shorts = all_same (λ index. short_from no_table (low_bits 9 index) 1 9) no_s
 no_table_is : IsTable no_table
 no_table_is = record { lengths = refl; whole = refl; distinct_values = IsDistinct-from_distinct [] refl; space = omega arith }
 
-pub none_kept : IsKept (record { table = no_table; words = replicate 256 no_word; short = replicate 512 no_short })
-none_kept = record { table = no_table_is; words = no_words; short = no_shorts; bytes = tt }
+pub none_kept : IsKept (record { table = no_table; words = replicate 256 no_word; short = replicate 512 no_short; word_ends = replicate 16 0; value_ends = replicate 16 0 })
+none_kept = record { table = no_table_is; words = no_words; short = no_shorts; word_ends = refl; value_ends = refl; bytes = tt }

@@ -4,6 +4,7 @@ use Rattle.jpeg_marker.specs.HuffmanTables.{TableFields, IsTable}
 use Rattle.jpeg_marker.specs.KnownBefore.{AreBytes}
 use Rattle.huff_table.specs.CodeWords.{CodeWord, words_of}
 use Rattle.huff_table.specs.ShortWords.{by_bits}
+use Rattle.huff_table.specs.LongWords.{word_ends, value_ends}
 use Rattle.huff_table.specs.declared.word.Word.{Word}
 use Rattle.huff_table.specs.declared.codes.Codes.TheInside.{Inside}
 
@@ -26,8 +27,16 @@ pub record IsKept (c : Inside) : Type 0 where
   pub table : IsTable c.table
   pub words : c.words ≡ by_value c.table
   pub short : c.short ≡ by_bits c.table
+  pub word_ends : c.word_ends ≡ word_ends 15 0 c.table.counts
+  pub value_ends : c.value_ends ≡ value_ends 0 c.table.counts
   pub bytes : AreBytes c.table.values
 
 -- what is kept of a table
 abbrev pub inside_of : TableFields → Inside
-inside_of table = record { table = table; words = by_value table; short = by_bits table }
+inside_of table = record {
+  table = table;
+  words = by_value table;
+  short = by_bits table;
+  word_ends = word_ends 15 0 table.counts;
+  value_ends = value_ends 0 table.counts;
+}

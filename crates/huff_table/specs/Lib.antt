@@ -3,6 +3,7 @@ pub mod StandardTable
 pub mod Decoding
 pub mod Levels
 pub mod ShortWords
+pub mod LongWords
 pub mod CodesInside
 pub mod ComponentTables
 pub mod PlanWords

@@ -10,6 +10,7 @@ ghost use Rattle.huff_table.specs.CodesInside.{placed};
 ghost use Rattle.huff_table.specs.Levels.{level, value_among};
 
 use crate::fault::CodeFault;
+use crate::long_words::{value_ends, word_ends};
 use crate::short_words::short_words;
 use crate::word::{NO_SHORT, NONE, ShortWord, Word};
 use bit_list::BitIn;
@@ -24,6 +25,9 @@ pub struct Codes {
     words: [Word; 256],
     // By the next nine bits.
     short: [ShortWord; 512],
+    // By how many bits a word has, less one.
+    word_ends: [u32; 16],
+    value_ends: [u32; 16],
 }
 
 impl Model for Codes {
@@ -40,7 +44,7 @@ impl Model for Codes {
 
     ghost inverse = { inside_of };
 
-    ghost inverse_ok = { λ a h. let e = h.words in let f = h.short in Prim.rw e (Prim.rw f refl) };
+    ghost inverse_ok = { λ a h. let e = h.words in let f = h.short in let g = h.word_ends in let i = h.value_ends in Prim.rw e (Prim.rw f (Prim.rw g (Prim.rw i refl))) };
 }
 
 impl Codes {
@@ -64,6 +68,8 @@ impl Codes {
             table: *table,
             words,
             short: short_words(table),
+            word_ends: word_ends(table),
+            value_ends: value_ends(table),
         }
     }
 
@@ -77,6 +83,8 @@ impl Codes {
             table: RawTable::empty(),
             words: [NONE; 256],
             short: [NO_SHORT; 512],
+            word_ends: [0; 16],
+            value_ends: [0; 16],
         }
     }
 
@@ -115,6 +123,43 @@ impl Codes {
             return None;
         }
         Some((found.value, found.size))
+    }
+
+    /// The value whose code word sixteen bits begin with, as a number, and how many bits that word has. It may be none
+    /// though they begin with one.
+    #[inline]
+    pub fn long(&self, number: u16) -> Option<(u8, u8)>
+        ensures some { IfSome result
+            (λ found. (1 ≤ found.1) × (found.1 ≤ 16)
+            × (word_of self.now found.0 ≡ Some (take found.1 (low_bits 16 number)))) }
+        ensures kept { IsTable self.now }
+    {
+        // By using the table, what it keeps is known here.
+        let _ = &self.table;
+        let value = self.likely(number)?;
+        let (code, size) = self.word(value)?;
+        if number >> (16 - size) != code {
+            return None;
+        }
+        Some((value, size))
+    }
+
+    // The value whose code word sixteen bits begin with, as a number, if they begin with one. It is found by the ends of
+    // the words, without a branch for each size, and whoever wants it looks at the word.
+    #[inline(always)]
+    fn likely(&self, number: u16) -> Option<u8> {
+        let mut shorter = 0u32;
+        for end in &self.word_ends {
+            shorter += u32::from(*end <= u32::from(number));
+        }
+        if shorter >= 16 {
+            return None;
+        }
+        let more = 15 - shorter;
+        let end = self.word_ends[shorter as usize] >> more;
+        let after = end.checked_sub(u32::from(number >> more))?;
+        let place = self.value_ends[shorter as usize].checked_sub(after)?;
+        self.table.values().get(place as usize).copied()
     }
 
     /// Reads the next code word, and answers its value. A fault leaves the input after the bits that were read, 16 at
@@ -162,7 +207,7 @@ impl Codes {
         result
     }
 
-    // `by_bits` for an input by value, so that no address of a local one is passed on.
+    // For an input by value, so that no address of a local one is passed on.
     #[cold]
     #[inline(never)]
     fn by_bits_of<'a>(&self, input: BitIn<'a>) -> (Result<u8, CodeFault>, BitIn<'a>)
@@ -178,11 +223,38 @@ impl Codes {
         ensures kept { IsTable self.now }
     {
         let mut left = input;
+        if let Some(value) = self.by_sixteen_bits(&mut left) {
+            return (Ok(value), left);
+        }
         let result = self.by_bits(&mut left);
         (result, left)
     }
 
-    // The same bit by bit.
+    // Reads the next code word by the next sixteen bits, if so many follow.
+    #[inline(always)]
+    fn by_sixteen_bits(&self, input: &mut BitIn) -> Option<u8>
+        ensures some { IfSome result
+            (λ value. value_at self.now input.old.bytes input.old.cursor
+            ≡ Ok (value, input.new.cursor)) }
+        ensures none { IfNone result (input.new ≡ input.old) }
+        ensures bytes { input.new.bytes ≡ input.old.bytes }
+        ensures kept { IsTable self.now }
+    {
+        // By using the table, what it keeps is known here.
+        let _ = &self.table;
+        let mut ahead = input.copied();
+        let number = match ahead.take(16) {
+            Ok(number) => number,
+            Err(_) => return None,
+        };
+        let (value, size) = self.long(number)?;
+        match input.take(size) {
+            Ok(_) => Some(value),
+            Err(_) => None,
+        }
+    }
+
+    // Bit by bit.
     #[inline(always)]
     fn by_bits(&self, input: &mut BitIn) -> Result<u8, CodeFault>
         ensures ok { IfOk result

@@ -8,13 +8,15 @@
 //!     |-------------|------|---|---|      what begins with each of them, among all words of one length
 //!
 //! `Codes` gives a value's code word, and reads the value of the next word of a scan's bits: a word of at most nine
-//! bits by a table, a longer one bit by bit. Only `PlanCodes`, the words of all components, has memory of its own.
+//! bits by a table, a longer one by where the words of each size end, or bit by bit if fewer than sixteen bits follow.
+//! Only `PlanCodes`, the words of all components, has memory of its own.
 //! Not handled here: what values mean (see `scan_spec`).
 #![tactic(auto)]
 
 mod codes;
 mod fault;
 mod laws;
+mod long_words;
 mod plan_codes;
 mod short_words;
 mod word;

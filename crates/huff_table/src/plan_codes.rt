@@ -15,7 +15,7 @@ pub struct ComponentCodes {
 }
 
 /// The code words of each component of the frame, by its index: none for one that the plan's scan leaves out. They have
-/// 19 KB of memory of their own, so that they are no part of a stack frame. Clauses see the tables.
+/// 20 KB of memory of their own, so that they are no part of a stack frame. Clauses see the tables.
 #[derive(Drop)]
 pub struct PlanCodes {
     components: Vec<ComponentCodes>,

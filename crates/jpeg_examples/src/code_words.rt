@@ -29,6 +29,7 @@ fn words_of_the_standard(rt: HostRuntime) {
     for (component, is_ac, words) in WORDS {
         let codes = codes_at(&rt, &all, *component, *is_ac);
         are_words(&rt, codes, words);
+        assert!(rt; codes.long(0xffff) == None);
         there_and_back(&rt, rt.alloc(), codes, words);
     }
 }
@@ -50,6 +51,7 @@ fn values_without_a_word(rt: HostRuntime) {
     // The frame has two components.
     assert!(rt; codes_at(&rt, &codes, 2, false).word(0) == None);
     assert!(rt; codes_at(&rt, &codes, 3, true).word(0) == None);
+    assert!(rt; codes_at(&rt, &codes, 3, true).long(0) == None);
 }
 
 // Each word is the one stated, and is found by the bits that begin with it.
@@ -60,17 +62,31 @@ fn are_words(rt: &impl Abort, codes: &Codes, words: &[Word]) {
     }
 }
 
-// A word of at most nine bits is found by each nine bits that begin with it, and a longer one by none.
+// A word of at most nine bits is found by each nine bits that begin with it, and a longer one by none, but by each
+// sixteen bits that do.
 fn is_quick(codes: &Codes, value: u8, code: u16, size: u8) -> bool {
     if size > 16 {
         return false;
     }
     if size > 9 {
-        return is_found(codes, code >> (size - 9), None);
+        return is_found(codes, code >> (size - 9), None) && is_long(codes, value, code, size);
     }
     let first = u32::from(code) << (9 - size);
     for index in first..first + (1 << (9 - size)) {
         if index >= 512 || !is_found(codes, index as u16, Some((value, size))) {
+            return false;
+        }
+    }
+    true
+}
+
+fn is_long(codes: &Codes, value: u8, code: u16, size: u8) -> bool {
+    if size < 10 || size > 16 {
+        return false;
+    }
+    let first = u32::from(code) << (16 - size);
+    for number in first..first + (1 << (16 - size)) {
+        if number >= 65536 || codes.long(number as u16) != Some((value, size)) {
             return false;
         }
     }

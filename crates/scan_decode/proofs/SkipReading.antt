@@ -1,4 +1,5 @@
--- What nine bits of a block go past: one symbol, two of them, and the bits that are seen.
+-- What nine bits of a block go past: one symbol, two of them, and the bits that are seen; and a value whose code word is
+-- longer.
 use Rattle.std.proofs.Common.{◌≡◌, ℕ, ◌+◌, ◌-◌, ◌*◌, ◌%◌, ◌^◌, ◌<◌, ◌≤◌, Bool, true, false, if◌then◌else◌, List, [], ◌++◌, length, take, drop, map, set, get_or, ℤ, Some, Result, Ok, Err, refl, sym, ap, ◌∙◌, subst, arith, inl, inr, rules, take_at, take_all, take-take}
 use Rattle.std.proofs.lemmas.Bool.{cases_lt}
 use Rattle.std.proofs.lemmas.List.{drop-take, drop_at, get_or-map, get_or_read, length-map}
@@ -14,6 +15,7 @@ use Rattle.bit_list.proofs.LowBits.{bits_again, low_bits-join, low_bits-same, dr
 use Rattle.bit_list.proofs.Peeking.{peeked_first, length-peeked}
 use Rattle.coef_block.specs.Zigzag.{zigzag}
 use Rattle.huff_table.specs.CodeWords.{word_of}
+use Rattle.huff_table.proofs.LongReading.{long_taken}
 use Rattle.huff_table.specs.ComponentTables.{no_codes}
 use Rattle.huff_table.specs.declared.plan_codes.ComponentCodes.{ComponentCodes}
 use Rattle.jpeg_marker.specs.HuffmanTables.{TableFields, IsTable}
@@ -27,7 +29,7 @@ use Rattle.scan_spec.specs.declared.refusal.ScanRefusal.{ScanRefusal}
 use Rattle.scan_spec.proofs.AcsAgain.{symbol_read, kind_value}
 use Rattle.scan_spec.proofs.BitsTaken.{takes_of}
 use Rattle.scan_decode.specs.BlockSteps.{Going}
-use Rattle.scan_decode.specs.SkipWords.{IsSkipped, blank, index_after, Skips, AreSkips, AreSkipCodes, AreSkipSlots}
+use Rattle.scan_decode.specs.SkipWords.{GoesOn, IsSkipped, blank, index_after, Skips, AreSkips, AreSkipCodes, AreSkipSlots}
 use Rattle.scan_decode.specs.declared.skip_word.SkipWord.{SkipWord}
 use Rattle.scan_decode.proofs.BlockStepLemmas.{value_comes, end_comes, none_left}
 
@@ -141,23 +143,37 @@ skips_end table nine size is few word = record {
       (gone.0, tt, end_comes whole table bytes gone.0 index false from to 0 (omega (arith, room)) read_symbol refl gone.2);
 }
 
--- a value
+-- a value after its code word
+pub value_goes_on : (table : TableFields) (bytes : List ℕ) (from mid to : Cursor) (index symbol zeros more : ℕ) (bits : List Bool) → Ok (symbol, mid) ≡ symbol_at table bytes from → bits_at more bytes mid ≡ Ok (bits, to)
+    → symbol ≡ 16 * zeros + more → zeros < 16 → 1 ≤ more → more ≤ 10 → index + (zeros + 1) ≤ 64 → GoesOn table bytes index from (index + (zeros + 1)) to
+value_goes_on table bytes from mid to index symbol zeros more bits read follow split byte some most room whole gone =
+    let says : Value zeros more ≡ symbol_of (64 - index) false symbol = sym (ap (symbol_of (64 - index) false) split ∙ kind_value (64 - index) zeros more false (omega (arith, room)) byte some most) in
+    let value = extend bits in
+    let there : Ok (value, to) ≡ extended_at more bytes mid = sym (ap (λ (r : Bits). reading.and_then (refused_as bits_refusal r) (λ bits. Ok (extend bits.0, bits.1))) follow) in
+    let comes = value_comes whole table bytes gone.0 index false from mid to symbol zeros more value (omega (arith, room)) read says there gone.2 in
+    let after : index + zeros + 1 ≡ index + (zeros + 1) = omega arith in
+    (set gone.0 (get_or zigzag (index + zeros) 0) value, tt, subst (λ (n : ℕ). Going whole table bytes (set gone.0 (get_or zigzag (index + zeros) 0) value) n false to) after comes)
+
+-- a value whose code word the nine bits begin with
 pub skips_value : (table : TableFields) (nine : List Bool) (symbol size zeros more : ℕ) → IsTable table → size ≤ 9 → word_of table symbol ≡ Some (take size nine) → symbol ≡ 16 * zeros + more → zeros < 16 → 1 ≤ more → more ≤ 10
     → size + more ≤ 16 → Skips table nine (skip_word (size + more) (zeros + 1) false)
 skips_value table nine symbol size zeros more is few word split byte some most fits = record {
   few = fits;
   some = omega arith;
   count = omega (arith, byte);
-  does = λ bytes from to taken index room read agree whole gone.
+  does = λ bytes from to taken index room read agree.
       let p = parts_of size more bytes from to taken read in
       let read_symbol = first_symbol table nine p.front p.back bytes from p.mid symbol size more is few word p.first p.front_long (ap (take 9) (sym p.whole) ∙ agree) in
-      let says : Value zeros more ≡ symbol_of (64 - index) false symbol = sym (ap (symbol_of (64 - index) false) split ∙ kind_value (64 - index) zeros more false (omega (arith, room)) byte some most) in
-      let value = extend p.back in
-      let there : Ok (value, to) ≡ extended_at more bytes p.mid = sym (ap (λ (r : Bits). reading.and_then (refused_as bits_refusal r) (λ bits. Ok (extend bits.0, bits.1))) p.second) in
-      let comes = value_comes whole table bytes gone.0 index false from p.mid to symbol zeros more value (omega (arith, room)) read_symbol says there gone.2 in
-      let after : index + zeros + 1 ≡ index + (zeros + 1) = omega arith in
-      (set gone.0 (get_or zigzag (index + zeros) 0) value, tt, subst (λ (n : ℕ). Going whole table bytes (set gone.0 (get_or zigzag (index + zeros) 0) value) n false to) after comes);
+      value_goes_on table bytes from p.mid to index symbol zeros more p.back read_symbol p.second split byte some most room;
 }
+
+-- a value whose code word sixteen bits begin with
+pub long_goes_on : (table : TableFields) (bytes : List ℕ) (from ahead mid to : Cursor) (number index symbol size zeros more taken after : ℕ) → IsTable table → size ≤ 16 → word_of table symbol ≡ Some (take size (low_bits 16 number))
+    → bits_at 16 bytes from ≡ Ok (low_bits 16 number, ahead) → bits_at size bytes from ≡ Ok (low_bits size taken, mid) → bits_at more bytes mid ≡ Ok (low_bits more after, to)
+    → symbol ≡ 16 * zeros + more → zeros < 16 → 1 ≤ more → more ≤ 10 → index + (zeros + 1) ≤ 64 → GoesOn table bytes index from (index + (zeros + 1)) to
+long_goes_on table bytes from ahead mid to number index symbol size zeros more taken after is few word seen first second split byte some most room =
+    let read = symbol_read table bytes from mid symbol (low_bits size taken) is (word ∙ ap Some (long_taken bytes from ahead mid number size taken few seen first)) (ap (λ (n : ℕ). bits_at n bytes from) (length-low_bits size taken) ∙ first) in
+    value_goes_on table bytes from mid to index symbol zeros more (low_bits more after) (sym read) second split byte some most room
 
 -- one symbol, and another one that the rest of the nine bits begins with
 pub skips_both : (table : TableFields) (nine rest : List Bool) (word more : SkipWord) → Skips table nine word → word.ends ≡ false → Skips table rest more → word.bits + more.bits ≤ 9 → word.coefficients + more.coefficients ≤ 64

@@ -194,8 +194,8 @@ fn skip_acs(words: &[SkipWord; 512], codes: &Codes, input: &mut BitIn) -> Result
     Ok(())
 }
 
-// The zigzag index after the next symbols: those that nine bits begin with, or else up to the first that isn't sixteen
-// zeros.
+// The zigzag index after the next symbols: those that nine bits begin with, or else a value after a longer code word, or
+// else up to the first symbol that isn't sixteen zeros.
 #[inline(always)]
 fn skip_symbols(
     words: &[SkipWord; 512],
@@ -213,10 +213,13 @@ fn skip_symbols(
         (λ refusal. IsRefused codes.now input.old.bytes index input.old.cursor refusal) }
     ensures bytes { input.new.bytes ≡ input.old.bytes }
 {
-    match by_nine_bits(words, codes, input, index) {
-        Some(next) => Ok(next),
-        None => by_symbols_apart(codes, input, index),
+    if let Some(next) = by_nine_bits(words, codes, input, index) {
+        return Ok(next);
     }
+    if let Some(next) = by_long_word(codes, input, index) {
+        return Ok(next);
+    }
+    by_symbols_apart(codes, input, index)
 }
 
 // The zigzag index after the symbols that the next nine bits begin with, if a word has them and its bits are there.
@@ -243,6 +246,42 @@ fn by_nine_bits(
     }
     match input.take(word.bits) {
         Ok(_) => Some(if word.ends { 64 } else { next }),
+        Err(_) => None,
+    }
+}
+
+// The zigzag index after the next value, if its code word is found by sixteen bits and all bits are there.
+#[inline(always)]
+fn by_long_word(codes: &Codes, input: &mut BitIn, index: usize) -> Option<usize>
+    requires { index < 64 }
+    ensures is { IfSome result
+        (λ next. GoesOn codes.now input.old.bytes index input.old.cursor next input.new.cursor) }
+    ensures some { IfSome result (λ next. (index < next) × (next ≤ 64)) }
+    ensures none { IfNone result (input.new ≡ input.old) }
+    ensures bytes { input.new.bytes ≡ input.old.bytes }
+{
+    let mut ahead = input.copied();
+    let number = match ahead.take(16) {
+        Ok(number) => number,
+        Err(_) => return None,
+    };
+    let (symbol, size) = codes.long(number)?;
+    let more = symbol % 16;
+    let next = index + usize::from(symbol / 16 + 1);
+    if more == 0 || more > 10 || next > 64 {
+        return None;
+    }
+    let mut left = input.copied();
+    match left.take(size) {
+        Ok(_) => {}
+        Err(_) => return None,
+    }
+    left.ready();
+    match left.take(more) {
+        Ok(_) => {
+            *input = left;
+            Some(next)
+        }
         Err(_) => None,
     }
 }

@@ -50,4 +50,6 @@ invariant_of-result c =
       words = words ∙ ap₂ (λ a b. placed (replicate 256 no_word) (levels 1 0 a b)) c.counts-counts.ensures.value c.values-values.ensures.value ∙ built c.args.table.now is;
       bytes = c.values-values.ensures.bytes;
       short = c.short_words.ensures;
+      word_ends = c.word_ends.ensures;
+      value_ends = c.value_ends.ensures;
     }

@@ -7,5 +7,5 @@ use Rattle.huff_table.proofs.codes.Codes.none.Goals as goal
 
 pub invariant_of-result : goal.invariant_of-result
 invariant_of-result c =
-    subst (λ (t : TableFields). IsKept (record { table = t; words = replicate 256 no_word; short = replicate 512 no_short }))
+    subst (λ (t : TableFields). IsKept (record { table = t; words = replicate 256 no_word; short = replicate 512 no_short; word_ends = replicate 16 0; value_ends = replicate 16 0 }))
     (sym c.empty.ensures) none_kept
