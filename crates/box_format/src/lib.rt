@@ -50,4 +50,4 @@ pub use reading::{read_box, read_container, read_container_of, segments_named};
 pub use refusal::{BoxRefusal, Migrate};
 pub use version::{Layout, Version};
 pub use view::BoxView;
-pub use writing::{write_container, write_front};
+pub use writing::{write_box, write_container, write_front};

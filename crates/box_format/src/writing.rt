@@ -1,5 +1,5 @@
 // From the parts of scans to the bytes of their container.
-ghost use Rattle.std.specs.Prelude.{◌≡◌, ◌-◌, ◌^◌, ◌<◌, ◌≤◌, min, ◌∷◌, [], ◌++◌, length, map, flat_map, IfOk, IfSome, OnOk, Some, if◌then◌else◌};
+ghost use Rattle.std.specs.Prelude.{◌≡◌, ◌-◌, ◌^◌, ◌<◌, ◌≤◌, false, min, ◌∷◌, [], ◌++◌, length, map, flat_map, IfOk, IfSome, OnOk, Some, if◌then◌else◌};
 ghost use Rattle.std.specs.List.{AllByRecursion};
 ghost use Rattle.byteorder.specs.Endian.{big_bytes};
 ghost use Rattle.handover.specs.HandoverBytes.{handover_bytes};
@@ -8,7 +8,9 @@ ghost use Rattle.box_format.specs.Versions.{layout_of};
 ghost use Rattle.box_format.specs.Parts.{chunk_bytes, list_bytes, magic, pad_byte, place_bytes, records};
 ghost use Rattle.box_format.specs.Containers.{container_bytes, scan_fields, scan_header, scan_streams, trailer_of};
 ghost use Rattle.box_format.specs.Given.{AreGiven, CanGive, all_given, parts_given, scan_room, scans_room};
+ghost use Rattle.box_format.specs.Single.{IsBox, box_bytes};
 ghost use Rattle.box_format.specs.declared.parts.Parts.{Parts as PartsSeen};
+ghost use Rattle.jpeg_marker.specs.Plans.{PlanFields};
 
 use crate::checks::MAGIC;
 use crate::chunk::Chunk;
@@ -18,6 +20,7 @@ use allocation::{NoMemory, extend_from_slice, push, with_capacity};
 use handover::Handover;
 use scan_spec::Pads;
 use std::alloc::Global;
+use std::slice;
 
 /// The most room, in bytes, that a container is given before its first byte: 64 GiB. A longer one grows.
 pub(crate) const MOST_ROOM: usize = 1 << 36;
@@ -37,6 +40,15 @@ pub fn write_container(
     put_front(&mut bytes, version, scans)?;
     put_all_streams(&mut bytes, scans)?;
     Ok(bytes)
+}
+
+/// Writes the container of one scan, in the version that its parts say.
+pub fn write_box(alloc: Global, parts: &Parts) -> Result<Vec<u8>, NoMemory>
+    requires one { (layout_of parts.now.version).several ≡ false }
+    requires parts { (plan : PlanFields) × IsBox plan (parts_given parts.now) }
+    ensures { IfOk result (λ made. made.items ≡ box_bytes (parts_given parts.now)) }
+{
+    write_container(alloc, parts.version, slice::from_ref(parts))
 }
 
 /// Writes all of the container but the streams, which follow in their order.

@@ -1,9 +1,9 @@
--- View: where the code words and the values of each size end, by which a long word is found (own; ITU-T T.81, Figure
--- F.15 keeps the last word of each size, and the index of its first value).
+-- View: where the code words and the values of each size end, by which a word is found (own; ITU-T T.81, Figure F.15
+-- keeps the last word of each size, and the index of its first value).
 use Rattle.std.specs.Prelude.{ℕ, ◌+◌, ◌-◌, ◌*◌, ◌^◌, List, [], ◌∷◌}
 
--- the number after the words of each size, in sixteen bits: `more` of them follow a word of the first size, whose first
--- word is `first`
+-- the number after the words of each size, in sixteen bits, if those of the first size have `more` bits fewer, and begin
+-- with `first`
 abbrev pub word_ends : ℕ → ℕ → List ℕ → List ℕ
 word_ends more first [] = []
 word_ends more first (count ∷ counts) =

@@ -125,43 +125,6 @@ impl Codes {
         Some((found.value, found.size))
     }
 
-    /// The value whose code word sixteen bits begin with, as a number, and how many bits that word has. It may be none
-    /// though they begin with one.
-    #[inline]
-    pub fn long(&self, number: u16) -> Option<(u8, u8)>
-        ensures some { IfSome result
-            (λ found. (1 ≤ found.1) × (found.1 ≤ 16)
-            × (word_of self.now found.0 ≡ Some (take found.1 (low_bits 16 number)))) }
-        ensures kept { IsTable self.now }
-    {
-        // By using the table, what it keeps is known here.
-        let _ = &self.table;
-        let value = self.likely(number)?;
-        let (code, size) = self.word(value)?;
-        if number >> (16 - size) != code {
-            return None;
-        }
-        Some((value, size))
-    }
-
-    // The value whose code word sixteen bits begin with, as a number, if they begin with one. It is found by the ends of
-    // the words, without a branch for each size, and whoever wants it looks at the word.
-    #[inline(always)]
-    fn likely(&self, number: u16) -> Option<u8> {
-        let mut shorter = 0u32;
-        for end in &self.word_ends {
-            shorter += u32::from(*end <= u32::from(number));
-        }
-        if shorter >= 16 {
-            return None;
-        }
-        let more = 15 - shorter;
-        let end = self.word_ends[shorter as usize] >> more;
-        let after = end.checked_sub(u32::from(number >> more))?;
-        let place = self.value_ends[shorter as usize].checked_sub(after)?;
-        self.table.values().get(place as usize).copied()
-    }
-
     /// Reads the next code word, and answers its value. A fault leaves the input after the bits that were read, 16 at
     /// most.
     #[inline(always)]
@@ -185,12 +148,70 @@ impl Codes {
                 return Ok(value);
             }
         }
-        self.by_bits_apart(input)
+        self.without_nine(input)
     }
 
-    // `by_bits_of`, so placed that the room for its answer is cleared only if it is called, and not for each word.
+    /// Reads the next code word by the next sixteen bits, and answers its value. Where it answers none, nothing is
+    /// read: that is so if fewer bits follow, and may be so if they begin with a word.
     #[inline(always)]
-    fn by_bits_apart(&self, input: &mut BitIn) -> Result<u8, CodeFault>
+    pub fn by_sixteen_bits(&self, input: &mut BitIn) -> Option<u8>
+        ensures some { IfSome result
+            (λ value. value_at self.now input.old.bytes input.old.cursor
+            ≡ Ok (value, input.new.cursor)) }
+        ensures none { IfNone result (input.new ≡ input.old) }
+        ensures bytes { input.new.bytes ≡ input.old.bytes }
+        ensures kept { IsTable self.now }
+    {
+        // By using the table, what it keeps is known here.
+        let _ = &self.table;
+        let mut ahead = input.copied();
+        let number = match ahead.take(16) {
+            Ok(number) => number,
+            Err(_) => return None,
+        };
+        let (value, size) = self.word_before(number)?;
+        match input.take(size) {
+            Ok(_) => Some(value),
+            Err(_) => None,
+        }
+    }
+
+    // The value whose code word sixteen bits begin with, as a number, and how many bits that word has.
+    #[inline(always)]
+    fn word_before(&self, number: u16) -> Option<(u8, u8)>
+        ensures { IfSome result
+            (λ found. (1 ≤ found.1) × (found.1 ≤ 16)
+            × (word_of self.now found.0 ≡ Some (take found.1 (low_bits 16 number)))) }
+    {
+        let value = self.likely(number)?;
+        let (code, size) = self.word(value)?;
+        if number >> (16 - size) != code {
+            return None;
+        }
+        Some((value, size))
+    }
+
+    // The value whose code word sixteen bits should begin with, by where the words of each size end, without a branch for
+    // each. That it's the right one isn't proved: `word_before` looks at the word.
+    #[inline(always)]
+    fn likely(&self, number: u16) -> Option<u8> {
+        let mut shorter = 0u32;
+        for end in &self.word_ends {
+            shorter += u32::from(*end <= u32::from(number));
+        }
+        if shorter >= 16 {
+            return None;
+        }
+        let more = 15 - shorter;
+        let end = self.word_ends[shorter as usize] >> more;
+        let after = end.checked_sub(u32::from(number >> more))?;
+        let place = self.value_ends[shorter as usize].checked_sub(after)?;
+        self.table.values().get(place as usize).copied()
+    }
+
+    // `without_nine_of`, so placed that the room for its answer is cleared only if it is called, and not for each word.
+    #[inline(always)]
+    fn without_nine(&self, input: &mut BitIn) -> Result<u8, CodeFault>
         ensures ok { IfOk result
             (λ value. value_at self.now input.old.bytes input.old.cursor
             ≡ Ok (value, input.new.cursor)) }
@@ -202,15 +223,16 @@ impl Codes {
         ensures bytes { input.new.bytes ≡ input.old.bytes }
         ensures kept { IsTable self.now }
     {
-        let (result, left) = self.by_bits_of(input.copied());
+        let (result, left) = self.without_nine_of(input.copied());
         *input = left.copied();
         result
     }
 
-    // For an input by value, so that no address of a local one is passed on.
+    // Reads a code word that nine bits don't tell. The input is by value, so that no address of a local one is passed
+    // on.
     #[cold]
     #[inline(never)]
-    fn by_bits_of<'a>(&self, input: BitIn<'a>) -> (Result<u8, CodeFault>, BitIn<'a>)
+    fn without_nine_of<'a>(&self, input: BitIn<'a>) -> (Result<u8, CodeFault>, BitIn<'a>)
         ensures ok { IfOk result.0
             (λ value. value_at self.now input.entry.bytes input.entry.cursor
             ≡ Ok (value, result.1.cursor)) }
@@ -230,31 +252,7 @@ impl Codes {
         (result, left)
     }
 
-    // Reads the next code word by the next sixteen bits, if so many follow.
-    #[inline(always)]
-    fn by_sixteen_bits(&self, input: &mut BitIn) -> Option<u8>
-        ensures some { IfSome result
-            (λ value. value_at self.now input.old.bytes input.old.cursor
-            ≡ Ok (value, input.new.cursor)) }
-        ensures none { IfNone result (input.new ≡ input.old) }
-        ensures bytes { input.new.bytes ≡ input.old.bytes }
-        ensures kept { IsTable self.now }
-    {
-        // By using the table, what it keeps is known here.
-        let _ = &self.table;
-        let mut ahead = input.copied();
-        let number = match ahead.take(16) {
-            Ok(number) => number,
-            Err(_) => return None,
-        };
-        let (value, size) = self.long(number)?;
-        match input.take(size) {
-            Ok(_) => Some(value),
-            Err(_) => None,
-        }
-    }
-
-    // Bit by bit.
+    // Reads the next code word bit by bit (Figure F.16).
     #[inline(always)]
     fn by_bits(&self, input: &mut BitIn) -> Result<u8, CodeFault>
         ensures ok { IfOk result

@@ -1,4 +1,5 @@
-// Where the code words and the values of each size end (ITU-T T.81, Figure F.15).
+// Where the code words and the values of each size end (own; T.81, Figure F.15 keeps the last words and the first
+// values).
 ghost use Rattle.std.specs.Prelude.{◌≡◌, ◌*◌, ◌^◌, ◌≤◌};
 ghost use Rattle.huff_table.specs.LongWords.{word_ends, value_ends};
 

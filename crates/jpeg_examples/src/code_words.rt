@@ -29,7 +29,7 @@ fn words_of_the_standard(rt: HostRuntime) {
     for (component, is_ac, words) in WORDS {
         let codes = codes_at(&rt, &all, *component, *is_ac);
         are_words(&rt, codes, words);
-        assert!(rt; codes.long(0xffff) == None);
+        assert!(rt; codes.by_sixteen_bits(&mut BitIn::at(&[0xff, 0, 0xff, 0], 0, 0)) == None);
         there_and_back(&rt, rt.alloc(), codes, words);
     }
 }
@@ -51,7 +51,6 @@ fn values_without_a_word(rt: HostRuntime) {
     // The frame has two components.
     assert!(rt; codes_at(&rt, &codes, 2, false).word(0) == None);
     assert!(rt; codes_at(&rt, &codes, 3, true).word(0) == None);
-    assert!(rt; codes_at(&rt, &codes, 3, true).long(0) == None);
 }
 
 // Each word is the one stated, and is found by the bits that begin with it.
@@ -62,14 +61,13 @@ fn are_words(rt: &impl Abort, codes: &Codes, words: &[Word]) {
     }
 }
 
-// A word of at most nine bits is found by each nine bits that begin with it, and a longer one by none, but by each
-// sixteen bits that do.
+// A word of at most nine bits is found by each nine bits that begin with it, and a longer one by none.
 fn is_quick(codes: &Codes, value: u8, code: u16, size: u8) -> bool {
     if size > 16 {
         return false;
     }
     if size > 9 {
-        return is_found(codes, code >> (size - 9), None) && is_long(codes, value, code, size);
+        return is_found(codes, code >> (size - 9), None);
     }
     let first = u32::from(code) << (9 - size);
     for index in first..first + (1 << (9 - size)) {
@@ -80,30 +78,22 @@ fn is_quick(codes: &Codes, value: u8, code: u16, size: u8) -> bool {
     true
 }
 
-fn is_long(codes: &Codes, value: u8, code: u16, size: u8) -> bool {
-    if size < 10 || size > 16 {
-        return false;
-    }
-    let first = u32::from(code) << (16 - size);
-    for number in first..first + (1 << (16 - size)) {
-        if number >= 65536 || codes.long(number as u16) != Some((value, size)) {
-            return false;
-        }
-    }
-    true
-}
-
 fn is_found(codes: &Codes, index: u16, found: Option<(u8, u8)>) -> bool {
     index < 512 && codes.quick(index) == found
 }
 
-// Words that are written one after the other are read as their values.
+// Words that are written one after the other are read as their values, also by sixteen bits.
 fn there_and_back(rt: &impl Abort, alloc: Global, codes: &Codes, words: &[Word]) {
     let mut out = Piece::new(alloc).expect(rt, "memory");
     put_words(rt, words, &mut out);
+    assert!(rt; out.len() < 1000);
+    out.push(0);
+    out.push(0);
     let mut input = BitIn::at(out.bytes(), 0, 0);
+    let mut same = BitIn::at(out.bytes(), 0, 0);
     for (value, _, _) in words {
         assert!(rt; codes.next(&mut input) == Ok(*value), "{value}");
+        assert!(rt; codes.by_sixteen_bits(&mut same) == Some(*value), "{value}");
     }
 }
 

@@ -11,7 +11,8 @@ use jpeg_marker::Plan;
 use segment_code::find_starts;
 use std::alloc::Global;
 
-/// What the header of a file of one scan says. If the file has several scans, all are read, and the answer is the first refusal from left to right, or else `ManyScans`.
+/// What the header of a file of one scan says. If the file has several scans, all are read, and the answer is the first
+/// refusal from left to right, or else `ManyScans`.
 #[inline(never)]
 pub fn read_one_scan(alloc: Global, bytes: &[u8]) -> Result<Plan, OneScanError>
     requires length { length bytes.now < 2 ^ 32 }

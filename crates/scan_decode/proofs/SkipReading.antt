@@ -1,5 +1,4 @@
--- What nine bits of a block go past: one symbol, two of them, and the bits that are seen; and a value whose code word is
--- longer.
+-- What nine bits of a block go past: one symbol, two of them, and the bits that are seen; and what a value goes past.
 use Rattle.std.proofs.Common.{◌≡◌, ℕ, ◌+◌, ◌-◌, ◌*◌, ◌%◌, ◌^◌, ◌<◌, ◌≤◌, Bool, true, false, if◌then◌else◌, List, [], ◌++◌, length, take, drop, map, set, get_or, ℤ, Some, Result, Ok, Err, refl, sym, ap, ◌∙◌, subst, arith, inl, inr, rules, take_at, take_all, take-take}
 use Rattle.std.proofs.lemmas.Bool.{cases_lt}
 use Rattle.std.proofs.lemmas.List.{drop-take, drop_at, get_or-map, get_or_read, length-map}
@@ -15,7 +14,6 @@ use Rattle.bit_list.proofs.LowBits.{bits_again, low_bits-join, low_bits-same, dr
 use Rattle.bit_list.proofs.Peeking.{peeked_first, length-peeked}
 use Rattle.coef_block.specs.Zigzag.{zigzag}
 use Rattle.huff_table.specs.CodeWords.{word_of}
-use Rattle.huff_table.proofs.LongReading.{long_taken}
 use Rattle.huff_table.specs.ComponentTables.{no_codes}
 use Rattle.huff_table.specs.declared.plan_codes.ComponentCodes.{ComponentCodes}
 use Rattle.jpeg_marker.specs.HuffmanTables.{TableFields, IsTable}
@@ -166,14 +164,6 @@ skips_value table nine symbol size zeros more is few word split byte some most f
       let read_symbol = first_symbol table nine p.front p.back bytes from p.mid symbol size more is few word p.first p.front_long (ap (take 9) (sym p.whole) ∙ agree) in
       value_goes_on table bytes from p.mid to index symbol zeros more p.back read_symbol p.second split byte some most room;
 }
-
--- a value whose code word sixteen bits begin with
-pub long_goes_on : (table : TableFields) (bytes : List ℕ) (from ahead mid to : Cursor) (number index symbol size zeros more taken after : ℕ) → IsTable table → size ≤ 16 → word_of table symbol ≡ Some (take size (low_bits 16 number))
-    → bits_at 16 bytes from ≡ Ok (low_bits 16 number, ahead) → bits_at size bytes from ≡ Ok (low_bits size taken, mid) → bits_at more bytes mid ≡ Ok (low_bits more after, to)
-    → symbol ≡ 16 * zeros + more → zeros < 16 → 1 ≤ more → more ≤ 10 → index + (zeros + 1) ≤ 64 → GoesOn table bytes index from (index + (zeros + 1)) to
-long_goes_on table bytes from ahead mid to number index symbol size zeros more taken after is few word seen first second split byte some most room =
-    let read = symbol_read table bytes from mid symbol (low_bits size taken) is (word ∙ ap Some (long_taken bytes from ahead mid number size taken few seen first)) (ap (λ (n : ℕ). bits_at n bytes from) (length-low_bits size taken) ∙ first) in
-    value_goes_on table bytes from mid to index symbol zeros more (low_bits more after) (sym read) second split byte some most room
 
 -- one symbol, and another one that the rest of the nine bits begins with
 pub skips_both : (table : TableFields) (nine rest : List Bool) (word more : SkipWord) → Skips table nine word → word.ends ≡ false → Skips table rest more → word.bits + more.bits ≤ 9 → word.coefficients + more.coefficients ≤ 64

@@ -60,7 +60,7 @@ fn step_of(left: usize, loose: bool, symbol: u8) -> Step
     Step::Value { zeros, size }
 }
 
-/// What one symbol says.
+/// Reads the next symbol, and puts its value into `out` if it has one. Answers where the next one is.
 #[inline(always)]
 pub(crate) fn go_on<T: Target>(
     codes: &Codes,

@@ -194,8 +194,8 @@ fn skip_acs(words: &[SkipWord; 512], codes: &Codes, input: &mut BitIn) -> Result
     Ok(())
 }
 
-// The zigzag index after the next symbols: those that nine bits begin with, or else a value after a longer code word, or
-// else up to the first symbol that isn't sixteen zeros.
+// The zigzag index after the next symbols: those that nine bits begin with, or else a value whose code word sixteen
+// bits begin with, or else up to the first symbol that isn't sixteen zeros.
 #[inline(always)]
 fn skip_symbols(
     words: &[SkipWord; 512],
@@ -216,7 +216,7 @@ fn skip_symbols(
     if let Some(next) = by_nine_bits(words, codes, input, index) {
         return Ok(next);
     }
-    if let Some(next) = by_long_word(codes, input, index) {
+    if let Some(next) = by_sixteen_bits(codes, input, index) {
         return Ok(next);
     }
     by_symbols_apart(codes, input, index)
@@ -250,9 +250,9 @@ fn by_nine_bits(
     }
 }
 
-// The zigzag index after the next value, if its code word is found by sixteen bits and all bits are there.
+// The zigzag index after the next value, if its code word is found by sixteen bits and its bits are there.
 #[inline(always)]
-fn by_long_word(codes: &Codes, input: &mut BitIn, index: usize) -> Option<usize>
+fn by_sixteen_bits(codes: &Codes, input: &mut BitIn, index: usize) -> Option<usize>
     requires { index < 64 }
     ensures is { IfSome result
         (λ next. GoesOn codes.now input.old.bytes index input.old.cursor next input.new.cursor) }
@@ -260,21 +260,12 @@ fn by_long_word(codes: &Codes, input: &mut BitIn, index: usize) -> Option<usize>
     ensures none { IfNone result (input.new ≡ input.old) }
     ensures bytes { input.new.bytes ≡ input.old.bytes }
 {
-    let mut ahead = input.copied();
-    let number = match ahead.take(16) {
-        Ok(number) => number,
-        Err(_) => return None,
-    };
-    let (symbol, size) = codes.long(number)?;
+    let mut left = input.copied();
+    let symbol = codes.by_sixteen_bits(&mut left)?;
     let more = symbol % 16;
     let next = index + usize::from(symbol / 16 + 1);
     if more == 0 || more > 10 || next > 64 {
         return None;
-    }
-    let mut left = input.copied();
-    match left.take(size) {
-        Ok(_) => {}
-        Err(_) => return None,
     }
     left.ready();
     match left.take(more) {
