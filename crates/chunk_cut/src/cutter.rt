@@ -73,48 +73,10 @@ impl<'a> ChunkCutter<'a> {
 
     /// The container, of version 3, of one of the file's chunks of `size` bytes, the one with number `index`, of which
     /// the first is 0; none if the file ends before it. It has at most `segments` segments, and at most as many as the
-    /// chunk has rows. At most 16 are coded at the same time, in threads if these can be had.
+    /// chunk has rows. The coder is `InThreads`, for at most 16 of them at the same time, or `Alone`, for one after
+    /// another on the calling thread.
     #[inline(never)]
-    pub fn cut<R: Threads + Sync>(
-        &self,
-        rt: &R,
-        alloc: Global,
-        segments: u8,
-        size: u64,
-        index: u64,
-    ) -> Result<Option<Vec<u8>>, NoMemory>
-        requires some { 0 < segments }
-        requires few { segments ≤ (layout_of Third).most }
-        requires size { 0 < size }
-        ensures made { IfOk result (λ cut. IfSome cut
-            (λ made. IsChunkOf segments size index made.items self.now)) }
-        ensures none { IfOk result (λ cut. IfNone cut (length self.now ≤ index * size)) }
-    {
-        self.cut_by(&InThreads { rt }, alloc, segments, size, index)
-    }
-
-    /// What `cut` gives, on the calling thread: the segments are coded one after another.
-    #[inline(never)]
-    pub fn cut_alone(
-        &self,
-        alloc: Global,
-        segments: u8,
-        size: u64,
-        index: u64,
-    ) -> Result<Option<Vec<u8>>, NoMemory>
-        requires some { 0 < segments }
-        requires few { segments ≤ (layout_of Third).most }
-        requires size { 0 < size }
-        ensures made { IfOk result (λ cut. IfSome cut
-            (λ made. IsChunkOf segments size index made.items self.now)) }
-        ensures none { IfOk result (λ cut. IfNone cut (length self.now ≤ index * size)) }
-    {
-        self.cut_by(&Alone, alloc, segments, size, index)
-    }
-
-    // The container of a chunk, whose segments are coded so.
-    #[inline(never)]
-    fn cut_by<C: ScanCoder>(
+    pub fn cut<C: ScanCoder>(
         &self,
         coder: &C,
         alloc: Global,
@@ -207,7 +169,7 @@ pub fn cut_chunk<R: Threads + Sync>(
         Ok(cutter) => cutter,
         Err(error) => return Err(error),
     };
-    match cutter.cut(rt, alloc, segments, size, index)? {
+    match cutter.cut(&InThreads { rt }, alloc, segments, size, index)? {
         Some(made) => Ok(made),
         None => Err(CutError::NoChunk),
     }
@@ -239,7 +201,7 @@ pub fn cut_chunk_alone(
         Ok(cutter) => cutter,
         Err(error) => return Err(error),
     };
-    match cutter.cut_alone(alloc, segments, size, index)? {
+    match cutter.cut(&Alone, alloc, segments, size, index)? {
         Some(made) => Ok(made),
         None => Err(CutError::NoChunk),
     }

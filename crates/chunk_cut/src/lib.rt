@@ -13,3 +13,4 @@ mod rows;
 
 pub use cutter::{ChunkCutter, cut_chunk, cut_chunk_alone};
 pub use error::CutError;
+pub use lepton_encode::{Alone, InThreads, ScanCoder};

@@ -9,7 +9,7 @@ use crate::parts::{
     ZEROS,
 };
 use handover::StreamCause;
-use lepton_decode::{DecodeError, prepare, run};
+use lepton_decode::{DecodeError, Workers, prepare, run};
 use outside_core::{MemSink, OpenGate};
 use std::alloc::{AllocError, Global};
 use std::process::Abort;
@@ -516,7 +516,7 @@ fn decoded<R: Threads + Wait + Sync>(
 ) -> End
     requires { 1 ≤ ring }
 {
-    match prepare(alloc, container, workers, ring) {
+    match prepare(alloc, container, Workers::Given(workers), ring) {
         Ok(mut ready) => end_of(run(&mut ready, rt, sink, &OpenGate)),
         Err(_) => End::NotBegun,
     }

@@ -1,5 +1,5 @@
 // All chunks of a file, by one reading of its scan.
-use chunk_cut::ChunkCutter;
+use chunk_cut::{ChunkCutter, InThreads};
 use std::alloc::Global;
 use std::thread::Threads;
 
@@ -19,7 +19,9 @@ pub(crate) fn cut_all<R: Threads + Sync>(
     let chunks = cutter.chunks(size);
     let mut made: u64 = 0;
     for index in 0..chunks {
-        let container = cutter.cut(rt, alloc, segments, size, index).ok()??;
+        let container = cutter
+            .cut(&InThreads { rt }, alloc, segments, size, index)
+            .ok()??;
         made = made.saturating_add(container.len() as u64);
     }
     Some((chunks, made))

@@ -25,4 +25,5 @@ pub use alone::{ReadyAlone, prepare_alone, run_alone};
 pub use error::DecodeError;
 pub use playing::{Lone, play, play_alone, play_bare};
 pub use portion::Portion;
-pub use ready::{Ready, ample_ring, crew_for, prepare, prepare_worth, run};
+pub use ready::{Ready, ample_ring, crew_for, prepare, run};
+pub use segment_crew::Workers;

@@ -7,7 +7,7 @@ ghost use Rattle.box_format.specs.Containers.{IsContainer, segment_count};
 ghost use Rattle.box_format.specs.Checks.{IsRefused};
 ghost use Rattle.segment_worker.specs.Contents.{stretch};
 ghost use Rattle.segment_crew.specs.Crews.{HasBegunItsClaims};
-ghost use Rattle.segment_crew.specs.Worth.{workers_worth};
+ghost use Rattle.segment_crew.specs.Worth.{workers_of};
 ghost use Rattle.lepton_decode.specs.Ends.{Ends, HasEmitted, HaveLeft, meaning_in, team_in};
 
 use crate::error::DecodeError;
@@ -16,7 +16,7 @@ use crate::portion::meant;
 use allocation::NoMemory;
 use box_format::{BoxRefusal, FileView, ReadError, read_container, segments_named};
 use outside_core::{Gate, Sink};
-use segment_crew::{Crew, workers_worth};
+use segment_crew::{Crew, Workers, workers_of};
 use std::alloc::Global;
 use std::marker::Model;
 use std::sync::Wait;
@@ -53,19 +53,24 @@ impl<'a> Ready<'a> {
     }
 }
 
-/// Reads a container's scans, and allocates all the memory that its decoding by `workers` workers needs: for the
-/// emitter and each worker a piece of bytes, and for each scan the bins and two MCU rows of blocks; and for each
-/// segment a ring of `ring` bytes. No more workers are made than the container has segments. With 0 workers the emitter
-/// decodes all. If the container has no segment, there is no board.
+/// Reads a container's scans, and allocates all the memory that its decoding by these workers needs: for the emitter
+/// and each worker a piece of bytes, and for each scan the bins and two MCU rows of blocks; and for each segment a ring
+/// of `ring` bytes. No more workers are made than the container has segments. With 0 workers the emitter decodes all.
+/// If the container has no segment, there is no board.
 #[inline(never)]
-pub fn prepare(alloc: Global, bytes: &[u8], workers: u8, ring: u32) -> Result<Ready<'_>, ReadError>
+pub fn prepare(
+    alloc: Global,
+    bytes: &[u8],
+    workers: Workers,
+    ring: u32,
+) -> Result<Ready<'_>, ReadError>
     requires { 1 ≤ ring }
     ensures ready { IfOk result (λ ready. IsContainer ready.scans bytes.now) }
     ensures fresh { IfOk result (λ ready. ready.used ≡ false) }
     ensures crew { IfOk result (λ ready.
         is_some ready.crew ≡ nat_lt 0 (segment_count ready.scans)) }
-    ensures team { IfOk result (λ ready.
-        length (team_in ready.crew) ≡ min workers (segment_count ready.scans)) }
+    ensures team { IfOk result (λ ready. length (team_in ready.crew)
+        ≡ min (workers_of ready.scans (segment_count ready.scans) workers) (segment_count ready.scans)) }
     ensures rings { IfOk result (λ ready.
         IfSome ready.crew (λ crew. crew.emitter.view.capacity ≡ ring)) }
     ensures refused { (refusal : BoxRefusal) → IsErrOf result (ReadError.Box refusal)
@@ -83,40 +88,6 @@ pub fn prepare(alloc: Global, bytes: &[u8], workers: u8, ring: u32) -> Result<Re
     })
 }
 
-/// The same, by as many workers as the container is worth (`workers_worth`), `most` at most: about one for each 8,192
-/// of its blocks. So a small container has none.
-#[inline(never)]
-pub fn prepare_worth(
-    alloc: Global,
-    bytes: &[u8],
-    most: u8,
-    ring: u32,
-) -> Result<Ready<'_>, ReadError>
-    requires { 1 ≤ ring }
-    ensures ready { IfOk result (λ ready. IsContainer ready.scans bytes.now) }
-    ensures fresh { IfOk result (λ ready. ready.used ≡ false) }
-    ensures crew { IfOk result (λ ready.
-        is_some ready.crew ≡ nat_lt 0 (segment_count ready.scans)) }
-    ensures team { IfOk result (λ ready. length (team_in ready.crew)
-        ≡ min (workers_worth ready.scans (segment_count ready.scans) most) (segment_count ready.scans)) }
-    ensures rings { IfOk result (λ ready.
-        IfSome ready.crew (λ crew. crew.emitter.view.capacity ≡ ring)) }
-    ensures refused { (refusal : BoxRefusal) → IsErrOf result (ReadError.Box refusal)
-        → IsRefused bytes.now refusal }
-{
-    let view = match read_container(alloc, bytes) {
-        Ok(view) => view,
-        Err(why) => return Err(why),
-    };
-    let workers = workers_worth(&view, view.segments(), most);
-    let crew = crew_for(alloc, &view, 0, view.segments(), workers, ring)?;
-    Ok(Ready {
-        view,
-        crew,
-        used: false,
-    })
-}
-
 /// The crew of `count` of a container's segments, from number `first` on, if there is one: no more workers than
 /// segments.
 #[inline(never)]
@@ -125,7 +96,7 @@ pub fn crew_for<'a>(
     view: &FileView<'a>,
     first: u8,
     count: u8,
-    workers: u8,
+    workers: Workers,
     ring: u32,
 ) -> Result<Option<Crew<'a>>, NoMemory>
     requires ring { 1 ≤ ring }
@@ -134,13 +105,15 @@ pub fn crew_for<'a>(
     ensures segments { IfOk result (λ crew.
         IfSome crew (λ made. made.segments ≡ stretch view.now first count)) }
     ensures fresh { IfOk result (λ crew. IfSome crew (λ made. made.used ≡ false)) }
-    ensures team { IfOk result (λ crew. length (team_in crew) ≡ min workers count) }
+    ensures team { IfOk result
+        (λ crew. length (team_in crew) ≡ min (workers_of view.now count workers) count) }
     ensures rings { IfOk result (λ crew.
         IfSome crew (λ made. made.emitter.view.capacity ≡ ring)) }
 {
     if count == 0 {
         return Ok(None);
     }
+    let workers = workers_of(view, count, workers);
     let crew = Crew::prepare(alloc, view, first, count, workers, ring)?;
     Ok(Some(crew))
 }

@@ -16,12 +16,11 @@ use crate::writing::write_made;
 use box_format::ReadError;
 use chunk_cut::{CutError, cut_chunk};
 use command_words::Command;
-use lepton_decode::{DecodeError, ample_ring, prepare_alone, prepare_worth, run, run_alone};
+use lepton_decode::{DecodeError, Workers, ample_ring, prepare, prepare_alone, run, run_alone};
 use lepton_encode::EncodeError;
 use outside_core::{Gate, Sink};
 use range_read::{
-    IndexError, RangeError, Ranged, prepare_range_alone, prepare_range_worth, run_range,
-    run_range_alone,
+    IndexError, RangeError, Ranged, prepare_range, prepare_range_alone, run_range, run_range_alone,
 };
 use segment_worker::EmitStop;
 use std::alloc::Global;
@@ -113,7 +112,7 @@ fn decode<R: Threads + Wait + Sync, K: Sink + Send, G: Gate + Sync>(
         result }
     ensures lasting { K.faults sink.old ≤ K.faults sink.new }
 {
-    let mut ready = match prepare_worth(alloc, bytes, workers, ample_ring(bytes)) {
+    let mut ready = match prepare(alloc, bytes, Workers::Worth(workers), ample_ring(bytes)) {
         Ok(ready) => ready,
         Err(ReadError::Box(refusal)) => return Ending::Refused(Refusal::Box(refusal)),
         Err(ReadError::NoMemory(short)) => return Ending::NoMemory(short),
@@ -230,7 +229,14 @@ fn range<R: Threads + Wait + Sync, K: Sink + Send, G: Gate + Sync>(
         sink.new result }
     ensures lasting { K.faults sink.old ≤ K.faults sink.new }
 {
-    let mut ready = match prepare_range_worth(alloc, bytes, from, to, workers, ample_ring(bytes)) {
+    let mut ready = match prepare_range(
+        alloc,
+        bytes,
+        from,
+        to,
+        Workers::Worth(workers),
+        ample_ring(bytes),
+    ) {
         Ok(ready) => ready,
         Err(RangeError::Box(refusal)) => return Ending::Refused(Refusal::Box(refusal)),
         Err(RangeError::RangeBad) => return Ending::Refused(Refusal::RangeBad),

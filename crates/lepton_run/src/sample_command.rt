@@ -15,7 +15,7 @@ use crate::line::Line;
 use crate::writing::write_made;
 use allocation::NoMemory;
 use box_format::ReadError;
-use lepton_decode::{ample_ring, prepare};
+use lepton_decode::{Workers, ample_ring, prepare};
 use lepton_encode::EncodeError;
 use outside_core::{Compare, Gate, Sink};
 use sample_jpeg::sample;
@@ -100,7 +100,7 @@ fn restored<R: Threads + Wait + Sync, G: Gate + Sync>(
     requires container { IsContainerOf Second (sample_segments ∷ []) made.now file.now }
     ensures { IfOk result (λ restored. restored ≡ length file.now) }
 {
-    let mut ready = match prepare(alloc, made, WORKERS, ample_ring(made)) {
+    let mut ready = match prepare(alloc, made, Workers::Given(WORKERS), ample_ring(made)) {
         Ok(ready) => ready,
         Err(ReadError::NoMemory(short)) => return Err(short),
         Err(ReadError::Box(_)) => unreachable!(),

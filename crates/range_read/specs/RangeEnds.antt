@@ -5,7 +5,8 @@ use Rattle.box_format.specs.Parts.{BoxParts, BoxSeen}
 use Rattle.byte_window.specs.PartedFiles.{begun_within, parts_within}
 use Rattle.container_spec.specs.RangeMeanings.{RangeMeaning, placed_file, range_meaning}
 use Rattle.segment_crew.specs.Crews.{CrewSeen}
-use Rattle.segment_crew.specs.Worth.{workers_worth}
+use Rattle.segment_crew.specs.Worth.{workers_of}
+use Rattle.segment_crew.specs.declared.worth.Workers.{Workers}
 use Rattle.segment_worker.specs.Contents.{Stretch, stretch}
 use Rattle.outside_core.specs.Written.{HasWritten, HasFailed}
 use Rattle.segment_worker.specs.declared.emitted.EmitStop.{EmitStop}
@@ -58,10 +59,10 @@ abbrev pub lone_stretch_in : LoneRangeSeen → Stretch
 lone_stretch_in ready =
     stretch_between (record { plan = ready.plan; parts = ready.parts }) ready.from ready.to
 
--- how many workers these are worth, if there may be `most`
-abbrev pub workers_in : RangeSeen → ℕ → ℕ
-workers_in ready most =
-    workers_worth (record { plan = ready.plan; parts = ready.parts } ∷ []) (stretch_in ready).count most
+-- how many workers decode these
+abbrev pub workers_in : RangeSeen → Workers → ℕ
+workers_in ready workers =
+    workers_of (record { plan = ready.plan; parts = ready.parts } ∷ []) (stretch_in ready).count workers
 
 -- how a portion that is a range may end: nothing is asked of its pad bits or of its length
 abbrev pub CanEndRange : Result ℕ DecodeError → Type 0

@@ -28,4 +28,4 @@ pub use alone::{ReadyRangeAlone, prepare_range_alone, run_range_alone};
 pub use error::{IndexError, RangeError};
 pub use indexing::{index, index_alone};
 pub use reading::{Ranged, run_range};
-pub use ready::{ReadyRange, prepare_range, prepare_range_worth};
+pub use ready::{ReadyRange, prepare_range};

@@ -15,7 +15,7 @@ use crate::error::RangeError;
 use crate::one_scan::OneScan;
 use box_format::{ReadError, Version};
 use lepton_decode::crew_for;
-use segment_crew::{Crew, workers_worth};
+use segment_crew::{Crew, Workers};
 use std::alloc::Global;
 use std::marker::Model;
 
@@ -57,61 +57,16 @@ impl<'a> ReadyRange<'a> {
 }
 
 /// Reads a container's parts, and allocates all the memory that reading the file's bytes from place `from` to before
-/// place `to` needs: for the emitter and each of at most `workers` workers the bins, two MCU rows of blocks and a piece
-/// of bytes, and for each segment with a place in the range a ring of `ring` bytes. No more workers are made than such
-/// segments. With 0 workers the emitter decodes all. If no segment has a place there, there is no board.
+/// place `to` needs: for the emitter and each of these workers the bins, two MCU rows of blocks and a piece of bytes,
+/// and for each segment with a place in the range a ring of `ring` bytes. No more workers are made than such segments.
+/// With 0 workers the emitter decodes all. If no segment has a place there, there is no board.
 #[inline(never)]
 pub fn prepare_range(
     alloc: Global,
     bytes: &[u8],
     from: u64,
     to: u64,
-    workers: u8,
-    ring: u32,
-) -> Result<ReadyRange<'_>, RangeError>
-    requires { 1 ≤ ring }
-    ensures ready { IfOk result (λ ready. IsBoxOf ready.plan ready.parts bytes.now) }
-    ensures version { IfOk result (λ ready. IsRead ranged ready.parts.version) }
-    ensures from { IfOk result (λ ready. ready.from ≡ from) }
-    ensures to { IfOk result (λ ready. ready.to ≡ to) }
-    ensures good { IfOk result (λ ready. is_bad_range ready.parts from to ≡ false) }
-    ensures fresh { IfOk result (λ ready. ready.used ≡ false) }
-    ensures crew { IfOk result (λ ready. is_some ready.crew ≡ nat_lt 0 (stretch_in ready).count) }
-    ensures segments { IfOk result (λ ready.
-        IfSome ready.crew (λ crew. crew.segments ≡ stretch_in ready)) }
-    ensures team { IfOk result (λ ready.
-        length (team_in ready.crew) ≡ min workers (stretch_in ready).count) }
-    ensures rings { IfOk result (λ ready.
-        IfSome ready.crew (λ crew. crew.emitter.view.capacity ≡ ring)) }
-    ensures refused { (refusal : BoxRefusal) → IsErrOf result (RangeError.Box refusal)
-        → IsRefusedBy ranged bytes.now refusal }
-    ensures bad { IsErrOf result RangeError.RangeBad → (plan : PlanFields) × (b : BoxParts)
-        × IsBoxOf plan b bytes.now × IsRead ranged b.version × (is_bad_range b from to ≡ true) }
-{
-    let scan = match read_ranged(alloc, bytes, from, to) {
-        Ok(scan) => scan,
-        Err(error) => return Err(error),
-    };
-    let (first, past) = segments_within(scan.view(), from, to);
-    let crew = crew_for(alloc, scan.file(), first, past - first, workers, ring)?;
-    Ok(ReadyRange {
-        scan,
-        from,
-        to,
-        crew,
-        used: false,
-    })
-}
-
-/// The same, by as many workers as the segments with a place in the range are worth (`workers_worth`), `most` at most:
-/// about one for each 8,192 of their blocks. So a small range has none.
-#[inline(never)]
-pub fn prepare_range_worth(
-    alloc: Global,
-    bytes: &[u8],
-    from: u64,
-    to: u64,
-    most: u8,
+    workers: Workers,
     ring: u32,
 ) -> Result<ReadyRange<'_>, RangeError>
     requires { 1 ≤ ring }
@@ -125,7 +80,7 @@ pub fn prepare_range_worth(
     ensures segments { IfOk result (λ ready.
         IfSome ready.crew (λ crew. crew.segments ≡ stretch_in ready)) }
     ensures team { IfOk result (λ ready. length (team_in ready.crew)
-        ≡ min (workers_in ready most) (stretch_in ready).count) }
+        ≡ min (workers_in ready workers) (stretch_in ready).count) }
     ensures rings { IfOk result (λ ready.
         IfSome ready.crew (λ crew. crew.emitter.view.capacity ≡ ring)) }
     ensures refused { (refusal : BoxRefusal) → IsErrOf result (RangeError.Box refusal)
@@ -138,7 +93,6 @@ pub fn prepare_range_worth(
         Err(error) => return Err(error),
     };
     let (first, past) = segments_within(scan.view(), from, to);
-    let workers = workers_worth(scan.file(), past - first, most);
     let crew = crew_for(alloc, scan.file(), first, past - first, workers, ring)?;
     Ok(ReadyRange {
         scan,

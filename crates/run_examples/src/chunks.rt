@@ -2,7 +2,7 @@
 ghost use Rattle.std.specs.Prelude.{◌<◌, ◌^◌, length};
 
 use crate::trial::{assert_holds, comes_back};
-use chunk_cut::{ChunkCutter, CutError, cut_chunk};
+use chunk_cut::{Alone, ChunkCutter, CutError, InThreads, cut_chunk};
 use jpeg_marker::HeaderRefusal;
 use outside_core::OpenGate;
 use sample_jpeg::sample;
@@ -36,7 +36,7 @@ fn come_back<R: Threads + Wait + Sync + Abort>(
     let mut rest = file;
     for index in 0..count {
         let (chunk, after) = rest.split_at((rest.len() as u64).min(size) as usize);
-        let Ok(Some(made)) = cutter.cut(rt, alloc, 2, size, index) else {
+        let Ok(Some(made)) = cutter.cut(&InThreads { rt }, alloc, 2, size, index) else {
             return false;
         };
         if !comes_back(rt, alloc, made.as_slice(), chunk, 2, 4_096, &OpenGate) {
@@ -44,21 +44,15 @@ fn come_back<R: Threads + Wait + Sync + Abort>(
         }
         rest = after;
     }
-    rest.is_empty() && cutter.chunks(size) == count && ends(rt, alloc, &cutter, size, count)
+    rest.is_empty() && cutter.chunks(size) == count && ends(alloc, &cutter, size, count)
 }
 
 // Whether there is no chunk with this number, nor one whose place no 64 bits hold.
-fn ends<R: Threads + Sync>(
-    rt: &R,
-    alloc: Global,
-    cutter: &ChunkCutter,
-    size: u64,
-    count: u64,
-) -> bool
+fn ends(alloc: Global, cutter: &ChunkCutter, size: u64, count: u64) -> bool
     requires { 0 < size }
 {
-    matches!(cutter.cut(rt, alloc, 1, size, count), Ok(None))
-        && matches!(cutter.cut(rt, alloc, 1, u64::MAX, 2), Ok(None))
+    matches!(cutter.cut(&Alone, alloc, 1, size, count), Ok(None))
+        && matches!(cutter.cut(&Alone, alloc, 1, u64::MAX, 2), Ok(None))
 }
 
 // A single chunk is the cutter's; bytes that are no file have no chunk at all.
@@ -79,7 +73,7 @@ fn is_cut<R: Threads + Sync>(rt: &R, alloc: Global, file: &[u8]) -> bool
     let Ok(cutter) = ChunkCutter::prepare(alloc, file) else {
         return false;
     };
-    let Ok(Some(made)) = cutter.cut(rt, alloc, 3, 300, 1) else {
+    let Ok(Some(made)) = cutter.cut(&Alone, alloc, 3, 300, 1) else {
         return false;
     };
     match cut_chunk(rt, alloc, file, 3, 300, 1) {

@@ -5,6 +5,7 @@ use crate::rows::TWO_INTERVALS;
 use crate::samples::Visits;
 use crate::trial::{NONE, assert_holds, run_past};
 use box_format::read_box;
+use lepton_decode::Workers;
 use lepton_encode::{encode, encode_placed};
 use outside_core::{MemSink, OpenGate};
 use range_read::{Ranged, index, prepare_range, run_range};
@@ -114,7 +115,14 @@ fn is_read<R: Threads + Wait + Sync>(
     bytes: &[u8],
 ) -> Result<bool, AllocError> {
     let mut sink = MemSink::new(alloc, 100, 100, &[])?;
-    match prepare_range(alloc, container, range.0, range.1, workers, 2) {
+    match prepare_range(
+        alloc,
+        container,
+        range.0,
+        range.1,
+        Workers::Given(workers),
+        2,
+    ) {
         Ok(mut ready) => {
             let segments = segments_of(run_range(&mut ready, rt, &mut sink, &OpenGate));
             Ok(segments == Some(begun) && sink.bytes() == bytes)

@@ -1,6 +1,6 @@
 // The top call, tried over ends in memory.
 use crate::files::bytes_of;
-use lepton_decode::{prepare, run as decode};
+use lepton_decode::{Workers, prepare, run as decode};
 use lepton_run::run;
 use outside_core::{Compare, Gate, MemSink, MemSource, OpenGate, Source, read_all};
 use std::alloc::Global;
@@ -165,7 +165,7 @@ pub(crate) fn comes_back<R: Threads + Wait + Sync + Abort, G: Gate + Sync>(
     gate: &G,
 ) -> bool {
     assert!(rt; 1 <= ring);
-    let mut ready = prepare(alloc, container, workers, ring)
+    let mut ready = prepare(alloc, container, Workers::Given(workers), ring)
         .ok()
         .expect(rt, "it is refused");
     let mut sink = Compare::new(file);

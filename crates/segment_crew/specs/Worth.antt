@@ -2,6 +2,8 @@
 use Rattle.std.specs.Prelude.{ℕ, ◌-◌, ◌*◌, ◌/◌, List, map, max, min, sum}
 use Rattle.box_format.specs.Parts.{BoxSeen, box_rows}
 use Rattle.box_format.specs.Containers.{segment_count}
+use Rattle.segment_crew.specs.declared.worth.Workers.{Workers}
+use Rattle.segment_crew.specs.declared.worth.Workers.TheVariants.{Given, Worth}
 
 -- blocks that a container has of a scan: those of its rows of MCUs
 abbrev pub blocks_had : BoxSeen → ℕ
@@ -21,3 +23,8 @@ worth_a_worker = 8192
 abbrev pub workers_worth : List BoxSeen → ℕ → ℕ → ℕ
 workers_worth scans count most =
     min most (blocks_in scans / max (segment_count scans) 1 * count / worth_a_worker)
+
+-- how many workers decode them
+abbrev pub workers_of : List BoxSeen → ℕ → Workers → ℕ
+workers_of scans count (Given workers) = workers
+workers_of scans count (Worth most) = workers_worth scans count most

@@ -17,4 +17,4 @@ mod threads;
 mod worth;
 
 pub use crew::Crew;
-pub use worth::workers_worth;
+pub use worth::{Workers, workers_of};

@@ -1,7 +1,7 @@
 // How many workers a container's segments are worth.
 ghost use Rattle.std.specs.Prelude.{◌≡◌, ◌≤◌, ◌^◌, ◌*◌};
 ghost use Rattle.box_format.specs.Containers.{segment_count};
-ghost use Rattle.segment_crew.specs.Worth.{blocks_had, blocks_in, workers_worth};
+ghost use Rattle.segment_crew.specs.Worth.{blocks_had, blocks_in, workers_of, workers_worth};
 
 use box_format::{BoxView, FileView, rows_of};
 
@@ -9,9 +9,29 @@ use box_format::{BoxView, FileView, rows_of};
 // as many. A thread for fewer costs more processor time than the command saves by the clock.
 const WORTH_A_WORKER: u64 = 8_192;
 
-/// How many workers are worth their threads for `count` of a container's segments, if there may be `most`: one for each
-/// 8,192 blocks of these, rounded down. Each segment counts for an equal share of all blocks, rounded down too.
-pub fn workers_worth(view: &FileView, count: u8, most: u8) -> u8
+/// How many workers decode a container's segments. More than there are segments aren't made.
+#[derive(Clone, Copy)]
+pub enum Workers {
+    /// So many.
+    Given(u8),
+    /// As many as are worth their threads, so many at most: one for each 8,192 blocks, rounded down.
+    Worth(u8),
+}
+
+/// How many workers these are for `count` of a container's segments.
+pub fn workers_of(view: &FileView, count: u8, workers: Workers) -> u8
+    requires { count ≤ segment_count view.now }
+    ensures { result ≡ workers_of view.now count workers }
+{
+    match workers {
+        Workers::Given(given) => given,
+        Workers::Worth(most) => workers_worth(view, count, most),
+    }
+}
+
+// How many are worth their threads, if there may be `most`. Each segment counts for an equal share of all blocks, rounded
+// down.
+fn workers_worth(view: &FileView, count: u8, most: u8) -> u8
     requires { count ≤ segment_count view.now }
     ensures { result ≡ workers_worth view.now count most }
 {

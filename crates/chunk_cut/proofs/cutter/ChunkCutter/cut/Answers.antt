@@ -5,7 +5,7 @@ use Rattle.box_format.specs.Single.{IsBox, box_bytes}
 use Rattle.box_format.specs.declared.chunk.Chunk.{Chunk}
 use Rattle.container_spec.specs.Chunks.{IsChunkOf}
 use Rattle.chunk_cut.proofs.ChunksFound.{box, chunk_grid, found, is_box, is_chunk, rows_long}
-use Rattle.chunk_cut.proofs.cutter.ChunkCutter.cut_by.Goals as goal
+use Rattle.chunk_cut.proofs.cutter.ChunkCutter.cut.Goals as goal
 
 pub overflow_sub-chunk : goal.overflow_sub-chunk
 overflow_sub-chunk g c =
