@@ -12,9 +12,9 @@ const WORTH_A_WORKER: u64 = 8_192;
 /// How many workers decode a container's segments. More than there are segments aren't made.
 #[derive(Clone, Copy)]
 pub enum Workers {
-    /// So many.
+    /// This number of them.
     Given(u8),
-    /// As many as are worth their threads, so many at most: one for each 8,192 blocks, rounded down.
+    /// As many as are worth their threads, and at most this number: one for each 8,192 blocks, rounded down.
     Worth(u8),
 }
 
