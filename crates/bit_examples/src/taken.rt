@@ -1,4 +1,6 @@
 // What is read.
+ghost use Rattle.std.specs.Prelude.{◌<◌};
+
 use bit_list::{BitFault, BitIn};
 use std::process::Abort;
 
@@ -132,28 +134,64 @@ fn is_peeked(bit_in: &mut BitIn, peeked: u16) -> bool {
         && bit_in.next_place() == next
 }
 
+// The bytes, and the place of each unit and of the end.
+type Units<'a> = (&'a [u8], [usize; 10]);
+
+const UNITS: &[Units<'static>] = &[
+    (
+        &[0x12, 0x34, 0x56, 0x78, 0x9a, 0xbc, 0xde, 0xff, 0x00, 0x80],
+        [0, 1, 2, 3, 4, 5, 6, 7, 9, 10],
+    ),
+    (
+        &[
+            0xff, 0x00, 0x12, 0xff, 0x00, 0xff, 0x00, 0x34, 0x00, 0xff, 0x00, 0x56, 0xff, 0x00,
+        ],
+        [0, 2, 3, 5, 7, 8, 9, 11, 12, 14],
+    ),
+    (
+        &[
+            0xff, 0x00, 0xff, 0x00, 0xff, 0x00, 0xff, 0x00, 0xff, 0x00, 0xff, 0x00, 0xff, 0x00,
+            0xff, 0x00, 0x80,
+        ],
+        [0, 2, 4, 6, 8, 10, 12, 14, 16, 17],
+    ),
+];
+
 // What is read from bytes that were fetched ahead, and where the reader is after each bit of them.
 #[test]
 fn places_of_fetched_units(rt: HostRuntime) {
-    let bytes: &[u8] = &[0x12, 0x34, 0x56, 0x78, 0x9a, 0xbc, 0xde, 0xff, 0x00, 0x80];
-    let mut bit_in = begun_in(&rt, bytes, 0, 0);
-    let mut slow = begun_in(&rt, bytes, 0, 0);
-    for i in 0..72usize {
-        bit_in.ready();
-        assert!(rt; bit_in.bit() == slow.bit(), "bit {i}");
-        assert!(rt; stands_after(&bit_in, i), "bit {i}");
+    for (bytes, places) in UNITS {
+        let mut bit_in = begun_in(&rt, bytes, 0, 0);
+        for i in 0..72usize {
+            bit_in.ready();
+            let bit = bit_in.bit();
+            assert!(rt; bit == Ok(bit_of(bytes, places, i)), "bit {i}");
+            assert!(rt; is_after(&bit_in, bytes, places, i), "bit {i}");
+        }
+        assert!(rt; bit_in.bit() == Err(BitFault::Cut { place: bytes.len() }));
     }
-    assert!(rt; bit_in.bit() == Err(BitFault::Cut { place: 10 }));
 }
 
-// Whether the reader is after this bit: the eighth unit has a stuffed byte.
-fn stands_after(bit_in: &BitIn, bit: usize) -> bool {
-    let unit = bit / 8;
-    let next = if unit < 7 {
-        unit + 1
-    } else {
-        unit.saturating_add(2)
-    };
-    let last = if unit < 8 { unit } else { 9 };
-    bit_in.place() == last && bit_in.next_place() == next && bit_in.left().1 == 7 - (bit % 8) as u8
+fn unit_of(bytes: &[u8], places: &[usize; 10], bit: usize) -> u8
+    requires { bit < 72 }
+{
+    let place = places[bit / 8];
+    if place < bytes.len() { bytes[place] } else { 0 }
+}
+
+fn bit_of(bytes: &[u8], places: &[usize; 10], bit: usize) -> bool
+    requires { bit < 72 }
+{
+    (unit_of(bytes, places, bit) >> (7 - bit % 8)) & 1 == 1
+}
+
+// Whether the reader is after this bit.
+fn is_after(bit_in: &BitIn, bytes: &[u8], places: &[usize; 10], bit: usize) -> bool
+    requires { bit < 72 }
+{
+    let left = 7 - (bit % 8) as u8;
+    let number = unit_of(bytes, places, bit) & ((1 << left) - 1);
+    bit_in.left() == (number, left)
+        && bit_in.place() == places[bit / 8]
+        && bit_in.next_place() == places[bit / 8 + 1]
 }

@@ -84,6 +84,13 @@ head end place unit next [] e = absurd (never (Cut end) unit next e)
 head end place unit next (byte ∷ []) e = last_head (byte == 255) end place byte unit next refl e
 head end place unit next (byte ∷ second ∷ rest) e = two_head (byte == 255) end place byte second unit next rest refl e
 
+-- where it ends
+pub unit_spans : (bytes : List ℕ) (place unit next : ℕ) → unit_at bytes place ≡ Ok (unit, next) → (place < next) × (next ≤ place + 2)
+unfolding unit_at
+unit_spans bytes place unit next e =
+    let h = head (length bytes) place unit next (drop place bytes) e in
+    (omega (arith, h.place_after), omega (arith, h.place_after, length-unit_bytes unit))
+
 -- bytes from a place on are bytes
 bytes_drop : (n : ℕ) (bytes : List ℕ) → AllByRecursion IsByte bytes → AllByRecursion IsByte (drop n bytes)
 bytes_drop zero bytes all = all

@@ -1,5 +1,5 @@
 -- View: how bits are kept in a byte and in a word, and what always holds of them (own).
-use Rattle.std.specs.Prelude.{◌≡◌, ℕ, ◌+◌, ◌-◌, ◌*◌, ◌/◌, ◌%◌, ◌^◌, ◌<◌, ◌≤◌, ◌≢◌, List, length, slice_index_or, Ok, nat_lt, if◌then◌else◌}
+use Rattle.std.specs.Prelude.{◌≡◌, ℕ, ◌+◌, ◌-◌, ◌*◌, ◌/◌, ◌%◌, ◌^◌, ◌<◌, ◌≤◌, ◌≢◌, List, length, slice_index_or, Ok, nat_lt, count_ones, if◌then◌else◌}
 use Rattle.bit_list.specs.Bits.{low_bits}
 use Rattle.bit_list.specs.Units.{Cursor, unit_at}
 use Rattle.bit_list.specs.declared.fetched.Fetched.{Fetched}
@@ -24,34 +24,41 @@ pub record IsWindow (w : Window) : Type 0 where
   pub bits : IsKept 8 w.number w.count
   pub skip : w.skip ≤ 7
 
--- The cursor before the `count` low bits of a word (own): those of a unit begun, and whole units after them, up to the
--- place `end`. From the place `first` on each unit is one byte; the last bit before them is one of the unit at `last`.
-abbrev pub cursor_at : ℕ → ℕ → ℕ → ℕ → ℕ → ℕ → Cursor
-cursor_at word skip last first end count =
+-- The place before the last n of the units that end at a place (own). Each has one byte, and one more if its bit of
+-- `stuffed` is set: the lowest bit is the last unit's.
+abbrev pub place_before : ℕ → ℕ → ℕ → ℕ
+place_before end stuffed n = end - (n + count_ones (stuffed % 2 ^ n))
+
+-- The cursor before the `count` low bits of a word (own): those of a unit begun, and whole units after them, where
+-- `place n` is the place before the last n units. The first unit that was fetched is at `first`; the last bit before it
+-- is one of the unit at `last`.
+abbrev pub cursor_at : (ℕ → ℕ) → ℕ → ℕ → ℕ → ℕ → ℕ → Cursor
+cursor_at place word skip last first count =
     record {
       left = low_bits (count % 8) (word / 2 ^ (8 * (count / 8)));
       skip = skip;
-      last = if nat_lt first (end - count / 8) then end - count / 8 - 1 else last;
-      next = end - count / 8;
+      last = if nat_lt first (place (count / 8)) then place (count / 8 + 1) else last;
+      next = place (count / 8);
     }
 
--- the whole units among the `count` low bits of a word are those before the place `end`, a byte each (own)
-abbrev pub AreUnits : List ℕ → ℕ → ℕ → ℕ → Type 0
-AreUnits bytes word end count =
+-- the whole units among the `count` low bits of a word are those at these places (own)
+abbrev pub AreUnits : List ℕ → (ℕ → ℕ) → ℕ → ℕ → Type 0
+AreUnits bytes place word count =
     (i : ℕ) → i < count / 8
-    → unit_at bytes (end - (i + 1)) ≡ Ok (word / 2 ^ (8 * i) % 256, end - i)
+    → unit_at bytes (place (i + 1)) ≡ Ok (word / 2 ^ (8 * i) % 256, place i)
 
 -- the cursor that fetched bits stand for (own)
 abbrev pub cursor_of_fetched : Fetched → Cursor
-cursor_of_fetched f = cursor_at f.word f.skip f.last f.first f.end f.count
+cursor_of_fetched f =
+    cursor_at (place_before f.end f.stuffed) f.word f.skip f.last f.first f.count
 
 -- what always holds of fetched bits (own)
 pub record IsFetched (bytes : List ℕ) (f : Fetched) : Type 0 where
   pub few : f.count ≤ 63
   pub skip : f.skip ≤ 7
   pub fresh : 8 ≤ f.count → f.skip ≡ 0
-  pub run : f.first + f.count / 8 ≤ f.end
-  pub units : AreUnits bytes f.word f.end f.count
+  pub run : f.first ≤ place_before f.end f.stuffed (f.count / 8)
+  pub units : AreUnits bytes (place_before f.end f.stuffed) f.word f.count
 
 -- there are six bytes at a place, each a unit (own)
 pub record ArePlain (bytes : List ℕ) (place : ℕ) : Type 0 where

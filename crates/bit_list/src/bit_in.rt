@@ -41,6 +41,7 @@ impl<'a> BitIn<'a> {
                 word: 0,
                 count: 0,
                 skip: bits,
+                stuffed: 0,
                 last: place,
                 first: place,
                 end: place,

@@ -1,12 +1,12 @@
 // Bits that are fetched ahead, several units at once.
 ghost use Rattle.std.specs.Prelude.{◌≡◌, ◌+◌, ◌-◌, ◌^◌, ◌<◌, ◌≤◌, ◌≢◌, Ok, Err, length, slice_index_or, IfOk, IfErr, IsTrue};
 ghost use Rattle.bit_list.specs.Bits.{low_bits};
-ghost use Rattle.bit_list.specs.Units.{bits_at};
-ghost use Rattle.bit_list.specs.BitsInside.{cursor_of, cursor_of_fetched, ArePlain, IsFetched, IsWindow};
+ghost use Rattle.bit_list.specs.Units.{unit_at, bits_at};
+ghost use Rattle.bit_list.specs.BitsInside.{cursor_of, cursor_of_fetched, place_before, ArePlain, IsFetched, IsWindow};
 ghost use Rattle.bit_list.specs.Peeked.{peeked};
 
 use crate::fault::BitFault;
-use crate::window::{Window, fill, first_bits, split};
+use crate::window::{Window, fill, first_bits, split, unit};
 
 /// Bits that were fetched ahead, and the places of their units.
 #[derive(Clone, Copy)]
@@ -17,12 +17,25 @@ pub(crate) struct Fetched {
     pub(crate) count: u8,
     // How many bits of the next unit are left out, if there are no bits.
     pub(crate) skip: u8,
+    // Which units that were fetched have two bytes, the last unit in the lowest bit.
+    pub(crate) stuffed: u8,
     // The place of the unit of the last bit before the unit at `first`.
     pub(crate) last: usize,
-    // From here on each unit that was fetched is one byte.
+    // The place of the first unit that was fetched.
     pub(crate) first: usize,
     // The place after the units that were fetched.
     pub(crate) end: usize,
+}
+
+// The place before the last `n` units that were fetched, if there are that many.
+#[inline(always)]
+fn before(at: &Fetched, n: u8) -> usize
+    requires { n ≤ 8 }
+    ensures { result ≡ place_before at.now.end at.now.stuffed n }
+{
+    let stuffed = u32::from(at.stuffed) & ((1 << n) - 1);
+    at.end
+        .saturating_sub(usize::from(n) + stuffed.count_ones() as usize)
 }
 
 /// What is left of the unit begun, and the places.
@@ -34,8 +47,12 @@ pub(crate) fn begun(bytes: &[u8], at: Fetched) -> Window
     ensures short { result.count ≤ 7 }
 {
     let units = at.count / 8;
-    let next = at.end - usize::from(units);
-    let last = if at.first < next { next - 1 } else { at.last };
+    let next = before(&at, units);
+    let last = if at.first < next {
+        before(&at, units + 1)
+    } else {
+        at.last
+    };
     Window {
         number: ((at.word >> (8 * units)) & ((1 << (at.count % 8)) - 1)) as u8,
         count: at.count % 8,
@@ -58,15 +75,37 @@ fn alone(bytes: &[u8], at: Window) -> Fetched
         word: u64::from(at.number),
         count: at.count,
         skip: at.skip,
+        stuffed: 0,
         last: at.last,
         first: at.next,
         end: at.next,
     }
 }
 
+// Fetches one unit more.
+#[tactic(auto, using(crate::proofs::Spanning::unit_spans))]
+#[inline(always)]
+fn fetch(bytes: &[u8], at: &mut Fetched, byte: u8, next: usize)
+    requires kept { IsFetched bytes.now at.old }
+    requires fresh { at.old.skip ≡ 0 }
+    requires room { at.old.count ≤ 55 }
+    requires unit { unit_at bytes.now at.old.end ≡ Ok (byte, next) }
+    ensures cursor { cursor_of_fetched at.new ≡ cursor_of_fetched at.old }
+    ensures kept { IsFetched bytes.now at.new }
+    ensures fresh { at.new.skip ≡ 0 }
+    ensures count { at.new.count ≡ at.old.count + 8 }
+    ensures end { at.new.end ≡ next }
+{
+    let _ = bytes;
+    at.word = (at.word << 8) + u64::from(byte);
+    at.count += 8;
+    at.stuffed = (at.stuffed << 1) + (next - at.end - 1) as u8;
+    at.end = next;
+}
+
 // Fetches one unit more, which is one byte.
 #[inline(always)]
-fn fetch(bytes: &[u8], at: &mut Fetched)
+fn fetch_plain(bytes: &[u8], at: &mut Fetched)
     requires kept { IsFetched bytes.now at.old }
     requires fresh { at.old.skip ≡ 0 }
     requires room { at.old.count ≤ 55 }
@@ -78,9 +117,8 @@ fn fetch(bytes: &[u8], at: &mut Fetched)
     ensures count { at.new.count ≡ at.old.count + 8 }
     ensures end { at.new.end ≡ at.old.end + 1 }
 {
-    at.word = (at.word << 8) + u64::from(bytes[at.end]);
-    at.count += 8;
-    at.end += 1;
+    let place = at.end;
+    fetch(bytes, at, bytes[place], place + 1);
 }
 
 // Whether there are six bytes at a place, and none is 0xff.
@@ -109,12 +147,12 @@ fn fetch_six(bytes: &[u8], at: &mut Fetched)
     ensures cursor { cursor_of_fetched at.new ≡ cursor_of_fetched at.old }
     ensures kept { IsFetched bytes.now at.new }
 {
-    fetch(bytes, at);
-    fetch(bytes, at);
-    fetch(bytes, at);
-    fetch(bytes, at);
-    fetch(bytes, at);
-    fetch(bytes, at);
+    fetch_plain(bytes, at);
+    fetch_plain(bytes, at);
+    fetch_plain(bytes, at);
+    fetch_plain(bytes, at);
+    fetch_plain(bytes, at);
+    fetch_plain(bytes, at);
 }
 
 /// A copy without the padding, which in a copy of the whole takes room of its own.
@@ -126,13 +164,14 @@ pub(crate) fn by_fields(at: &Fetched) -> Fetched
         word: at.word,
         count: at.count,
         skip: at.skip,
+        stuffed: at.stuffed,
         last: at.last,
         first: at.first,
         end: at.end,
     }
 }
 
-/// Fetches units, as long as there is room and they are one byte each.
+/// Fetches units, as long as there are any and there is room.
 #[inline(always)]
 pub(crate) fn refill(bytes: &[u8], at: &mut Fetched)
     requires kept { IsFetched bytes.now at.old }
@@ -182,8 +221,11 @@ fn fetch_up_to(bytes: &[u8], at: &mut Fetched)
     ensures cursor { cursor_of_fetched at.new ≡ cursor_of_fetched at.old }
     ensures kept { IsFetched bytes.now at.new }
 {
-    while at.count <= 55 && at.end < bytes.len() && bytes[at.end] != 0xff {
-        fetch(bytes, at);
+    while at.count <= 55 {
+        let Ok((byte, next)) = unit(bytes, at.end) else {
+            return;
+        };
+        fetch(bytes, at, byte, next);
     }
 }
 

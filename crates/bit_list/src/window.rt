@@ -21,9 +21,9 @@ pub(crate) struct Window {
     pub(crate) next: usize,
 }
 
-// The unit at a place, and the place after it.
+/// The unit at a place, and the place after it.
 #[inline(always)]
-fn unit(bytes: &[u8], place: usize) -> Result<(u8, usize), BitFault>
+pub(crate) fn unit(bytes: &[u8], place: usize) -> Result<(u8, usize), BitFault>
     ensures { result ≡ unit_at bytes.now place }
 {
     if place >= bytes.len() {

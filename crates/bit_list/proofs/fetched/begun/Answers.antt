@@ -1,4 +1,5 @@
-use Rattle.std.proofs.Common.{◌≡◌, ◌-◌, ◌/◌, ◌%◌, ◌*◌, ◌^◌, nat_lt, arith}
+use Rattle.std.proofs.Common.{◌≡◌, ◌+◌, ◌/◌, ◌%◌, ◌*◌, ◌^◌, nat_lt, arith}
+use Rattle.bit_list.specs.BitsInside.{place_before}
 use Rattle.bit_list.proofs.Machine.{masked}
 use Rattle.bit_list.proofs.Ahead.{place_by, begun_of, last_begun, last_before}
 use Rattle.bit_list.proofs.fetched.begun.Goals.{then-at-next, else-at-next}
@@ -7,10 +8,10 @@ use Rattle.bit_list.proofs.fetched.begun.Goals as goal
 pub returns-clause-cursor : goal.returns-clause-cursor
 returns-clause-cursor c =
     let at = c.args.at in
-    let next = at.end - at.count / 8 in
-    let last : c.if-at-next.last ≡ place_by (nat_lt at.first next) (next - 1) at.last = elim c.if-at-next.branch [
-      | then-at-next w ↦ last_begun at.first next at.last _ (omega (arith, w.if-at-next, c.from.ensures)) (omega (arith, w.last-is, c.from.ensures))
-      | else-at-next w ↦ last_before at.first next at.last _ (omega (arith, w.if-at-next, c.from.ensures)) (omega (arith, w.last-is))
+    let place = place_before at.end at.stuffed in
+    let last : c.if-at-next.last ≡ place_by (nat_lt at.first (place (at.count / 8))) (place (at.count / 8 + 1)) at.last = elim c.if-at-next.branch [
+      | then-at-next w ↦ last_begun at.first (place (at.count / 8)) (place (at.count / 8 + 1)) at.last _ (omega (arith, w.if-at-next, c.before-next.ensures)) (omega (arith, w.last-is))
+      | else-at-next w ↦ last_before at.first (place (at.count / 8)) (place (at.count / 8 + 1)) at.last _ (omega (arith, w.if-at-next, c.before-next.ensures)) (omega (arith, w.last-is))
     ] in
-    begun_of at.word at.skip at.last at.first at.end at.count _ c.if-at-next.last c.from.result c.from.ensures
+    begun_of place at.word at.skip at.last at.first at.count _ c.if-at-next.last c.before-next.result c.before-next.ensures
     (masked (at.word / 2 ^ (8 * (at.count / 8))) (at.count % 8) 64 (omega arith)) last
