@@ -35,4 +35,4 @@ pub mod RawParts
 pub mod FilesViewed
 pub mod NamedSegments
 pub mod GivenScans
-pub mod Placed
+pub mod Converted

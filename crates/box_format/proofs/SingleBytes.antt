@@ -9,8 +9,8 @@ use Rattle.scan_spec.specs.Pads.{PadBits, Same, Listed}
 use Rattle.box_format.specs.Versions.{layout_of}
 use Rattle.box_format.specs.Parts.{BoxParts, can_pad, magic, pad_byte, list_bytes, length_said, chunk_bytes, place_bytes, records, migrated}
 use Rattle.box_format.specs.Containers.{container_bytes}
-use Rattle.box_format.specs.Single.{IsBox, IsBoxOf, box_bytes, relaid}
-use Rattle.box_format.specs.SingleLaws.{MigratedIsBox, RelaidIsMigrated, SecondStays}
+use Rattle.box_format.specs.Single.{IsBox, box_bytes}
+use Rattle.box_format.specs.SingleLaws.{MigratedIsBox, RelaidIsMigrated, SecondStays, relaid}
 use Rattle.box_format.specs.declared.chunk.Chunk.{Chunk}
 use Rattle.box_format.specs.declared.version.Version.{Version}
 use Rattle.box_format.specs.declared.version.Version.TheVariants.{First, Second, Third, Fourth, Fifth}
@@ -45,20 +45,6 @@ nested_is b one = rw one
     (length_said (layout_of b.version).listed (list_bytes b.pads)) (chunk_bytes b.chunk)
     (place_bytes b.places (length b.handovers)) (records b.places 0 b.handovers b.streams)
     (list_bytes b.pads) b.header b.trailer (flat_map (λ stream. stream) b.streams)))
-
--- there are all bytes up to the pad list's length
-nested_long : (v : Version) (c : Option Chunk) (places : Option (List ℕ)) (pads : PadBits)
-    (count header trailer : ℕ) (after : List ℕ)
-    → 15 ≤ length (nested v c places pads count header trailer after)
-nested_long v c places pads count header trailer after = omega arith
-
-pub front_there : (plan : PlanFields) (b : BoxParts) (bytes : List ℕ) → IsBoxOf plan b bytes
-    → 15 ≤ length bytes
-front_there plan b bytes is =
-    let same = ap (λ (l : List ℕ). length l) (is.text ∙ nested_is b is.one) in
-    let long = nested_long b.version b.chunk b.places b.pads (length b.handovers) (length b.header)
-    (length b.trailer) (after_fields b) in
-    omega (arith, same, long)
 
 -- ---- the second version says all that the first one does
 

@@ -190,13 +190,17 @@ pub record IsBoxIn (w : Walk) (plan : PlanFields) (b : BoxParts) : Type 0 where
 abbrev pub IsScanBox : PlanFields → BoxParts → Type 0
 IsScanBox plan b = (w : Walk) × IsBoxIn w plan b
 
--- the same parts in the second version, which keeps no places
-abbrev pub migrated : BoxParts → BoxParts
-migrated b = record b { version = Second; places = None }
+-- the same parts in another version, with these places or none
+abbrev pub in_version : Version → Option (List ℕ) → BoxParts → BoxParts
+in_version version places b = record b { version = version; places = places }
 
--- the same parts in the fifth version, with these places
+-- in the second version, which keeps no places
+abbrev pub migrated : BoxParts → BoxParts
+migrated b = in_version Second None b
+
+-- in the fifth version, with these places
 abbrev pub with_places : BoxParts → List ℕ → BoxParts
-with_places b places = record b { version = Fifth; places = Some places }
+with_places b places = in_version Fifth (Some places) b
 
 -- how many bytes the file has, in a container with these places: the scan's end, and the trailer
 abbrev pub file_end : BoxParts → List ℕ → ℕ

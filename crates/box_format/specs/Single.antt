@@ -1,12 +1,11 @@
 -- Statement: a container of one scan (docs/FORMAT.md, The container).
-use Rattle.std.specs.Prelude.{ℕ, ◌≡◌, false, List, [], ◌∷◌, ◌++◌, take, drop}
+use Rattle.std.specs.Prelude.{ℕ, ◌≡◌, false, List, [], ◌∷◌}
 use Rattle.jpeg_marker.specs.Plans.{PlanFields}
 use Rattle.jpeg_marker.specs.FirstWalks.{only_walk}
 use Rattle.box_format.specs.Versions.{layout_of, IsRead}
 use Rattle.box_format.specs.Parts.{BoxParts, BoxSeen, IsBoxIn}
 use Rattle.box_format.specs.Containers.{container_bytes}
 use Rattle.box_format.specs.declared.version.Version.{Version}
-use Rattle.box_format.specs.declared.version.Version.TheVariants.{Second}
 
 -- its bytes
 abbrev pub box_bytes : BoxParts → List ℕ
@@ -26,10 +25,3 @@ pub record IsBoxOf (plan : PlanFields) (b : BoxParts) (bytes : List ℕ) : Type 
 abbrev pub IsOne : List Version → List BoxSeen → List ℕ → Type 0
 IsOne versions scans bytes =
     (s : BoxSeen) × (scans ≡ s ∷ []) × IsBoxOf s.plan s.parts bytes × IsRead versions s.parts.version
-
--- the bytes of a container of the first version as those of one of the second: the version's byte is changed, and a
--- length of 0 for the pad list follows the trailer's length
-abbrev pub relaid : List ℕ → List ℕ
-relaid bytes =
-    take 4 bytes ++ (layout_of Second).byte ∷ [] ++ take 10 (drop 5 bytes)
-    ++ 0 ∷ 0 ∷ 0 ∷ 0 ∷ [] ++ drop 15 bytes

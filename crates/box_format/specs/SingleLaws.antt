@@ -1,10 +1,10 @@
 -- Law: what holds of containers of one scan (own).
-use Rattle.std.specs.Prelude.{ℕ, ◌≡◌, ◌⊎◌, false, List, [], ◌∷◌}
+use Rattle.std.specs.Prelude.{ℕ, ◌≡◌, ◌⊎◌, false, List, [], ◌∷◌, ◌++◌, take, drop}
 use Rattle.jpeg_marker.specs.Plans.{PlanFields}
 use Rattle.box_format.specs.Versions.{layout_of}
 use Rattle.box_format.specs.Parts.{BoxParts, BoxSeen, migrated}
 use Rattle.box_format.specs.Containers.{IsContainer, IsContainerIn}
-use Rattle.box_format.specs.Single.{IsBox, IsBoxOf, box_bytes, relaid}
+use Rattle.box_format.specs.Single.{IsBox, IsBoxOf, box_bytes}
 use Rattle.box_format.specs.declared.version.Version.TheVariants.{First, Second, Fourth}
 
 -- a container of one scan is a container
@@ -30,6 +30,13 @@ abbrev pub MigratedIsBox : Type 0
 MigratedIsBox =
     (plan : PlanFields) (b : BoxParts) → (layout_of b.version).chunked ≡ false → IsBox plan b
     → IsBox plan (migrated b)
+
+-- the bytes of a container of the first version as those of one of the second: the version's byte is changed, and a
+-- length of 0 for the pad list follows the trailer's length
+abbrev pub relaid : List ℕ → List ℕ
+relaid bytes =
+    take 4 bytes ++ (layout_of Second).byte ∷ [] ++ take 10 (drop 5 bytes)
+    ++ 0 ∷ 0 ∷ 0 ∷ 0 ∷ [] ++ drop 15 bytes
 
 -- and the bytes of that one are a container's of the first version, but for the fields of the version and of the list
 abbrev pub RelaidIsMigrated : Type 0

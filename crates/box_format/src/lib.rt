@@ -18,6 +18,7 @@
 
 mod checks;
 mod chunk;
+mod converting;
 mod error;
 mod fields;
 mod files;
@@ -26,7 +27,6 @@ mod laws;
 mod migrating;
 mod pad_lists;
 mod parts;
-mod placing;
 mod reading;
 mod records;
 mod refusal;
@@ -37,6 +37,7 @@ mod view;
 mod writing;
 
 pub use chunk::{Chunk, rows_of};
+pub use converting::write_placed;
 pub use error::ReadError;
 pub use files::FileView;
 pub use laws::{
@@ -45,7 +46,6 @@ pub use laws::{
 };
 pub use migrating::migrate;
 pub use parts::Parts;
-pub use placing::write_placed;
 pub use reading::{read_box, read_container, read_container_of, segments_named};
 pub use refusal::{BoxRefusal, Migrate};
 pub use version::{Layout, Version};

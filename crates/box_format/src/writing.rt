@@ -1,5 +1,5 @@
 // From the parts of scans to the bytes of their container.
-ghost use Rattle.std.specs.Prelude.{◌≡◌, ◌-◌, ◌^◌, ◌<◌, ◌≤◌, false, min, ◌∷◌, [], ◌++◌, length, map, flat_map, IfOk, IfSome, OnOk, Some, if◌then◌else◌};
+ghost use Rattle.std.specs.Prelude.{◌≡◌, ◌-◌, ◌^◌, ◌<◌, ◌≤◌, false, min, ◌∷◌, [], ◌++◌, length, map, flat_map, option_map, IfOk, IfSome, OnOk, Some, if◌then◌else◌};
 ghost use Rattle.std.specs.List.{AllByRecursion};
 ghost use Rattle.byteorder.specs.Endian.{big_bytes};
 ghost use Rattle.handover.specs.HandoverBytes.{handover_bytes};
@@ -172,7 +172,7 @@ fn put_fields(bytes: &mut Vec<u8>, scan: &Parts) -> Result<(), NoMemory>
         list.len() as u32,
     )?;
     put_chunk(bytes, scan.chunk)?;
-    put_place(bytes, scan, scan.handovers.len())?;
+    put_place(bytes, scan.places, scan.handovers.len())?;
     put_records(bytes, scan)
 }
 
@@ -248,25 +248,20 @@ fn put_chunk_fields(bytes: &mut Vec<u8>, chunk: &Chunk) -> Result<(), NoMemory>
     Ok(())
 }
 
-// One of the places, if they are kept.
-fn put_place(bytes: &mut Vec<u8>, parts: &Parts, i: usize) -> Result<(), NoMemory>
-    requires { IfSome (parts_given parts.now).places (λ places. i < length places) }
+/// One of the places, if they are kept.
+pub(crate) fn put_place(
+    bytes: &mut Vec<u8>,
+    places: Option<&[u64]>,
+    i: usize,
+) -> Result<(), NoMemory>
+    requires { IfSome places (λ all. i < length all.now) }
     ensures { OnOk result (bytes.new.items
-        ≡ bytes.old.items ++ place_bytes (parts_given parts.now).places i) }
+        ≡ bytes.old.items ++ place_bytes (option_map (λ all. all.now) places.entry) i) }
 {
-    match parts.places {
-        Some(places) => put_place_field(bytes, places, i),
+    match places {
+        Some(places) => extend_from_slice(bytes, &places[i].to_be_bytes()),
         None => Ok(()),
     }
-}
-
-/// The field of one of the places.
-pub(crate) fn put_place_field(bytes: &mut Vec<u8>, places: &[u64], i: usize) -> Result<(), NoMemory>
-    requires { i < length places.now }
-    ensures { OnOk result (bytes.new.items
-        ≡ bytes.old.items ++ place_bytes (Some places.now) i) }
-{
-    extend_from_slice(bytes, &places[i].to_be_bytes())
 }
 
 // A record for each segment.
@@ -280,7 +275,7 @@ fn put_records(bytes: &mut Vec<u8>, parts: &Parts) -> Result<(), NoMemory>
 {
     for (i, handover) in parts.handovers.iter().enumerate() {
         put_record(bytes, handover, parts.streams[i].len() as u64)?;
-        put_place(bytes, parts, i)?;
+        put_place(bytes, parts.places, i)?;
     }
     Ok(())
 }

@@ -1,15 +1,13 @@
-// From a container to the same one in version 5, with places.
-ghost use Rattle.std.specs.Prelude.{None, ℕ, List, ◌≡◌, ◌+◌, ◌-◌, ◌^◌, [], ◌∷◌, ◌++◌, length, min, flat_map, IfOk, OnOk, Some};
-ghost use Rattle.box_format.specs.Parts.{records, with_places};
+// From a container of one scan to the same one in another version.
+ghost use Rattle.std.specs.Prelude.{false, None, ℕ, List, Option, ◌≡◌, ◌+◌, ◌-◌, ◌^◌, [], ◌∷◌, ◌++◌, length, min, flat_map, option_map, IfOk, IfSome, OnOk};
+ghost use Rattle.box_format.specs.Parts.{in_version, records, with_places};
 ghost use Rattle.box_format.specs.Given.{scans_room};
 ghost use Rattle.box_format.specs.Single.{box_bytes};
-ghost use Rattle.box_format.specs.declared.version.Version.TheVariants.{Fifth};
+ghost use Rattle.box_format.specs.Versions.{layout_of};
 
 use crate::version::Version;
 use crate::view::BoxView;
-use crate::writing::{
-    MOST_ROOM, list_of, pad_byte, put_lengths, put_place_field, put_record, put_start,
-};
+use crate::writing::{MOST_ROOM, list_of, pad_byte, put_lengths, put_place, put_record, put_start};
 use allocation::{NoMemory, extend_from_slice, push, with_capacity};
 use std::alloc::Global;
 
@@ -20,23 +18,40 @@ pub fn write_placed(alloc: Global, view: &BoxView, places: &[u64]) -> Result<Vec
     requires places { length places.now ≡ length view.now.parts.handovers + 1 }
     ensures { IfOk result (λ made. made.items ≡ box_bytes (with_places view.now.parts places.now)) }
 {
-    let mut made = with_capacity(alloc, room(view).min(MOST_ROOM))?;
+    write_in(alloc, Version::Fifth, view, Some(places))
+}
+
+/// The same container in a version of one scan, with these places or none.
+#[inline(never)]
+pub(crate) fn write_in(
+    alloc: Global,
+    version: Version,
+    view: &BoxView,
+    places: Option<&[u64]>,
+) -> Result<Vec<u8>, NoMemory>
+    requires one { (layout_of version).several ≡ false }
+    requires whole { view.now.parts.chunk ≡ None }
+    requires places { IfSome places (λ all. length all.now ≡ length view.now.parts.handovers + 1) }
+    ensures { IfOk result (λ made. made.items
+        ≡ box_bytes (in_version version (option_map (λ all. all.now) places.entry) view.now.parts)) }
+{
+    let mut made = with_capacity(alloc, room(version, view).min(MOST_ROOM))?;
     let pads = view.pad();
     let list = list_of(&pads);
     let header = view.header();
     let trailer = view.trailer();
     let segments = view.segments();
-    put_start(&mut made, Version::Fifth, 1, trailer.len() as u32)?;
+    put_start(&mut made, version, 1, trailer.len() as u32)?;
     push(&mut made, pad_byte(&pads))?;
     push(&mut made, segments)?;
     put_lengths(
         &mut made,
-        Version::Fifth,
+        version,
         header.len() as u32,
         trailer.len() as u32,
         list.len() as u32,
     )?;
-    put_place_field(&mut made, places, usize::from(segments))?;
+    put_place(&mut made, places, usize::from(segments))?;
     put_records(&mut made, view, places)?;
     extend_from_slice(&mut made, list)?;
     extend_from_slice(&mut made, header)?;
@@ -46,11 +61,11 @@ pub fn write_placed(alloc: Global, view: &BoxView, places: &[u64]) -> Result<Vec
 }
 
 // How many bytes the container has, whatever its places, or the most that is counted.
-fn room(view: &BoxView) -> usize
-    ensures { (places : List ℕ)
-        → result ≡ min (2 ^ 64 - 1) (scans_room Fifth (with_places view.now.parts places ∷ [])) }
+fn room(version: Version, view: &BoxView) -> usize
+    ensures { (places : Option (List ℕ))
+        → result ≡ min (2 ^ 64 - 1) (scans_room version (in_version version places view.now.parts ∷ [])) }
 {
-    let layout = Version::Fifth.layout();
+    let layout = version.layout();
     let mut room = (layout.first + layout.fields)
         .saturating_add(list_of(&view.pad()).len())
         .saturating_add(view.header().len())
@@ -61,15 +76,16 @@ fn room(view: &BoxView) -> usize
     room
 }
 
-// A record for each segment, with its place.
-fn put_records(bytes: &mut Vec<u8>, view: &BoxView, places: &[u64]) -> Result<(), NoMemory>
-    requires { length places.now ≡ length view.now.parts.handovers + 1 }
+// A record for each segment, with its place if there are places.
+fn put_records(bytes: &mut Vec<u8>, view: &BoxView, places: Option<&[u64]>) -> Result<(), NoMemory>
+    requires { IfSome places (λ all. length all.now ≡ length view.now.parts.handovers + 1) }
     ensures { OnOk result (bytes.new.items ≡ bytes.old.items
-        ++ records (Some places.now) 0 view.now.parts.handovers view.now.parts.streams) }
+        ++ records (option_map (λ all. all.now) places.entry) 0 view.now.parts.handovers
+        view.now.parts.streams) }
 {
     for i in 0..view.segments() {
         put_record(bytes, &view.handover(i), view.stream(i).len() as u64)?;
-        put_place_field(bytes, places, usize::from(i))?;
+        put_place(bytes, places, usize::from(i))?;
     }
     Ok(())
 }
