@@ -17,7 +17,8 @@ pub(crate) struct Fetched {
     pub(crate) count: u8,
     // How many bits of the next unit are left out, if there are no bits.
     pub(crate) skip: u8,
-    // Which units that were fetched have two bytes, the last unit in the lowest bit.
+    // Which of the last eight units that were fetched have two bytes, the last one in the lowest bit. Bits are kept of
+    // eight at most.
     pub(crate) stuffed: u8,
     // The place of the unit of the last bit before the unit at `first`.
     pub(crate) last: usize,
@@ -171,7 +172,7 @@ pub(crate) fn by_fields(at: &Fetched) -> Fetched
     }
 }
 
-/// Fetches units, as long as there are any and there is room.
+/// Fetches six units, if they are one byte each, or else as many as there are and there is room for.
 #[inline(always)]
 pub(crate) fn refill(bytes: &[u8], at: &mut Fetched)
     requires kept { IsFetched bytes.now at.old }

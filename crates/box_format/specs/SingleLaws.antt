@@ -38,7 +38,7 @@ relaid bytes =
     take 4 bytes ++ (layout_of Second).byte ∷ [] ++ take 10 (drop 5 bytes)
     ++ 0 ∷ 0 ∷ 0 ∷ 0 ∷ [] ++ drop 15 bytes
 
--- and the bytes of that one are a container's of the first version, but for the fields of the version and of the list
+-- the bytes of a migrated container of the first version are its own, laid out so
 abbrev pub RelaidIsMigrated : Type 0
 RelaidIsMigrated =
     (plan : PlanFields) (b : BoxParts) → IsBox plan b → b.version ≡ First

@@ -32,8 +32,8 @@ pub(crate) fn write_in(
     requires one { (layout_of version).several ≡ false }
     requires whole { view.now.parts.chunk ≡ None }
     requires places { IfSome places (λ all. length all.now ≡ length view.now.parts.handovers + 1) }
-    ensures { IfOk result (λ made. made.items
-        ≡ box_bytes (in_version version (option_map (λ all. all.now) places.entry) view.now.parts)) }
+    ensures { IfOk result (λ made. let all = option_map (λ all. all.now) places.entry in
+        made.items ≡ box_bytes (in_version version all view.now.parts)) }
 {
     let mut made = with_capacity(alloc, room(version, view).min(MOST_ROOM))?;
     let pads = view.pad();
@@ -62,8 +62,8 @@ pub(crate) fn write_in(
 
 // How many bytes the container has, whatever its places, or the most that is counted.
 fn room(version: Version, view: &BoxView) -> usize
-    ensures { (places : Option (List ℕ))
-        → result ≡ min (2 ^ 64 - 1) (scans_room version (in_version version places view.now.parts ∷ [])) }
+    ensures { (places : Option (List ℕ)) → result
+        ≡ min (2 ^ 64 - 1) (scans_room version (in_version version places view.now.parts ∷ [])) }
 {
     let layout = version.layout();
     let mut room = (layout.first + layout.fields)

@@ -69,8 +69,8 @@ pub fn prepare(
     ensures fresh { IfOk result (λ ready. ready.used ≡ false) }
     ensures crew { IfOk result (λ ready.
         is_some ready.crew ≡ nat_lt 0 (segment_count ready.scans)) }
-    ensures team { IfOk result (λ ready. length (team_in ready.crew)
-        ≡ min (workers_of ready.scans (segment_count ready.scans) workers) (segment_count ready.scans)) }
+    ensures team { IfOk result (λ ready. let all = segment_count ready.scans in
+        length (team_in ready.crew) ≡ min (workers_of ready.scans all workers) all) }
     ensures rings { IfOk result (λ ready.
         IfSome ready.crew (λ crew. crew.emitter.view.capacity ≡ ring)) }
     ensures refused { (refusal : BoxRefusal) → IsErrOf result (ReadError.Box refusal)

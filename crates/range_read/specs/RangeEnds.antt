@@ -59,10 +59,11 @@ abbrev pub lone_stretch_in : LoneRangeSeen → Stretch
 lone_stretch_in ready =
     stretch_between (record { plan = ready.plan; parts = ready.parts }) ready.from ready.to
 
--- how many workers decode these
+-- how many workers are asked for
 abbrev pub workers_in : RangeSeen → Workers → ℕ
 workers_in ready workers =
-    workers_of (record { plan = ready.plan; parts = ready.parts } ∷ []) (stretch_in ready).count workers
+    let scans = record { plan = ready.plan; parts = ready.parts } ∷ [] in
+    workers_of scans (stretch_in ready).count workers
 
 -- how a portion that is a range may end: nothing is asked of its pad bits or of its length
 abbrev pub CanEndRange : Result ℕ DecodeError → Type 0

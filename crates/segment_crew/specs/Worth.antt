@@ -24,7 +24,7 @@ abbrev pub workers_worth : List BoxSeen → ℕ → ℕ → ℕ
 workers_worth scans count most =
     min most (blocks_in scans / max (segment_count scans) 1 * count / worth_a_worker)
 
--- how many workers decode them
+-- how many workers are asked for
 abbrev pub workers_of : List BoxSeen → ℕ → Workers → ℕ
 workers_of scans count (Given workers) = workers
 workers_of scans count (Worth most) = workers_worth scans count most

@@ -9,7 +9,7 @@ use box_format::{BoxView, FileView, rows_of};
 // as many. A thread for fewer costs more processor time than the command saves by the clock.
 const WORTH_A_WORKER: u64 = 8_192;
 
-/// How many workers decode a container's segments. More than there are segments aren't made.
+/// How many workers are asked for. No more are made than there are segments.
 #[derive(Clone, Copy)]
 pub enum Workers {
     /// This number of them.
@@ -18,7 +18,7 @@ pub enum Workers {
     Worth(u8),
 }
 
-/// How many workers these are for `count` of a container's segments.
+/// The number of workers that `workers` asks for, for `count` of a container's segments.
 pub fn workers_of(view: &FileView, count: u8, workers: Workers) -> u8
     requires { count ≤ segment_count view.now }
     ensures { result ≡ workers_of view.now count workers }
@@ -29,8 +29,8 @@ pub fn workers_of(view: &FileView, count: u8, workers: Workers) -> u8
     }
 }
 
-// How many are worth their threads, if there may be `most`. Each segment counts for an equal share of all blocks, rounded
-// down.
+// How many are worth their threads, if there may be `most`. Each segment counts for an equal share of all blocks,
+// rounded down.
 fn workers_worth(view: &FileView, count: u8, most: u8) -> u8
     requires { count ≤ segment_count view.now }
     ensures { result ≡ workers_worth view.now count most }
