@@ -3,7 +3,7 @@ use Rattle.std.proofs.Common.{◌≡◌, ℕ, ◌+◌, ◌*◌, ◌-◌, ◌<◌
 use Rattle.std.specs.Prelude.{slice_index}
 use Rattle.std.proofs.lemmas.List.{append-nil}
 use Rattle.std.proofs.Math.Nat.{mul-le-mul_right}
-use Rattle.coef_block.specs.TwoRows.{Extents, block_count, width, height, four_of, extents_of}
+use Rattle.coef_block.specs.BlockRows.{Extents, block_count, width, height, four_of, extents_of}
 use Rattle.block_spec.specs.Grid.{Grid, component_of, cell_in}
 use Rattle.block_spec.specs.HeldRows.{FitsGrid}
 use Rattle.block_spec.proofs.CellsOfBlocks.{stands}

@@ -13,10 +13,10 @@ use Rattle.block_spec.specs.BlockEvents.{block_events}
 use Rattle.block_spec.specs.ReadBlocks.{IsRead}
 use Rattle.block_spec.specs.declared.fault.BlockFault.{BlockFault}
 use Rattle.block_spec.specs.declared.fault.BlockFault.TheVariants.{BlockCount, DcRange}
-use Rattle.coef_block.specs.TwoRows.{block_count}
+use Rattle.coef_block.specs.BlockRows.{block_count}
 use Rattle.block_spec.specs.Grid.{Grid, Cell, IsCell, IsGrid, cell_at, cell_in, index_of}
 use Rattle.block_spec.specs.SegmentEvents.{around_in, class_of, segment_events}
-use Rattle.coef_block.specs.TwoRows.{TwoRows, stored}
+use Rattle.coef_block.specs.BlockRows.{BlockRows, stored}
 use Rattle.block_spec.specs.HeldRows.{HoldBlocks, kept_around}
 use Rattle.block_spec.proofs.CellsOfBlocks.{cell_at_index, stands}
 use Rattle.block_spec.proofs.Segments.{segment_more}
@@ -47,14 +47,14 @@ place_next g blocks row before k next =
     let here = placed_next g blocks row before k next in
     ap (cell_at g) (sym here.1) ∙ cell_at_index g (cell_in g row before k) next.grid here.0
 
-pub around_next : (v : TwoRows) (g : Grid) (blocks : List (List ℤ)) (row before k : ℕ) → IsNext g blocks row before k → HoldBlocks v g blocks row →
+pub around_next : (v : BlockRows) (g : Grid) (blocks : List (List ℤ)) (row before k : ℕ) → IsNext g blocks row before k → HoldBlocks v g blocks row →
     kept_around v (cell_in g row before k).component (cell_in g row before k).row (cell_in g row before k).column ≡ around_in g blocks (cell_in g row before k)
 around_next v g blocks row before k next held =
     let here = placed_next g blocks row before k next in
     around_is v g blocks (cell_in g row before k) here.0 here.1 held
 
 -- the events of the next block, by what the rows hold
-pub events_next : (v : TwoRows) (g : Grid) (blocks : List (List ℤ)) (b : List ℤ) (row before k : ℕ) → IsNext g blocks row before k → HoldBlocks v g blocks row →
+pub events_next : (v : BlockRows) (g : Grid) (blocks : List (List ℤ)) (b : List ℤ) (row before k : ℕ) → IsNext g blocks row before k → HoldBlocks v g blocks row →
     segment_events g (blocks ++ b ∷ []) ≡ segment_events g blocks
     ++ block_events (class_of (cell_in g row before k).component) (kept_around v (cell_in g row before k).component (cell_in g row before k).row (cell_in g row before k).column) b
 events_next v g blocks b row before k next held =
@@ -63,14 +63,14 @@ events_next v g blocks b row before k next held =
     ∙ ap (λ (a : Around). segment_events g blocks ++ block_events (class_of (cell_in g row before k).component) a b) (sym (around_next v g blocks row before k next held))
 
 -- and the rows with it
-pub held_next : (v : TwoRows) (g : Grid) (blocks : List (List ℤ)) (b : List ℤ) (row before k : ℕ) → IsNext g blocks row before k → HoldBlocks v g blocks row →
+pub held_next : (v : BlockRows) (g : Grid) (blocks : List (List ℤ)) (b : List ℤ) (row before k : ℕ) → IsNext g blocks row before k → HoldBlocks v g blocks row →
     HoldBlocks (stored v (cell_in g row before k).component (cell_in g row before k).row (cell_in g row before k).column b) g (blocks ++ b ∷ []) row
 held_next v g blocks b row before k next held =
     let here = placed_next g blocks row before k next in
     one_kept v g blocks (cell_in g row before k) b here.0 here.1 held
 
 -- what is near a block of these rows
-abbrev pub near_next : TwoRows → Grid → ℕ → ℕ → Around
+abbrev pub near_next : BlockRows → Grid → ℕ → ℕ → Around
 near_next v g before k = kept_around v (cell_in g 0 before k).component (cell_in g 0 before k).row (cell_in g 0 before k).column
 
 abbrev pub class_next : Grid → ℕ → ℕ → ℕ
@@ -84,7 +84,7 @@ events_joined : (g : Grid) (done more : List (List ℤ)) (b : List ℤ) (es fs :
 events_joined g done more b es fs are next =
     sym (ap (segment_events g) (append_assoc done more (b ∷ []))) ∙ next ∙ ap (λ (xs : List (ℕ × Bool)). xs ++ fs) are ∙ append_assoc (segment_events g done) es fs
 
-pub puts_one : (s t u : Put) (v : TwoRows) (g : Grid) (done more : List (List ℤ)) (b : List ℤ) (row before k : ℕ) → IsNext g (done ++ more) row before k → HoldBlocks v g (done ++ more) row
+pub puts_one : (s t u : Put) (v : BlockRows) (g : Grid) (done more : List (List ℤ)) (b : List ℤ) (row before k : ℕ) → IsNext g (done ++ more) row before k → HoldBlocks v g (done ++ more) row
     → PutsMore s g done t more → PutsEvents t (block_events (class_next g before k) (near_next v g before k) b) u → PutsMore s g done u (more ++ b ∷ [])
 puts_one s t u v g done more b row before k next held puts one = record {
   events = puts.events ++ block_events (class_next g before k) (near_next v g before k) b;
@@ -99,7 +99,7 @@ pub one_block_more : (more : List (List ℤ)) (b : List ℤ) → AllByRecursion 
 one_block_more [] b all is = (is, tt)
 one_block_more (x ∷ more) b all is = (all.0, one_block_more more b all.1 is)
 
-pub gets_one : (s t u : Get) (v : TwoRows) (g : Grid) (done more : List (List ℤ)) (b : List ℤ) (row before k : ℕ) → IsNext g (done ++ more) row before k → HoldBlocks v g (done ++ more) row
+pub gets_one : (s t u : Get) (v : BlockRows) (g : Grid) (done more : List (List ℤ)) (b : List ℤ) (row before k : ℕ) → IsNext g (done ++ more) row before k → HoldBlocks v g (done ++ more) row
     → GetsMore s g done t more → IsRead (λ es. GetsEvents t es u) (class_next g before k) (near_next v g before k) (Ok b) → GetsMore s g done u (more ++ b ∷ [])
 gets_one s t u v g done more b row before k next held gets one = record {
   events = gets.events ++ block_events (class_next g before k) (near_next v g before k) b;
@@ -112,7 +112,7 @@ on_fault : (codes other : List (ℕ × Bool) → Type 0) (class : ℕ) (around :
 on_fault codes other class around BlockCount step r = record { count = r.count; many = r.many; six_bits = r.six_bits; coded = step _ r.coded }
 on_fault codes other class around DcRange step r = record { block = r.block; residue = r.residue; is_block = r.is_block; sixteen = r.sixteen; outside = r.outside; coded = step _ r.coded }
 
-pub gets_fault : (s t u : Get) (v : TwoRows) (g : Grid) (done more : List (List ℤ)) (f : BlockFault) (row before k : ℕ) → IsNext g (done ++ more) row before k → length more ≡ k → HoldBlocks v g (done ++ more) row
+pub gets_fault : (s t u : Get) (v : BlockRows) (g : Grid) (done more : List (List ℤ)) (f : BlockFault) (row before k : ℕ) → IsNext g (done ++ more) row before k → length more ≡ k → HoldBlocks v g (done ++ more) row
     → GetsMore s g done t more → IsRead (λ es. GetsEvents t es u) (class_next g before k) (near_next v g before k) (Err f) → GetsFault s g done u f
 gets_fault s t u v g done more f row before k next some held gets read = record {
   more = more;
@@ -131,7 +131,7 @@ pub take_one : (blocks : List (List ℤ)) (k : ℕ) (b : List ℤ) → k < lengt
 take_one blocks k b within is = take_more blocks k b within ∙ ap (λ (x : List ℤ). take k blocks ++ x ∷ []) (sym is)
 
 -- the next block stored, by its cell
-pub held_on : (v : TwoRows) (g : Grid) (done more : List (List ℤ)) (b : List ℤ) (row before k : ℕ) → IsNext g (done ++ more) row before k → HoldBlocks v g (done ++ more) row →
+pub held_on : (v : BlockRows) (g : Grid) (done more : List (List ℤ)) (b : List ℤ) (row before k : ℕ) → IsNext g (done ++ more) row before k → HoldBlocks v g (done ++ more) row →
     HoldBlocks (stored v (cell_in g 0 before k).component (cell_in g 0 before k).row (cell_in g 0 before k).column b) g (done ++ (more ++ b ∷ [])) row
 held_on v g done more b row before k next held =
     subst (λ (bs : List (List ℤ)). HoldBlocks (stored v (cell_in g 0 before k).component (cell_in g 0 before k).row (cell_in g 0 before k).column b) g bs row) (append_assoc done more (b ∷ []))
@@ -153,7 +153,7 @@ mcu_more done more row across before b count some =
     assoc n m = omega arith
 
 -- a fault by what is near the cell
-pub fault_near : (s t : Get) (v : TwoRows) (g : Grid) (before k class component row column : ℕ) (f : BlockFault) → class ≡ class_of component → component ≡ (cell_in g 0 before k).component
+pub fault_near : (s t : Get) (v : BlockRows) (g : Grid) (before k class component row column : ℕ) (f : BlockFault) → class ≡ class_of component → component ≡ (cell_in g 0 before k).component
     → row ≡ (cell_in g 0 before k).row → column ≡ (cell_in g 0 before k).column → IsRead (λ es. GetsEvents s es t) class (kept_around v component row column) (Err f)
     → IsRead (λ es. GetsEvents s es t) (class_next g before k) (near_next v g before k) (Err f)
 fault_near s t v g before k class component row column f a b c d read =

@@ -1,6 +1,6 @@
 -- View: what the fields of a grid hold (own).
 use Rattle.std.specs.Prelude.{◌≡◌, ℕ, ◌^◌, ◌<◌, ◌≤◌, slice_index}
-use Rattle.coef_block.specs.TwoRows.{Extents, block_count, offset}
+use Rattle.coef_block.specs.BlockRows.{Extents, block_count, offset}
 use Rattle.block_spec.specs.Grid.{Grid}
 use Rattle.block_code.specs.declared.mcu_grid.McuGrid.TheInside.{Inside}
 

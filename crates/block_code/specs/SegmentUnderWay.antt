@@ -9,16 +9,16 @@ use Rattle.adapt_bins.specs.declared.put.Put.{Put}
 use Rattle.adapt_bins.specs.declared.get.Get.{Get}
 use Rattle.block_spec.specs.ReadBlocks.{IsRead}
 use Rattle.block_spec.specs.declared.fault.BlockFault.{BlockFault}
-use Rattle.coef_block.specs.TwoRows.{block_count}
+use Rattle.coef_block.specs.BlockRows.{block_count}
 use Rattle.block_spec.specs.Grid.{Grid, cell_at}
 use Rattle.block_spec.specs.SegmentEvents.{segment_events, around_in, class_of}
-use Rattle.coef_block.specs.TwoRows.{TwoRows}
+use Rattle.coef_block.specs.BlockRows.{BlockRows}
 use Rattle.block_spec.specs.HeldRows.{HoldBlocks}
 
 -- the grid, the rows, and how many MCUs of this MCU row came before (own)
 pub record UnderWay : Type 0 where
   pub grid : Grid
-  pub rows : TwoRows
+  pub rows : BlockRows
   pub before : ℕ
 
 -- after these blocks of the segment the rows hold the neighbours of the next MCU's blocks (own)

@@ -1,7 +1,7 @@
 // A block as events in a stream, there and back.
 ghost use Rattle.std.specs.Prelude.{◌≡◌, ℕ, ◌<◌, ◌≤◌, OnOk, OnErr, IfSome, IfNone, None, Ok, Err, Result, length};
 ghost use Rattle.coef_block.specs.Block.{IsBlock, IsDc};
-ghost use Rattle.coef_block.specs.TwoRows.{width, height};
+ghost use Rattle.coef_block.specs.BlockRows.{width, height};
 ghost use Rattle.adapt_bins.specs.PutEvents.{PutsEvents};
 ghost use Rattle.adapt_bins.specs.GotEvents.{GetsEvents};
 ghost use Rattle.adapt_bins.specs.declared.get.Get.{Get};

@@ -11,7 +11,7 @@
 //!
 //! One body codes the parts of a block in that order, as the events of `block_spec` say: with `Put` it is given each
 //! bit, and with `Get` it gets each. A bit's bin follows from the blocks around and from earlier bits of the block.
-//! `SegmentRows` keeps two MCU rows of blocks, so that `put_mcu` and `get_mcu` find the blocks around each.
+//! `SegmentRows` keeps an MCU row of blocks, so that `put_mcu` and `get_mcu` find the blocks around each.
 //!
 //! Bins and their probabilities are `adapt_bins`', the stream `bool_coder`'s, the prediction `dc_predict`'s.
 //!

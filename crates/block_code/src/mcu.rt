@@ -2,7 +2,7 @@
 ghost use Rattle.std.specs.Prelude.{◌≡◌, ℕ, ◌<◌, ◌≤◌, ◌+◌, ◌*◌, ◌++◌, OnOk, OnErr, IfOk, IfErr, [], None, List, ℤ, length};
 ghost use Rattle.std.specs.List.{AllByRecursion};
 ghost use Rattle.coef_block.specs.Block.{IsBlock};
-ghost use Rattle.coef_block.specs.TwoRows.{block_count};
+ghost use Rattle.coef_block.specs.BlockRows.{block_count};
 ghost use Rattle.block_spec.specs.Grid.{IsGrid};
 ghost use Rattle.block_spec.specs.SegmentEvents.{class_of};
 ghost use Rattle.block_spec.specs.HeldRows.{HoldBlocks, FitsGrid};
@@ -18,8 +18,8 @@ use coef_block::{Block, Rows};
 use std::alloc::Global;
 use std::marker::Model;
 
-/// A segment under way, between two MCUs: its grid, the blocks of this MCU row and of the one before, and how many MCUs
-/// of this MCU row came before.
+/// A segment under way, between two MCUs: its grid, the blocks that the next ones have as neighbours, and how many MCUs of
+/// this MCU row came before.
 #[derive(Drop)]
 pub struct SegmentRows {
     grid: McuGrid,
@@ -39,7 +39,7 @@ impl Model for SegmentRows {
 }
 
 impl SegmentRows {
-    /// Before the first MCU of a segment. Memory is allocated here alone, for two MCU rows of blocks; the one error is
+    /// Before the first MCU of a segment. Memory is allocated here alone, for an MCU row of blocks; the one error is
     /// out of memory.
     pub fn new(alloc: Global, grid: McuGrid) -> Result<SegmentRows, NoMemory>
         requires { IsGrid grid }

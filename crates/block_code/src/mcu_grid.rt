@@ -1,6 +1,6 @@
 // Where the blocks of an MCU are.
 ghost use Rattle.std.specs.Prelude.{ℕ, ◌≡◌, ◌<◌, ◌≤◌, ◌*◌, ◌^◌, slice_index};
-ghost use Rattle.coef_block.specs.TwoRows.{block_count, width};
+ghost use Rattle.coef_block.specs.BlockRows.{block_count, width};
 ghost use Rattle.block_spec.specs.Grid.{component_of, cell_in};
 
 use std::marker::Model;

@@ -7,7 +7,7 @@ use Rattle.std.proofs.lemmas.Bool.{and_parts, ltb-true, eqb-true}
 use Rattle.std.proofs.lemmas.List.{length-append}
 use Rattle.coef_block.specs.Block.{IsBlock, IsDc, limit}
 use Rattle.coef_block.specs.Categories.{category}
-use Rattle.coef_block.specs.TwoRows.{no_block}
+use Rattle.coef_block.specs.BlockRows.{no_block}
 use Rattle.dc_predict.specs.DcPrediction.{spread_of}
 use Rattle.block_spec.specs.Values.{category_of, nonzeros}
 use Rattle.block_spec.specs.Around.{Around, AreAround, value_at, values_in, inner_positions, row_positions, column_positions, magnitude, inner_mean, inner_weight, edge_weight, inner_count, mean, guess, prediction, dc, dc_spread}

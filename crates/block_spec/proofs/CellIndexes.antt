@@ -4,7 +4,7 @@ use Rattle.std.specs.Prelude.{nat_lt, IfSome}
 use Rattle.std.proofs.lemmas.Bool.Decides.{nat_tests}
 use Rattle.std.proofs.lemmas.Bool.{cases_lt}
 use Rattle.std.proofs.Math.Nat.{mul-le-mul_right, div-add-mod}
-use Rattle.coef_block.specs.TwoRows.{block_count, Extents, width, height, offset, index_in}
+use Rattle.coef_block.specs.BlockRows.{block_count, Extents, width, height, offset, index_in}
 use Rattle.block_spec.specs.Grid.{Grid, Cell, index_of, IsCell, above_at, left_at}
 use Rattle.coef_block.proofs.RowIndexes.{index_order, index_in_count}
 
@@ -60,7 +60,7 @@ column_in a w column below = elim (cases_lt (column / w) a) [
   | inr h ↦ absurd (let more : a * w ≤ column / w * w = mul-le-mul_right w h in let d = div-add-mod column w in omega (arith, more, d, below))
 ]
 
-same_cell : (p q : Cell) → p.mcu_row ≡ q.mcu_row → p.component ≡ q.component → p.row ≡ q.row → p.column ≡ q.column
+pub same_cell : (p q : Cell) → p.mcu_row ≡ q.mcu_row → p.component ≡ q.component → p.row ≡ q.row → p.column ≡ q.column
     → p ≡ q
 same_cell p q r c row column =
     ap (λ (n : ℕ). make n p.component p.row p.column) r ∙ ap (λ (n : ℕ). make q.mcu_row n p.row p.column) c ∙ ap (λ (n : ℕ). make q.mcu_row q.component n p.column) row ∙ ap (λ (n : ℕ). make q.mcu_row q.component q.row n) column
@@ -125,6 +125,25 @@ left_before g r c row (suc column) is =
         | inr h ↦ rw (← h.0, ← h.1) (omega arith)
       ],
     )
+
+-- along a block row indexes rise
+pub columns_rise : (g : Grid) (r c row column along : ℕ)
+    → IsCell g (record { mcu_row = r; component = c; row = row; column = along }) → column ≤ along
+    → index_of g (record { mcu_row = r; component = c; row = row; column = column }) ≤ index_of g (record { mcu_row = r; component = c; row = row; column = along })
+columns_rise g r c row column zero is le = let z : column ≡ 0 = omega arith in rw z (omega arith)
+columns_rise g r c row column (suc along) is le = elim (cases_lt column (suc along)) [
+  | inl h ↦
+      let q = left_before g r c row (suc along) is in
+      let rises = columns_rise g r c row column along q.0 (omega (arith, h)) in
+      let less = q.1 in
+      omega (arith, rises, less)
+  | inr h ↦ let same : column ≡ suc along = omega arith in rw same (omega arith)
+]
+
+-- a lower block of an MCU comes later
+pub rows_rise : (g : Grid) (r c row column : ℕ)
+    → index_of g (record { mcu_row = r; component = c; row = 0; column = column }) ≤ index_of g (record { mcu_row = r; component = c; row = row; column = column })
+rows_rise g r c row column = omega arith
 
 -- two cells of one index are one
 pub cell_of_index : (g : Grid) (p q : Cell) → IsCell g p → IsCell g q → index_of g p ≡ index_of g q → p ≡ q

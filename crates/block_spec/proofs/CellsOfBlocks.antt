@@ -3,7 +3,7 @@ use Rattle.std.proofs.Common.{◌≡◌, ℕ, zero, suc, ◌+◌, ◌*◌, ◌-�
 use Rattle.std.specs.Prelude.{nat_lt, if◌then◌else◌}
 use Rattle.std.proofs.lemmas.Bool.{ltb-true, ltb-false, cases_lt}
 use Rattle.std.proofs.Math.Nat.{mul-le-mul_right, div-add-mod}
-use Rattle.coef_block.specs.TwoRows.{block_count, Extents, width, height, offset}
+use Rattle.coef_block.specs.BlockRows.{block_count, Extents, width, height, offset}
 use Rattle.block_spec.specs.Grid.{Grid, Cell, index_of, IsCell, IsGrid, component_of, cell_in, cell_at}
 use Rattle.coef_block.proofs.RowIndexes.{in_row}
 use Rattle.block_spec.proofs.CellIndexes.{split, cell_of_index}

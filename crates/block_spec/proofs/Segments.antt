@@ -3,7 +3,7 @@ use Rattle.std.proofs.Common.{◌≡◌, ℕ, zero, suc, ◌+◌, ◌<◌, ◌�
 use Rattle.std.specs.Prelude.{ℤ, Option, Some, None, IfSome, option_map, slice_index_or}
 use Rattle.std.specs.Option.{option_and_then}
 use Rattle.std.proofs.lemmas.List.{get_or_append_left, get_or_push, length_push}
-use Rattle.coef_block.specs.TwoRows.{no_block}
+use Rattle.coef_block.specs.BlockRows.{no_block}
 use Rattle.block_spec.specs.Around.{Around}
 use Rattle.block_spec.specs.BlockEvents.{block_events}
 use Rattle.block_spec.specs.Grid.{Grid, Cell, index_of, IsCell, IsGrid, cell_at, block_at, above_of, left_of}

@@ -5,7 +5,7 @@ use Rattle.std.specs.Option.{option_and_then}
 use Rattle.std.specs.List.{AllByRecursion}
 use Rattle.std.proofs.lemmas.List.{ext_get_or}
 use Rattle.coef_block.specs.Block.{IsBlock}
-use Rattle.coef_block.specs.TwoRows.{no_block}
+use Rattle.coef_block.specs.BlockRows.{no_block}
 use Rattle.coef_block.proofs.Zeros.{zeros_are_a_block}
 use Rattle.bool_coder.specs.BoolReading.{IsReading}
 use Rattle.adapt_bins.specs.Events.{bools_of}

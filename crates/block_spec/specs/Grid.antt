@@ -1,6 +1,6 @@
 -- Statement: the blocks of a segment in the order of its MCUs, and the cell of each (ITU-T T.81, A.2.3).
 use Rattle.std.specs.Prelude.{ℕ, zero, suc, ◌+◌, ◌*◌, ◌-◌, ◌/◌, ◌%◌, ◌<◌, nat_lt, if◌then◌else◌, List, ℤ, Option, Some, None, slice_index_or}
-use Rattle.coef_block.specs.TwoRows.{Extents, width, height, offset, block_count, index_in, no_block}
+use Rattle.coef_block.specs.BlockRows.{Extents, width, height, offset, block_count, index_in, no_block}
 
 -- how many MCUs a row has, and the extents of one MCU (T.81 A.2.3)
 pub record Grid : Type 0 where

@@ -1,6 +1,6 @@
 -- Rows: a random segment, with the stream that an independent program made of it (own).
 use Rattle.std.specs.Prelude.{ℕ, List, [], ◌∷◌, ℤ, pos, negsuc, slice_set}
-use Rattle.coef_block.specs.TwoRows.{no_block, extents_of}
+use Rattle.coef_block.specs.BlockRows.{no_block, extents_of}
 use Rattle.block_spec.specs.Grid.{Grid}
 
 -- two MCUs across, 4:2:0 (own)

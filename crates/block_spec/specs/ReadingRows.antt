@@ -1,6 +1,6 @@
 -- Rows: blocks that bytes give, worked by hand (docs/FORMAT.md, The stream).
 use Rattle.std.specs.Prelude.{ℕ, List, [], ◌∷◌, ℤ, slice_set}
-use Rattle.coef_block.specs.TwoRows.{no_block, extents_of}
+use Rattle.coef_block.specs.BlockRows.{no_block, extents_of}
 use Rattle.block_spec.specs.Grid.{Grid}
 
 -- one component, one MCU across (own)

@@ -1,7 +1,7 @@
 -- Statement: the events of a segment, from its whole list of blocks (docs/FORMAT.md, The events of a block).
 use Rattle.std.specs.Prelude.{ℕ, zero, suc, ◌==◌, if◌then◌else◌, Bool, List, [], ◌++◌, length, ℤ, option_map, slice_index_or}
 use Rattle.std.specs.Option.{option_and_then}
-use Rattle.coef_block.specs.TwoRows.{no_block}
+use Rattle.coef_block.specs.BlockRows.{no_block}
 use Rattle.block_spec.specs.Around.{Around}
 use Rattle.block_spec.specs.BlockEvents.{block_events}
 use Rattle.block_spec.specs.Grid.{Grid, Cell, cell_at, block_at, above_of, left_of}

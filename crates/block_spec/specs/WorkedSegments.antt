@@ -1,6 +1,6 @@
 -- Rows: segments worked by hand (docs/FORMAT.md, The events of a block).
 use Rattle.std.specs.Prelude.{ℕ, Bool, true, false, List, [], ◌∷◌, ◌++◌, map, replicate, ℤ, negsuc, slice_set, Some}
-use Rattle.coef_block.specs.TwoRows.{no_block, extents_of}
+use Rattle.coef_block.specs.BlockRows.{no_block, extents_of}
 use Rattle.bool_coder.specs.BoolStream.{coded, stream}
 use Rattle.adapt_bins.specs.Events.{bools_of}
 use Rattle.block_spec.specs.Around.{Around}

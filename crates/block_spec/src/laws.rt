@@ -1,7 +1,7 @@
 // What holds of the definitions.
 ghost use Rattle.std.specs.Prelude.{suc, ◌*◌, ◌≡◌, ◌<◌, ◌≤◌, ◌++◌, ◌∷◌, [], ℕ, ℤ, List, Bool, Result, length};
 ghost use Rattle.coef_block.specs.Block.{IsBlock, IsDc};
-ghost use Rattle.coef_block.specs.TwoRows.{TwoRows, AreCleared, block_count, stored};
+ghost use Rattle.coef_block.specs.BlockRows.{BlockRows, AreCleared, block_count, stored, next_row};
 ghost use Rattle.std.specs.List.{AllByRecursion};
 ghost use Rattle.bool_coder.specs.BoolReading.{IsReading};
 ghost use Rattle.bool_coder.specs.BoolStream.{IsBool};
@@ -13,7 +13,7 @@ ghost use Rattle.block_spec.specs.ReadBlocks.{IsRead};
 ghost use Rattle.block_spec.specs.BlockEvents.{block_events, most_events, IsBin};
 ghost use Rattle.block_spec.specs.Grid.{Grid, Cell, IsGrid, IsCell, index_of, cell_at};
 ghost use Rattle.block_spec.specs.SegmentEvents.{segment_events, next_events, around_in};
-ghost use Rattle.block_spec.specs.HeldRows.{FitsGrid, HoldBlocks, kept_around, IsNextRow};
+ghost use Rattle.block_spec.specs.HeldRows.{FitsGrid, HoldBlocks, kept_around};
 
 /// The prediction of a DC is a DC.
 pub fn predictions_are_in_range()
@@ -49,19 +49,19 @@ pub fn a_block_more()
         ≡ segment_events g blocks ++ next_events g blocks b }
 {}
 
-/// Two rows have the neighbours that the whole list has, block after block.
-pub fn two_rows_are_enough()
-    ensures around { (rows : TwoRows) (g : Grid) (blocks : List (List ℤ)) (p : Cell)
+/// One MCU row and the corners have the neighbours that the whole list has, block after block.
+pub fn one_row_is_enough()
+    ensures around { (rows : BlockRows) (g : Grid) (blocks : List (List ℤ)) (p : Cell)
         → IsCell g p → index_of g p ≡ length blocks → HoldBlocks rows g blocks p.mcu_row
         → kept_around rows p.component p.row p.column ≡ around_in g blocks p }
-    ensures stored { (rows : TwoRows) (g : Grid) (blocks : List (List ℤ)) (p : Cell) (b : List ℤ)
+    ensures stored { (rows : BlockRows) (g : Grid) (blocks : List (List ℤ)) (p : Cell) (b : List ℤ)
         → IsCell g p → index_of g p ≡ length blocks → HoldBlocks rows g blocks p.mcu_row
         → HoldBlocks (stored rows p.component p.row p.column b) g (blocks ++ b ∷ []) p.mcu_row }
-    ensures cleared { (rows : TwoRows) (g : Grid)
+    ensures cleared { (rows : BlockRows) (g : Grid)
         → FitsGrid rows.extents g → AreCleared rows → HoldBlocks rows g [] 0 }
-    ensures next_row { (rows next : TwoRows) (g : Grid) (blocks : List (List ℤ)) (r : ℕ)
-        → length blocks ≡ suc r * g.across * block_count g.mcu → IsNextRow rows next
-        → HoldBlocks rows g blocks r → HoldBlocks next g blocks (suc r) }
+    ensures next_row { (rows : BlockRows) (g : Grid) (blocks : List (List ℤ)) (r : ℕ)
+        → length blocks ≡ suc r * g.across * block_count g.mcu
+        → HoldBlocks rows g blocks r → HoldBlocks (next_row rows) g blocks (suc r) }
 {}
 
 /// Bytes give one list of blocks of a length.

@@ -24,8 +24,8 @@ mod worked;
 
 pub use fault::BlockFault;
 pub use laws::{
-    a_block_more, cells_of_blocks, events_are_few, one_answer, one_block, one_segment,
-    predictions_are_in_range, probs_are_bools, two_rows_are_enough,
+    a_block_more, cells_of_blocks, events_are_few, one_answer, one_block, one_row_is_enough,
+    one_segment, predictions_are_in_range, probs_are_bools,
 };
 pub use reading::{blocks_are_given, given_blocks_are_read};
 pub use worked::{random_segment, rows_of_events, rows_of_reading, rows_of_weights};

@@ -1,6 +1,6 @@
 // Worked rows of the definitions.
 ghost use Rattle.std.specs.Prelude.{◌≡◌, ◌∷◌, [], None, Ok, Err, pos, take};
-ghost use Rattle.coef_block.specs.TwoRows.{no_block};
+ghost use Rattle.coef_block.specs.BlockRows.{no_block};
 ghost use Rattle.block_spec.specs.Around.{inner_mean, inner_weight, edge_weight};
 ghost use Rattle.block_spec.specs.WorkedSegments.{three_around, one_wide, sampled, an_inner_coefficient, zeros_of, bits_of, inner_bits, probs, probs_of_two_blocks, probs_of_six_blocks, stream_of};
 ghost use Rattle.block_spec.specs.declared.fault.BlockFault.TheVariants.{BlockCount, DcRange};

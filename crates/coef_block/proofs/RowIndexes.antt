@@ -3,7 +3,7 @@ use Rattle.std.proofs.Common.{◌≡◌, ℕ, zero, suc, ◌+◌, ◌*◌, ◌<�
 use Rattle.std.specs.Prelude.{nat_le, true, false}
 use Rattle.std.proofs.lemmas.Bool.Decides.{nat_tests}
 use Rattle.std.proofs.Math.Nat.{mul-le-mul_right}
-use Rattle.coef_block.specs.TwoRows.{Extents, width, height, offset, index_in, block_count}
+use Rattle.coef_block.specs.BlockRows.{Extents, width, height, offset, index_in, block_count}
 
 -- a row and a column make a number below width times height
 pub in_row : (w h row column : ℕ) → row < h → column < w → row * w + column < w * h

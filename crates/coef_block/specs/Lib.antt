@@ -3,5 +3,5 @@ pub mod BlockInside
 pub mod Categories
 pub mod Nonzeros
 pub mod RowsInside
-pub mod TwoRows
+pub mod BlockRows
 pub mod Zigzag

@@ -13,7 +13,7 @@
 //! A natural position is 8 times the row plus the column. The number of bits of a coefficient or of a difference
 //! is its category (Table F.1). Not handled here: coding those bits (see `scan_write`, `scan_decode`).
 //!
-//! `Rows` keeps the blocks of two MCU rows, and gives those above, to the left and diagonally of one.
+//! `Rows` keeps the blocks of an MCU row, and gives those above, to the left and diagonally of the next one.
 #![tactic(auto)]
 
 mod block;

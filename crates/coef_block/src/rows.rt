@@ -1,16 +1,17 @@
-// Two MCU rows of blocks.
-ghost use Rattle.std.specs.Prelude.{◌≡◌, ◌<◌, ◌*◌, ◌+◌, ◌≤◌, ◌^◌, ℕ, IfOk, option_map, true, length, slice_index};
-ghost use Rattle.coef_block.specs.TwoRows.{AreCleared, width, height, offset, block_count, index_in, above_in, left_in, diagonal_in, stored, four_of, extents_of};
+// The blocks of an MCU row.
+ghost use Rattle.std.specs.Prelude.{◌≡◌, ◌<◌, ◌*◌, ◌+◌, ◌-◌, ◌≤◌, ◌^◌, ℕ, IfOk, option_map, true, length, slice_index};
+ghost use Rattle.coef_block.specs.BlockRows.{AreCleared, width, height, offset, block_count, index_in, above_in, left_in, diagonal_in, stored, next_row, four_of, extents_of};
 
 use crate::block::Block;
 use allocation::{NoMemory, from_elem};
 use std::alloc::Global;
 use std::marker::Model;
 
-/// The blocks of this MCU row and of the one before, as a block's neighbours are looked up: component after component,
-/// each by block row within the MCU row and by block column. Memory for both rows is allocated once.
+/// The blocks of an MCU row, as the neighbours of the block that comes next are looked up: component after component,
+/// each by block row within the MCU row and by block column. In each place the block that came last there is kept, of
+/// this MCU row or of the one before. Memory is allocated once.
 ///
-/// Clauses see the `TwoRows`.
+/// Clauses see the `BlockRows`.
 #[derive(Drop)]
 pub struct Rows {
     // By component, 0 after the last.
@@ -19,15 +20,16 @@ pub struct Rows {
     // How many blocks the components before have.
     offsets: [usize; 4],
     started: bool,
-    before: Vec<Block>,
-    here: Vec<Block>,
+    blocks: Vec<Block>,
+    // By component, the block above the one that came last in its first block row.
+    corners: [Block; 4],
 }
 
 impl Model for Rows {
-    ghost use Rattle.coef_block.specs.TwoRows.{TwoRows};
+    ghost use Rattle.coef_block.specs.BlockRows.{BlockRows};
     ghost use Rattle.coef_block.specs.RowsInside.{AreRows, rows_in};
 
-    ghost Value = { TwoRows };
+    ghost Value = { BlockRows };
 
     ghost view = { rows_in };
 
@@ -46,33 +48,28 @@ impl Rows {
         let widths = four_of(widths);
         let heights = four_of(heights);
         let (offsets, count) = offsets_of(&widths, &heights);
-        let before = from_elem(alloc, Block::zero(), count)?;
-        let here = from_elem(alloc, Block::zero(), count)?;
+        let blocks = from_elem(alloc, Block::zero(), count)?;
         Ok(Rows {
             widths,
             heights,
             offsets,
             started: false,
-            before,
-            here,
+            blocks,
+            corners: [Block::zero(); 4],
         })
     }
 
-    /// How many blocks are kept: those of two MCU rows.
+    /// How many blocks are kept: those of an MCU row.
     pub fn room(&self) -> u64
-        ensures { result ≡ 2 * block_count self.now.extents }
+        ensures { result ≡ block_count self.now.extents }
     {
-        2 * self.here.len() as u64
+        self.blocks.len() as u64
     }
 
-    /// The next MCU row begins. The blocks of this one are then those of the row before.
+    /// The next MCU row begins. The lowest blocks of this one are then above it.
     pub fn next_row(&mut self)
-        ensures extents { self.new.extents ≡ self.old.extents }
-        ensures started { self.new.started ≡ true }
-        ensures before { self.new.before ≡ self.old.here }
-        ensures here { length self.new.here ≡ block_count self.new.extents }
+        ensures { self.new ≡ next_row self.old }
     {
-        std::mem::swap(&mut self.before, &mut self.here);
         self.started = true;
     }
 
@@ -93,11 +90,10 @@ impl Rows {
         ensures { option_map (λ block. block.now) result ≡ above_in self.now component row column }
     {
         if row > 0 {
-            return Some(&self.here[self.index(component, row - 1, column)]);
+            return Some(&self.blocks[self.index(component, row - 1, column)]);
         }
         if self.started {
-            let lowest = self.heights[component] - 1;
-            return Some(&self.before[self.index(component, lowest, column)]);
+            return Some(&self.blocks[self.lowest(component, column)]);
         }
         None
     }
@@ -113,7 +109,7 @@ impl Rows {
         if column == 0 {
             return None;
         }
-        Some(&self.here[self.index(component, row, column - 1)])
+        Some(&self.blocks[self.index(component, row, column - 1)])
     }
 
     /// The block above the one to the left; `None` if one of the two isn't there.
@@ -128,10 +124,16 @@ impl Rows {
         if column == 0 {
             return None;
         }
-        self.above(component, row, column - 1)
+        if row > 0 {
+            return Some(&self.blocks[self.index(component, row - 1, column - 1)]);
+        }
+        if self.started {
+            return Some(&self.corners[component]);
+        }
+        None
     }
 
-    /// Keeps a block of this MCU row.
+    /// Keeps a block of this MCU row, in place of the one of the row before.
     #[inline]
     pub fn store(&mut self, component: usize, row: u32, column: u32, block: &Block)
         requires component { component < 4 }
@@ -139,8 +141,24 @@ impl Rows {
         requires column { column < width self.old.extents component }
         ensures { self.new ≡ stored self.old component row column block.now }
     {
+        if row == 0 {
+            self.corners[component] = self.blocks[self.lowest(component, column)];
+        }
         let index = self.index(component, row, column);
-        self.here[index] = *block;
+        self.blocks[index] = *block;
+    }
+
+    // The index of a component's lowest block of a block column.
+    #[inline]
+    fn lowest(&self, component: usize, column: u32) -> usize
+        requires component { component < 4 }
+        requires row { 0 < height self.now.extents component }
+        requires column { column < width self.now.extents component }
+        ensures index { result
+            ≡ index_in self.now.extents component (height self.now.extents component - 1) column }
+        ensures kept { result < length self.now.blocks }
+    {
+        self.index(component, self.heights[component] - 1, column)
     }
 
     // The index of a block of an MCU row.
@@ -150,8 +168,7 @@ impl Rows {
         requires row { row < height self.now.extents component }
         requires column { column < width self.now.extents component }
         ensures index { result ≡ index_in self.now.extents component row column }
-        ensures here { result < length self.now.here }
-        ensures before { result < length self.now.before }
+        ensures kept { result < length self.now.blocks }
     {
         self.offsets[component] + (row as usize * self.widths[component] as usize + column as usize)
     }

@@ -1,6 +1,6 @@
 // Values from the tables and figures of ITU-T T.81.
 ghost use Rattle.std.specs.Prelude.{◌≡◌, ◌<◌, ◌∷◌, []};
-ghost use Rattle.coef_block.specs.TwoRows.{width, height, extents_of};
+ghost use Rattle.coef_block.specs.BlockRows.{width, height, extents_of};
 
 use coef_block::{Block, Rows, natural_position, natural_positions, size};
 use std::process::Abort;
@@ -169,7 +169,7 @@ const NEXT: [[i16; 3]; 6] = [
 #[test]
 fn neighbours_of_blocks(rt: HostRuntime) {
     let mut rows = Rows::new(rt.alloc(), &[2, 1, 1], &[2, 1, 1]).expect(&rt, "memory");
-    assert!(rt; rows.room() == 12);
+    assert!(rt; rows.room() == 6);
     visit_mcu(&rt, &mut rows, 1, &FIRST);
     rows.next_row();
     visit_mcu(&rt, &mut rows, 7, &SECOND);

@@ -45,7 +45,7 @@ impl<'a> ReadyAlone<'a> {
 }
 
 /// Reads a container's scans, and allocates all the memory that its decoding on one thread needs: for each scan the
-/// bins and two MCU rows of blocks, and a piece of bytes.
+/// bins and an MCU row of blocks, and a piece of bytes.
 #[inline(never)]
 pub fn prepare_alone(alloc: Global, bytes: &[u8]) -> Result<ReadyAlone<'_>, ReadError>
     ensures ready { IfOk result (λ ready. IsContainer ready.scans bytes.now) }

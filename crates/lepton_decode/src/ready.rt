@@ -54,7 +54,7 @@ impl<'a> Ready<'a> {
 }
 
 /// Reads a container's scans, and allocates all the memory that its decoding by these workers needs: for the emitter
-/// and each worker a piece of bytes, and for each scan the bins and two MCU rows of blocks; and for each segment a ring
+/// and each worker a piece of bytes, and for each scan the bins and an MCU row of blocks; and for each segment a ring
 /// of `ring` bytes. No more workers are made than the container has segments. With 0 workers the emitter decodes all.
 /// If the container has no segment, there is no board.
 #[inline(never)]

@@ -9,7 +9,7 @@
 //!
 //! The segments are coded side by side from the file's bytes, at most 16 at the same time, each after a pass over the
 //! scan is through it; `encode_alone` codes them on the calling thread. Beside the bytes, memory is for the streams,
-//! and for two MCU rows of blocks and the bins of each that is coded. The container is made in the memory of its first
+//! and for an MCU row of blocks and the bins of each that is coded. The container is made in the memory of its first
 //! stream, or of what comes before that if it is longer, so that no more than a stream is there twice. What a
 //! segment's stream is and what a file's container stands for is `container_spec`'s, how a stream is made
 //! `segment_code`'s, and in which thread `segment_encode`'s.

@@ -1,6 +1,6 @@
 // Streams worked by hand; the definitions give the same ones (`rows_of_events` of `block_spec`).
 ghost use Rattle.std.specs.Prelude.{◌≡◌, length};
-ghost use Rattle.coef_block.specs.TwoRows.{block_count};
+ghost use Rattle.coef_block.specs.BlockRows.{block_count};
 ghost use Rattle.block_spec.specs.Grid.{IsGrid};
 
 use adapt_bins::{Bins, Get, Put};

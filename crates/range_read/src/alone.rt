@@ -59,7 +59,7 @@ impl<'a> ReadyRangeAlone<'a> {
 }
 
 /// Reads a container's parts, and allocates all the memory that reading the file's bytes from place `from` to before
-/// place `to` on one thread needs: the bins, two MCU rows of blocks and a piece of bytes. If no segment has a place
+/// place `to` on one thread needs: the bins, an MCU row of blocks and a piece of bytes. If no segment has a place
 /// there, it allocates only the plans.
 #[inline(never)]
 pub fn prepare_range_alone(

@@ -57,7 +57,7 @@ impl<'a> ReadyRange<'a> {
 }
 
 /// Reads a container's parts, and allocates all the memory that reading the file's bytes from place `from` to before
-/// place `to` needs: for the emitter and each of these workers the bins, two MCU rows of blocks and a piece of bytes,
+/// place `to` needs: for the emitter and each of these workers the bins, an MCU row of blocks and a piece of bytes,
 /// and for each segment with a place in the range a ring of `ring` bytes. No more workers are made than such segments.
 /// With 0 workers the emitter decodes all. If no segment has a place there, there is no board.
 #[inline(never)]

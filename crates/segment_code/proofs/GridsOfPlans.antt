@@ -9,7 +9,7 @@ use Rattle.jpeg_marker.proofs.Choices.{rising_is}
 use Rattle.jpeg_marker.proofs.Repeats.{both_hold}
 use Rattle.jpeg_marker.proofs.PlanGrids.{some_block, few_in_mcu, few_mcus}
 use Rattle.std.proofs.lemmas.Bool.{and_parts, leb-true}
-use Rattle.coef_block.specs.TwoRows.{block_count}
+use Rattle.coef_block.specs.BlockRows.{block_count}
 use Rattle.jpeg_marker.specs.Frames.{is_sampled, fit_an_mcu}
 use Rattle.jpeg_marker.specs.Plans.{PlanFields, IsPlan, part_of, are_indexes}
 use Rattle.jpeg_marker.specs.declared.component.Component.{Component}

@@ -1,7 +1,7 @@
 -- The next MCU of a segment: its blocks are read, and its bytes are put, or there are none for a cause.
 use Rattle.std.proofs.Common.{◌≡◌, ℕ, ◌+◌, ◌-◌, ◌<◌, ◌≤◌, Bool, List, ◌++◌, length, ℤ, Result, Ok, Err, refl, sym, ap, ap₂, subst, ◌∙◌, arith, append_assoc}
 use Rattle.std.specs.Prelude.{⊤, Option, Some, None}
-use Rattle.coef_block.specs.TwoRows.{block_count}
+use Rattle.coef_block.specs.BlockRows.{block_count}
 use Rattle.bool_coder.specs.BoolReading.{IsReading}
 use Rattle.adapt_bins.specs.Events.{bools_of}
 use Rattle.adapt_bins.specs.GotEvents.{HasGot, GetsEvents}

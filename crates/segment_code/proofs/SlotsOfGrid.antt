@@ -1,6 +1,6 @@
 -- The slots of a plan's scan are as many as the blocks of an MCU of its grid.
 use Rattle.std.proofs.Common.{◌≡◌, length, sym, ◌∙◌}
-use Rattle.coef_block.specs.TwoRows.{block_count}
+use Rattle.coef_block.specs.BlockRows.{block_count}
 use Rattle.jpeg_marker.specs.Plans.{PlanFields, IsPlan}
 use Rattle.jpeg_marker.proofs.Choices.{rising_is}
 use Rattle.scan_spec.specs.Slots.{slots_of}

@@ -1,7 +1,7 @@
 -- View: the value of a decoder, and its invariant (own).
 use Rattle.std.specs.Prelude.{ℕ, ◌≡◌, ◌+◌, ◌*◌, ◌^◌, ◌≤◌, length}
 use Rattle.bit_list.specs.Pieces.{piece_room}
-use Rattle.coef_block.specs.TwoRows.{block_count}
+use Rattle.coef_block.specs.BlockRows.{block_count}
 use Rattle.scan_spec.specs.Slots.{shape_of}
 use Rattle.coef_context.specs.Runs.{bin_count}
 use Rattle.container_spec.specs.ScanStream.{grid_of}

@@ -1,6 +1,6 @@
 -- Steps: a segment that is ready to be coded, and what codes it (own).
 use Rattle.std.specs.Prelude.{ℕ, ◌≡◌, ◌≤◌, List, [], length}
-use Rattle.coef_block.specs.TwoRows.{block_count}
+use Rattle.coef_block.specs.BlockRows.{block_count}
 use Rattle.coef_context.specs.Runs.{bin_count}
 use Rattle.jpeg_marker.specs.Plans.{PlanFields}
 use Rattle.block_spec.specs.Grid.{Grid}

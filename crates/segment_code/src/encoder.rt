@@ -23,7 +23,7 @@ use scan_decode::Reader;
 use std::alloc::Global;
 use std::marker::Model;
 
-/// Codes segments one after another. It takes memory when it is made, and none after that: bins, two MCU rows of
+/// Codes segments one after another. It takes memory when it is made, and none after that: bins, an MCU row of
 /// blocks.
 ///
 /// Clauses see `EncoderSeen`; a caller needs of it for which plan it can code, `IsEncoderFor`.
@@ -55,12 +55,12 @@ impl SegmentEncoder {
         })
     }
 
-    // How many bytes an encoder for a plan takes, about: four for each bin, and 128 for each block of two MCU rows.
+    // How many bytes an encoder for a plan takes, about: four for each bin, and 136 for each block of an MCU row.
     pub(crate) fn room(plan: &Plan) -> usize
         ensures { result < 2 ^ 41 }
     {
         let row = plan.blocks() / plan.down().max(1);
-        4 * BINS + 256 * row as usize
+        4 * BINS + 136 * row as usize
     }
 
     /// The stream of the reader's next `mcus` MCUs, as `code_segment`, in an empty list. After an error the encoder is

@@ -20,7 +20,7 @@ use std::alloc::Global;
 use std::marker::Model;
 
 /// Decodes segments of a file's scans one after another, each in steps. It takes memory when it is made, and none after
-/// that: for each scan bins, two MCU rows of blocks.
+/// that: for each scan bins, an MCU row of blocks.
 ///
 /// Clauses see `FileDecoderSeen`; a caller needs of it what the decoder owes, `FileOwes`, and `steps_left`.
 #[derive(Drop)]

@@ -1,6 +1,6 @@
 // The grid of a plan's blocks.
 ghost use Rattle.std.specs.Prelude.{◌≡◌, length};
-ghost use Rattle.coef_block.specs.TwoRows.{Extents, block_count};
+ghost use Rattle.coef_block.specs.BlockRows.{Extents, block_count};
 ghost use Rattle.jpeg_marker.specs.declared.component.Component.{Component};
 ghost use Rattle.jpeg_marker.specs.Plans.{IsPlan};
 ghost use Rattle.scan_spec.specs.Slots.{shape_of};

@@ -40,7 +40,7 @@ impl<'a> Model for SegmentPart<'a> {
 }
 
 impl<'a> SegmentPart<'a> {
-    /// The segment's stream. Each MCU is read, coded and forgotten: beside the stream, memory is for two MCU rows of
+    /// The segment's stream. Each MCU is read, coded and forgotten: beside the stream, memory is for an MCU row of
     /// blocks, the bins, and a bit for each restart interval. If the bytes are no file's, it may be refused, or give
     /// bytes that mean nothing.
     pub fn encode(&self, alloc: Global) -> Result<Vec<u8>, ScanError>

@@ -2,7 +2,7 @@
 ghost use Rattle.std.specs.Prelude.{◌≡◌, ◌<◌, ◌≤◌, ◌+◌, ◌-◌, ℕ, Bool, List, [], length, replicate, None, Err, IfOk, OnOk, IsErrOf};
 ghost use Rattle.std.specs.List.{AllByRecursion};
 ghost use Rattle.coef_block.specs.Block.{IsBlock};
-ghost use Rattle.coef_block.specs.TwoRows.{block_count};
+ghost use Rattle.coef_block.specs.BlockRows.{block_count};
 ghost use Rattle.adapt_bins.specs.Counts.{unseen};
 ghost use Rattle.coef_context.specs.Runs.{bin_count};
 ghost use Rattle.huff_table.specs.ComponentTables.{codes_of};
@@ -44,7 +44,7 @@ use scan_spec::MOST_SLOTS;
 use std::alloc::Global;
 
 /// The stream of one of `count` segments of a file, or of a chunk's rows of it, by the starts of all the file's rows;
-/// the first one has number 0. Each MCU is read, coded and forgotten: beside the stream, memory is for two MCU rows of
+/// the first one has number 0. Each MCU is read, coded and forgotten: beside the stream, memory is for an MCU row of
 /// blocks and the bins. The one error is out of memory.
 pub fn encode_segment(
     alloc: Global,

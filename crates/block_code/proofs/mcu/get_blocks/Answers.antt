@@ -1,7 +1,7 @@
 use Rattle.std.proofs.Common.{refl, ◌∙◌, ◌≡◌, ◌<◌, length, take, arith}
 use Rattle.std.proofs.lemmas.List.{append-nil, take_all, length-take-le, length-set}
 use Rattle.std.proofs.lemmas.Result.{err_from_is_err_and}
-use Rattle.coef_block.specs.TwoRows.{block_count}
+use Rattle.coef_block.specs.BlockRows.{block_count}
 use Rattle.block_spec.specs.HeldRows.{FitsGrid}
 use Rattle.block_code.proofs.McuCells.{row_fits, column_fits}
 use Rattle.block_code.proofs.McuSteps.{next_after, gets_nothing, gets_one, gets_fault, fault_near, take_set, held_on}

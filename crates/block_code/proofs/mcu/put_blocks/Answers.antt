@@ -1,6 +1,6 @@
 use Rattle.std.proofs.Common.{refl, ◌≡◌, ◌<◌, ◌+◌, ◌++◌, length, take, arith, [], ◌∷◌}
 use Rattle.std.proofs.lemmas.List.{append-nil, take_all, length-take-le}
-use Rattle.coef_block.specs.TwoRows.{block_count}
+use Rattle.coef_block.specs.BlockRows.{block_count}
 use Rattle.block_spec.specs.HeldRows.{FitsGrid}
 use Rattle.block_code.proofs.McuCells.{row_fits, column_fits}
 use Rattle.block_code.proofs.McuSteps.{next_after, puts_nothing, puts_one, take_one, held_on, one_block_more}

@@ -1,5 +1,5 @@
 use Rattle.std.proofs.Common.{◌≡◌, ◌++◌, length}
-use Rattle.coef_block.specs.TwoRows.{block_count}
+use Rattle.coef_block.specs.BlockRows.{block_count}
 use Rattle.block_code.proofs.McuSteps.{mcu_more}
 use Rattle.block_code.proofs.mcu.put_mcu.Goals as goal
 

@@ -1,5 +1,5 @@
 use Rattle.std.proofs.Common.{◌≡◌, ◌<◌, ℕ, length, slice_index}
-use Rattle.coef_block.specs.TwoRows.{Extents, offset}
+use Rattle.coef_block.specs.BlockRows.{Extents, offset}
 use Rattle.coef_block.proofs.rows.offsets_of.Given as goal
 
 abbrev pub invariant-loop-component : goal.invariant-loop-component

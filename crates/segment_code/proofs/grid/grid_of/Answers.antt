@@ -1,6 +1,6 @@
 use Rattle.std.proofs.Common.{◌≤◌, sym, ap, subst, ◌∙◌}
 use Rattle.std.specs.Prelude.{slice_index}
-use Rattle.coef_block.specs.TwoRows.{Extents, block_count}
+use Rattle.coef_block.specs.BlockRows.{Extents, block_count}
 use Rattle.block_spec.specs.Grid.{Grid}
 use Rattle.segment_code.proofs.GridsOfPlans.{has_grid}
 use Rattle.segment_code.proofs.SlotsOfGrid.{slots_of_grid}

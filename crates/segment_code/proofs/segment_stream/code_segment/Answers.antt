@@ -1,5 +1,5 @@
 use Rattle.std.proofs.Common.{sym, ap, ◌∙◌}
-use Rattle.coef_block.specs.TwoRows.{block_count}
+use Rattle.coef_block.specs.BlockRows.{block_count}
 use Rattle.block_spec.specs.Grid.{Grid}
 use Rattle.segment_code.proofs.ScansCoded.{fresh_bins}
 use Rattle.segment_code.proofs.segment_stream.code_segment.Goals as goal

@@ -1,5 +1,5 @@
 use Rattle.std.proofs.Common.{◌≡◌, ℕ, suc, ◌+◌, ◌*◌, length, arith, ◌∙◌, ap}
-use Rattle.coef_block.specs.TwoRows.{block_count}
+use Rattle.coef_block.specs.BlockRows.{block_count}
 use Rattle.block_spec.proofs.Keeping.{next_kept}
 use Rattle.block_code.proofs.mcu.SegmentRows.advance.Goals as goal
 
@@ -21,5 +21,5 @@ returns-then-self-across-clause-next c = λ done row count held.
     record {
       row = suc row;
       count = first_of row g.across (block_count g.mcu) (length done) whole;
-      held = next_kept c.self.inside.rows c.next_row.new.self g done row whole (record { extents = c.next_row.ensures.extents; started = c.next_row.ensures.started; before = c.next_row.ensures.before; here = c.next_row.ensures.here }) held;
+      held = rw (c.next_row.ensures) (next_kept c.self.inside.rows g done row whole held);
     }

@@ -1,5 +1,5 @@
 use Rattle.std.proofs.Common.{rules, ◌≡◌, length}
-use Rattle.coef_block.specs.TwoRows.{extents_of, block_count}
+use Rattle.coef_block.specs.BlockRows.{extents_of, block_count}
 use Rattle.block_spec.specs.HeldRows.{FitsGrid}
 use Rattle.block_spec.proofs.Keeping.{none_kept}
 use Rattle.block_code.proofs.McuCells.{row_extents, row_few, none_before}

@@ -2,7 +2,7 @@ use Rattle.std.proofs.Common.{rules, ◌≡◌, ◌-◌, ◌<◌, ℕ, length, O
 use Rattle.std.specs.Prelude.{⊤}
 use Rattle.scan_spec.specs.ScanCalls.{McuIsPut}
 use Rattle.block_spec.specs.Grid.{Grid}
-use Rattle.coef_block.specs.TwoRows.{block_count}
+use Rattle.coef_block.specs.BlockRows.{block_count}
 use Rattle.scan_spec.specs.Slots.{Shape}
 use Rattle.segment_code.specs.Decoding.{DecoderSeen}
 use Rattle.segment_code.specs.DecoderInside.{decoder_of}

@@ -1,6 +1,6 @@
 use Rattle.std.proofs.Common.{◌+◌, ◌≤◌, length, sym, ap, ◌∙◌, arith}
 use Rattle.std.proofs.lemmas.List.{length-replicate}
-use Rattle.coef_block.specs.TwoRows.{block_count}
+use Rattle.coef_block.specs.BlockRows.{block_count}
 use Rattle.block_spec.specs.Grid.{Grid}
 use Rattle.scan_spec.specs.ScanCalls.{ScanWriter}
 use Rattle.adapt_bins.specs.Counts.{unseen}

@@ -1,6 +1,6 @@
 use Rattle.std.proofs.Common.{length, sym, ap, ◌∙◌, arith}
 use Rattle.std.proofs.lemmas.List.{length-replicate}
-use Rattle.coef_block.specs.TwoRows.{block_count}
+use Rattle.coef_block.specs.BlockRows.{block_count}
 use Rattle.block_spec.specs.Grid.{Grid}
 use Rattle.adapt_bins.specs.Counts.{unseen}
 use Rattle.segment_code.proofs.encoder.SegmentEncoder.prepare.Goals as goal

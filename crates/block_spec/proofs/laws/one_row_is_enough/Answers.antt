@@ -1,5 +1,5 @@
 use Rattle.block_spec.proofs.Keeping.{around_is, one_kept, none_kept, next_kept}
-use Rattle.block_spec.proofs.laws.two_rows_are_enough.Goals as goal
+use Rattle.block_spec.proofs.laws.one_row_is_enough.Goals as goal
 
 pub returns-clause-around : goal.returns-clause-around
 returns-clause-around c = around_is
