@@ -18,8 +18,8 @@ use coef_block::{Block, Rows};
 use std::alloc::Global;
 use std::marker::Model;
 
-/// A segment under way, between two MCUs: its grid, the blocks that the next ones have as neighbours, and how many MCUs of
-/// this MCU row came before.
+/// A segment under way, between two MCUs: its grid, the blocks that the next ones have as neighbours, and how many MCUs
+/// of this MCU row came before.
 #[derive(Drop)]
 pub struct SegmentRows {
     grid: McuGrid,

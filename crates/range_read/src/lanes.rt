@@ -14,7 +14,7 @@ use handover::{Outcome, PadSum};
 use segment_code::FileDecoder;
 use std::alloc::Global;
 
-/// How many segments are decoded at the same time at most: a decoder may need 22 MiB, and a container of 64 segments
+/// How many segments are decoded at the same time at most: a decoder may need 12 MiB, and a container of 64 segments
 /// needs no more than 2 KB to ask for one each.
 pub(crate) const MOST_AT_ONCE: u8 = 16;
 

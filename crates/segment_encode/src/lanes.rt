@@ -12,7 +12,7 @@ use jpeg_marker::Plan;
 use segment_code::{ReadyPart, ScanError, SegmentEncoder};
 use std::alloc::Global;
 
-/// How many segments are coded at the same time at most: coding one may need 20 MiB beside its stream.
+/// How many segments are coded at the same time at most: coding one may need 12 MiB beside its stream.
 pub(crate) const MOST_LANES: u32 = 16;
 
 // How many blocks are worth a thread: a photograph of 64 KiB has about as many.
