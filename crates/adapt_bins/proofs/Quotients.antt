@@ -1,5 +1,5 @@
 -- A quotient by a product: where the divisor's reciprocal, in units of a power, is rounded up.
-use Rattle.std.proofs.Common.{◌≡◌, inl, inr, ℕ, zero, suc, ◌+◌, ◌*◌, ◌-◌, ◌/◌, ◌%◌, ◌<◌, ◌≤◌, arith, Bool, true, List, [], ◌∷◌, length, get_or, refl}
+use Rattle.std.proofs.Common.{◌≡◌, inl, inr, ℕ, zero, suc, ◌+◌, ◌*◌, ◌-◌, ◌/◌, ◌%◌, ◌<◌, ◌≤◌, arith, Bool, true, List, [], ◌∷◌, length, get_or, refl, ◌^◌, ◌∙◌, ap}
 use Rattle.std.specs.Prelude.{◌&&◌, ◌==◌, nat_le}
 use Rattle.std.proofs.lemmas.Bool.{cases_lt, agree_below_at, and_parts, leb-true, eqb-true}
 use Rattle.std.proofs.lemmas.Nat.{le-div, div_below}
@@ -65,27 +65,50 @@ rounded_up k below = agree_below_at (λ k. is_rounded_up (k + 1)) (λ _. true) 5
 small_product : (z s : ℕ) → z * s ≤ 255 * s → s ≤ 510 → 256 * z * s ≤ unit
 small_product z s a b = grind arith
 
--- the product by the reciprocal of the sum of two counts is the quotient by the sum, unless both are 0
-some_share : (zeros ones : ℕ) → 1 ≤ zeros + ones → zeros ≤ 255 → ones ≤ 255
-    → 256 * zeros * reciprocal (zeros + ones) / unit ≡ 256 * zeros / (zeros + ones)
-some_share zeros ones some zm om =
+-- so has that of two counts, unless both are 0
+of_counts : (zeros ones : ℕ) → 1 ≤ zeros + ones → zeros ≤ 255 → ones ≤ 255 → let s = zeros + ones in
+    (unit ≤ reciprocal s * s) × (reciprocal s * s + 1 ≤ unit + s)
+of_counts zeros ones some zm om =
     let s = zeros + ones in
     let k : zeros + ones - 1 + 1 ≡ zeros + ones = omega arith in
     let both : is_rounded_up (zeros + ones) ≡ true = rw k at (rounded_up (zeros + ones - 1) (omega arith)) in
     let parts = and_parts (nat_le unit (reciprocal s * s)) (nat_le (reciprocal s * s + 1) (unit + s)) both in
+    (leb-true _ _ parts.0, leb-true _ _ parts.1)
+
+-- the product by the reciprocal of the sum is the quotient by the sum
+some_share : (zeros ones : ℕ) → 1 ≤ zeros + ones → zeros ≤ 255 → ones ≤ 255
+    → 256 * zeros * reciprocal (zeros + ones) / unit ≡ 256 * zeros / (zeros + ones)
+some_share zeros ones some zm om =
+    let s = zeros + ones in
+    let r = of_counts zeros ones some zm om in
     let sum : zeros + ones ≤ 510 = omega arith in
     let small : 256 * zeros * s ≤ unit = small_product zeros s (mul-le-mul_right s zm) sum in
-    quotient_is (256 * zeros) s (reciprocal s) unit (omega arith) (omega arith)
-    (leb-true _ _ parts.0) (leb-true _ _ parts.1) small
+    quotient_is (256 * zeros) s (reciprocal s) unit (omega arith) (omega arith) r.0 r.1 small
 
--- the product by the reciprocal of the sum of two counts is the quotient by the sum
-pub share_is : (zeros ones : ℕ) → zeros ≤ 255 → ones ≤ 255
-    → 256 * zeros * reciprocal (zeros + ones) / unit ≡ 256 * zeros / (zeros + ones)
-share_is zero zero zm om = refl
-share_is zero (suc ones) zm om = some_share zero (suc ones) (omega arith) zm om
-share_is (suc zeros) ones zm om = some_share (suc zeros) ones (omega arith) zm om
+-- 256 of the units of a reciprocal are one of 2 to the -18
+in_parts : (n : ℕ) → n / 262144 ≡ 256 * n / unit
+in_parts n = omega arith
 
--- a reciprocal is at most one
-pub reciprocal_small : (s : ℕ) → s ≤ 510 → reciprocal s ≤ unit
-reciprocal_small s most =
-    leb-true _ _ (agree_below_at (λ k. nat_le (reciprocal k) unit) (λ _. true) 511 s refl (omega arith))
+some_parts : (zeros ones : ℕ) → 1 ≤ zeros + ones → zeros ≤ 255 → ones ≤ 255
+    → zeros * reciprocal (zeros + ones) / 262144 ≡ 256 * zeros / (zeros + ones)
+some_parts zeros ones some zm om =
+    let r = reciprocal (zeros + ones) in
+    let e : 256 * (zeros * r) ≡ 256 * zeros * r = grind arith in
+    in_parts (zeros * r) ∙ ap (λ n. n / unit) e ∙ some_share zeros ones some zm om
+
+-- that quotient as a number of parts, for any two counts
+pub parts_are : (zeros ones : ℕ) → zeros ≤ 255 → ones ≤ 255
+    → zeros * reciprocal (zeros + ones) / 262144 ≡ 256 * zeros / (zeros + ones)
+parts_are zero zero zm om = refl
+parts_are zero (suc ones) zm om = some_parts zero (suc ones) (omega arith) zm om
+parts_are (suc zeros) ones zm om = some_parts (suc zeros) ones (omega arith) zm om
+
+below_all : (z o r : ℕ) → r * (z + o) + 1 ≤ unit + (z + o) → z + o ≤ 510 → z * r < 2 ^ 32
+below_all z o r a b = grind arith
+
+-- the product fits in 32 bits
+pub product_fits : (zeros ones : ℕ) → zeros ≤ 255 → ones ≤ 255 → zeros * reciprocal (zeros + ones) < 2 ^ 32
+product_fits zero ones zm om = grind arith
+product_fits (suc zeros) ones zm om =
+    let r = of_counts (suc zeros) ones (omega arith) zm om in
+    below_all (suc zeros) ones (reciprocal (suc zeros + ones)) r.1 (omega arith)

@@ -5,13 +5,17 @@ ghost use Rattle.adapt_bins.specs.Shares.{AreShares};
 
 use crate::reciprocals::share;
 use crate::shares::all_shares;
-use allocation::{NoMemory, from_elem};
+use allocation::{NoMemory, extend_from_slice, with_capacity};
 use std::alloc::Global;
 use std::marker::Model;
 use std::mem::replace;
 
 /// The largest count. If the count of a bit is as large, both are halved before it rises.
 const MOST_COUNT: u8 = 255;
+
+/// How many bins are stored one by one, before they are copied over the others: a bin has three bytes, for which a copy
+/// is quicker.
+const PIECE: usize = 512;
 
 /// How often each bit occurred in one context, as two counts from 1 to 255. Both begin at 1. If the count of the next
 /// bit is 255, both are halved first, so that later bits weigh more.
@@ -174,6 +178,19 @@ fn half(count: u8) -> u8
     count / 2 + count % 2
 }
 
+// Makes each bin what it is before its first bit.
+fn make_fresh(table: &mut [Bin])
+    ensures { table.new ≡ replicate (length table.old) unseen }
+{
+    let piece = [Bin::new(); PIECE];
+    let mut done = 0;
+    while done < table.len() {
+        let more = (table.len() - done).min(PIECE);
+        table[done..done + more].copy_from_slice(&piece[..more]);
+        done += more;
+    }
+}
+
 /// A table of bins, numbered from 0. Clauses see the list of their counts.
 #[derive(Drop)]
 pub struct Bins {
@@ -200,7 +217,12 @@ impl Bins {
         requires few { n ≤ 2 ^ 20 }
         ensures { IfOk result (λ b. b ≡ replicate n unseen) }
     {
-        let table = from_elem(alloc, Bin::new(), n)?;
+        let piece = [Bin::new(); PIECE];
+        let mut table = with_capacity(alloc, n)?;
+        while table.len() < n {
+            let more = (n - table.len()).min(PIECE);
+            extend_from_slice(&mut table, &piece[..more])?;
+        }
         let shares = all_shares(alloc)?;
         Ok(Bins { table, shares })
     }
@@ -222,7 +244,7 @@ impl Bins {
     pub fn fresh(&mut self)
         ensures { self.new ≡ replicate (length self.old) unseen }
     {
-        self.table.fill(Bin::new());
+        make_fresh(&mut self.table);
     }
 
     /// The probability of a zero in a bin, from 1 to 255 parts of 256.

@@ -1,9 +1,9 @@
 // A division by the sum of two counts, as a product.
 ghost use Rattle.std.specs.Prelude.{◌≡◌, ◌+◌, ◌*◌, ◌/◌, ◌≤◌};
-ghost use Rattle.adapt_bins.specs.Reciprocals.{reciprocal, unit, most_sum};
+ghost use Rattle.adapt_bins.specs.Reciprocals.{reciprocal, most_sum};
 
-/// A reciprocal is in units of 2 to the minus 26.
-const UNIT_BITS: u32 = 26;
+/// A reciprocal is in units of 2 to the minus 26, of which a part of 256 has 2 to the 18.
+const PART_BITS: u32 = 18;
 
 /// The reciprocal of each sum of two counts, from 0 to 510, rounded up; that of 0 isn't used. A proof gets an entry
 /// from `reciprocal`.
@@ -58,8 +58,7 @@ const RECIPROCALS: [u32; 511] = [
 #[inline(always)]
 fn reciprocal(sum: usize) -> u32
     requires { sum ≤ most_sum }
-    ensures value { result ≡ reciprocal sum }
-    ensures small { result ≤ unit }
+    ensures { result ≡ reciprocal sum }
 {
     RECIPROCALS[sum]
 }
@@ -67,12 +66,11 @@ fn reciprocal(sum: usize) -> u32
 /// The share of the zeros in both counts, as parts of 256, rounded down: by the reciprocal of the sum, since a division
 /// takes longer. It is 0 if both are 0.
 #[inline(always)]
-#[tactic(auto, using(crate::proofs::Quotients::share_is))]
-pub(crate) fn parts(zeros: u8, ones: u8) -> u64
+pub(crate) fn parts(zeros: u8, ones: u8) -> u32
     ensures { result ≡ 256 * zeros / (zeros + ones) }
 {
     let reciprocal = reciprocal(usize::from(zeros) + usize::from(ones));
-    (256 * u64::from(zeros) * u64::from(reciprocal)) >> UNIT_BITS
+    (u32::from(zeros) * reciprocal) >> PART_BITS
 }
 
 /// The same where neither count is 0, from 1 to 255.

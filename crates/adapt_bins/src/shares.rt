@@ -1,9 +1,9 @@
 // The share of the zeros for each pair of counts.
 ghost use Rattle.std.specs.Prelude.{◌≡◌, ◌<◌, ◌+◌, ◌*◌, ◌/◌, ◌%◌, ℕ, IfOk, get_or, length};
-ghost use Rattle.adapt_bins.specs.Shares.{AreShares, pairs, share_at};
+ghost use Rattle.adapt_bins.specs.Shares.{AreShares, share_at};
 
 use crate::reciprocals::parts;
-use allocation::{NoMemory, from_elem};
+use allocation::{NoMemory, extend_from_slice, with_capacity};
 use std::alloc::Global;
 
 /// How many counts there are, from 0 to 255.
@@ -14,26 +14,24 @@ const COUNTS: usize = 256;
 pub(crate) fn all_shares(alloc: Global) -> Result<Vec<u8>, NoMemory>
     ensures { IfOk result (λ shares. AreShares shares.items) }
 {
-    let mut shares = from_elem(alloc, 0, COUNTS * COUNTS)?;
+    let mut shares = with_capacity(alloc, COUNTS * COUNTS)?;
     for ones in 0..COUNTS {
-        fill_row(&mut shares, ones);
+        extend_from_slice(&mut shares, &shares_beside(ones))?;
     }
     Ok(shares)
 }
 
 // The shares beside one count of ones, worked out by vector code.
 #[inline(always)]
-fn fill_row(shares: &mut [u8], ones: usize)
-    requires ones { ones < 256 }
-    requires many { length shares.old ≡ pairs }
-    requires before { (both : ℕ) → both < 256 * ones → get_or shares.old both 0 ≡ share_at both }
-    ensures many { length shares.new ≡ pairs }
-    ensures each { (both : ℕ) → both < 256 * (ones + 1)
-        → get_or shares.new both 0 ≡ share_at both }
+fn shares_beside(ones: usize) -> [u8; COUNTS]
+    requires { ones < 256 }
+    ensures { (zeros : ℕ) → zeros < 256 → get_or result zeros 0 ≡ share_at (256 * ones + zeros) }
 {
+    let mut row = [0; COUNTS];
     for zeros in 0..COUNTS {
-        shares[256 * ones + zeros] = share_of(zeros, ones);
+        row[zeros] = share_of(zeros, ones);
     }
+    row
 }
 
 // The share of the zeros in both counts, and 0 if one of them is 0.
