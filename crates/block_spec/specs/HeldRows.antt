@@ -38,8 +38,9 @@ below p = record p { mcu_row = suc p.mcu_row; row = 0 }
 abbrev pub right : Cell → Cell
 right p = record p { column = suc p.column }
 
--- the rows hold the blocks of MCU row `r` as far as the list goes; of the lowest blocks of the row before those in whose
--- places none of row `r` came, and in its corner each one below which the first block row ends (own)
+-- the rows after a list of blocks that ends in MCU row `r`: the blocks of that row that came, the lowest blocks of the
+-- row before that none of them replaced, and in each component's corner the block above the one that came last in its
+-- first block row (own)
 pub record HoldBlocks (rows : BlockRows) (g : Grid) (blocks : List (List ℤ)) (r : ℕ) : Type 0 where
   pub fits : FitsGrid rows.extents g
   pub long : length rows.blocks ≡ block_count rows.extents

@@ -81,7 +81,7 @@ impl Rows {
         self.started = false;
     }
 
-    /// The block above one of this MCU row; `None` in the segment's first block row.
+    /// The block above this place, where the next block belongs; `None` in the segment's first block row.
     #[inline]
     pub fn above(&self, component: usize, row: u32, column: u32) -> Option<&Block>
         requires component { component < 4 }
@@ -98,7 +98,7 @@ impl Rows {
         None
     }
 
-    /// The block to the left; `None` in the first block column.
+    /// The block left of this place, where the next block belongs; `None` in the first block column.
     #[inline]
     pub fn left(&self, component: usize, row: u32, column: u32) -> Option<&Block>
         requires component { component < 4 }
@@ -112,7 +112,7 @@ impl Rows {
         Some(&self.blocks[self.index(component, row, column - 1)])
     }
 
-    /// The block above the one to the left; `None` if one of the two isn't there.
+    /// The block above the one left of this place, where the next block belongs; `None` if one of the two isn't there.
     #[inline]
     pub fn diagonal(&self, component: usize, row: u32, column: u32) -> Option<&Block>
         requires component { component < 4 }

@@ -8,6 +8,7 @@ ghost use Rattle.scan_spec.specs.Slots.{shape_of};
 ghost use Rattle.scan_spec.specs.declared.refusal.ScanRefusal.{ScanRefusal};
 ghost use Rattle.container_spec.specs.ScanStream.{stream_of};
 ghost use Rattle.segment_code.specs.CodedMcus.{AreReadOn, next_of};
+ghost use Rattle.segment_code.specs.FoundPads.{pads_through};
 ghost use Rattle.segment_code.specs.ReadyParts.{IsEncoderFor};
 
 use crate::error::ScanError;
@@ -55,7 +56,8 @@ impl SegmentEncoder {
         })
     }
 
-    // How many bytes an encoder for a plan takes, about: four for each bin, and 136 for each block of an MCU row.
+    // How many bytes an encoder for a plan takes, about: four for each bin, one of them for the table of shares, and 136
+    // for each block of an MCU row.
     pub(crate) fn room(plan: &Plan) -> usize
         ensures { result < 2 ^ 41 }
     {
@@ -63,7 +65,7 @@ impl SegmentEncoder {
         4 * BINS + 136 * row as usize
     }
 
-    /// The stream of the reader's next `mcus` MCUs, as `code_segment`, in an empty list. After an error the encoder is
+    /// The stream of the reader's next `mcus` MCUs, as one segment, in an empty list. After an error the encoder is
     /// of no worth.
     pub(crate) fn code(
         &mut self,
@@ -82,6 +84,7 @@ impl SegmentEncoder {
             × AllByRecursion (AllByRecursion IsBlock) all
             × AreReadOn mcus reader.old reader.new (zigzag_of all)
             × (stream.items ≡ stream_of plan.now all)) }
+        ensures pads { OnOk result (pads.new ≡ pads_through mcus reader.old pads.old) }
         ensures refused { (refusal : ScanRefusal) → IsErrOf result (ScanError.Scan refusal)
             → next_of mcus reader.old ≡ Err refusal }
         ensures encoder { OnOk result (self.new ≡ self.old) }

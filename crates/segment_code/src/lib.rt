@@ -3,15 +3,16 @@
 //!     scan   --Reader-->  blocks of an MCU  --put_mcu-->  stream
 //!     stream --get_mcu--> blocks of an MCU  --Writer-->   scan
 //!
-//! `ScanPass` goes over a scan from segment to segment, and keeps where each starts. It reads a segment and codes it,
-//! or only reads it, and gives a `SegmentPart`. That is made ready with all its memory, a `ReadyPart`, and coded beside
-//! the pass by a `SegmentEncoder`. `find_starts` is a pass that codes nothing, and `find_rows` one that finds where
-//! each row starts. By these starts `encode_segment` codes one segment of a file, or of a chunk's rows of it, and
-//! `ready_segment` makes one ready. `SegmentDecoder` decodes the segments of a scan, each in steps of a piece of bytes;
-//! `FileDecoder` those of a container of one scan or of several, with the header that comes before a later scan.
+//! `ScanPass` goes over a scan from segment to segment, and keeps where each starts. It reads a segment and codes it by
+//! a `SegmentEncoder`, or only reads it, and gives a `SegmentPart`. That is made ready with all its memory, a
+//! `ReadyPart`, and coded beside the pass by an encoder of its own. `find_starts` is a pass that codes nothing, and
+//! `find_rows` one that finds where each row starts. By these starts `encode_segment` codes one segment of a file, or
+//! of a chunk's rows of it, and `ready_segment` makes one ready. `SegmentDecoder` decodes the segments of a scan, each
+//! in steps of a piece of bytes; `FileDecoder` those of a container of one scan or of several, with the header that
+//! comes before a later scan.
 //!
-//! Two MCU rows of blocks are kept, as neighbours. What a block's events are is `block_spec`'s, what a scan's bytes
-//! are is `scan_spec`'s, and what a segment's stream stands for is `container_spec`'s.
+//! One MCU row of blocks is kept, as neighbours. What a block's events are is `block_spec`'s, what a scan's bytes are
+//! is `scan_spec`'s, and what a segment's stream stands for is `container_spec`'s.
 #![tactic(auto)]
 
 mod causes;

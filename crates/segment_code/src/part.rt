@@ -3,9 +3,9 @@ ghost use Rattle.std.specs.Prelude.{◌<◌, IfOk, IsErrOf};
 ghost use Rattle.scan_spec.specs.declared.refusal.ScanRefusal.{ScanRefusal};
 ghost use Rattle.segment_code.specs.ScanPasses.{IsNoPart, IsPart, IsPartStream};
 
+use crate::encoder::SegmentEncoder;
 use crate::error::ScanError;
 use crate::pads::PadsFound;
-use crate::segment_stream::code_segment;
 use handover::Handover;
 use huff_table::PlanCodes;
 use jpeg_marker::Plan;
@@ -60,6 +60,13 @@ impl<'a> SegmentPart<'a> {
             self.row,
         );
         let mut pads = PadsFound::none(alloc);
-        code_segment(alloc, self.plan, &mut reader, &mut pads, self.mcus)
+        let mut encoder = SegmentEncoder::prepare(alloc, self.plan)?;
+        encoder.code(
+            self.plan,
+            &mut reader,
+            &mut pads,
+            self.mcus,
+            Vec::new(alloc),
+        )
     }
 }

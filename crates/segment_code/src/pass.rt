@@ -6,7 +6,7 @@ ghost use Rattle.scan_spec.specs.Items.{Refuses};
 ghost use Rattle.scan_spec.specs.Scans.{Mcu};
 ghost use Rattle.scan_spec.specs.Slots.{shape_of};
 ghost use Rattle.scan_spec.specs.declared.refusal.ScanRefusal.{ScanRefusal};
-ghost use Rattle.segment_code.specs.ReadyParts.{IsReady};
+ghost use Rattle.segment_code.specs.ReadyParts.{IsEncoderFor, IsReady};
 ghost use Rattle.segment_code.specs.ScanPasses.{HasPassed, IsNextStream, IsNoPart, IsPart, IsPartStream, IsPass, next_part, passed, segments_left};
 ghost use Rattle.segment_code.specs.Starting.{AreStarts, IsFileAt};
 
@@ -17,7 +17,6 @@ use crate::find::read_mcus;
 use crate::pads::PadsFound;
 use crate::part::SegmentPart;
 use crate::ready::{READY_ROOM, ReadyPart};
-use crate::segment_stream::code_segment;
 use crate::starts::Starts;
 use allocation::NoMemory;
 use huff_table::PlanCodes;
@@ -188,24 +187,30 @@ impl<'a> ScanPass<'a> {
         Ok(ReadyPart::prepare(alloc, next, length)?)
     }
 
-    /// Reads and codes the next segment, and keeps where it starts. On a refusal or out of memory the pass is of no
-    /// worth.
-    pub fn encode(&mut self, alloc: Global) -> Result<Vec<u8>, ScanError>
+    /// Reads and codes the next segment, and keeps where it starts. On a refusal or out of memory neither the pass nor
+    /// the encoder is of any worth.
+    pub fn encode(
+        &mut self,
+        alloc: Global,
+        encoder: &mut SegmentEncoder,
+    ) -> Result<Vec<u8>, ScanError>
         requires pass { IsPass self.old }
         requires some { 0 < segments_left self.old }
+        requires encoder { IsEncoderFor self.old.plan encoder.old }
         ensures passed { OnOk result (HasPassed self.old self.new) }
         ensures stream { IfOk result (λ stream. IsNextStream self.old stream.items) }
         ensures refused { (refusal : ScanRefusal) → IsErrOf result (ScanError.Scan refusal)
             → Refuses (shape_of self.old.plan) self.old.bytes self.old.plan.header_length refusal }
+        ensures encoder { OnOk result (encoder.new ≡ encoder.old) }
     {
         let next = self.part();
         self.starts.push(next.row, next.place, next.handover)?;
-        code_segment(
-            alloc,
+        encoder.code(
             self.plan,
             &mut self.reader,
             &mut self.pads,
             next.mcus,
+            Vec::new(alloc),
         )
     }
 

@@ -25,7 +25,6 @@ ghost use Rattle.segment_code.specs.Starting.{AreStarts, IsFileAt};
 use crate::cuts::{mcus_in, row_of};
 use crate::error::ScanError;
 use crate::find::keep_pad;
-use crate::grid::grid_of;
 use crate::pads::PadsFound;
 use crate::part::SegmentPart;
 use crate::ready::ReadyPart;
@@ -36,7 +35,6 @@ use block_code::{SegmentRows, put_mcu};
 use bool_coder::Encoder;
 use box_format::Chunk;
 use coef_block::Block;
-use coef_context::BINS;
 use huff_table::PlanCodes;
 use jpeg_marker::Plan;
 use scan_decode::Reader;
@@ -155,40 +153,8 @@ fn segment_part<'a>(
     }
 }
 
-/// The stream of the reader's next `mcus` MCUs, as one segment of its plan's scan. The pad bit of each interval that
-/// ends is kept.
-pub(crate) fn code_segment(
-    alloc: Global,
-    plan: &Plan,
-    reader: &mut Reader,
-    pads: &mut PadsFound,
-    mcus: u32,
-) -> Result<Vec<u8>, ScanError>
-    requires start { reader.old.stop ≡ None }
-    requires shape { reader.old.shape ≡ shape_of plan.now }
-    requires count { reader.old.at.count + mcus ≤ reader.old.shape.mcus }
-    ensures coded { IfOk result (λ stream. (all : List Mcu)
-        × AllByRecursion (AllByRecursion IsBlock) all
-        × AreReadOn mcus reader.old reader.new (zigzag_of all)
-        × (stream.items ≡ stream_of plan.now all)) }
-    ensures pads { OnOk result (pads.new ≡ pads_through mcus reader.old pads.old) }
-    ensures refused { (refusal : ScanRefusal) → IsErrOf result (ScanError.Scan refusal)
-        → next_of mcus reader.old ≡ Err refusal }
-{
-    let mut segment = SegmentRows::new(alloc, grid_of(plan))?;
-    let mut bins = Bins::new(alloc, BINS)?;
-    code_over(
-        &mut segment,
-        &mut bins,
-        plan,
-        reader,
-        pads,
-        mcus,
-        Vec::new(alloc),
-    )
-}
-
-/// The same, with rows and bins before the first MCU, and an empty list for the stream.
+/// The stream of the reader's next `mcus` MCUs, as one segment of its plan's scan, with rows and bins before the first
+/// MCU, and an empty list for the stream. The pad bit of each interval that ends is kept.
 pub(crate) fn code_over(
     segment: &mut SegmentRows,
     bins: &mut Bins,

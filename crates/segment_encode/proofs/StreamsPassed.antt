@@ -3,7 +3,10 @@ use Rattle.std.proofs.Common.{◌≡◌, ℕ, ◌+◌, ◌++◌, ◌∷◌, Bool
 use Rattle.std.specs.Prelude.{IfOk, OnOk, Result, Ok, Err}
 use Rattle.std.proofs.lemmas.List.Elements.{All-push}
 use Rattle.std.specs.List.{range_with_len}
+use Rattle.scan_spec.specs.Items.{Refuses}
 use Rattle.scan_spec.specs.Scans.{Mcu}
+use Rattle.scan_spec.specs.Slots.{shape_of}
+use Rattle.scan_spec.specs.declared.refusal.ScanRefusal.{ScanRefusal}
 use Rattle.container_spec.specs.Files.{plan_cut, segment_mcus}
 use Rattle.container_spec.specs.ScanStream.{stream_of}
 use Rattle.jpeg_marker.specs.Plans.{PlanFields}
@@ -13,7 +16,7 @@ use Rattle.segment_code.specs.Starting.{IsFileAt}
 use Rattle.segment_code.proofs.PassesOn.{has_ended}
 use Rattle.segment_encode.specs.Lanes.{AreMade, GiveEach, LaneMakes, LaneRefused, parts_in}
 use Rattle.segment_encode.specs.declared.lanes.Lane.{Lane}
-use Rattle.segment_encode.specs.StreamsFound.{ArePassed, AreStreams, HasPassedOn}
+use Rattle.segment_encode.specs.StreamsFound.{ArePassed, AreStreams, HasPassedOn, PassRefuses}
 use Rattle.segment_encode.proofs.StreamsMade.{each_on, give_more, given}
 
 -- what a pass keeps
@@ -40,6 +43,13 @@ same_on old mid new e f = f ∙ ap (λ (p : PassFields).
 -- the plan and the bytes stay
 pub plan_on : (n : ℕ) (old new : PassFields) → HasPassedOn n old new → new.plan ≡ old.plan
 plan_on n old new on = (kept old new on.same).plan
+
+-- a refusal after some segments is the scan's
+pub refuses_on : (n : ℕ) (old new : PassFields) (refusal : ScanRefusal) → HasPassedOn n old new → PassRefuses new refusal → PassRefuses old refusal
+refuses_on n old new refusal on r =
+    let k = kept old new on.same in
+    subst (λ (b : List ℕ). Refuses (shape_of old.plan) b old.plan.header_length refusal) k.bytes
+    (subst (λ (plan : PlanFields). Refuses (shape_of plan) new.bytes plan.header_length refusal) k.plan r)
 
 file_on : (old new : PassFields) (mcus : List Mcu) (pads : List Bool) (trailer : ℕ) → Kept old new
     → IsFileAt old.bytes old.plan mcus pads trailer

@@ -26,7 +26,7 @@ use allocation::{NoMemory, push, with_capacity};
 use box_format::Chunk;
 use huff_table::PlanCodes;
 use jpeg_marker::Plan;
-use segment_code::{ScanError, ScanPass, Starts, ready_segment};
+use segment_code::{ScanError, ScanPass, SegmentEncoder, Starts, ready_segment};
 use std::alloc::Global;
 use std::ops::Range;
 use std::thread::Threads;
@@ -121,9 +121,10 @@ pub(crate) fn code_rest(pass: &mut ScanPass, alloc: Global) -> Result<Vec<Vec<u8
         → PassRefuses pass.old refusal }
 {
     let count = pass.left();
+    let mut encoder = SegmentEncoder::prepare(alloc, pass.plan())?;
     let mut streams = with_capacity(alloc, count as usize)?;
     for _ in 0..count {
-        let stream = pass.encode(alloc)?;
+        let stream = pass.encode(alloc, &mut encoder)?;
         push(&mut streams, stream)?;
     }
     Ok(streams)

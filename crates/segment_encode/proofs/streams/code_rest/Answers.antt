@@ -1,7 +1,20 @@
-use Rattle.std.proofs.Common.{◌∷◌, [], ◌+◌, map, ap, ◌∙◌, sym, subst, arith}
+use Rattle.std.proofs.Common.{◌≡◌, ◌∷◌, [], ◌+◌, map, ap, ◌∙◌, sym, subst, arith}
+use Rattle.jpeg_marker.specs.Plans.{PlanFields}
+use Rattle.segment_code.specs.ReadyParts.{IsEncoderFor}
 use Rattle.segment_encode.proofs.StreamsMade.{mapped_on}
-use Rattle.segment_encode.proofs.StreamsPassed.{AreSoFar, all_coded, one_more, passed_more}
+use Rattle.std.specs.Prelude.{Err}
+use Rattle.std.proofs.lemmas.Result.{err_from_is_err_and}
+use Rattle.segment_code.specs.declared.error.ScanError.{ScanError}
+use Rattle.segment_code.specs.declared.error.ScanError.TheVariants.{Scan}
+use Rattle.segment_encode.proofs.StreamsPassed.{AreSoFar, all_coded, one_more, passed_more, plan_on, refuses_on}
 use Rattle.segment_encode.proofs.streams.code_rest.Goals as goal
+
+-- the plan stays
+pub encode-requires-clause-encoder : goal.encode-requires-clause-encoder
+encode-requires-clause-encoder c =
+    let on = c.loop.invariant.on in
+    subst (λ (plan : PlanFields). IsEncoderFor plan c.loop.encoder)
+    (sym (plan_on c.loop.counter c.args.pass.now c.loop.pass on)) c.loop.invariant.encoder
 
 pub loop-preserved : goal.loop-preserved
 loop-preserved c =
@@ -12,6 +25,7 @@ loop-preserved c =
     record {
       on = passed_more c.loop.counter old c.loop.pass c.encode.new.self before.on
           c.in_ok-stream.ensures.passed;
+      encoder = subst (IsEncoderFor old.plan) (sym c.in_ok-stream.ensures.encoder) before.encoder;
       streams = subst (AreSoFar (c.loop.counter + 1) old)
           (sym (ap (map (λ v. v.items)) c.in_ok-push.ensures.items
           ∙ mapped_on (λ v. v.items) c.loop.streams.items (c.in_ok-stream.stream ∷ []))) so;
@@ -24,3 +38,13 @@ returns-clause-made c =
     let left = c.left-count.ensures in
     all_coded c.loop.counter c.args.pass.now c.loop.pass (map (λ v. v.items) c.loop.streams.items)
     c.loop.invariant.on (omega (arith, counted, within, left)) c.loop.invariant.streams
+
+-- a refusal after some segments is the scan's
+pub returns-in_err-stream-clause-refused : goal.returns-in_err-stream-clause-refused
+returns-in_err-stream-clause-refused c =
+    let on = c.loop.invariant.on in
+    let p = err_from_is_err_and c.from_residual-in_err-stream.result c.from_residual-in_err-stream.ensures.1 in
+    rw (p.1, p.2) (λ refusal is.
+    let error : c.in_err-stream.field-0.0 ≡ Scan refusal = cc in
+    refuses_on c.loop.counter c.args.pass.now c.loop.pass refusal on
+    (c.in_err-stream.ensures.refused refusal (ap (λ (e : ScanError). Err e) error)))

@@ -15,12 +15,12 @@ pub returns-clause-stream : goal.returns-clause-stream
 returns-clause-stream c =
     let part = c.args.self.now in
     let from = c.at-reader.ensures ∙ ap part_reader c.self.view_is in
-    let coded = subst (λ (p : PartFields). IfOk c.code_segment.result (λ stream.
+    let coded = subst (λ (p : PartFields). IfOk c.code.result (λ stream.
     (all : List Mcu) × AllByRecursion (AllByRecursion IsBlock) all
-    × AreReadOn p.mcus c.at-reader.result c.code_segment.new.reader (zigzag_of all)
-    × (stream.items ≡ stream_of p.plan all))) c.self.view_is c.code_segment.ensures.coded in
-    IfOk-weaker c.code_segment.result _ (λ stream. IsPartStream part stream.items)
-    (λ stream so. part_streams part c.at-reader.result c.code_segment.new.reader so.0 stream.items
+    × AreReadOn p.mcus c.at-reader.result c.code.new.reader (zigzag_of all)
+    × (stream.items ≡ stream_of p.plan all))) c.self.view_is c.code.ensures.coded in
+    IfOk-weaker c.code.result _ (λ stream. IsPartStream part stream.items)
+    (λ stream so. part_streams part c.at-reader.result c.code.new.reader so.0 stream.items
     c.requires.bytes from so.1 so.2 so.3) coded
 
 pub returns-clause-refused : goal.returns-clause-refused
@@ -31,4 +31,4 @@ returns-clause-refused c = λ refusal is mcus pads trailer to file of_file.
     c.at-reader.result from in
     not_refused part.mcus c.at-reader.result _ read.0 refusal read.1
     (ap (λ (p : PartFields). next_of p.mcus c.at-reader.result) (sym c.self.view_is)
-    ∙ c.code_segment.ensures.refused refusal is)
+    ∙ c.code.ensures.refused refusal is)
