@@ -17,7 +17,7 @@ mod words;
 use chunks::cut_all;
 use huff_table::PlanCodes;
 use jpeg_marker::read_header;
-use pass::{Passed, both, pad_of, read};
+use pass::{Passed, both, read};
 use std::alloc::Global;
 use std::env;
 use std::io::Read;
@@ -28,11 +28,11 @@ use words::{Measure, measure_of};
 fn passes(alloc: Global, bytes: &[u8], writes: bool, times: u32) -> Option<Passed> {
     let plan = read_header(bytes).ok()?;
     let codes = PlanCodes::build(alloc, &plan).ok()?;
-    let pad = pad_of(alloc, &plan, &codes, bytes)?;
+    let first = read(alloc, &plan, &codes, bytes)?;
     let mut last = None;
     for _ in 0..times {
         last = if writes {
-            both(alloc, &plan, &codes, bytes, pad)
+            both(alloc, &plan, &codes, bytes, first.pad)
         } else {
             read(alloc, &plan, &codes, bytes)
         };

@@ -11,30 +11,13 @@ use scan_spec::{MOST_SLOTS, Pads};
 use scan_write::{Writer, mcu_room};
 use std::alloc::Global;
 
-/// What a pass comes to: the bytes of the scan and its MCUs.
+/// What a pass comes to: the bytes of the scan, its MCUs and the bit that the first interval is padded with which pads
+/// any, 1 if none does.
 #[derive(Clone, Copy)]
 pub(crate) struct Passed {
     pub(crate) bytes: usize,
     pub(crate) mcus: u32,
-}
-
-/// The bit that the first interval of a scan that pads any is padded with, 1 if none does.
-pub(crate) fn pad_of(alloc: Global, plan: &Plan, codes: &PlanCodes, bytes: &[u8]) -> Option<bool>
-    requires { codes.now ≡ codes_of plan.now.components }
-{
-    let codes = codes.copied(alloc).ok()?;
-    let mut reader = Reader::start(alloc, plan, codes, bytes, plan.header_length());
-    let mut blocks = [Block::zero(); MOST_SLOTS];
-    let mut pad = None;
-    for _ in 0..plan.mcus() {
-        if reader.at_end() {
-            return None;
-        }
-        let count = reader.mcu_blocks();
-        reader.next_mcu(&mut blocks[..count]).ok()?;
-        pad = pad.or(reader.pad());
-    }
-    Some(pad.unwrap_or(true))
+    pub(crate) pad: bool,
 }
 
 /// Reads the scan of these bytes, unless it is refused.
@@ -45,16 +28,19 @@ pub(crate) fn read(alloc: Global, plan: &Plan, codes: &PlanCodes, bytes: &[u8]) 
     let codes = codes.copied(alloc).ok()?;
     let mut reader = Reader::start(alloc, plan, codes, bytes, start);
     let mut blocks = [Block::zero(); MOST_SLOTS];
+    let mut pad = None;
     for _ in 0..plan.mcus() {
         if reader.at_end() {
             return None;
         }
         let count = reader.mcu_blocks();
         reader.next_mcu(&mut blocks[..count]).ok()?;
+        pad = pad.or(reader.pad());
     }
     Some(Passed {
         bytes: reader.end().wrapping_sub(start),
         mcus: plan.mcus(),
+        pad: pad.unwrap_or(true),
     })
 }
 
@@ -91,6 +77,7 @@ pub(crate) fn both(
     (end == reader.end()).then_some(Passed {
         bytes: end.wrapping_sub(start),
         mcus: plan.mcus(),
+        pad,
     })
 }
 
