@@ -8,4 +8,3 @@ pub mod Standings
 pub mod IntervalEnds
 pub mod DcThenAcs
 pub mod SkipReading
-pub mod KeptSkips

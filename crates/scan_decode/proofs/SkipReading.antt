@@ -1,17 +1,15 @@
--- What nine bits of a block go past: one symbol, two of them, and the bits that are seen; and what a value goes past.
-use Rattle.std.proofs.Common.{◌≡◌, ℕ, ◌+◌, ◌-◌, ◌*◌, ◌%◌, ◌^◌, ◌<◌, ◌≤◌, Bool, true, false, if◌then◌else◌, List, [], ◌++◌, length, take, drop, map, set, get_or, ℤ, Some, Result, Ok, Err, refl, sym, ap, ◌∙◌, subst, arith, inl, inr, rules, take_at, take_all, take-take}
+-- What twelve bits of a block go past: one symbol, two of them, and the bits that are looked at; and what a value goes past.
+use Rattle.std.proofs.Common.{◌≡◌, ℕ, ◌+◌, ◌-◌, ◌*◌, ◌%◌, ◌^◌, ◌<◌, ◌≤◌, Bool, true, false, if◌then◌else◌, List, [], ◌++◌, length, take, drop, map, set, get_or, ℤ, Some, Result, Ok, Err, refl, sym, ap, ◌∙◌, subst, arith, inl, inr, rules, take_at, take_all, take-take, length-set, get_or-set_same, get_or-set_other, mul-le-mul_right, suc-mul, suc, pow-add, replicate, ◌∷◌}
 use Rattle.std.proofs.lemmas.Bool.{cases_lt}
-use Rattle.std.proofs.lemmas.List.{drop-take, drop_at, get_or-map, get_or_read, length-map}
+use Rattle.std.proofs.lemmas.List.{drop-take, drop_at, get_or-map, get_or-replicate, get_or_append_left, get_or_past, get_or_push, get_or_read, length-map, length-replicate, length_push}
 use Rattle.std.proofs.lemmas.List.Elements.{All-map}
 use Rattle.std.specs.List.{All}
-use Rattle.bit_list.specs.Bits.{low_bits, number_of}
+use Rattle.bit_list.specs.Bits.{low_bits}
 use Rattle.bit_list.specs.NumbersOfBits.{length-low_bits}
-use Rattle.bit_list.specs.Peeked.{peeked}
 use Rattle.bit_list.specs.Units.{Cursor, bits_at, and_then}
 use Rattle.bit_list.specs.declared.fault.BitFault.{BitFault}
 use Rattle.bit_list.proofs.Cursors.{in_parts}
-use Rattle.bit_list.proofs.LowBits.{bits_again, low_bits-join, low_bits-same, drop-low_bits}
-use Rattle.bit_list.proofs.Peeking.{peeked_first, length-peeked}
+use Rattle.bit_list.proofs.LowBits.{low_bits-join, low_bits-same, drop-low_bits}
 use Rattle.coef_block.specs.Zigzag.{zigzag}
 use Rattle.huff_table.specs.CodeWords.{word_of}
 use Rattle.huff_table.specs.ComponentTables.{no_codes}
@@ -27,7 +25,7 @@ use Rattle.scan_spec.specs.declared.refusal.ScanRefusal.{ScanRefusal}
 use Rattle.scan_spec.proofs.AcsAgain.{symbol_read, kind_value}
 use Rattle.scan_spec.proofs.BitsTaken.{takes_of}
 use Rattle.scan_decode.specs.BlockSteps.{Going}
-use Rattle.scan_decode.specs.SkipWords.{GoesOn, IsSkipped, blank, index_after, Skips, AreSkips, AreSkipCodes, AreSkipSlots}
+use Rattle.scan_decode.specs.SkipWords.{GoesOn, IsSkipped, blank, index_after, Skips, AreSkips, AreSkipSlots}
 use Rattle.scan_decode.specs.declared.skip_word.SkipWord.{SkipWord}
 use Rattle.scan_decode.proofs.BlockStepLemmas.{value_comes, end_comes, none_left}
 
@@ -78,29 +76,25 @@ parts_of m n bytes from to taken e =
       back_long = (takes_of n bytes a.0.1 to b.0.0 second).0;
     }
 
--- bits that are read begin as those that are seen
-pub seen_agree : (n : ℕ) (bytes : List ℕ) (from to : Cursor) (taken : List Bool) → bits_at n bytes from ≡ Ok (taken, to) → take 9 taken ≡ take n (peeked 9 bytes from)
-seen_agree n bytes from to taken e = elim (cases_lt n 10) [
-  | inl few ↦
-      let rest = 9 - n in
-      let whole : 9 ≡ n + rest = omega (arith, few) in
-      let long = (takes_of n bytes from to taken e).0 in
-      take_all 9 taken (omega (arith, few, long))
-      ∙ sym (ap (λ (k : ℕ). take n (peeked k bytes from)) whole ∙ ap (take n) (peeked_first n rest bytes from to taken e) ∙ take_at taken (peeked rest bytes to) n long)
-  | inr many ↦
-      let rest = n - 9 in
-      let whole : n ≡ 9 + rest = omega (arith, many) in
-      let p = parts_of 9 rest bytes from to taken (subst (λ (k : ℕ). bits_at k bytes from ≡ there (taken, to)) whole e) in
-      let seen : take 9 (peeked 9 bytes from) ≡ p.front = ap (take 9) (peeked_first 9 0 bytes from p.mid p.front p.first) ∙ take_at p.front (peeked 0 bytes p.mid) 9 p.front_long in
-      let long = length-peeked 9 bytes from in
-      ap (take 9) p.whole ∙ take_at p.front p.back 9 p.front_long ∙ sym seen ∙ take_all 9 (peeked 9 bytes from) (omega (arith, long)) ∙ sym (take_all n (peeked 9 bytes from) (omega (arith, long, many)))
-]
-
--- the bits of a number that is seen
-pub seen_bits : (bytes : List ℕ) (from : Cursor) (index : ℕ) → index ≡ number_of (peeked 9 bytes from) → low_bits 9 index ≡ peeked 9 bytes from
-seen_bits bytes from index e =
-    let seen = peeked 9 bytes from in
-    ap (low_bits 9) e ∙ ap (λ (n : ℕ). low_bits n (number_of seen)) (sym (length-peeked 9 bytes from)) ∙ bits_again seen
+-- where bits are read twice from one cursor, one of the readings begins as the other
+pub reads_agree : (m n : ℕ) (bytes : List ℕ) (from one two : Cursor) (a b : List Bool) → bits_at m bytes from ≡ Ok (a, one) → bits_at n bytes from ≡ Ok (b, two) → take m b ≡ take n a
+reads_agree m n bytes from one two a b d e =
+    let a_long = (takes_of m bytes from one a d).0 in
+    let b_long = (takes_of n bytes from two b e).0 in
+    elim (cases_lt n m) [
+      | inl few ↦
+          let rest = m - n in
+          let whole : m ≡ n + rest = omega (arith, few) in
+          let p = parts_of n rest bytes from one a (subst (λ (k : ℕ). bits_at k bytes from ≡ there (a, one)) whole d) in
+          let same = same_bits (p.front, p.mid) (b, two) (sym p.first ∙ e) in
+          take_all m b (omega (arith, b_long, few)) ∙ sym same.0 ∙ sym (ap (take n) p.whole ∙ take_at p.front p.back n p.front_long)
+      | inr many ↦
+          let rest = n - m in
+          let whole : n ≡ m + rest = omega (arith, many) in
+          let p = parts_of m rest bytes from two b (subst (λ (k : ℕ). bits_at k bytes from ≡ there (b, two)) whole e) in
+          let same = same_bits (p.front, p.mid) (a, one) (sym p.first ∙ d) in
+          ap (take m) p.whole ∙ take_at p.front p.back m p.front_long ∙ same.0 ∙ sym (take_all n a (omega (arith, a_long, many)))
+    ]
 
 -- no word: more coefficients than a block has
 abbrev pub no_skip : SkipWord
@@ -109,17 +103,17 @@ no_skip = record { bits = 0; coefficients = 65; ends = false }
 abbrev pub skip_word : ℕ → ℕ → Bool → SkipWord
 skip_word bits coefficients ends = record { bits = bits; coefficients = coefficients; ends = ends }
 
--- a code word that the nine bits begin with
-first_symbol : (table : TableFields) (nine front back : List Bool) (bytes : List ℕ) (from mid : Cursor) (symbol size more : ℕ) → IsTable table → size ≤ 9 → word_of table symbol ≡ Some (take size nine)
-    → bits_at size bytes from ≡ Ok (front, mid) → length front ≡ size → take 9 (front ++ back) ≡ take (size + more) nine → Ok (symbol, mid) ≡ symbol_at table bytes from
-first_symbol table nine front back bytes from mid symbol size more is few word read long agree =
-    let same : take size nine ≡ front =
-    sym (take-take size (size + more) nine (omega arith)) ∙ ap (take size) (sym agree) ∙ take-take size 9 (front ++ back) few ∙ take_at front back size long in
+-- a code word that the twelve bits begin with
+first_symbol : (table : TableFields) (twelve front back : List Bool) (bytes : List ℕ) (from mid : Cursor) (symbol size more : ℕ) → IsTable table → size ≤ 12 → word_of table symbol ≡ Some (take size twelve)
+    → bits_at size bytes from ≡ Ok (front, mid) → length front ≡ size → take 12 (front ++ back) ≡ take (size + more) twelve → Ok (symbol, mid) ≡ symbol_at table bytes from
+first_symbol table twelve front back bytes from mid symbol size more is few word read long agree =
+    let same : take size twelve ≡ front =
+    sym (take-take size (size + more) twelve (omega arith)) ∙ ap (take size) (sym agree) ∙ take-take size 12 (front ++ back) few ∙ take_at front back size long in
     sym (symbol_read table bytes from mid symbol front is (word ∙ ap Some same) (ap (λ (n : ℕ). bits_at n bytes from) long ∙ read))
 
 -- no word
-pub skips_nothing : (table : TableFields) (nine : List Bool) → Skips table nine no_skip
-skips_nothing table nine = record {
+pub skips_nothing : (table : TableFields) (twelve : List Bool) → Skips table twelve no_skip
+skips_nothing table twelve = record {
   few = omega arith;
   some = omega arith;
   count = omega arith;
@@ -127,8 +121,8 @@ skips_nothing table nine = record {
 }
 
 -- the end of the block
-pub skips_end : (table : TableFields) (nine : List Bool) (size : ℕ) → IsTable table → size ≤ 9 → word_of table 0 ≡ Some (take size nine) → Skips table nine (skip_word size 1 true)
-skips_end table nine size is few word = record {
+pub skips_end : (table : TableFields) (twelve : List Bool) (size : ℕ) → IsTable table → size ≤ 12 → word_of table 0 ≡ Some (take size twelve) → Skips table twelve (skip_word size 1 true)
+skips_end table twelve size is few word = record {
   few = omega (arith, few);
   some = omega arith;
   count = omega arith;
@@ -136,8 +130,8 @@ skips_end table nine size is few word = record {
       let long = (takes_of size bytes from to taken read).0 in
       let same : size ≡ size + 0 = omega arith in
       let all : taken ++ [] ≡ taken = search rules in
-      let bits : take 9 (taken ++ []) ≡ take (size + 0) nine = ap (take 9) all ∙ agree ∙ ap (λ (n : ℕ). take n nine) same in
-      let read_symbol = first_symbol table nine taken [] bytes from to 0 size 0 is few word read long bits in
+      let bits : take 12 (taken ++ []) ≡ take (size + 0) twelve = ap (take 12) all ∙ agree ∙ ap (λ (n : ℕ). take n twelve) same in
+      let read_symbol = first_symbol table twelve taken [] bytes from to 0 size 0 is few word read long bits in
       (gone.0, tt, end_comes whole table bytes gone.0 index false from to 0 (omega (arith, room)) read_symbol refl gone.2);
 }
 
@@ -152,34 +146,34 @@ value_goes_on table bytes from mid to index symbol zeros more bits read follow s
     let after : index + zeros + 1 ≡ index + (zeros + 1) = omega arith in
     (set gone.0 (get_or zigzag (index + zeros) 0) value, tt, subst (λ (n : ℕ). Going whole table bytes (set gone.0 (get_or zigzag (index + zeros) 0) value) n false to) after comes)
 
--- a value whose code word the nine bits begin with
-pub skips_value : (table : TableFields) (nine : List Bool) (symbol size zeros more : ℕ) → IsTable table → size ≤ 9 → word_of table symbol ≡ Some (take size nine) → symbol ≡ 16 * zeros + more → zeros < 16 → 1 ≤ more → more ≤ 10
-    → size + more ≤ 16 → Skips table nine (skip_word (size + more) (zeros + 1) false)
-skips_value table nine symbol size zeros more is few word split byte some most fits = record {
+-- a value whose code word the twelve bits begin with
+pub skips_value : (table : TableFields) (twelve : List Bool) (symbol size zeros more : ℕ) → IsTable table → size ≤ 12 → word_of table symbol ≡ Some (take size twelve) → symbol ≡ 16 * zeros + more → zeros < 16 → 1 ≤ more → more ≤ 10
+    → size + more ≤ 16 → Skips table twelve (skip_word (size + more) (zeros + 1) false)
+skips_value table twelve symbol size zeros more is few word split byte some most fits = record {
   few = fits;
   some = omega arith;
   count = omega (arith, byte);
   does = λ bytes from to taken index room read agree.
       let p = parts_of size more bytes from to taken read in
-      let read_symbol = first_symbol table nine p.front p.back bytes from p.mid symbol size more is few word p.first p.front_long (ap (take 9) (sym p.whole) ∙ agree) in
+      let read_symbol = first_symbol table twelve p.front p.back bytes from p.mid symbol size more is few word p.first p.front_long (ap (take 12) (sym p.whole) ∙ agree) in
       value_goes_on table bytes from p.mid to index symbol zeros more p.back read_symbol p.second split byte some most room;
 }
 
--- one symbol, and another one that the rest of the nine bits begins with
-pub skips_both : (table : TableFields) (nine rest : List Bool) (word more : SkipWord) → Skips table nine word → word.ends ≡ false → Skips table rest more → word.bits + more.bits ≤ 9 → word.coefficients + more.coefficients ≤ 64
-    → take more.bits rest ≡ take more.bits (drop word.bits nine) → Skips table nine (skip_word (word.bits + more.bits) (word.coefficients + more.coefficients) more.ends)
-skips_both table nine rest word more first continues second within few same = record {
+-- one symbol, and another one that the rest of the twelve bits begins with
+pub skips_both : (table : TableFields) (twelve rest : List Bool) (word more : SkipWord) → Skips table twelve word → word.ends ≡ false → Skips table rest more → word.bits + more.bits ≤ 12 → word.coefficients + more.coefficients ≤ 64
+    → take more.bits rest ≡ take more.bits (drop word.bits twelve) → Skips table twelve (skip_word (word.bits + more.bits) (word.coefficients + more.coefficients) more.ends)
+skips_both table twelve rest word more first continues second within few same = record {
   few = omega (arith, within);
   some = let s = first.some in omega (arith, s);
   count = omega (arith, few);
   does = λ bytes from to taken index room read agree whole gone.
       let p = parts_of word.bits more.bits bytes from to taken read in
       let long = (takes_of (word.bits + more.bits) bytes from to taken read).0 in
-      let all : taken ≡ take (word.bits + more.bits) nine = sym (take_all 9 taken (omega (arith, long, within))) ∙ agree in
-      let front : p.front ≡ take word.bits nine = sym (take_at p.front p.back word.bits p.front_long) ∙ ap (take word.bits) (sym p.whole ∙ all) ∙ take-take word.bits (word.bits + more.bits) nine (omega arith) in
-      let back : p.back ≡ take more.bits (drop word.bits nine) = sym (drop_at p.front p.back word.bits p.front_long) ∙ ap (drop word.bits) (sym p.whole ∙ all) ∙ drop-take word.bits more.bits nine in
-      let at_front : take 9 p.front ≡ take word.bits nine = take_all 9 p.front (let l = p.front_long in omega (arith, l, within)) ∙ front in
-      let at_back : take 9 p.back ≡ take more.bits rest = take_all 9 p.back (let l = p.back_long in omega (arith, l, within)) ∙ back ∙ sym same in
+      let all : taken ≡ take (word.bits + more.bits) twelve = sym (take_all 12 taken (omega (arith, long, within))) ∙ agree in
+      let front : p.front ≡ take word.bits twelve = sym (take_at p.front p.back word.bits p.front_long) ∙ ap (take word.bits) (sym p.whole ∙ all) ∙ take-take word.bits (word.bits + more.bits) twelve (omega arith) in
+      let back : p.back ≡ take more.bits (drop word.bits twelve) = sym (drop_at p.front p.back word.bits p.front_long) ∙ ap (drop word.bits) (sym p.whole ∙ all) ∙ drop-take word.bits more.bits twelve in
+      let at_front : take 12 p.front ≡ take word.bits twelve = take_all 12 p.front (let l = p.front_long in omega (arith, l, within)) ∙ front in
+      let at_back : take 12 p.back ≡ take more.bits rest = take_all 12 p.back (let l = p.back_long in omega (arith, l, within)) ∙ back ∙ sym same in
       let one = first.does bytes from p.mid p.front index (omega (arith, room)) p.first at_front whole gone in
       let there : IsSkipped whole table bytes (index + word.coefficients) false p.mid =
       subst (λ (t : Bool). IsSkipped whole table bytes (if t then 64 else index + word.coefficients) false p.mid) continues one in
@@ -188,28 +182,73 @@ skips_both table nine rest word more first continues second within few same = re
       subst (λ (n : ℕ). IsSkipped whole table bytes (if more.ends then 64 else n) false to) sum two;
 }
 
--- the rest of nine bits, with zeros after it
-pub rest_bits : (index rest bits k : ℕ) → bits + k ≤ 9 → rest ≡ index * 2 ^ bits % 512 → take k (low_bits 9 rest) ≡ take k (drop bits (low_bits 9 index))
+-- the rest of twelve bits, with zeros after it
+pub rest_bits : (index rest bits k : ℕ) → bits + k ≤ 12 → rest ≡ index * 2 ^ bits % 4096 → take k (low_bits 12 rest) ≡ take k (drop bits (low_bits 12 index))
 rest_bits index rest bits k within is =
-    let left = 9 - bits in
-    let whole : 9 ≡ left + bits = omega (arith, within) in
-    let turned : 9 ≡ bits + left = omega (arith, within) in
-    let shifted : low_bits 9 rest ≡ low_bits 9 (index * 2 ^ bits) = ap (low_bits 9) is ∙ low_bits-same 9 (index * 2 ^ bits % 512) (index * 2 ^ bits) (omega arith) in
+    let left = 12 - bits in
+    let whole : 12 ≡ left + bits = omega (arith, within) in
+    let turned : 12 ≡ bits + left = omega (arith, within) in
+    let shifted : low_bits 12 rest ≡ low_bits 12 (index * 2 ^ bits) = ap (low_bits 12) is ∙ low_bits-same 12 (index * 2 ^ bits % 4096) (index * 2 ^ bits) (omega arith) in
     let none : index * 2 ^ bits ≡ index * 2 ^ bits + 0 = omega arith in
-    let joined : low_bits 9 (index * 2 ^ bits) ≡ low_bits left index ++ low_bits bits 0 =
-    ap (λ (n : ℕ). low_bits 9 n) none ∙ ap (λ (n : ℕ). low_bits n (index * 2 ^ bits + 0)) whole ∙ low_bits-join left bits index 0 (search rules) in
-    let prefix : take left (low_bits 9 rest) ≡ low_bits left index = ap (take left) (shifted ∙ joined) ∙ take_at (low_bits left index) (low_bits bits 0) left (length-low_bits left index) in
-    let tail : drop bits (low_bits 9 index) ≡ low_bits left index = ap (λ (n : ℕ). drop bits (low_bits n index)) turned ∙ drop-low_bits bits left index in
+    let joined : low_bits 12 (index * 2 ^ bits) ≡ low_bits left index ++ low_bits bits 0 =
+    ap (λ (n : ℕ). low_bits 12 n) none ∙ ap (λ (n : ℕ). low_bits n (index * 2 ^ bits + 0)) whole ∙ low_bits-join left bits index 0 (search rules) in
+    let prefix : take left (low_bits 12 rest) ≡ low_bits left index = ap (take left) (shifted ∙ joined) ∙ take_at (low_bits left index) (low_bits bits 0) left (length-low_bits left index) in
+    let tail : drop bits (low_bits 12 index) ≡ low_bits left index = ap (λ (n : ℕ). drop bits (low_bits n index)) turned ∙ drop-low_bits bits left index in
     let upto : k ≤ left = omega (arith, within) in
-    sym (take-take k left (low_bits 9 rest) upto) ∙ ap (take k) (prefix ∙ sym tail)
+    sym (take-take k left (low_bits 12 rest) upto) ∙ ap (take k) (prefix ∙ sym tail)
 
--- what the word of nine bits that are seen goes past
-pub word_skips : (table : TableFields) (words : List SkipWord) (bytes : List ℕ) (from to : Cursor) (seen number index : ℕ) → AreSkips table words → seen ≡ number_of (peeked 9 bytes from) → seen < 512
+-- twelve bits that begin with a code word
+pub begins : (code size count index : ℕ) → size ≤ 12 → count ≡ 2 ^ (12 - size) → code * count ≤ index → index < code * count + count → low_bits size code ≡ take size (low_bits 12 index)
+begins code size count index few is from below =
+    let n = 12 - size in
+    let rest = index - code * count in
+    let whole : 12 ≡ size + n = omega (arith, few) in
+    let sum : index ≡ code * count + rest = omega (arith, from) in
+    let left : rest < count = omega (arith, from, below) in
+    let joined : low_bits 12 index ≡ low_bits size code ++ low_bits n rest =
+    ap (low_bits 12) (sum ∙ ap (λ (k : ℕ). code * k + rest) is) ∙ ap (λ (k : ℕ). low_bits k (code * 2 ^ n + rest)) whole
+    ∙ low_bits-join size n code rest (subst (λ (k : ℕ). rest < k) is left) in
+    sym (ap (take size) joined ∙ take_at (low_bits size code) (low_bits n rest) size (length-low_bits size code))
+
+-- and as many of them are below 4096 as begin with it
+pub within_all : (code size count : ℕ) → size ≤ 12 → count ≡ 2 ^ (12 - size) → code < 2 ^ size → code * count + count ≤ 4096
+within_all code size count few is below =
+    let n = 12 - size in
+    let sum : size + n ≡ 12 = omega (arith, few) in
+    let whole : 2 ^ size * count ≡ 4096 = ap (λ (k : ℕ). 2 ^ size * k) is ∙ sym (pow-add 2 size n) ∙ ap (λ (k : ℕ). 2 ^ k) sum in
+    let most : suc code * count ≤ 2 ^ size * count = mul-le-mul_right count (omega (arith, below)) in
+    let more : suc code * count ≡ code * count + count = suc-mul code count in
+    omega (arith, whole, more, most)
+
+-- one word more in place of another
+pub set_skips : (table : TableFields) (words : List SkipWord) (index : ℕ) (word : SkipWord) → AreSkips table words → Skips table (low_bits 12 index) word → AreSkips table (set words index word)
+set_skips table words index word are is = λ k below.
+    let long = length-set words index word in
+    let within : k < length words = omega (arith, long, below) in
+    elim (cases_lt k index) [
+      | inl before ↦ subst (λ (w : SkipWord). Skips table (low_bits 12 k) w) (sym (get_or-set_other words index k word blank (λ e. omega (arith, before, e)))) (are k within)
+      | inr from ↦ elim (cases_lt index k) [
+        | inl after ↦ subst (λ (w : SkipWord). Skips table (low_bits 12 k) w) (sym (get_or-set_other words index k word blank (λ e. omega (arith, after, e)))) (are k within)
+        | inr upto ↦
+            let same : index ≡ k = omega (arith, from, upto) in
+            subst (λ (n : ℕ). Skips table (low_bits 12 n) (get_or (set words index word) n blank)) same
+            (subst (λ (w : SkipWord). Skips table (low_bits 12 index) w) (sym (get_or-set_same words index word blank (omega (arith, same, within)))) is)
+      ]
+    ]
+
+-- no words
+pub no_skips : (table : TableFields) (n : ℕ) → AreSkips table (replicate n no_skip)
+no_skips table n = λ k below.
+    let long = length-replicate n no_skip in
+    subst (λ (w : SkipWord). Skips table (low_bits 12 k) w) (sym (get_or-replicate n k no_skip blank (omega (arith, long, below)))) (skips_nothing table (low_bits 12 k))
+
+-- what the word of twelve bits goes past
+pub word_skips : (table : TableFields) (words : List SkipWord) (bytes : List ℕ) (from mid to : Cursor) (seen number index : ℕ) → AreSkips table words → seen < length words → bits_at 12 bytes from ≡ Ok (low_bits 12 seen, mid)
     → index + (get_or words seen blank).coefficients ≤ 64 → bits_at (get_or words seen blank).bits bytes from ≡ Ok (low_bits (get_or words seen blank).bits number, to)
     → (whole : Result (List ℤ × Cursor) ScanRefusal) → IsSkipped whole table bytes index false from → IsSkipped whole table bytes (index_after index (get_or words seen blank)) false to
-word_skips table words bytes from to seen number index are e below room read whole gone =
+word_skips table words bytes from mid to seen number index are below look room read whole gone =
     let word = get_or words seen blank in
-    let agree = seen_agree word.bits bytes from to (low_bits word.bits number) read ∙ ap (take word.bits) (sym (seen_bits bytes from seen e)) in
+    let agree = reads_agree 12 word.bits bytes from mid to (low_bits 12 seen) (low_bits word.bits number) look read in
     (are seen below).does bytes from to (low_bits word.bits number) index room read agree whole gone
 
 -- where nothing is left, it doesn't matter what came last
@@ -232,6 +271,33 @@ word_of_slot codes slots words i component tables all below is within kept =
     let at = all i d (omega (arith, long, below)) in
     subst (λ (t : ComponentCodes). AreSkips t.ac (get_or words component [])) (sym (get_or_read codes component tables within kept no_codes))
     (subst (λ (s : Slot). AreSkips s.codes.ac (get_or words s.component [])) e at)
+
+-- words for the components, as far as there are any
+abbrev pub AreSkipCodes : List ComponentCodes → List (List SkipWord) → Type 0
+AreSkipCodes codes words =
+    (component : ℕ) → component < length codes
+    → AreSkips (get_or codes component no_codes).ac (get_or words component [])
+
+no_words : (table : TableFields) → AreSkips table []
+no_words table = λ k below. absurd (omega (arith, below))
+
+-- none, where there is no list
+pub none_kept : (codes : List ComponentCodes) → AreSkipCodes codes []
+none_kept codes = λ k below. no_words (get_or codes k no_codes).ac
+
+-- those of one component more
+pub one_kept : (codes : List ComponentCodes) (lists : List (List SkipWord)) (words : List SkipWord) → AreSkipCodes codes lists → AreSkips (get_or codes (length lists) no_codes).ac words → AreSkipCodes codes (lists ++ words ∷ [])
+one_kept codes lists words are is = λ k below.
+    let P : ℕ → List SkipWord → Type 0 = λ n w. AreSkips (get_or codes n no_codes).ac w in
+    elim (cases_lt k (length lists)) [
+      | inl before ↦ subst (P k) (sym (get_or_append_left lists (words ∷ []) [] k before)) (are k below)
+      | inr from ↦ elim (cases_lt (length lists) k) [
+        | inl past ↦ subst (P k) (sym (get_or_past (lists ++ words ∷ []) k [] (let long = length_push lists words in omega (arith, long, past)))) (no_words (get_or codes k no_codes).ac)
+        | inr upto ↦
+            let same : length lists ≡ k = omega (arith, from, upto) in
+            subst (P k) (sym (get_or_push lists words [] k same)) (subst (λ (n : ℕ). P n words) same is)
+      ]
+    ]
 
 -- those of all slots, by those of all components
 pub skips_of_slots : (codes : List ComponentCodes) (slots : List ℕ) (words : List (List SkipWord)) → AreSkipCodes codes words → All (λ slot. slot < length codes) slots → AreSkipSlots (map (slot_in codes) slots) words

@@ -1,5 +1,5 @@
 -- View: a reader's fields as a reader of the definitions, and what always holds of them (own).
-use Rattle.std.specs.Prelude.{◌≡◌, ◌^◌, ◌<◌, ◌≤◌}
+use Rattle.std.specs.Prelude.{◌≡◌, ◌^◌, ◌<◌, ◌≤◌, map}
 use Rattle.std.specs.List.{All}
 use Rattle.coef_block.specs.Block.{IsDc}
 use Rattle.scan_spec.specs.ScanCalls.{ScanReader}
@@ -16,10 +16,10 @@ reader_of r = record {
 }
 
 -- the last DCs are some that blocks can have, no more MCUs were read than there are, the bits are those of the bytes,
--- and what nine bits skip is by the tables of the scan
+-- and what twelve bits skip is by the tables of the scan
 pub record IsReader (r : Inside) : Type 0 where
   pub before : All IsDc r.before
   pub count : r.count ≤ r.shape.mcus
   pub size : r.shape.mcus < 2 ^ 32
   pub bytes : r.input.bytes ≡ r.bytes.now
-  pub skips : All (λ known. AreSkipSlots r.shape.slots known.words) r.skips.items
+  pub skips : AreSkipSlots r.shape.slots (map (λ v. v.items) r.skips.items)

@@ -1,11 +1,9 @@
--- Steps: what nine bits of a block skip, whose coefficients nobody keeps (own; F.2.2.2 reads them symbol by symbol).
+-- Steps: what twelve bits of a block skip, whose coefficients nobody keeps (own; F.2.2.2 reads them symbol by symbol).
 use Rattle.std.specs.Prelude.{ℕ, ◌≡◌, ◌<◌, ◌≤◌, ◌+◌, Bool, false, if◌then◌else◌, List, [], take, length, get_or, ℤ, Result, Ok, Err, ⊤}
 use Rattle.std.specs.List.{All}
 use Rattle.bit_list.specs.Bits.{low_bits}
 use Rattle.bit_list.specs.Units.{Cursor, bits_at}
 use Rattle.jpeg_marker.specs.HuffmanTables.{TableFields}
-use Rattle.huff_table.specs.ComponentTables.{no_codes}
-use Rattle.huff_table.specs.declared.plan_codes.ComponentCodes.{ComponentCodes}
 use Rattle.scan_spec.specs.declared.refusal.ScanRefusal.{ScanRefusal}
 use Rattle.scan_spec.specs.declared.slot.Slot.{Slot}
 use Rattle.scan_decode.specs.BlockSteps.{IsGoing}
@@ -36,26 +34,20 @@ IsRefused table bytes index from refusal =
 abbrev pub index_after : ℕ → SkipWord → ℕ
 index_after index word = if word.ends then 64 else index + word.coefficients
 
--- If the next bits are those of a word, as far as these nine go, and the block has room for its coefficients, reading
+-- If the next bits are those of a word, as far as these twelve go, and the block has room for its coefficients, reading
 -- them reads that many, or all that are left; not after sixteen zeros.
-pub record Skips (table : TableFields) (nine : List Bool) (word : SkipWord) : Type 0 where
+pub record Skips (table : TableFields) (twelve : List Bool) (word : SkipWord) : Type 0 where
   pub few : word.bits ≤ 16
   pub some : 0 < word.coefficients
   pub count : word.coefficients ≤ 65
   pub does : (bytes : List ℕ) (from to : Cursor) (taken : List Bool) (index : ℕ)
       → index + word.coefficients ≤ 64 → bits_at word.bits bytes from ≡ Ok (taken, to)
-      → take 9 taken ≡ take word.bits nine → GoesOn table bytes index from (index_after index word) to
+      → take 12 taken ≡ take word.bits twelve → GoesOn table bytes index from (index_after index word) to
 
--- a word for each nine bits, by their number
+-- a word for each twelve bits, by their number, or none at all
 abbrev pub AreSkips : TableFields → List SkipWord → Type 0
 AreSkips table words =
-    (index : ℕ) → index < 512 → Skips table (low_bits 9 index) (get_or words index blank)
-
--- words for the AC coefficients of each component
-abbrev pub AreSkipCodes : List ComponentCodes → List (List SkipWord) → Type 0
-AreSkipCodes codes words =
-    (component : ℕ) → component < length codes
-    → AreSkips (get_or codes component no_codes).ac (get_or words component [])
+    (index : ℕ) → index < length words → Skips table (low_bits 12 index) (get_or words index blank)
 
 -- words for each slot, by its component
 abbrev pub AreSkipSlots : List Slot → List (List SkipWord) → Type 0

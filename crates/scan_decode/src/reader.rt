@@ -15,7 +15,8 @@ ghost use Rattle.scan_decode.specs.ReadResults.{after_blocks, mcu_read, standing
 use crate::blocks::blocks;
 use crate::byte_begun::{after_bits, byte_begun};
 use crate::pads::{pads, restart};
-use crate::skip::{SkipCodes, skip_blocks};
+use crate::skip::skip_blocks;
+use crate::skip_word::SkipWord;
 use bit_list::BitIn;
 use coef_block::Block;
 use handover::Handover;
@@ -41,8 +42,8 @@ pub struct Reader<'a> {
     // The pad bit of the interval that the last of them ended.
     pad: Option<bool>,
     stop: Option<ScanRefusal>,
-    // Made for the first MCU that is skipped.
-    skips: Vec<SkipCodes>,
+    // What twelve bits skip of each component, made for the first MCU that is skipped.
+    skips: Vec<Vec<SkipWord>>,
 }
 
 impl<'a> Model for Reader<'a> {

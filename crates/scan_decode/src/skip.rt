@@ -1,60 +1,37 @@
 // Blocks that are skipped: nobody keeps their coefficients.
-ghost use Rattle.std.specs.Prelude.{◌≡◌, ◌≤◌, ◌<◌, List, ℤ, ◌∷◌, [], false, length, map, Result, Err, IfSome, IfNone, IfOk, IfErr};
+ghost use Rattle.std.specs.Prelude.{◌≡◌, ◌≤◌, ◌<◌, List, ℤ, ◌∷◌, [], false, get_or, length, map, Result, Err, IfSome, IfNone, IfOk, IfErr};
 ghost use Rattle.std.specs.List.{All};
 ghost use Rattle.coef_block.specs.Block.{IsDc};
 ghost use Rattle.scan_spec.specs.BlockBits.{coefficient_at, in_zigzag};
 ghost use Rattle.scan_spec.specs.ScanReading.{acs_at, blocks_at, prefixed_values};
 ghost use Rattle.scan_spec.specs.ShapeInside.{slot_in};
 ghost use Rattle.scan_decode.specs.McuBlocks.{blocks_read};
-ghost use Rattle.scan_decode.specs.SkipWords.{AreSkips, AreSkipCodes, AreSkipSlots, GoesOn, IsRefused};
+ghost use Rattle.scan_decode.specs.SkipWords.{AreSkips, AreSkipSlots, GoesOn, IsRefused};
 ghost use Rattle.scan_decode.specs.ReadResults.{coded_at, values_at_cursor};
 
 use crate::dc::dc;
 use crate::skip_symbols::by_symbols_apart;
-use crate::skip_word::{NO_SKIP, SkipWord, skip_words};
+use crate::skip_word::{BITS, SkipWord, skip_words};
 use allocation::push;
 use bit_list::BitIn;
 use huff_table::{Codes, ComponentCodes};
 use scan_spec::ScanRefusal;
 
-/// What nine bits skip among the AC coefficients of each component.
-#[derive(Drop)]
-pub(crate) struct SkipCodes {
-    words: [[SkipWord; 512]; 4],
-}
-
-impl SkipCodes {
-    /// By the code words of each component.
-    #[inline(never)]
-    pub(crate) fn build(codes: &[ComponentCodes]) -> SkipCodes
-        requires { length codes.now ≤ 4 }
-        ensures { AreSkipCodes codes.now result.words }
-    {
-        let mut words = [[NO_SKIP; 512]; 4];
-        for (i, component) in codes.iter().enumerate() {
-            words[i] = skip_words(&component.ac);
-        }
-        SkipCodes { words }
-    }
-}
-
-/// The blocks of an MCU, by words that are made with the first one and kept in a list of one. Without memory for it
-/// they are made again for each MCU.
+/// The blocks of an MCU, by words that are made with the first one and kept: a list for each component. If a list is
+/// out of memory, the symbols of that component and of those after it are read one by one.
 #[inline]
 pub(crate) fn skip_blocks(
-    skips: &mut Vec<SkipCodes>,
+    skips: &mut Vec<Vec<SkipWord>>,
     codes: &[ComponentCodes],
     slots: &[u8],
     before: &mut [i16; 4],
     input: &mut BitIn,
 ) -> Result<(), ScanRefusal>
-    requires skips { All (λ known. AreSkipSlots (map (slot_in codes.now) slots.now) known.words)
-        skips.old.items }
+    requires skips { AreSkipSlots (map (slot_in codes.now) slots.now) (map (λ v. v.items) skips.old.items) }
     requires few { length codes.now ≤ 4 }
     requires slots { All (λ slot. slot < length codes.now) slots.now }
     requires before { All IsDc before.old }
-    ensures skips { All (λ known. AreSkipSlots (map (slot_in codes.now) slots.now) known.words)
-        skips.new.items }
+    ensures skips { AreSkipSlots (map (slot_in codes.now) slots.now) (map (λ v. v.items) skips.new.items) }
     ensures is { (read : List (List ℤ))
         × (blocks_read result (map in_zigzag read) before.new input.new.cursor
         ≡ blocks_at (map
@@ -62,52 +39,44 @@ pub(crate) fn skip_blocks(
     ensures small { All IsDc before.new }
     ensures bytes { input.new.bytes ≡ input.old.bytes }
 {
-    match skips.as_slice() {
-        [known, ..] => skip_blocks_by(known, codes, slots, before, input),
-        [] => first_blocks(skips, codes, slots, before, input),
+    if skips.is_empty() {
+        make_skips(skips, codes, slots);
     }
+    skip_blocks_by(skips.as_slice(), codes, slots, before, input)
 }
 
-// The blocks of the first MCU. The words have room only in this frame, and not in each frame above it.
+// Makes the words of the components, up to one that is out of memory.
 #[cold]
 #[inline(never)]
-fn first_blocks(
-    skips: &mut Vec<SkipCodes>,
-    codes: &[ComponentCodes],
-    slots: &[u8],
-    before: &mut [i16; 4],
-    input: &mut BitIn,
-) -> Result<(), ScanRefusal>
+fn make_skips(skips: &mut Vec<Vec<SkipWord>>, codes: &[ComponentCodes], slots: &[u8])
     requires none { skips.old.items ≡ [] }
-    requires few { length codes.now ≤ 4 }
     requires slots { All (λ slot. slot < length codes.now) slots.now }
-    requires before { All IsDc before.old }
-    ensures skips { All (λ known. AreSkipSlots (map (slot_in codes.now) slots.now) known.words)
-        skips.new.items }
-    ensures is { (read : List (List ℤ))
-        × (blocks_read result (map in_zigzag read) before.new input.new.cursor
-        ≡ blocks_at (map
-        (slot_in codes.now) slots.now) before.old input.old.bytes input.old.cursor) }
-    ensures small { All IsDc before.new }
-    ensures bytes { input.new.bytes ≡ input.old.bytes }
+    ensures { AreSkipSlots (map (slot_in codes.now) slots.now) (map (λ v. v.items) skips.new.items) }
 {
-    let made = SkipCodes::build(codes);
-    let result = skip_blocks_by(&made, codes, slots, before, input);
-    // Without memory for them the list stays empty.
-    let _ = push(skips, made);
-    result
+    let _ = slots;
+    let alloc = *skips.allocator();
+    for i in 0..codes.len() {
+        let words = match skip_words(alloc, &codes[i].ac) {
+            Ok(words) => words,
+            Err(_) => return,
+        };
+        match push(skips, words) {
+            Ok(()) => {}
+            Err(_) => return,
+        }
+    }
 }
 
 // The blocks of an MCU, each of the component that its slot names, after the last DC of each component.
 #[inline]
 fn skip_blocks_by(
-    skips: &SkipCodes,
+    skips: &[Vec<SkipWord>],
     codes: &[ComponentCodes],
     slots: &[u8],
     before: &mut [i16; 4],
     input: &mut BitIn,
 ) -> Result<(), ScanRefusal>
-    requires skips { AreSkipSlots (map (slot_in codes.now) slots.now) skips.now.words }
+    requires skips { AreSkipSlots (map (slot_in codes.now) slots.now) (map (λ v. v.items) skips.now) }
     requires few { length codes.now ≤ 4 }
     requires slots { All (λ slot. slot < length codes.now) slots.now }
     requires before { All IsDc before.old }
@@ -127,13 +96,13 @@ fn skip_blocks_by(
 // The same for an input in a local value, whose state stays in registers.
 #[inline(always)]
 fn skip_blocks_of(
-    skips: &SkipCodes,
+    skips: &[Vec<SkipWord>],
     codes: &[ComponentCodes],
     slots: &[u8],
     before: &mut [i16; 4],
     input: &mut BitIn,
 ) -> Result<(), ScanRefusal>
-    requires skips { AreSkipSlots (map (slot_in codes.now) slots.now) skips.now.words }
+    requires skips { AreSkipSlots (map (slot_in codes.now) slots.now) (map (λ v. v.items) skips.now) }
     requires few { length codes.now ≤ 4 }
     requires slots { All (λ slot. slot < length codes.now) slots.now }
     requires before { All IsDc before.old }
@@ -147,7 +116,7 @@ fn skip_blocks_of(
     for i in 0..slots.len() {
         let component = usize::from(slots[i]);
         before[component] = skip_block(
-            &skips.words[component],
+            words_of(skips, component),
             &codes[component],
             before[component],
             input,
@@ -156,10 +125,21 @@ fn skip_blocks_of(
     Ok(())
 }
 
+// The words of a component: none if they were out of memory.
+#[inline(always)]
+fn words_of(skips: &[Vec<SkipWord>], component: usize) -> &[SkipWord]
+    ensures { result.now ≡ get_or (map (λ v. v.items) skips.now) component [] }
+{
+    match skips.get(component) {
+        Some(words) => words.as_slice(),
+        None => &[],
+    }
+}
+
 // A block after one with the DC before. Answers its DC.
 #[inline(always)]
 fn skip_block(
-    words: &[SkipWord; 512],
+    words: &[SkipWord],
     codes: &ComponentCodes,
     before: i16,
     input: &mut BitIn,
@@ -180,7 +160,7 @@ fn skip_block(
 
 // The AC coefficients of a block (ITU-T T.81, F.2.2.2).
 #[inline(always)]
-fn skip_acs(words: &[SkipWord; 512], codes: &Codes, input: &mut BitIn) -> Result<(), ScanRefusal>
+fn skip_acs(words: &[SkipWord], codes: &Codes, input: &mut BitIn) -> Result<(), ScanRefusal>
     requires { AreSkips codes.now words.now }
     ensures is { (dc : ℤ) → (block : List ℤ)
         × (values_at_cursor result (in_zigzag block) input.new.cursor
@@ -194,11 +174,11 @@ fn skip_acs(words: &[SkipWord; 512], codes: &Codes, input: &mut BitIn) -> Result
     Ok(())
 }
 
-// The zigzag index after the next symbols: those that nine bits begin with, or else a value whose code word sixteen
-// bits begin with, or else up to the first symbol that isn't sixteen zeros.
+// The zigzag index after the next symbols: those that twelve bits begin with, or else a value whose code word
+// sixteen bits begin with, or else up to the first symbol that isn't sixteen zeros.
 #[inline(always)]
 fn skip_symbols(
-    words: &[SkipWord; 512],
+    words: &[SkipWord],
     codes: &Codes,
     input: &mut BitIn,
     index: usize,
@@ -213,7 +193,7 @@ fn skip_symbols(
         (λ refusal. IsRefused codes.now input.old.bytes index input.old.cursor refusal) }
     ensures bytes { input.new.bytes ≡ input.old.bytes }
 {
-    if let Some(next) = by_nine_bits(words, codes, input, index) {
+    if let Some(next) = by_twelve_bits(words, codes, input, index) {
         return Ok(next);
     }
     if let Some(next) = by_sixteen_bits(codes, input, index) {
@@ -222,10 +202,10 @@ fn skip_symbols(
     by_symbols_apart(codes, input, index)
 }
 
-// The zigzag index after the symbols that the next nine bits begin with, if a word has them and its bits are there.
+// The zigzag index after the symbols that the next twelve bits begin with, if a word has them and its bits are there.
 #[inline(always)]
-fn by_nine_bits(
-    words: &[SkipWord; 512],
+fn by_twelve_bits(
+    words: &[SkipWord],
     codes: &Codes,
     input: &mut BitIn,
     index: usize,
@@ -239,7 +219,14 @@ fn by_nine_bits(
     ensures bytes { input.new.bytes ≡ input.old.bytes }
 {
     input.ready();
-    let word = words[usize::from(input.peek9())];
+    let seen = match input.copied().take(BITS) {
+        Ok(seen) => usize::from(seen),
+        Err(_) => return None,
+    };
+    if seen >= words.len() {
+        return None;
+    }
+    let word = words[seen];
     let next = index + usize::from(word.coefficients);
     if next > 64 {
         return None;

@@ -1,12 +1,10 @@
 -- MCUs that were read and coded, and a scan that isn't one.
 use Rattle.std.proofs.Common.{◌≡◌, ℕ, suc, ◌<◌, Bool, List, [], ◌∷◌, ◌++◌, length, map, get_or, refl, ap, ap₂, ◌∙◌, sym, arith}
-use Rattle.std.specs.Prelude.{ℤ, Some, Err, replicate}
+use Rattle.std.specs.Prelude.{ℤ, Some, Err}
 use Rattle.std.specs.List.{AllByRecursion}
-use Rattle.std.proofs.lemmas.List.{length-replicate}
 use Rattle.bit_list.specs.Bits.{IsByte}
 use Rattle.coef_block.specs.Block.{IsBlock}
 use Rattle.bool_coder.specs.BoolStream.{coded, stream}
-use Rattle.adapt_bins.specs.Counts.{Counts, unseen}
 use Rattle.adapt_bins.specs.Events.{bools_of}
 use Rattle.adapt_bins.specs.PutEvents.{HasPut}
 use Rattle.adapt_bins.specs.declared.put.Put.{Put}
@@ -94,9 +92,3 @@ stream_told plan mcus = refl
 abbrev pub is_memory : ScanError → Type 0
 is_memory (NoMemory short) = Unit {0}
 is_memory (Scan refusal) = ⊥
-
--- a new encoder and fresh bins have put nothing
-pub fresh_bins : (bins : List Counts) (n : ℕ) → bins ≡ replicate n unseen
-    → bins ≡ replicate (length bins) unseen
-fresh_bins bins n e = e ∙ ap (λ (k : ℕ). replicate k unseen)
-    (sym (ap length e ∙ length-replicate n unseen))

@@ -133,8 +133,8 @@ impl<'a> SegmentDecoder<'a> {
         self.begin_at(segment, stream, handover, row, count, met, view.pad());
     }
 
-    // Begins a segment, given its parts. At its end it meets the next segment's handover, and has as many bytes as places
-    // are kept for it, if there are such.
+    // Begins a segment, given its parts. At its end it meets the next segment's handover, and has as many bytes as
+    // places are kept for it, if there are such.
     fn begin_at(
         &mut self,
         number: u8,

@@ -56,8 +56,8 @@ impl SegmentEncoder {
         })
     }
 
-    // How many bytes an encoder for a plan takes, about: four for each bin, one of them for the table of shares, and 136
-    // for each block of an MCU row.
+    // How many bytes an encoder for a plan takes, about: four for each bin, one of them for the table of shares, and
+    // 136 for each block of an MCU row.
     pub(crate) fn room(plan: &Plan) -> usize
         ensures { result < 2 ^ 41 }
     {
@@ -65,8 +65,8 @@ impl SegmentEncoder {
         4 * BINS + 136 * row as usize
     }
 
-    /// The stream of the reader's next `mcus` MCUs, as one segment, in an empty list. After an error the encoder is
-    /// of no worth.
+    /// The stream of the reader's next `mcus` MCUs, as one segment of its plan's scan, in an empty list. The pad bit of
+    /// each interval that ends is kept. After an error the encoder is of no worth.
     pub(crate) fn code(
         &mut self,
         plan: &Plan,

@@ -5,7 +5,7 @@
 //!
 //! `ScanPass` goes over a scan from segment to segment, and keeps where each starts. It reads a segment and codes it by
 //! a `SegmentEncoder`, or only reads it, and gives a `SegmentPart`. That is made ready with all its memory, a
-//! `ReadyPart`, and coded beside the pass by an encoder of its own. `find_starts` is a pass that codes nothing, and
+//! `ReadyPart`, and coded beside the pass by another encoder. `find_starts` is a pass that codes nothing, and
 //! `find_rows` one that finds where each row starts. By these starts `encode_segment` codes one segment of a file, or
 //! of a chunk's rows of it, and `ready_segment` makes one ready. `SegmentDecoder` decodes the segments of a scan, each
 //! in steps of a piece of bytes; `FileDecoder` those of a container of one scan or of several, with the header that

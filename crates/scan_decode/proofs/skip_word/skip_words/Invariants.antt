@@ -5,6 +5,6 @@ use Rattle.scan_decode.proofs.skip_word.skip_words.Given as goal
 
 abbrev pub invariant-loop-index : goal.invariant-loop-index
 invariant-loop-index l = record {
-  size : length l.words ≡ 512;
-  made : (k : ℕ) → k < l.index → Skips l.codes (low_bits 9 k) (get_or l.words k blank);
+  size : length l.words.items ≡ 4096;
+  made : (k : ℕ) → k < l.index → Skips l.codes (low_bits 12 k) (get_or l.words.items k blank);
 }

@@ -1,4 +1,4 @@
-use Rattle.std.proofs.Common.{[], ◌≡◌, List, ℕ, Ok, Err, map, subst}
+use Rattle.std.proofs.Common.{[], ◌≡◌, ◌∙◌, List, ℕ, Ok, Err, map, subst, sym}
 use Rattle.std.proofs.lemmas.Result.{err_from_is_err_and}
 use Rattle.scan_spec.specs.declared.slot.Slot.{Slot}
 use Rattle.scan_spec.specs.ScanCalls.{ScanReader}
@@ -7,6 +7,7 @@ use Rattle.scan_spec.specs.BlockBits.{in_zigzag}
 use Rattle.scan_decode.specs.ReadResults.{mcu_read, standing_read}
 use Rattle.scan_decode.specs.ReaderInside.{reader_of}
 use Rattle.scan_decode.proofs.Standings.{no_blocks, ends_well}
+use Rattle.scan_decode.specs.SkipWords.{AreSkipSlots}
 use Rattle.scan_decode.proofs.reader.Reader.mcu_skipped.Goals as goal
 
 pub returns-in_err-skip_blocks-clause-is : goal.returns-in_err-skip_blocks-clause-is
@@ -30,3 +31,25 @@ returns-clause-is c =
       subst (λ (s : ScanReader). mcu_read end.result (map in_zigzag is.0) end.new.self.at ≡ mcu_at s.shape s.bytes s.at) c.self.view_is
           (ends_well end.result end.new.self.at r.shape r.bytes r.at read e after),
     )
+
+pub skip_blocks-requires-clause-skips : goal.skip_blocks-requires-clause-skips
+skip_blocks-requires-clause-skips c =
+    subst (λ (slots : List Slot). AreSkipSlots slots (map (λ v. v.items) c.self.inside.skips.items)) (sym c.slots.ensures.slots) c.self.invariant.skips
+
+pub invariant_of-self : goal.invariant_of-self
+invariant_of-self c = record {
+  before = c.skip_blocks.ensures.small;
+  count = c.self.invariant.count;
+  size = c.self.invariant.size;
+  bytes = c.skip_blocks.ensures.bytes ∙ c.self.invariant.bytes;
+  skips = subst (λ (slots : List Slot). AreSkipSlots slots (map (λ v. v.items) c.skip_blocks.new.skips.items)) c.slots.ensures.slots c.skip_blocks.ensures.skips;
+}
+
+pub invariant_of-self-2 : goal.invariant_of-self-2
+invariant_of-self-2 c = record {
+  before = c.skip_blocks.ensures.small;
+  count = c.self.invariant.count;
+  size = c.self.invariant.size;
+  bytes = c.skip_blocks.ensures.bytes ∙ c.self.invariant.bytes;
+  skips = subst (λ (slots : List Slot). AreSkipSlots slots (map (λ v. v.items) c.skip_blocks.new.skips.items)) c.slots.ensures.slots c.skip_blocks.ensures.skips;
+}

@@ -1,0 +1,9 @@
+use Rattle.std.proofs.Common.{◌≡◌, length}
+use Rattle.scan_decode.specs.SkipWords.{AreSkips}
+use Rattle.scan_decode.proofs.skip_word.place.Given as goal
+
+abbrev pub invariant-loop-index : goal.invariant-loop-index
+invariant-loop-index l = record {
+  size : length l.words ≡ 4096;
+  skips : AreSkips l.codes l.words;
+}

@@ -1,0 +1,9 @@
+use Rattle.std.proofs.Common.{◌≡◌, length}
+use Rattle.scan_decode.specs.SkipWords.{AreSkips}
+use Rattle.scan_decode.proofs.skip_word.single_words.Given as goal
+
+abbrev pub invariant-loop-symbol : goal.invariant-loop-symbol
+invariant-loop-symbol l = record {
+  size : length l.words.items ≡ 4096;
+  skips : AreSkips l.codes l.words.items;
+}
