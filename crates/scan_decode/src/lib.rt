@@ -5,9 +5,9 @@
 //!            start        -- next_mcu --      end
 //!
 //! What each call reads is stated by the definitions of `scan_spec`, and nothing outside the bytes is read. A reader
-//! asks for 12 KiB of memory a component with the first MCU that it skips, and needs none. It starts with the scan, or with a row of
-//! MCUs from what those before it hand over, by the definitions of `cut_spec`. Not handled here: writing (see
-//! `scan_write`).
+//! asks for 12 KiB of memory a component with the first MCU that it skips, and needs none. It starts with the scan, or
+//! with a row of MCUs from what those before it hand over, by the definitions of `cut_spec`. Not handled here: writing
+//! (see `scan_write`).
 #![tactic(auto)]
 
 mod acs;

@@ -10,7 +10,6 @@ ghost use Rattle.segment_crew.specs.Teams.{IsIdleWorker, IsNewLead, emitter_memb
 
 use crate::team::{Emitter, Shared, Worker, team_of};
 use crate::threads::lead_beside;
-use crate::worth::looks_of;
 use allocation::NoMemory;
 use bit_list::Piece;
 use box_format::FileView;
@@ -142,7 +141,6 @@ impl<'a> Crew<'a> {
             count: self.count,
             window,
             gate,
-            looks: looks_of(self.count, self.team.len()),
         };
         emit_beside(rt, &shared, &mut self.emitter, &mut self.team, sink)
     }

@@ -42,8 +42,6 @@ pub(crate) struct Shared<'s, 'a, G> {
     pub(crate) count: u8,
     pub(crate) window: Window,
     pub(crate) gate: &'s G,
-    // How often the emitter looks for a worker before it decodes a segment itself.
-    pub(crate) looks: u32,
 }
 
 impl<'s, 'a, G: Gate> Task<Shared<'s, 'a, G>> for Worker<'a> {
@@ -108,7 +106,6 @@ impl<'s, 'a, G: Gate, K: Sink> Lead<Shared<'s, 'a, G>, K> for Emitter<'a> {
             shared.gate,
             shared.first,
             shared.count,
-            shared.looks,
         )
     }
 }

@@ -9,10 +9,6 @@ use box_format::{BoxView, FileView, rows_of};
 // as many. A thread for fewer costs more processor time than the command saves by the clock.
 const WORTH_A_WORKER: u64 = 8_192;
 
-// How often the emitter looks for a worker that claims the first segment: for some milliseconds, which is longer than
-// a thread takes to start.
-const LOOKS: u32 = 25_000;
-
 /// How many workers are asked for. No more are made than there are segments.
 #[derive(Clone, Copy)]
 pub enum Workers {
@@ -65,15 +61,4 @@ fn blocks_had(scan: &BoxView) -> u64
     let plan = scan.plan();
     let (from, to) = rows_of(plan, scan.chunk());
     u64::from(plan.blocks() / plan.down()) * u64::from(to.saturating_sub(from))
-}
-
-/// How often the emitter of `count` segments looks for a worker before it decodes one itself. Workers who claim segments
-/// in turn are done as early without its help, unless one segment would be left for a last turn: then, and if there is
-/// a worker for each segment, it doesn't wait for them.
-pub(crate) fn looks_of(count: u8, workers: usize) -> u32 {
-    let count = usize::from(count);
-    if workers == 0 || workers >= count || (count - 1) % workers == 0 {
-        return 0;
-    }
-    LOOKS
 }

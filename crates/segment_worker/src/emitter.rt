@@ -19,14 +19,10 @@ use handover::{Outcome, add_sum, no_sums};
 use output_board::{Board, EmitterSeat, Take};
 use outside_core::{Gate, Sink};
 use segment_code::{FileDecoder, segment_at};
-use std::hint::spin_loop;
 use std::sync::Wait;
 
 /// The most bytes of one take from a ring.
 const MOST_TAKEN: usize = 4_096;
-
-// How many hints to the processor that the thread waits are between two looks.
-const SPINS: u32 = 20;
 
 /// Writes what the window lets through of `count` segments in order, from the container's number `first` on, the bytes
 /// of each from its ring, or decoded here if nobody has claimed it when its turn comes. It returns after the last one,
@@ -34,10 +30,6 @@ const SPINS: u32 = 20;
 ///
 /// At each moment, also while the call is under way, what was written is a prefix of what goes through of the joined
 /// segments, since the sink need take nothing else.
-///
-/// `looks` is how often, in all, the emitter looks again before it decodes a segment that nobody has claimed: a worker
-/// may be about to claim it. Between two looks it waits for a microsecond at most, and doesn't sleep, since it may be
-/// that no worker comes.
 ///
 /// The gate is called before each segment that the emitter asks for.
 pub fn emit<'a, R: Wait, K: Sink, G: Gate>(
@@ -52,7 +44,6 @@ pub fn emit<'a, R: Wait, K: Sink, G: Gate>(
     gate: &G,
     first: u8,
     count: u8,
-    looks: u32,
 ) -> Result<Emitted, EmitStop>
     requires within { first + count ≤ segment_count view.now }
     requires new { IsNewEmitter board.now (stretch view.now first count) seat.old decoder.old }
@@ -81,7 +72,6 @@ pub fn emit<'a, R: Wait, K: Sink, G: Gate>(
     let mut came = 0;
     let mut pads = no_sums();
     let mut current = 0;
-    let mut looks = looks;
     for _ in rt.forever() {
         match board.take(rt, seat, &mut buffer) {
             Take::Bytes(taken) => {
@@ -101,10 +91,6 @@ pub fn emit<'a, R: Wait, K: Sink, G: Gate>(
             Take::Ended(Outcome::Bad(fault)) => {
                 board.stop(rt, seat);
                 return Err(EmitStop::Fault(fault));
-            }
-            Take::Unclaimed if looks > 0 => {
-                looks -= 1;
-                spin();
             }
             Take::Unclaimed => {
                 let rest = window.after(came);
@@ -129,11 +115,4 @@ pub fn emit<'a, R: Wait, K: Sink, G: Gate>(
         }
     }
     unreachable!()
-}
-
-// Waits for a tenth of a microsecond to one, by the processor.
-fn spin() {
-    for _ in 0..SPINS {
-        spin_loop();
-    }
 }
