@@ -52,6 +52,17 @@ impl Block {
         }
     }
 
+    /// A copy by fields: that of the whole would be a call.
+    #[inline(always)]
+    pub(crate) fn copied(&self) -> Self
+        ensures { result ≡ self.now }
+    {
+        Block {
+            values: self.values,
+            mask: self.mask,
+        }
+    }
+
     /// The coefficient at a natural position, from 0 to 63.
     #[inline(always)]
     pub fn get(&self, position: usize) -> i16

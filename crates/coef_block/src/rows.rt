@@ -142,10 +142,11 @@ impl Rows {
         ensures { self.new ≡ stored self.old component row column block.now }
     {
         if row == 0 {
-            self.corners[component] = self.blocks[self.lowest(component, column)];
+            let lowest = self.lowest(component, column);
+            self.corners[component] = self.blocks[lowest].copied();
         }
         let index = self.index(component, row, column);
-        self.blocks[index] = *block;
+        self.blocks[index] = block.copied();
     }
 
     // The index of a component's lowest block of a block column.
