@@ -6,6 +6,7 @@ pub mod Rounds
 pub mod Machine
 pub mod Putting
 pub mod WholeBytes
+pub mod Fetching
 pub mod FullBytes
 pub mod Spanning
 pub mod Ahead

@@ -60,12 +60,17 @@ pub record IsFetched (bytes : List ℕ) (f : Fetched) : Type 0 where
   pub run : f.first ≤ place_before f.end f.stuffed (f.count / 8)
   pub units : AreUnits bytes (place_before f.end f.stuffed) f.word f.count
 
--- there are six bytes at a place, each a unit (own)
-pub record ArePlain (bytes : List ℕ) (place : ℕ) : Type 0 where
+-- a byte at a place, which is a unit (own)
+abbrev pub IsPlain : List ℕ → ℕ → ℕ → Type 0
+IsPlain bytes place byte = (slice_index_or bytes place 0 ≡ byte) × (byte ≢ 255)
+
+-- six bytes at a place, each a unit, as a number, the first one highest (own)
+pub record ArePlain (bytes : List ℕ) (place six : ℕ) : Type 0 where
   pub within : place + 6 ≤ length bytes
-  pub first : slice_index_or bytes place 0 ≢ 255
-  pub second : slice_index_or bytes (place + 1) 0 ≢ 255
-  pub third : slice_index_or bytes (place + 2) 0 ≢ 255
-  pub fourth : slice_index_or bytes (place + 3) 0 ≢ 255
-  pub fifth : slice_index_or bytes (place + 4) 0 ≢ 255
-  pub sixth : slice_index_or bytes (place + 5) 0 ≢ 255
+  pub below : six < 2 ^ 48
+  pub first : IsPlain bytes place (six / 2 ^ 40 % 256)
+  pub second : IsPlain bytes (place + 1) (six / 2 ^ 32 % 256)
+  pub third : IsPlain bytes (place + 2) (six / 2 ^ 24 % 256)
+  pub fourth : IsPlain bytes (place + 3) (six / 2 ^ 16 % 256)
+  pub fifth : IsPlain bytes (place + 4) (six / 2 ^ 8 % 256)
+  pub sixth : IsPlain bytes (place + 5) (six % 256)

@@ -121,10 +121,10 @@ fn put_whole(number: u64, count: u32, out: &mut Piece)
     out.push_first(bits, (count / 8) as usize);
 }
 
-// Whether a byte of a number of eight may be 0xff: if not, none is. A byte of 0xff is a zero of the complement, and the
-// lowest zero becomes 0xff if one is taken from each byte, since nothing is borrowed below it.
+/// Whether a byte of a number of eight may be 0xff: if not, none is. A byte of 0xff is a zero of the complement, and the
+/// lowest zero becomes 0xff if one is subtracted from each byte, since nothing is borrowed below it.
 #[inline(always)]
-fn may_have_full_byte(eight: u64) -> bool
+pub(crate) fn may_have_full_byte(eight: u64) -> bool
     ensures { result ≡ false → AllByRecursion (λ byte. byte ≢ 255) (bytes_high_first 8 eight) }
 {
     (!eight).wrapping_sub(LOWEST) & eight & HIGHEST != 0

@@ -1,10 +1,11 @@
 // Bits that are fetched ahead, several units at once.
-ghost use Rattle.std.specs.Prelude.{◌≡◌, ◌+◌, ◌-◌, ◌^◌, ◌<◌, ◌≤◌, ◌≢◌, Ok, Err, length, slice_index_or, IfOk, IfErr, IsTrue};
+ghost use Rattle.std.specs.Prelude.{◌≡◌, ◌+◌, ◌-◌, ◌^◌, ◌<◌, ◌≤◌, ◌≢◌, Ok, Err, length, slice_index_or, IfSome, IfOk, IfErr};
 ghost use Rattle.bit_list.specs.Bits.{low_bits};
 ghost use Rattle.bit_list.specs.Units.{unit_at, bits_at};
 ghost use Rattle.bit_list.specs.BitsInside.{cursor_of, cursor_of_fetched, place_before, ArePlain, IsFetched, IsWindow};
 ghost use Rattle.bit_list.specs.Peeked.{peeked};
 
+use crate::bit_buffer::may_have_full_byte;
 use crate::fault::BitFault;
 use crate::window::{Window, fill, first_bits, split, unit};
 
@@ -122,38 +123,46 @@ fn fetch_plain(bytes: &[u8], at: &mut Fetched)
     fetch(bytes, at, bytes[place], place + 1);
 }
 
-// Whether there are six bytes at a place, and none is 0xff.
+// The six bytes at a place as a number, the first one highest, if two more follow and none of the six is 0xff. Eight are
+// loaded at once.
 #[inline(always)]
-fn are_plain(bytes: &[u8], place: usize) -> bool
-    ensures { IsTrue result → ArePlain bytes.now place }
+fn plain_six(bytes: &[u8], place: usize) -> Option<u64>
+    ensures { IfSome result (ArePlain bytes.now place) }
 {
-    if place >= bytes.len() || bytes.len() - place < 6 {
-        return false;
+    if place >= bytes.len() || bytes.len() - place < 8 {
+        return None;
     }
-    bytes[place] != 0xff
-        && bytes[place + 1] != 0xff
-        && bytes[place + 2] != 0xff
-        && bytes[place + 3] != 0xff
-        && bytes[place + 4] != 0xff
-        && bytes[place + 5] != 0xff
+    let six = u64::from_be_bytes([
+        bytes[place],
+        bytes[place + 1],
+        bytes[place + 2],
+        bytes[place + 3],
+        bytes[place + 4],
+        bytes[place + 5],
+        bytes[place + 6],
+        bytes[place + 7],
+    ]) >> 16;
+    if may_have_full_byte(six) {
+        return None;
+    }
+    Some(six)
 }
 
 // Fetches six units more, which are one byte each.
 #[inline(always)]
-fn fetch_six(bytes: &[u8], at: &mut Fetched)
+fn fetch_six(bytes: &[u8], at: &mut Fetched, six: u64)
     requires kept { IsFetched bytes.now at.old }
     requires fresh { at.old.skip ≡ 0 }
     requires room { at.old.count ≤ 15 }
-    requires plain { ArePlain bytes.now at.old.end }
+    requires plain { ArePlain bytes.now at.old.end six }
     ensures cursor { cursor_of_fetched at.new ≡ cursor_of_fetched at.old }
     ensures kept { IsFetched bytes.now at.new }
 {
-    fetch_plain(bytes, at);
-    fetch_plain(bytes, at);
-    fetch_plain(bytes, at);
-    fetch_plain(bytes, at);
-    fetch_plain(bytes, at);
-    fetch_plain(bytes, at);
+    let _ = bytes;
+    at.word = (at.word << 48) + six;
+    at.count += 48;
+    at.stuffed <<= 6;
+    at.end += 6;
 }
 
 /// A copy without the padding, which in a copy of the whole takes room of its own.
@@ -180,9 +189,11 @@ pub(crate) fn refill(bytes: &[u8], at: &mut Fetched)
     ensures cursor { cursor_of_fetched at.new ≡ cursor_of_fetched at.old }
     ensures kept { IsFetched bytes.now at.new }
 {
-    if at.skip == 0 && are_plain(bytes, at.end) {
-        fetch_six(bytes, at);
-        return;
+    if at.skip == 0 {
+        if let Some(six) = plain_six(bytes, at.end) {
+            fetch_six(bytes, at, six);
+            return;
+        }
     }
     refill_apart(bytes, at);
 }
@@ -223,10 +234,15 @@ fn fetch_up_to(bytes: &[u8], at: &mut Fetched)
     ensures kept { IsFetched bytes.now at.new }
 {
     while at.count <= 55 {
-        let Ok((byte, next)) = unit(bytes, at.end) else {
-            return;
-        };
-        fetch(bytes, at, byte, next);
+        let place = at.end;
+        if place < bytes.len() && bytes[place] != 0xff {
+            fetch_plain(bytes, at);
+        } else {
+            let Ok((byte, next)) = unit(bytes, place) else {
+                return;
+            };
+            fetch(bytes, at, byte, next);
+        }
     }
 }
 
