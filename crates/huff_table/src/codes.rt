@@ -148,7 +148,10 @@ impl Codes {
                 return Ok(value);
             }
         }
-        self.without_nine(input)
+        if let Some(value) = self.by_sixteen_bits(input) {
+            return Ok(value);
+        }
+        self.by_bits_apart(input)
     }
 
     /// Reads the next code word by the next sixteen bits, and answers its value. Where it answers none, nothing is
@@ -209,9 +212,9 @@ impl Codes {
         self.table.values().get(place as usize).copied()
     }
 
-    // `without_nine_of`, so placed that the room for its answer is cleared only if it is called, and not for each word.
+    // `by_bits_of`, so placed that the room for its answer is cleared only if it is called, and not for each word.
     #[inline(always)]
-    fn without_nine(&self, input: &mut BitIn) -> Result<u8, CodeFault>
+    fn by_bits_apart(&self, input: &mut BitIn) -> Result<u8, CodeFault>
         ensures ok { IfOk result
             (λ value. value_at self.now input.old.bytes input.old.cursor
             ≡ Ok (value, input.new.cursor)) }
@@ -223,16 +226,15 @@ impl Codes {
         ensures bytes { input.new.bytes ≡ input.old.bytes }
         ensures kept { IsTable self.now }
     {
-        let (result, left) = self.without_nine_of(input.copied());
+        let (result, left) = self.by_bits_of(input.copied());
         *input = left.copied();
         result
     }
 
-    // Reads a code word that nine bits don't tell. The input is by value, so that no address of a local one is passed
-    // on.
+    // `by_bits` for an input by value, so that no address of a local one is passed on.
     #[cold]
     #[inline(never)]
-    fn without_nine_of<'a>(&self, input: BitIn<'a>) -> (Result<u8, CodeFault>, BitIn<'a>)
+    fn by_bits_of<'a>(&self, input: BitIn<'a>) -> (Result<u8, CodeFault>, BitIn<'a>)
         ensures ok { IfOk result.0
             (λ value. value_at self.now input.entry.bytes input.entry.cursor
             ≡ Ok (value, result.1.cursor)) }
@@ -245,9 +247,6 @@ impl Codes {
         ensures kept { IsTable self.now }
     {
         let mut left = input;
-        if let Some(value) = self.by_sixteen_bits(&mut left) {
-            return (Ok(value), left);
-        }
         let result = self.by_bits(&mut left);
         (result, left)
     }
