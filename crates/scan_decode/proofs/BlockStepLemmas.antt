@@ -180,7 +180,7 @@ no_value whole table bytes block index loose cursor to value zeros size refusal 
     ∙ ap (λ (r : Result (ℤ × Cursor) ScanRefusal). prefixed_values g.prefix (and_then r (λ y. prefixed_values (replicate zeros (pos 0) ++ y.0 ∷ []) (acs_at s.more table (64 - index - (zeros + 1)) false bytes y.1)))) (sym there)
 
 -- a number that has bits isn't 0
-some_bits : (n : ℕ) → 0 < category n → 0 < n
+pub some_bits : (n : ℕ) → 0 < category n → 0 < n
 some_bits zero some = some
 some_bits (suc n) some = omega arith
 
@@ -200,7 +200,7 @@ value_some zeros size left value loose v bytes cursor to is there =
     let bits : category (unsigned_abs v) ≡ size = ap (λ (z : ℤ). category (unsigned_abs z)) read.3 ∙ sized read.0 ∙ read.1 in
     some_bits (unsigned_abs v) (omega (arith, bits, m.1))
 
-later : (place : ℕ) → 0 < place → limit place ≡ 1023
+pub later : (place : ℕ) → 0 < place → limit place ≡ 1023
 later place some = let test : (place == 0) ≡ false = grind (arith, nat_tests) in ap (λ (t : Bool). if t then 32767 else 1023) test
 
 -- as the machine keeps it

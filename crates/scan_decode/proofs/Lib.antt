@@ -7,4 +7,6 @@ pub mod BytesBegun
 pub mod Standings
 pub mod IntervalEnds
 pub mod DcThenAcs
+pub mod WordLists
 pub mod SkipReading
+pub mod TenBits

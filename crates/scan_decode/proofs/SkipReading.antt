@@ -1,9 +1,7 @@
 -- What twelve bits of a block go past: one symbol, two of them, and the bits that are looked at; and what a value goes past.
-use Rattle.std.proofs.Common.{◌≡◌, ℕ, ◌+◌, ◌-◌, ◌*◌, ◌%◌, ◌^◌, ◌<◌, ◌≤◌, Bool, true, false, if◌then◌else◌, List, [], ◌++◌, length, take, drop, map, set, get_or, ℤ, Some, Result, Ok, Err, refl, sym, ap, ◌∙◌, subst, arith, inl, inr, rules, take_at, take_all, take-take, length-set, get_or-set_same, get_or-set_other, mul-le-mul_right, suc-mul, suc, pow-add, replicate, ◌∷◌}
+use Rattle.std.proofs.Common.{◌≡◌, ℕ, ◌+◌, ◌-◌, ◌*◌, ◌%◌, ◌^◌, ◌<◌, ◌≤◌, Bool, true, false, if◌then◌else◌, List, [], ◌++◌, length, take, drop, set, get_or, ℤ, Some, Result, Ok, Err, refl, sym, ap, ◌∙◌, subst, arith, inl, inr, rules, take_at, take_all, take-take, mul-le-mul_right, suc-mul, suc, pow-add, replicate}
 use Rattle.std.proofs.lemmas.Bool.{cases_lt}
-use Rattle.std.proofs.lemmas.List.{drop-take, drop_at, get_or-map, get_or-replicate, get_or_append_left, get_or_past, get_or_push, get_or_read, length-map, length-replicate, length_push}
-use Rattle.std.proofs.lemmas.List.Elements.{All-map}
-use Rattle.std.specs.List.{All}
+use Rattle.std.proofs.lemmas.List.{drop-take, drop_at}
 use Rattle.bit_list.specs.Bits.{low_bits}
 use Rattle.bit_list.specs.NumbersOfBits.{length-low_bits}
 use Rattle.bit_list.specs.Units.{Cursor, bits_at, and_then}
@@ -12,24 +10,21 @@ use Rattle.bit_list.proofs.Cursors.{in_parts}
 use Rattle.bit_list.proofs.LowBits.{low_bits-join, low_bits-same, drop-low_bits}
 use Rattle.coef_block.specs.Zigzag.{zigzag}
 use Rattle.huff_table.specs.CodeWords.{word_of}
-use Rattle.huff_table.specs.ComponentTables.{no_codes}
-use Rattle.huff_table.specs.declared.plan_codes.ComponentCodes.{ComponentCodes}
 use Rattle.jpeg_marker.specs.HuffmanTables.{TableFields, IsTable}
 use Rattle.scan_spec.specs.ScanReading.{symbol_at, extended_at, refused_as, acs_at}
 use Rattle.scan_spec.specs.ScanReading as reading
 use Rattle.scan_spec.specs.ScanSymbols.{Value, bits_refusal, symbol_of}
-use Rattle.scan_spec.specs.ShapeInside.{slot_in}
 use Rattle.scan_spec.specs.ValueBits.{extend}
-use Rattle.scan_spec.specs.declared.slot.Slot.{Slot}
 use Rattle.scan_spec.specs.declared.refusal.ScanRefusal.{ScanRefusal}
 use Rattle.scan_spec.proofs.AcsAgain.{symbol_read, kind_value}
 use Rattle.scan_spec.proofs.BitsTaken.{takes_of}
 use Rattle.scan_decode.specs.BlockSteps.{Going}
-use Rattle.scan_decode.specs.SkipWords.{GoesOn, IsSkipped, blank, index_after, Skips, AreSkips, AreSkipSlots}
+use Rattle.scan_decode.specs.SkipWords.{GoesOn, IsSkipped, blank, index_after, Skips, AreSkips}
 use Rattle.scan_decode.specs.declared.skip_word.SkipWord.{SkipWord}
+use Rattle.scan_decode.proofs.WordLists.{set_word, one_word}
 use Rattle.scan_decode.proofs.BlockStepLemmas.{value_comes, end_comes, none_left}
 
-abbrev Bits : Type 0
+abbrev pub Bits : Type 0
 Bits = Result (List Bool × Cursor) BitFault
 
 abbrev there : List Bool × Cursor → Bits
@@ -49,17 +44,17 @@ first_there (Ok a) f x e = (a, refl, e)
 first_there (Err fault) f x e = absurd (not_both fault x e)
 
 -- bits that are read, in two parts
-record InParts (m n : ℕ) (bytes : List ℕ) (from to : Cursor) (taken : List Bool) : Type 0 where
-  front : List Bool
-  back : List Bool
-  mid : Cursor
-  first : bits_at m bytes from ≡ Ok (front, mid)
-  second : bits_at n bytes mid ≡ Ok (back, to)
-  whole : taken ≡ front ++ back
-  front_long : length front ≡ m
-  back_long : length back ≡ n
+pub record InParts (m n : ℕ) (bytes : List ℕ) (from to : Cursor) (taken : List Bool) : Type 0 where
+  pub front : List Bool
+  pub back : List Bool
+  pub mid : Cursor
+  pub first : bits_at m bytes from ≡ Ok (front, mid)
+  pub second : bits_at n bytes mid ≡ Ok (back, to)
+  pub whole : taken ≡ front ++ back
+  pub front_long : length front ≡ m
+  pub back_long : length back ≡ n
 
-parts_of : (m n : ℕ) (bytes : List ℕ) (from to : Cursor) (taken : List Bool) → bits_at (m + n) bytes from ≡ Ok (taken, to) → InParts m n bytes from to taken
+pub parts_of : (m n : ℕ) (bytes : List ℕ) (from to : Cursor) (taken : List Bool) → bits_at (m + n) bytes from ≡ Ok (taken, to) → InParts m n bytes from to taken
 parts_of m n bytes from to taken e =
     let a = first_there (bits_at m bytes from) (λ prefix. and_then (bits_at n bytes prefix.1) (λ more. Ok (prefix.0 ++ more.0, more.1))) (taken, to) (sym (in_parts m n bytes from) ∙ e) in
     let b = first_there (bits_at n bytes a.0.1) (λ more. Ok (a.0.0 ++ more.0, more.1)) (taken, to) a.2 in
@@ -222,25 +217,11 @@ within_all code size count few is below =
 
 -- one word more in place of another
 pub set_skips : (table : TableFields) (words : List SkipWord) (index : ℕ) (word : SkipWord) → AreSkips table words → Skips table (low_bits 12 index) word → AreSkips table (set words index word)
-set_skips table words index word are is = λ k below.
-    let long = length-set words index word in
-    let within : k < length words = omega (arith, long, below) in
-    elim (cases_lt k index) [
-      | inl before ↦ subst (λ (w : SkipWord). Skips table (low_bits 12 k) w) (sym (get_or-set_other words index k word blank (λ e. omega (arith, before, e)))) (are k within)
-      | inr from ↦ elim (cases_lt index k) [
-        | inl after ↦ subst (λ (w : SkipWord). Skips table (low_bits 12 k) w) (sym (get_or-set_other words index k word blank (λ e. omega (arith, after, e)))) (are k within)
-        | inr upto ↦
-            let same : index ≡ k = omega (arith, from, upto) in
-            subst (λ (n : ℕ). Skips table (low_bits 12 n) (get_or (set words index word) n blank)) same
-            (subst (λ (w : SkipWord). Skips table (low_bits 12 index) w) (sym (get_or-set_same words index word blank (omega (arith, same, within)))) is)
-      ]
-    ]
+set_skips table words index word are is = set_word (λ k w. Skips table (low_bits 12 k) w) blank words index word are is
 
 -- no words
 pub no_skips : (table : TableFields) (n : ℕ) → AreSkips table (replicate n no_skip)
-no_skips table n = λ k below.
-    let long = length-replicate n no_skip in
-    subst (λ (w : SkipWord). Skips table (low_bits 12 k) w) (sym (get_or-replicate n k no_skip blank (omega (arith, long, below)))) (skips_nothing table (low_bits 12 k))
+no_skips table n = one_word (λ k w. Skips table (low_bits 12 k) w) blank n no_skip (λ k. skips_nothing table (low_bits 12 k))
 
 -- what the word of twelve bits goes past
 pub word_skips : (table : TableFields) (words : List SkipWord) (bytes : List ℕ) (from mid to : Cursor) (seen number index : ℕ) → AreSkips table words → seen < length words → bits_at 12 bytes from ≡ Ok (low_bits 12 seen, mid)
@@ -260,46 +241,3 @@ none_loose whole table bytes index loose cursor past gone =
     let same : acs_at g.symbols table (64 - index) loose bytes cursor ≡ acs_at g.symbols table (64 - index) false bytes cursor =
     ap (λ (k : ℕ). acs_at g.symbols table k loose bytes cursor) none ∙ none_left loose table bytes cursor g.symbols ∙ sym (ap (λ (k : ℕ). acs_at g.symbols table k false bytes cursor) none ∙ none_left false table bytes cursor g.symbols) in
     (gone.0, tt, record { prefix = g.prefix; symbols = g.symbols; enough = g.enough; long = g.long; count = g.count; kept = g.kept; rest = g.rest ∙ ap (reading.prefixed_values g.prefix) same })
-
--- the word list of a slot's component
-pub word_of_slot : (codes : List ComponentCodes) (slots : List ℕ) (words : List (List SkipWord)) (i component : ℕ) (tables : ComponentCodes) → AreSkipSlots (map (slot_in codes) slots) words → i < length slots
-    → component ≡ get_or slots i 0 → component < length codes → tables ≡ get_or codes component tables → AreSkips tables.ac (get_or words component [])
-word_of_slot codes slots words i component tables all below is within kept =
-    let d = slot_in codes 0 in
-    let e : get_or (map (slot_in codes) slots) i d ≡ slot_in codes component = get_or-map (slot_in codes) slots i 0 d below ∙ ap (slot_in codes) (sym is) in
-    let long : length (map (slot_in codes) slots) ≡ length slots = length-map slots (slot_in codes) in
-    let at = all i d (omega (arith, long, below)) in
-    subst (λ (t : ComponentCodes). AreSkips t.ac (get_or words component [])) (sym (get_or_read codes component tables within kept no_codes))
-    (subst (λ (s : Slot). AreSkips s.codes.ac (get_or words s.component [])) e at)
-
--- words for the components, as far as there are any
-abbrev pub AreSkipCodes : List ComponentCodes → List (List SkipWord) → Type 0
-AreSkipCodes codes words =
-    (component : ℕ) → component < length codes
-    → AreSkips (get_or codes component no_codes).ac (get_or words component [])
-
-no_words : (table : TableFields) → AreSkips table []
-no_words table = λ k below. absurd (omega (arith, below))
-
--- none, where there is no list
-pub none_kept : (codes : List ComponentCodes) → AreSkipCodes codes []
-none_kept codes = λ k below. no_words (get_or codes k no_codes).ac
-
--- those of one component more
-pub one_kept : (codes : List ComponentCodes) (lists : List (List SkipWord)) (words : List SkipWord) → AreSkipCodes codes lists → AreSkips (get_or codes (length lists) no_codes).ac words → AreSkipCodes codes (lists ++ words ∷ [])
-one_kept codes lists words are is = λ k below.
-    let P : ℕ → List SkipWord → Type 0 = λ n w. AreSkips (get_or codes n no_codes).ac w in
-    elim (cases_lt k (length lists)) [
-      | inl before ↦ subst (P k) (sym (get_or_append_left lists (words ∷ []) [] k before)) (are k below)
-      | inr from ↦ elim (cases_lt (length lists) k) [
-        | inl past ↦ subst (P k) (sym (get_or_past (lists ++ words ∷ []) k [] (let long = length_push lists words in omega (arith, long, past)))) (no_words (get_or codes k no_codes).ac)
-        | inr upto ↦
-            let same : length lists ≡ k = omega (arith, from, upto) in
-            subst (P k) (sym (get_or_push lists words [] k same)) (subst (λ (n : ℕ). P n words) same is)
-      ]
-    ]
-
--- those of all slots, by those of all components
-pub skips_of_slots : (codes : List ComponentCodes) (slots : List ℕ) (words : List (List SkipWord)) → AreSkipCodes codes words → All (λ slot. slot < length codes) slots → AreSkipSlots (map (slot_in codes) slots) words
-skips_of_slots codes slots words are within =
-    All-map (λ (slot : Slot). AreSkips slot.codes.ac (get_or words slot.component [])) (slot_in codes) slots (λ i d below. are (get_or slots i d) (within i d below))

@@ -3,6 +3,7 @@ use Rattle.std.specs.Prelude.{◌≡◌, ◌^◌, ◌<◌, ◌≤◌, map}
 use Rattle.std.specs.List.{All}
 use Rattle.coef_block.specs.Block.{IsDc}
 use Rattle.scan_spec.specs.ScanCalls.{ScanReader}
+use Rattle.scan_decode.specs.ReadWords.{AreReadSlots}
 use Rattle.scan_decode.specs.SkipWords.{AreSkipSlots}
 use Rattle.scan_decode.specs.declared.reader.Reader.TheInside.{Inside}
 
@@ -16,10 +17,11 @@ reader_of r = record {
 }
 
 -- the last DCs are some that blocks can have, no more MCUs were read than there are, the bits are those of the bytes,
--- and what twelve bits skip is by the tables of the scan
+-- and what ten bits read and twelve bits skip is by the tables of the scan
 pub record IsReader (r : Inside) : Type 0 where
   pub before : All IsDc r.before
   pub count : r.count ≤ r.shape.mcus
   pub size : r.shape.mcus < 2 ^ 32
   pub bytes : r.input.bytes ≡ r.bytes.now
   pub skips : AreSkipSlots r.shape.slots (map (λ v. v.items) r.skips.items)
+  pub reads : AreReadSlots r.shape.slots (map (λ v. v.items) r.reads.items)

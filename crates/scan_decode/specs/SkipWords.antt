@@ -34,8 +34,8 @@ IsRefused table bytes index from refusal =
 abbrev pub index_after : ℕ → SkipWord → ℕ
 index_after index word = if word.ends then 64 else index + word.coefficients
 
--- If the next bits are those of a word, as far as these twelve go, and the block has room for its coefficients, reading
--- them reads that many, or all that are left; not after sixteen zeros.
+-- If the next bits are those of a word, as far as these twelve go, and the block has room for its coefficients,
+-- reading them reads that many, or all that are left; not after sixteen zeros.
 pub record Skips (table : TableFields) (twelve : List Bool) (word : SkipWord) : Type 0 where
   pub few : word.bits ≤ 16
   pub some : 0 < word.coefficients

@@ -1,13 +1,15 @@
 // The AC coefficients of a block.
-ghost use Rattle.std.specs.Prelude.{◌≡◌, ◌≤◌, ◌<◌, ◌-◌, List, ℤ, ◌∷◌, [], true, false, length, replicate, pos, Result, Err, IfOk, IfErr};
+ghost use Rattle.std.specs.Prelude.{◌≡◌, ◌≤◌, ◌<◌, ◌-◌, List, ℤ, ◌∷◌, [], true, false, length, replicate, pos, Result, Err, IfOk, IfErr, IfSome, IfNone};
 ghost use Rattle.bit_list.specs.Units.{Cursor};
 ghost use Rattle.scan_spec.specs.BlockBits.{coefficient_at, ac_values, in_zigzag};
 ghost use Rattle.scan_spec.specs.ScanReading.{prefixed_values, acs_at};
 ghost use Rattle.scan_spec.specs.ScanSymbols.{symbol_of};
 ghost use Rattle.scan_decode.specs.ReadResults.{values_at_cursor};
+ghost use Rattle.scan_decode.specs.ReadWords.{AreReads};
 ghost use Rattle.scan_decode.specs.BlockSteps.{IsGoing, step_symbol};
 ghost use Rattle.scan_spec.specs.declared.refusal.ScanRefusal.{ScanRefusal as Refusal};
 
+use crate::read_word::{BITS, END, ReadWord};
 use crate::target::Target;
 use crate::values::{extended, symbol};
 use bit_list::BitIn;
@@ -118,7 +120,13 @@ pub(crate) fn go_on<T: Target>(
 
 /// The AC coefficients of a block that has none yet (ITU-T T.81, F.2.2.2).
 #[inline(always)]
-pub(crate) fn acs(codes: &Codes, input: &mut BitIn, out: &mut Block) -> Result<(), ScanRefusal>
+pub(crate) fn acs(
+    words: &[ReadWord],
+    codes: &Codes,
+    input: &mut BitIn,
+    out: &mut Block,
+) -> Result<(), ScanRefusal>
+    requires words { AreReads codes.now words.now }
     requires long { length out.old ≡ 64 }
     requires zeros { ac_values out.old ≡ replicate 63 (pos 0) }
     ensures is { values_at_cursor result (in_zigzag out.new) input.new.cursor
@@ -131,7 +139,94 @@ pub(crate) fn acs(codes: &Codes, input: &mut BitIn, out: &mut Block) -> Result<(
         loose: false,
     };
     while at.index < 64 {
-        at = go_on(codes, input, out, at)?;
+        at = next_symbol(words, codes, input, out, at)?;
     }
     Ok(())
+}
+
+// Reads the next symbol and its value: by ten bits, or else one after the other.
+#[inline(always)]
+fn next_symbol(
+    words: &[ReadWord],
+    codes: &Codes,
+    input: &mut BitIn,
+    out: &mut Block,
+    at: At,
+) -> Result<At, ScanRefusal>
+    requires words { AreReads codes.now words.now }
+    requires some { 0 < at.index }
+    requires left { at.index < 64 }
+    ensures ok { IfOk result
+        (λ next. (whole : Result (List ℤ × Cursor) Refusal)
+        → IsGoing (λ block. out.old ≡ block) whole codes.now input.old.bytes at.index at.loose
+        input.old.cursor
+        → IsGoing (λ block. out.new ≡ block) whole codes.now input.old.bytes next.index next.loose
+        input.new.cursor) }
+    ensures some { IfOk result (λ next. (0 < next.index) × (next.index ≤ 64)) }
+    ensures more { IfOk result (λ next. at.index < next.index) }
+    ensures err { IfErr result
+        (λ refusal. (whole : Result (List ℤ × Cursor) Refusal)
+        → IsGoing (λ block. out.old ≡ block) whole codes.now input.old.bytes at.index at.loose
+        input.old.cursor
+        → whole ≡ Err refusal) }
+    ensures bytes { input.new.bytes ≡ input.old.bytes }
+{
+    if let Some(index) = by_ten_bits(words, codes, input, out, at) {
+        return Ok(At {
+            index,
+            loose: false,
+        });
+    }
+    go_on(codes, input, out, at)
+}
+
+// Reads what the next ten bits begin with, if a word has it and its bits are there. Answers the next zigzag index.
+#[inline(always)]
+fn by_ten_bits(
+    words: &[ReadWord],
+    codes: &Codes,
+    input: &mut BitIn,
+    out: &mut Block,
+    at: At,
+) -> Option<usize>
+    requires words { AreReads codes.now words.now }
+    requires some { 0 < at.index }
+    requires left { at.index < 64 }
+    ensures is { IfSome result
+        (λ next. (whole : Result (List ℤ × Cursor) Refusal)
+        → IsGoing (λ block. out.old ≡ block) whole codes.now input.old.bytes at.index at.loose
+        input.old.cursor
+        → IsGoing (λ block. out.new ≡ block) whole codes.now input.old.bytes next false
+        input.new.cursor) }
+    ensures some { IfSome result (λ next. (at.index < next) × (next ≤ 64)) }
+    ensures none { IfNone result ((input.new ≡ input.old) × (out.new ≡ out.old)) }
+    ensures bytes { input.new.bytes ≡ input.old.bytes }
+{
+    let _ = codes;
+    input.ready();
+    let seen = match input.copied().take(BITS) {
+        Ok(seen) => usize::from(seen),
+        Err(_) => return None,
+    };
+    if seen >= words.len() {
+        return None;
+    }
+    let word = words[seen];
+    let index = at.index + usize::from(word.zeros);
+    if index > 63 {
+        if word.zeros != END || at.loose {
+            return None;
+        }
+        return match input.take(word.bits) {
+            Ok(_) => Some(64),
+            Err(_) => None,
+        };
+    }
+    match input.take(word.bits) {
+        Ok(_) => {
+            out.put_in_zigzag(index, word.value);
+            Some(index + 1)
+        }
+        Err(_) => None,
+    }
 }

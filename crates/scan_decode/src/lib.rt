@@ -5,8 +5,9 @@
 //!            start        -- next_mcu --      end
 //!
 //! What each call reads is stated by the definitions of `scan_spec`, and nothing outside the bytes is read. A reader
-//! asks for 12 KiB of memory a component with the first MCU that it skips, and needs none. It starts with the scan, or
-//! with a row of MCUs from what those before it hand over, by the definitions of `cut_spec`. Not handled here: writing
+//! asks for 4 KiB of memory a component with the first MCU that it reads, and for 12 KiB with the first that it skips,
+//! and needs neither. It starts with the scan, or with a row of MCUs from what those before it hand over, by the
+//! definitions of `cut_spec`. Not handled here: writing
 //! (see `scan_write`).
 #![tactic(auto)]
 
@@ -16,6 +17,7 @@ mod blocks;
 mod byte_begun;
 mod dc;
 mod pads;
+mod read_word;
 mod reader;
 mod refusals;
 mod skip;
@@ -23,5 +25,6 @@ mod skip_symbols;
 mod skip_word;
 mod target;
 mod values;
+mod word_lists;
 
 pub use reader::Reader;

@@ -15,6 +15,7 @@ ghost use Rattle.scan_decode.specs.ReadResults.{after_blocks, mcu_read, standing
 use crate::blocks::blocks;
 use crate::byte_begun::{after_bits, byte_begun};
 use crate::pads::{pads, restart};
+use crate::read_word::ReadWord;
 use crate::skip::skip_blocks;
 use crate::skip_word::SkipWord;
 use bit_list::BitIn;
@@ -27,7 +28,7 @@ use std::alloc::Global;
 use std::marker::Model;
 
 /// A scan that is read MCU by MCU (ITU-T T.81, F.2.2). It keeps the first refusal. It asks for memory with the first
-/// MCU that it skips, and needs none.
+/// MCU that it reads and with the first that it skips, and needs none.
 ///
 /// Clauses see the scan's shape, its bytes, where the reader is, and its refusal.
 #[derive(Drop)]
@@ -44,6 +45,8 @@ pub struct Reader<'a> {
     stop: Option<ScanRefusal>,
     // What twelve bits skip of each component, made for the first MCU that is skipped.
     skips: Vec<Vec<SkipWord>>,
+    // What ten bits read of each component, made for the first MCU that is read.
+    reads: Vec<Vec<ReadWord>>,
 }
 
 impl<'a> Model for Reader<'a> {
@@ -78,6 +81,7 @@ impl<'a> Reader<'a> {
             pad: None,
             stop: None,
             skips: Vec::new(alloc),
+            reads: Vec::new(alloc),
         }
     }
 
@@ -108,6 +112,7 @@ impl<'a> Reader<'a> {
             pad: None,
             stop: None,
             skips: Vec::new(alloc),
+            reads: Vec::new(alloc),
         }
     }
 
@@ -218,7 +223,14 @@ impl<'a> Reader<'a> {
         ensures stays { OnErr result (self.new.at ≡ stopped_at self.old.at self.new.at) }
     {
         let (codes, slots) = self.shape.slots();
-        blocks(codes, slots, &mut self.before, &mut self.input, out)?;
+        blocks(
+            &mut self.reads,
+            codes,
+            slots,
+            &mut self.before,
+            &mut self.input,
+            out,
+        )?;
         self.end_mcu()
     }
 

@@ -12,6 +12,7 @@ ghost use Rattle.scan_decode.specs.ReadResults.{coded_at, values_at_cursor};
 use crate::dc::dc;
 use crate::skip_symbols::by_symbols_apart;
 use crate::skip_word::{BITS, SkipWord, skip_words};
+use crate::word_lists::words_of;
 use allocation::push;
 use bit_list::BitIn;
 use huff_table::{Codes, ComponentCodes};
@@ -123,17 +124,6 @@ fn skip_blocks_of(
         )?;
     }
     Ok(())
-}
-
-// The words of a component: none if they were out of memory.
-#[inline(always)]
-fn words_of(skips: &[Vec<SkipWord>], component: usize) -> &[SkipWord]
-    ensures { result.now ≡ get_or (map (λ v. v.items) skips.now) component [] }
-{
-    match skips.get(component) {
-        Some(words) => words.as_slice(),
-        None => &[],
-    }
 }
 
 // A block after one with the DC before. Answers its DC.

@@ -15,7 +15,7 @@ pub(crate) const BITS: u8 = 12;
 // How many numbers they may be.
 const SIZE: usize = 4_096;
 
-/// One code word or two that twelve bits begin with: how many bits they have with those of their values, at most 16,
+/// One to three code words that twelve bits begin with: how many bits they have with those of their values, at most 16,
 /// and how many coefficients they give; the end of a block counts as one.
 #[derive(Clone, Copy)]
 pub(crate) struct SkipWord {
@@ -38,7 +38,7 @@ pub(crate) fn skip_words(alloc: Global, codes: &Codes) -> Result<Vec<SkipWord>, 
     let singles = single_words(alloc, codes)?;
     let mut words = from_elem(alloc, NO_SKIP, SIZE)?;
     for index in 0..SIZE {
-        words[index] = longer(codes, singles.as_slice(), index);
+        words[index] = longest(codes, singles.as_slice(), index);
     }
     Ok(words)
 }
@@ -85,15 +85,26 @@ fn numbers_after(size: u8) -> usize
     1 << (BITS - size)
 }
 
-// A word, and the one after it if twelve bits hold both.
-fn longer(codes: &Codes, singles: &[SkipWord], index: usize) -> SkipWord
+// The word of up to three code words that twelve bits begin with.
+fn longest(codes: &Codes, singles: &[SkipWord], index: usize) -> SkipWord
     requires size { length singles.now ≡ 4096 }
     requires skips { AreSkips codes.now singles.now }
     requires index { index < 4096 }
     ensures { Skips codes.now (low_bits 12 index) result }
 {
+    let pair = longer(codes, singles[index], singles, index);
+    longer(codes, pair, singles, index)
+}
+
+// A word, and the single one after it if twelve bits hold both.
+fn longer(codes: &Codes, word: SkipWord, singles: &[SkipWord], index: usize) -> SkipWord
+    requires size { length singles.now ≡ 4096 }
+    requires skips { AreSkips codes.now singles.now }
+    requires index { index < 4096 }
+    requires word { Skips codes.now (low_bits 12 index) word }
+    ensures { Skips codes.now (low_bits 12 index) result }
+{
     let _ = codes;
-    let word = singles[index];
     if word.ends || word.bits == 0 || word.bits >= BITS {
         return word;
     }

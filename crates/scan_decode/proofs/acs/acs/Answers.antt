@@ -39,6 +39,6 @@ loop-at-preserved c =
     record {
       some = c.in_ok-at.ensures.some.0;
       within = c.in_ok-at.ensures.some.1;
-      bytes = c.go_on.ensures.bytes ∙ i.bytes;
-      going = subst (λ (bytes : List ℕ). IsGoing (λ block. c.go_on.new.out ≡ block) whole codes bytes c.in_ok-at.at.index c.in_ok-at.at.loose c.go_on.new.input.cursor) i.bytes (c.in_ok-at.ensures.ok whole going);
+      bytes = c.next_symbol.ensures.bytes ∙ i.bytes;
+      going = subst (λ (bytes : List ℕ). IsGoing (λ block. c.next_symbol.new.out ≡ block) whole codes bytes c.in_ok-at.at.index c.in_ok-at.at.loose c.next_symbol.new.input.cursor) i.bytes (c.in_ok-at.ensures.ok whole going);
     }

@@ -10,7 +10,18 @@ use Rattle.scan_spec.proofs.SignedValues.{kept_half}
 use Rattle.scan_spec.specs.ShapeInside.{slot_in}
 use Rattle.scan_decode.specs.McuBlocks.{after_prefix}
 use Rattle.scan_decode.proofs.McuReading.{block_refused, block_more, no_more, at_slot, after_slot}
+use Rattle.scan_decode.specs.ReadWords.{AreReads}
+use Rattle.scan_decode.proofs.WordLists.{list_of_slot}
 use Rattle.scan_decode.proofs.blocks.blocks_of.Goals as goal
+
+pub block-requires-clause-words : goal.block-requires-clause-words
+block-requires-clause-words c =
+    let codes = c.args.codes.now in
+    let slots = c.args.slots.now in
+    let component = c.from-component.result in
+    let within : component < length codes = subst (λ (k : ℕ). k < length codes) (sym c.from-component.ensures) (c.requires.slots c.loop-i.i 0 c.loop-i-test.true) in
+    subst (AreReads c.index-codes-component.result.ac) (sym c.words_of.ensures)
+    (list_of_slot AreReads codes slots (map (λ v. v.items) c.args.reads.now) c.loop-i.i component c.index-codes-component.result c.requires.reads c.loop-i-test.true c.from-component.ensures within c.index-codes-component.is)
 
 pub returns-in_err-before-clause-is : goal.returns-in_err-before-clause-is
 returns-in_err-before-clause-is c =

@@ -1,20 +1,20 @@
-use Rattle.std.proofs.Common.{◌∷◌, [], ◌+◌, ℕ, map, length, get_or, sym, ap, subst, ◌∙◌}
+use Rattle.std.proofs.Common.{◌∷◌, [], ◌+◌, ℕ, map, length, get_or, sym, ap, subst, ◌∙◌, arith}
 use Rattle.std.proofs.lemmas.List.{get_or_read, length-map, length_push, map-append}
 use Rattle.huff_table.specs.ComponentTables.{no_codes}
 use Rattle.huff_table.specs.declared.plan_codes.ComponentCodes.{ComponentCodes}
 use Rattle.scan_spec.specs.ShapeInside.{slot_in}
 use Rattle.scan_decode.specs.SkipWords.{AreSkips, AreSkipSlots}
-use Rattle.scan_decode.proofs.SkipReading.{AreSkipCodes, one_kept, skips_of_slots}
+use Rattle.scan_decode.proofs.WordLists.{OfComponents, one_kept, lists_of_slots}
 use Rattle.scan_decode.proofs.skip.make_skips.Goals as goal
 
 pub returns-in-Err : goal.returns-in-Err
 returns-in-Err c =
-    skips_of_slots c.args.codes.now c.args.slots.now (map (λ v. v.items) c.loop-i.skips.items) c.loop-i.invariant.made c.requires.slots
+    lists_of_slots AreSkips c.args.codes.now c.args.slots.now (map (λ v. v.items) c.loop-i.skips.items) c.loop-i.invariant.made c.requires.slots
 
 pub returns-in-Err-push : goal.returns-in-Err-push
 returns-in-Err-push c =
     subst (λ xs. AreSkipSlots (map (slot_in c.args.codes.now) c.args.slots.now) (map (λ v. v.items) xs)) (sym c.in-Err-push.ensures.items)
-    (skips_of_slots c.args.codes.now c.args.slots.now (map (λ v. v.items) c.loop-i.skips.items) c.loop-i.invariant.made c.requires.slots)
+    (lists_of_slots AreSkips c.args.codes.now c.args.slots.now (map (λ v. v.items) c.loop-i.skips.items) c.loop-i.invariant.made c.requires.slots)
 
 pub loop-i-preserved : goal.loop-i-preserved
 loop-i-preserved c =
@@ -28,12 +28,12 @@ loop-i-preserved c =
     let here : AreSkips (get_or codes (length lists) no_codes).ac words.items =
     subst (λ (n : ℕ). AreSkips (get_or codes n no_codes).ac words.items) (sym count)
     (subst (λ (t : ComponentCodes). AreSkips t.ac words.items) (sym c.index-codes-i.is ∙ kept) c.in-Ok.ensures) in
-    let more = one_kept codes lists words.items l.invariant.made here in
+    let more = one_kept AreSkips codes lists words.items (λ table k below. absurd (omega (arith, below))) l.invariant.made here in
     record {
       long = ap length items ∙ length_push l.skips.items words ∙ ap (λ (n : ℕ). n + 1) l.invariant.long;
-      made = subst (AreSkipCodes codes) (sym (ap (map (λ v. v.items)) items ∙ map-append (λ v. v.items) l.skips.items (words ∷ []))) more;
+      made = subst (OfComponents AreSkips codes) (sym (ap (map (λ v. v.items)) items ∙ map-append (λ v. v.items) l.skips.items (words ∷ []))) more;
     }
 
 pub returns : goal.returns
 returns c =
-    skips_of_slots c.args.codes.now c.args.slots.now (map (λ v. v.items) c.loop-i.skips.items) c.loop-i.invariant.made c.requires.slots
+    lists_of_slots AreSkips c.args.codes.now c.args.slots.now (map (λ v. v.items) c.loop-i.skips.items) c.loop-i.invariant.made c.requires.slots

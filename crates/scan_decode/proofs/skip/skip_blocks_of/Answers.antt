@@ -11,7 +11,7 @@ use Rattle.scan_spec.specs.ShapeInside.{slot_in}
 use Rattle.scan_decode.specs.McuBlocks.{after_prefix}
 use Rattle.scan_decode.specs.SkipWords.{AreSkips}
 use Rattle.scan_decode.proofs.McuReading.{block_refused, block_more, no_more, at_slot, after_slot}
-use Rattle.scan_decode.proofs.SkipReading.{word_of_slot}
+use Rattle.scan_decode.proofs.WordLists.{list_of_slot}
 use Rattle.scan_decode.proofs.skip.skip_blocks_of.Goals as goal
 
 pub skip_block-requires-clause-words : goal.skip_block-requires-clause-words
@@ -21,7 +21,7 @@ skip_block-requires-clause-words c =
     let component = c.from-component.result in
     let within : component < length codes = subst (λ (k : ℕ). k < length codes) (sym c.from-component.ensures) (c.requires.slots c.loop-i.i 0 c.loop-i-test.true) in
     subst (AreSkips c.index-codes-component.result.ac) (sym c.words_of.ensures)
-    (word_of_slot codes slots (map (λ v. v.items) c.args.skips.now) c.loop-i.i component c.index-codes-component.result c.requires.skips c.loop-i-test.true c.from-component.ensures within c.index-codes-component.is)
+    (list_of_slot AreSkips codes slots (map (λ v. v.items) c.args.skips.now) c.loop-i.i component c.index-codes-component.result c.requires.skips c.loop-i-test.true c.from-component.ensures within c.index-codes-component.is)
 
 pub returns-in_err-before-clause-is : goal.returns-in_err-before-clause-is
 returns-in_err-before-clause-is c =

@@ -8,10 +8,10 @@ pub returns : goal.returns
 returns c =
     let index = c.args.index in
     let rest = c.rest_of.result in
-    let word = get_or c.args.singles.now index blank in
+    let word = c.args.word in
     let more = get_or c.args.singles.now rest blank in
     let long = c.requires.size in
-    let here = c.requires.skips index (let below = c.requires.index in omega (arith, long, below)) in
+    let here = c.requires.word in
     let there = c.requires.skips rest (let below = c.rest_of.ensures.below in omega (arith, long, below)) in
     let within : word.bits + more.bits ≤ 12 = let most = c.if-bits-gt-BITS.false in omega (arith, most) in
     let few : word.coefficients + more.coefficients ≤ 64 = let most = c.if-coefficients-gt64.false in omega (arith, most) in

@@ -1,4 +1,4 @@
-use Rattle.std.proofs.Common.{◌≡◌, List, ℕ, Ok, Err, map, subst}
+use Rattle.std.proofs.Common.{◌≡◌, ◌∙◌, List, ℕ, Ok, Err, map, sym, subst}
 use Rattle.std.proofs.lemmas.Result.{err_from_is_err_and}
 use Rattle.scan_spec.specs.declared.slot.Slot.{Slot}
 use Rattle.scan_spec.specs.ScanCalls.{ScanReader}
@@ -7,6 +7,7 @@ use Rattle.scan_spec.specs.BlockBits.{in_zigzag}
 use Rattle.scan_decode.specs.ReadResults.{mcu_read, standing_read}
 use Rattle.scan_decode.specs.ReaderInside.{reader_of}
 use Rattle.scan_decode.proofs.Standings.{no_blocks, ends_well}
+use Rattle.scan_decode.specs.ReadWords.{AreReadSlots}
 use Rattle.scan_decode.proofs.reader.Reader.mcu.Goals as goal
 
 pub returns-in_err-blocks-clause-is : goal.returns-in_err-blocks-clause-is
@@ -27,3 +28,27 @@ returns-clause-is c =
     let after = subst (λ (bytes : List ℕ). standing_read end.result end.new.self.at ≡ after_mcu r.shape bytes r.at read) c.blocks-2.ensures.bytes end.ensures.is in
     subst (λ (s : ScanReader). mcu_read end.result (map in_zigzag c.blocks-2.new.out) end.new.self.at ≡ mcu_at s.shape s.bytes s.at) c.self.view_is
     (ends_well end.result end.new.self.at r.shape r.bytes r.at read e after)
+
+pub blocks-requires-clause-reads : goal.blocks-requires-clause-reads
+blocks-requires-clause-reads c =
+    subst (λ (slots : List Slot). AreReadSlots slots (map (λ v. v.items) c.self.inside.reads.items)) (sym c.slots.ensures.slots) c.self.invariant.reads
+
+pub invariant_of-self : goal.invariant_of-self
+invariant_of-self c = record {
+  before = c.blocks-2.ensures.small;
+  count = c.self.invariant.count;
+  size = c.self.invariant.size;
+  bytes = c.blocks-2.ensures.bytes ∙ c.self.invariant.bytes;
+  skips = c.self.invariant.skips;
+  reads = subst (λ (slots : List Slot). AreReadSlots slots (map (λ v. v.items) c.blocks-2.new.reads.items)) c.slots.ensures.slots c.blocks-2.ensures.reads;
+}
+
+pub invariant_of-self-2 : goal.invariant_of-self-2
+invariant_of-self-2 c = record {
+  before = c.blocks-2.ensures.small;
+  count = c.self.invariant.count;
+  size = c.self.invariant.size;
+  bytes = c.blocks-2.ensures.bytes ∙ c.self.invariant.bytes;
+  skips = c.self.invariant.skips;
+  reads = subst (λ (slots : List Slot). AreReadSlots slots (map (λ v. v.items) c.blocks-2.new.reads.items)) c.slots.ensures.slots c.blocks-2.ensures.reads;
+}

@@ -43,6 +43,7 @@ invariant_of-self c = record {
   size = c.self.invariant.size;
   bytes = c.skip_blocks.ensures.bytes ∙ c.self.invariant.bytes;
   skips = subst (λ (slots : List Slot). AreSkipSlots slots (map (λ v. v.items) c.skip_blocks.new.skips.items)) c.slots.ensures.slots c.skip_blocks.ensures.skips;
+  reads = c.self.invariant.reads;
 }
 
 pub invariant_of-self-2 : goal.invariant_of-self-2
@@ -52,4 +53,5 @@ invariant_of-self-2 c = record {
   size = c.self.invariant.size;
   bytes = c.skip_blocks.ensures.bytes ∙ c.self.invariant.bytes;
   skips = subst (λ (slots : List Slot). AreSkipSlots slots (map (λ v. v.items) c.skip_blocks.new.skips.items)) c.slots.ensures.slots c.skip_blocks.ensures.skips;
+  reads = c.self.invariant.reads;
 }
