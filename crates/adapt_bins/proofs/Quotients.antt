@@ -65,7 +65,7 @@ rounded_up k below = agree_below_at (λ k. is_rounded_up (k + 1)) (λ _. true) 5
 small_product : (z s : ℕ) → z * s ≤ 255 * s → s ≤ 510 → 256 * z * s ≤ unit
 small_product z s a b = grind arith
 
--- so has that of two counts, unless both are 0
+-- the reciprocal of the sum of two counts, unless both are 0, is rounded up, and by less than one
 of_counts : (zeros ones : ℕ) → 1 ≤ zeros + ones → zeros ≤ 255 → ones ≤ 255 → let s = zeros + ones in
     (unit ≤ reciprocal s * s) × (reciprocal s * s + 1 ≤ unit + s)
 of_counts zeros ones some zm om =

@@ -15,7 +15,7 @@ const MOST_COUNT: u8 = 255;
 
 /// How many bins are stored one by one, before they are copied over the others: a bin has three bytes, for which a copy
 /// is quicker.
-const PIECE: usize = 512;
+const AT_ONCE: usize = 512;
 
 /// How often each bit occurred in one context, as two counts from 1 to 255. Both begin at 1. If the count of the next
 /// bit is 255, both are halved first, so that later bits weigh more.
@@ -182,11 +182,11 @@ fn half(count: u8) -> u8
 fn make_fresh(table: &mut [Bin])
     ensures { table.new ≡ replicate (length table.old) unseen }
 {
-    let piece = [Bin::new(); PIECE];
+    let fresh = [Bin::new(); AT_ONCE];
     let mut done = 0;
     while done < table.len() {
-        let more = (table.len() - done).min(PIECE);
-        table[done..done + more].copy_from_slice(&piece[..more]);
+        let more = (table.len() - done).min(AT_ONCE);
+        table[done..done + more].copy_from_slice(&fresh[..more]);
         done += more;
     }
 }
@@ -217,11 +217,11 @@ impl Bins {
         requires few { n ≤ 2 ^ 20 }
         ensures { IfOk result (λ b. b ≡ replicate n unseen) }
     {
-        let piece = [Bin::new(); PIECE];
+        let fresh = [Bin::new(); AT_ONCE];
         let mut table = with_capacity(alloc, n)?;
         while table.len() < n {
-            let more = (n - table.len()).min(PIECE);
-            extend_from_slice(&mut table, &piece[..more])?;
+            let more = (n - table.len()).min(AT_ONCE);
+            extend_from_slice(&mut table, &fresh[..more])?;
         }
         let shares = all_shares(alloc)?;
         Ok(Bins { table, shares })

@@ -1,5 +1,5 @@
 // The share of the zeros for each pair of counts.
-ghost use Rattle.std.specs.Prelude.{◌≡◌, ◌<◌, ◌+◌, ◌*◌, ◌/◌, ◌%◌, ℕ, IfOk, get_or, length};
+ghost use Rattle.std.specs.Prelude.{◌≡◌, ◌<◌, ◌+◌, ◌*◌, ◌/◌, ◌%◌, ℕ, IfOk, get_or};
 ghost use Rattle.adapt_bins.specs.Shares.{AreShares, share_at};
 
 use crate::reciprocals::parts;

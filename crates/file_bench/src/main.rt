@@ -1,7 +1,7 @@
 //! What `bench/scan` and `bench/chunks` measure, of a JPEG file on standard input.
 //!
-//! `file_bench read TIMES` reads its scan TIMES times; `both` in place of `read` writes each MCU again too, and what it
-//! writes must be the scan. It prints the bytes of the scan and its MCUs.
+//! `file_bench read TIMES` reads its scan TIMES times, and `file_bench both TIMES` also writes each MCU again: what it
+//! writes must be the scan. Both print the bytes of the scan and its MCUs.
 //!
 //! `file_bench chunks SIZE SEGMENTS` reads its scan once, and cuts each of its chunks of SIZE bytes into a container of
 //! its own, in at most SEGMENTS segments. It prints how many chunks there are and how many bytes their containers have.

@@ -11,8 +11,7 @@ use scan_spec::{MOST_SLOTS, Pads};
 use scan_write::{Writer, mcu_room};
 use std::alloc::Global;
 
-/// What a pass comes to: the bytes of the scan, its MCUs and the bit that the first interval is padded with which pads
-/// any, 1 if none does.
+/// What a pass comes to: the bytes of the scan, its MCUs, and the bit of the first padding that has bits, 1 if none has.
 #[derive(Clone, Copy)]
 pub(crate) struct Passed {
     pub(crate) bytes: usize,

@@ -12,7 +12,7 @@ loop-done-preserved c =
     let table = c.loop-done.table in
     let new = c.copy_from_slice.new.self in
     let part : new ≡ replicate more unseen = c.copy_from_slice.ensures.after
-    ∙ take-replicate more 512 _ (omega (arith, c.min-more.ensures)) ∙ ap (λ (x : Counts). replicate more x) c.new-piece.ensures in
+    ∙ take-replicate more 512 _ (omega (arith, c.min-more.ensures)) ∙ ap (λ (x : Counts). replicate more x) c.new-fresh.ensures in
     let many : length new ≡ more = ap length part ∙ length-replicate more unseen in
     let long = same_len_mid done (done + more - done) table new c.copy_from_slice.ensures.len in
     record {
