@@ -134,6 +134,24 @@ fn is_peeked(bit_in: &mut BitIn, peeked: u16) -> bool {
         && bit_in.next_place() == next
 }
 
+// Bits are looked at and passed over once they were fetched, and else nothing changes.
+#[test]
+fn looks(rt: HostRuntime) {
+    let mut bit_in = BitIn::at(&[0xa5, 0xff, 0, 0x3c, 0, 0, 0, 0, 0, 0], 0, 0);
+    bit_in.ready();
+    assert!(rt; bit_in.look(9) == Some(0x14b));
+    assert!(rt; bit_in.advance(9));
+    assert!(rt; bit_in.place() == 1);
+    assert!(rt; bit_in.look(16) == Some(0xfe78));
+    assert!(rt; bit_in.take(16) == Ok(0xfe78));
+    let mut short = BitIn::at(&[0x81], 0, 0);
+    short.ready();
+    assert!(rt; short.look(9) == None);
+    assert!(rt; !short.advance(9));
+    assert!(rt; short.look(8) == Some(0x81));
+    assert!(rt; short.take(8) == Ok(0x81));
+}
+
 // The bytes, and the place of each unit and of the end.
 type Units<'a> = (&'a [u8], [usize; 10]);
 

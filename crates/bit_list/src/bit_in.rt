@@ -1,7 +1,7 @@
 // From stuffed bytes to bits.
-ghost use Rattle.std.specs.Prelude.{◌≡◌, ◌^◌, ◌<◌, ◌≤◌, Ok, Err, [], length, IfOk, IfErr, OnErr};
+ghost use Rattle.std.specs.Prelude.{◌≡◌, ◌^◌, ◌<◌, ◌≤◌, ℕ, Ok, Err, [], false, true, length, IfSome, IfOk, IfErr, OnErr};
 ghost use Rattle.bit_list.specs.Bits.{low_bits, number_of};
-ghost use Rattle.bit_list.specs.Units.{starting, bit_at, bits_at};
+ghost use Rattle.bit_list.specs.Units.{Cursor, starting, bit_at, bits_at};
 ghost use Rattle.bit_list.specs.Peeked.{peeked};
 
 use crate::fault::BitFault;
@@ -79,6 +79,39 @@ impl<'a> BitIn<'a> {
         let (number, at) = take_apart(self.bytes, &self.at, n)?;
         self.at = at;
         Ok(number)
+    }
+
+    /// The next `n` bits as a number, the highest first, if they were fetched. None says nothing of what follows: then
+    /// `take` reads the bits, or gives the fault.
+    #[inline(always)]
+    pub fn look(&self, n: u8) -> Option<u16>
+        requires { n ≤ 16 }
+        ensures below { IfSome result (λ v. v < 2 ^ n) }
+        ensures bits { IfSome result
+            (λ v. (next : Cursor) × (bits_at n self.now.bytes self.now.cursor
+            ≡ Ok (low_bits n v, next))) }
+    {
+        if n > self.at.count {
+            return None;
+        }
+        Some(top_bits(self.bytes, &self.at, n))
+    }
+
+    /// Passes over the next `n` bits if they were fetched, and answers whether they were. If not, nothing changes.
+    #[inline(always)]
+    pub fn advance(&mut self, n: u8) -> bool
+        requires { n ≤ 16 }
+        ensures bits { result ≡ true → (v : ℕ)
+            × (bits_at n self.old.bytes self.old.cursor ≡ Ok (low_bits n v, self.new.cursor)) }
+        ensures stays { result ≡ false → self.new ≡ self.old }
+        ensures bytes { self.new.bytes ≡ self.old.bytes }
+    {
+        if n > self.at.count {
+            return false;
+        }
+        let _ = top_bits(self.bytes, &self.at, n);
+        self.at.count -= n;
+        true
     }
 
     /// Reads one bit. A fault changes nothing.

@@ -97,6 +97,8 @@ fn fetch(bytes: &[u8], at: &mut Fetched, byte: u8, next: usize)
     ensures fresh { at.new.skip ≡ 0 }
     ensures count { at.new.count ≡ at.old.count + 8 }
     ensures end { at.new.end ≡ next }
+    ensures last { at.new.last ≡ at.old.last }
+    ensures first { at.new.first ≡ at.old.first }
 {
     let _ = bytes;
     at.word = (at.word << 8) + u64::from(byte);
@@ -118,6 +120,8 @@ fn fetch_plain(bytes: &[u8], at: &mut Fetched)
     ensures fresh { at.new.skip ≡ 0 }
     ensures count { at.new.count ≡ at.old.count + 8 }
     ensures end { at.new.end ≡ at.old.end + 1 }
+    ensures last { at.new.last ≡ at.old.last }
+    ensures first { at.new.first ≡ at.old.first }
 {
     let place = at.end;
     fetch(bytes, at, bytes[place], place + 1);
@@ -198,24 +202,66 @@ pub(crate) fn refill(bytes: &[u8], at: &mut Fetched)
     refill_apart(bytes, at);
 }
 
-// `refilled`, so placed that the room for its answer is cleared only if it is called.
+// The places that fetching more doesn't change stay as they are, so that nothing is stored for them. The rest is
+// `filled_of`.
 #[inline(always)]
 fn refill_apart(bytes: &[u8], at: &mut Fetched)
     requires { IsFetched bytes.now at.old }
     ensures cursor { cursor_of_fetched at.new ≡ cursor_of_fetched at.old }
     ensures kept { IsFetched bytes.now at.new }
 {
-    let more = refilled(bytes, by_fields(at));
-    *at = by_fields(&more);
+    let filled = filled_of(bytes, by_fields(at));
+    at.word = filled.word;
+    at.count = filled.count;
+    at.stuffed = filled.stuffed;
+    at.end = filled.end;
+}
+
+// What changes of fetched bits if more are fetched.
+#[derive(Clone, Copy)]
+struct Filled {
+    word: u64,
+    end: usize,
+    count: u8,
+    stuffed: u8,
 }
 
 // With units fetched one by one. By value, so that no address of a local reader is passed on.
 #[cold]
 #[inline(never)]
+fn filled_of(bytes: &[u8], begin: Fetched) -> Filled
+    requires { IsFetched bytes.now begin }
+    ensures cursor { cursor_of_fetched (record begin {
+      word = result.word;
+      count = result.count;
+      stuffed = result.stuffed;
+      end = result.end;
+    }) ≡ cursor_of_fetched begin }
+    ensures kept { IsFetched bytes.now (record begin {
+      word = result.word;
+      count = result.count;
+      stuffed = result.stuffed;
+      end = result.end;
+    }) }
+{
+    let more = refilled(bytes, begin);
+    Filled {
+        word: more.word,
+        end: more.end,
+        count: more.count,
+        stuffed: more.stuffed,
+    }
+}
+
+// With units fetched one by one, if none is begun whose first bits are left out.
+#[inline(always)]
 fn refilled(bytes: &[u8], begin: Fetched) -> Fetched
     requires { IsFetched bytes.now begin }
     ensures cursor { cursor_of_fetched result ≡ cursor_of_fetched begin }
     ensures kept { IsFetched bytes.now result }
+    ensures skip { result.skip ≡ begin.skip }
+    ensures last { result.last ≡ begin.last }
+    ensures first { result.first ≡ begin.first }
 {
     if begin.skip != 0 {
         return begin;
@@ -232,6 +278,9 @@ fn fetch_up_to(bytes: &[u8], at: &mut Fetched)
     requires fresh { at.old.skip ≡ 0 }
     ensures cursor { cursor_of_fetched at.new ≡ cursor_of_fetched at.old }
     ensures kept { IsFetched bytes.now at.new }
+    ensures fresh { at.new.skip ≡ 0 }
+    ensures last { at.new.last ≡ at.old.last }
+    ensures first { at.new.first ≡ at.old.first }
 {
     while at.count <= 55 {
         let place = at.end;

@@ -155,7 +155,8 @@ impl Codes {
     }
 
     /// Reads the next code word by the next sixteen bits, and answers its value. Where it answers none, nothing is
-    /// read: that is so if fewer bits follow, and may be so if they begin with a word.
+    /// read: that is so if fewer were fetched, for which `ready` is called before, and may be so if they begin with a
+    /// word.
     #[inline(always)]
     pub fn by_sixteen_bits(&self, input: &mut BitIn) -> Option<u8>
         ensures some { IfSome result
@@ -167,16 +168,11 @@ impl Codes {
     {
         // By using the table, what it keeps is known here.
         let _ = &self.table;
-        let mut ahead = input.copied();
-        let number = match ahead.take(16) {
-            Ok(number) => number,
-            Err(_) => return None,
-        };
-        let (value, size) = self.word_before(number)?;
-        match input.take(size) {
-            Ok(_) => Some(value),
-            Err(_) => None,
+        let (value, size) = self.word_before(input.look(16)?)?;
+        if !input.advance(size) {
+            return None;
         }
+        Some(value)
     }
 
     // The value whose code word sixteen bits begin with, as a number, and how many bits that word has.

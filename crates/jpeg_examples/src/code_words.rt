@@ -29,7 +29,9 @@ fn words_of_the_standard(rt: HostRuntime) {
     for (component, is_ac, words) in WORDS {
         let codes = codes_at(&rt, &all, *component, *is_ac);
         are_words(&rt, codes, words);
-        assert!(rt; codes.by_sixteen_bits(&mut BitIn::at(&[0xff, 0, 0xff, 0], 0, 0)) == None);
+        let mut ones = BitIn::at(&[0xff, 0, 0xff, 0], 0, 0);
+        ones.ready();
+        assert!(rt; codes.by_sixteen_bits(&mut ones) == None);
         there_and_back(&rt, rt.alloc(), codes, words);
     }
 }
@@ -93,6 +95,7 @@ fn there_and_back(rt: &impl Abort, alloc: Global, codes: &Codes, words: &[Word])
     let mut same = BitIn::at(out.bytes(), 0, 0);
     for (value, _, _) in words {
         assert!(rt; codes.next(&mut input) == Ok(*value), "{value}");
+        same.ready();
         assert!(rt; codes.by_sixteen_bits(&mut same) == Some(*value), "{value}");
     }
 }

@@ -204,29 +204,21 @@ fn by_ten_bits(
 {
     let _ = codes;
     input.ready();
-    let seen = match input.copied().take(BITS) {
-        Ok(seen) => usize::from(seen),
-        Err(_) => return None,
-    };
+    let seen = usize::from(input.look(BITS)?);
     if seen >= words.len() {
         return None;
     }
     let word = words[seen];
     let index = at.index + usize::from(word.zeros);
     if index > 63 {
-        if word.zeros != END || at.loose {
+        if word.zeros != END || at.loose || !input.advance(word.bits) {
             return None;
         }
-        return match input.take(word.bits) {
-            Ok(_) => Some(64),
-            Err(_) => None,
-        };
+        return Some(64);
     }
-    match input.take(word.bits) {
-        Ok(_) => {
-            out.put_in_zigzag(index, word.value);
-            Some(index + 1)
-        }
-        Err(_) => None,
+    if !input.advance(word.bits) {
+        return None;
     }
+    out.put_in_zigzag(index, word.value);
+    Some(index + 1)
 }

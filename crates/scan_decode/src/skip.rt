@@ -209,10 +209,7 @@ fn by_twelve_bits(
     ensures bytes { input.new.bytes ≡ input.old.bytes }
 {
     input.ready();
-    let seen = match input.copied().take(BITS) {
-        Ok(seen) => usize::from(seen),
-        Err(_) => return None,
-    };
+    let seen = usize::from(input.look(BITS)?);
     if seen >= words.len() {
         return None;
     }
@@ -221,10 +218,10 @@ fn by_twelve_bits(
     if next > 64 {
         return None;
     }
-    match input.take(word.bits) {
-        Ok(_) => Some(if word.ends { 64 } else { next }),
-        Err(_) => None,
+    if !input.advance(word.bits) {
+        return None;
     }
+    Some(if word.ends { 64 } else { next })
 }
 
 // The zigzag index after the next value, if its code word is found by sixteen bits and its bits are there.
@@ -245,11 +242,9 @@ fn by_sixteen_bits(codes: &Codes, input: &mut BitIn, index: usize) -> Option<usi
         return None;
     }
     left.ready();
-    match left.take(more) {
-        Ok(_) => {
-            *input = left;
-            Some(next)
-        }
-        Err(_) => None,
+    if !left.advance(more) {
+        return None;
     }
+    *input = left;
+    Some(next)
 }

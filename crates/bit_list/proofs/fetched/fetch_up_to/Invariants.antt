@@ -7,6 +7,8 @@ invariant-loop-at l = record {
   cursor : cursor_of_fetched l.at ≡ cursor_of_fetched l.initial.at;
   kept : IsFetched l.bytes l.at;
   fresh : l.at.skip ≡ 0;
+  last : l.at.last ≡ l.initial.at.last;
+  first : l.at.first ≡ l.initial.at.first;
 }
 
 abbrev pub decreases-loop-at : goal.decreases-loop-at

@@ -1,4 +1,4 @@
-use Rattle.std.proofs.Common.{◌≡◌, ◌+◌, ◌<◌, ℕ, Bool, false, List, ℤ, Ok, get_or, length, set, sym, ap, ◌∙◌, subst, arith, unsigned_abs}
+use Rattle.std.proofs.Common.{◌≡◌, ◌+◌, ◌<◌, ℕ, Bool, false, List, ℤ, Ok, get_or, length, set, refl, sym, ap, ◌∙◌, subst, arith, unsigned_abs}
 use Rattle.bit_list.specs.Bits.{low_bits}
 use Rattle.bit_list.specs.Units.{Reading, bits_at}
 use Rattle.coef_block.specs.Zigzag.{zigzag}
@@ -16,28 +16,29 @@ overflow_add-index c =
     let e = c.from.ensures in
     omega (arith, e, (c.requires.words c.from-seen.result below).count, c.requires.left)
 
-pub take-requires-then-index-gt63 : goal.take-requires-then-index-gt63
-take-requires-then-index-gt63 c =
+pub advance-requires : goal.advance-requires
+advance-requires c =
     let below : c.from-seen.result < length c.args.words.now = let b = c.if-seen-words.false in omega (arith, b) in
     omega (arith, (c.requires.words c.from-seen.result below).few)
 
-pub take-requires-2 : goal.take-requires-2
-take-requires-2 c =
+pub advance-requires-2 : goal.advance-requires-2
+advance-requires-2 c =
     let below : c.from-seen.result < length c.args.words.now = let b = c.if-seen-words.false in omega (arith, b) in
     omega (arith, (c.requires.words c.from-seen.result below).few)
 
-pub returns-in-Ok-take-clause-is : goal.returns-in-Ok-take-clause-is
-returns-in-Ok-take-clause-is c = λ whole going.
+pub returns-then-index-gt63-clause-is : goal.returns-then-index-gt63-clause-is
+returns-then-index-gt63-clause-is c = λ whole going.
     let codes = c.args.codes.now in
     let words = c.args.words.now in
     let now = c.ready.new.self in
-    let mid = c.take.new.self.cursor in
-    let to = c.take-then-index-gt63.new.self.cursor in
+    let ahead = c.in_ok-look.ensures.bits in
+    let to = c.advance.new.self.cursor in
+    let taken = c.if-not-advance.ensures.bits refl in
     let at = c.args.at in
     let seen = c.from-seen.result in
     let below : seen < length words = let b = c.if-seen-words.false in omega (arith, b) in
-    let look : bits_at 10 now.bytes now.cursor ≡ Ok (low_bits 10 seen, mid) = rw c.from-seen.ensures (subst (λ (b : Reading). bits_at 10 b.bytes b.cursor ≡ Ok (low_bits 10 c.in-Ok.seen, mid)) c.copied.ensures c.in-Ok.ensures.ok.1) in
-    let read = word_reads codes words now.bytes now.cursor mid to seen c.in-Ok-take.field-0 c.requires.words below look c.in-Ok-take.ensures.ok.1 in
+    let look : bits_at 10 now.bytes now.cursor ≡ Ok (low_bits 10 seen, ahead.0) = rw c.from-seen.ensures ahead.1 in
+    let read = word_reads codes words now.bytes now.cursor ahead.0 to seen taken.0 c.requires.words below look taken.1 in
     let ends : Ends codes c.args.input.now.bytes at.index c.args.input.now.cursor to =
     subst (λ (b : Reading). Ends codes b.bytes at.index b.cursor to) c.ready.ensures ((c.requires.words seen below).ends c.if-word-ne-END.false now.bytes now.cursor to at.index c.requires.left read) in
     (going.0, going.1, ends whole going.0 (subst (λ (t : Bool). Going whole codes c.args.input.now.bytes going.0 at.index t c.args.input.now.cursor) c.if-at.false going.2))
@@ -63,22 +64,23 @@ put_in_zigzag-requires-clause-some c =
     let v = (c.requires.words seen below).value few in
     subst (λ (z : ℤ). 0 < unsigned_abs z) (sym (kept_half (get_or words seen blank_read).value (omega (arith, v.1)))) v.0
 
-pub returns-in-Ok-take-2-clause-is : goal.returns-in-Ok-take-2-clause-is
-returns-in-Ok-take-2-clause-is c = λ whole going.
+pub returns-clause-is : goal.returns-clause-is
+returns-clause-is c = λ whole going.
     let codes = c.args.codes.now in
     let words = c.args.words.now in
     let now = c.ready.new.self in
     let bytes = c.args.input.now.bytes in
-    let mid = c.take.new.self.cursor in
-    let to = c.take-2.new.self.cursor in
+    let ahead = c.in_ok-look.ensures.bits in
+    let to = c.advance-2.new.self.cursor in
+    let taken = c.if-not-advance-2.ensures.bits refl in
     let at = c.args.at in
     let seen = c.from-seen.result in
     let word = get_or words seen blank_read in
     let below : seen < length words = let b = c.if-seen-words.false in omega (arith, b) in
     let room : at.index + word.zeros < 64 = let e = c.from.ensures in let r = c.if-index-gt63.false in omega (arith, e, r) in
     let few : word.zeros < 64 = omega (arith, room) in
-    let look : bits_at 10 now.bytes now.cursor ≡ Ok (low_bits 10 seen, mid) = rw c.from-seen.ensures (subst (λ (b : Reading). bits_at 10 b.bytes b.cursor ≡ Ok (low_bits 10 c.in-Ok.seen, mid)) c.copied.ensures c.in-Ok.ensures.ok.1) in
-    let read = word_reads codes words now.bytes now.cursor mid to seen c.in-Ok-take-2.field-0 c.requires.words below look c.in-Ok-take-2.ensures.ok.1 in
+    let look : bits_at 10 now.bytes now.cursor ≡ Ok (low_bits 10 seen, ahead.0) = rw c.from-seen.ensures ahead.1 in
+    let read = word_reads codes words now.bytes now.cursor ahead.0 to seen taken.0 c.requires.words below look taken.1 in
     let puts : Puts codes bytes at.index word.zeros word.value c.args.input.now.cursor to =
     subst (λ (b : Reading). Puts codes b.bytes at.index word.zeros word.value b.cursor to) c.ready.ensures ((c.requires.words seen below).puts few now.bytes now.cursor to at.index room read) in
     let made = puts whole going.0 at.loose going.2 in
