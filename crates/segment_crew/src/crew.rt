@@ -10,6 +10,7 @@ ghost use Rattle.segment_crew.specs.Teams.{IsIdleWorker, IsNewLead, emitter_memb
 
 use crate::team::{Emitter, Shared, Worker, team_of};
 use crate::threads::lead_beside;
+use crate::worth::patience_of;
 use allocation::NoMemory;
 use bit_list::Piece;
 use box_format::FileView;
@@ -141,6 +142,7 @@ impl<'a> Crew<'a> {
             count: self.count,
             window,
             gate,
+            patience: patience_of(self.count, self.team.len()),
         };
         emit_beside(rt, &shared, &mut self.emitter, &mut self.team, sink)
     }

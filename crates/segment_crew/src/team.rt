@@ -33,7 +33,8 @@ pub(crate) struct Emitter<'a> {
     pub(crate) piece: Piece,
 }
 
-// What all of a crew share.
+// What all of a crew share. `patience` is how often in all the emitter looks again before it decodes a segment that
+// nobody has claimed.
 #[derive(Drop)]
 pub(crate) struct Shared<'s, 'a, G> {
     pub(crate) board: &'s Board<Told<'a>>,
@@ -42,6 +43,7 @@ pub(crate) struct Shared<'s, 'a, G> {
     pub(crate) count: u8,
     pub(crate) window: Window,
     pub(crate) gate: &'s G,
+    pub(crate) patience: u32,
 }
 
 impl<'s, 'a, G: Gate> Task<Shared<'s, 'a, G>> for Worker<'a> {
@@ -106,6 +108,7 @@ impl<'s, 'a, G: Gate, K: Sink> Lead<Shared<'s, 'a, G>, K> for Emitter<'a> {
             shared.gate,
             shared.first,
             shared.count,
+            shared.patience,
         )
     }
 }

@@ -62,3 +62,16 @@ fn blocks_had(scan: &BoxView) -> u64
     let (from, to) = rows_of(plan, scan.chunk());
     u64::from(plan.blocks() / plan.down()) * u64::from(to.saturating_sub(from))
 }
+
+// How often the emitter looks again in all: many times longer than a thread takes to start.
+const PATIENCE: u32 = 1_000;
+
+/// How often the emitter looks again before it decodes a segment that no worker has claimed: not once, if it makes the
+/// rounds fewer that all need for these segments. If not, it would only take the processor from a worker.
+pub(crate) fn patience_of(segments: u8, workers: usize) -> u32 {
+    let segments = usize::from(segments);
+    if workers == 0 || segments.div_ceil(workers.saturating_add(1)) < segments.div_ceil(workers) {
+        return 0;
+    }
+    PATIENCE
+}

@@ -20,6 +20,7 @@ use output_board::{Board, EmitterSeat, Take};
 use outside_core::{Gate, Sink};
 use segment_code::{FileDecoder, segment_at};
 use std::sync::Wait;
+use std::thread::yield_now;
 
 /// The most bytes of one take from a ring.
 const MOST_TAKEN: usize = 4_096;
@@ -27,6 +28,9 @@ const MOST_TAKEN: usize = 4_096;
 /// Writes what the window lets through of `count` segments in order, from the container's number `first` on, the bytes
 /// of each from its ring, or decoded here if nobody has claimed it when its turn comes. It returns after the last one,
 /// also if nothing goes through any more; or it stops the board, after the first with a fault, or if the sink fails.
+///
+/// Before it decodes a segment that nobody has claimed, it lets other threads run and looks again, `patience` times in
+/// all.
 ///
 /// At each moment, also while the call is under way, what was written is a prefix of what goes through of the joined
 /// segments, since the sink need take nothing else.
@@ -44,6 +48,7 @@ pub fn emit<'a, R: Wait, K: Sink, G: Gate>(
     gate: &G,
     first: u8,
     count: u8,
+    patience: u32,
 ) -> Result<Emitted, EmitStop>
     requires within { first + count ≤ segment_count view.now }
     requires new { IsNewEmitter board.now (stretch view.now first count) seat.old decoder.old }
@@ -72,6 +77,7 @@ pub fn emit<'a, R: Wait, K: Sink, G: Gate>(
     let mut came = 0;
     let mut pads = no_sums();
     let mut current = 0;
+    let mut patience = patience;
     for _ in rt.forever() {
         match board.take(rt, seat, &mut buffer) {
             Take::Bytes(taken) => {
@@ -93,6 +99,11 @@ pub fn emit<'a, R: Wait, K: Sink, G: Gate>(
                 return Err(EmitStop::Fault(fault));
             }
             Take::Unclaimed => {
+                if patience > 0 {
+                    patience -= 1;
+                    yield_now();
+                    continue;
+                }
                 let rest = window.after(came);
                 match emit_unclaimed(rt, decoder, piece, seat, &shared, rest, sink, current) {
                     Ok(passed) => came += passed,
