@@ -155,8 +155,7 @@ impl Codes {
     }
 
     /// Reads the next code word by the next sixteen bits, and answers its value. Where it answers none, nothing is
-    /// read: that is so if fewer were fetched, for which `ready` is called before, and may be so if they begin with a
-    /// word.
+    /// read: that is so if fewer were fetched (`BitIn::ready` fetches them), and may be so if they begin with a word.
     #[inline(always)]
     pub fn by_sixteen_bits(&self, input: &mut BitIn) -> Option<u8>
         ensures some { IfSome result

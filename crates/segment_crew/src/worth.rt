@@ -63,7 +63,7 @@ fn blocks_had(scan: &BoxView) -> u64
     u64::from(plan.blocks() / plan.down()) * u64::from(to.saturating_sub(from))
 }
 
-// How often the emitter looks again in all: many times longer than a thread takes to start.
+// How often the emitter looks again in all, so that threads have time to start.
 const PATIENCE: u32 = 1_000;
 
 /// How often the emitter looks again before it decodes a segment that no worker has claimed: not once, if it makes the
