@@ -187,6 +187,15 @@ impl<'a> BitIn<'a> {
         (window.number, window.count)
     }
 
+    /// Whether another input is at the same bit, with the same places before and after. Both read on alike then, if
+    /// their bytes are alike.
+    pub fn is_at(&self, other: &BitIn) -> bool
+        ensures same { result ≡ true → self.now.cursor ≡ other.now.cursor }
+        ensures apart { result ≡ false → self.now.cursor ≡ other.now.cursor → ⊥ }
+    {
+        begun(self.bytes, self.at) == begun(other.bytes, other.at)
+    }
+
     /// The place of the unit of the last bit that was read; before the first bit, the place at which reading began.
     #[inline(always)]
     pub fn place(&self) -> usize

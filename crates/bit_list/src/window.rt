@@ -7,7 +7,7 @@ ghost use Rattle.bit_list.specs.BitsInside.{cursor_of, IsWindow};
 use crate::fault::BitFault;
 
 /// The bits that are left of a unit, and the places of the units.
-#[derive(Clone, Copy)]
+#[derive(Clone, Copy, PartialEq)]
 pub(crate) struct Window {
     // The bits as a number.
     pub(crate) number: u8,

@@ -10,3 +10,4 @@ pub mod DcThenAcs
 pub mod WordLists
 pub mod SkipReading
 pub mod TenBits
+pub mod ExcerptReading

@@ -4,3 +4,7 @@ pub mod McuBlocks
 pub mod SkipWords
 pub mod ReadWords
 pub mod ReaderInside
+pub mod Excerpts
+pub mod ExcerptInside
+pub mod SkipTablesInside
+pub mod ScoutInside

@@ -1,19 +1,21 @@
 // A scan, MCU by MCU.
-ghost use Rattle.std.specs.Prelude.{◌≡◌, ◌+◌, ◌*◌, ◌<◌, ◌≤◌, ◌==◌, List, ℤ, length, map, IfErr, OnErr, OnOk, Some};
+ghost use Rattle.std.specs.Prelude.{◌≡◌, ◌+◌, ◌*◌, ◌<◌, ◌≤◌, ◌↔◌, ◌==◌, true, false, List, ℤ, length, map, IfErr, OnErr, OnOk, Some, Ok};
 ghost use Rattle.scan_spec.specs.ScanCalls.{McuIsRead, reader_at, resume_place, stopped_at};
 ghost use Rattle.scan_spec.specs.Slots.{shape_of};
 ghost use Rattle.scan_spec.specs.Spots.{is_closed};
 ghost use Rattle.scan_spec.specs.ShapeInside.{most_slots};
 ghost use Rattle.huff_table.specs.ComponentTables.{codes_of};
-ghost use Rattle.scan_spec.specs.ScanReading.{after_mcu, after_pads, and_then, mcu_at, pads_at};
+ghost use Rattle.scan_spec.specs.ScanReading.{after_mcu, after_pads, and_then, mcu_at, mcus_at, pads_at};
 ghost use Rattle.scan_spec.specs.BlockBits.{in_zigzag};
 ghost use Rattle.scan_spec.specs.Scans.{no_dcs};
 ghost use Rattle.cut_spec.specs.HandedOver.{reader_from, spot_in};
 ghost use Rattle.cut_spec.specs.RowHandovers.{handover_of, markers_before};
 ghost use Rattle.scan_decode.specs.ReadResults.{after_blocks, mcu_read, standing_read};
+ghost use Rattle.scan_decode.specs.Excerpts.{IsExcerpt, Meets};
 
 use crate::blocks::blocks;
 use crate::byte_begun::{after_bits, byte_begun};
+use crate::excerpt::{Excerpt, are_near, needed_from, sums};
 use crate::pads::{pads, restart};
 use crate::read_word::ReadWord;
 use crate::skip::skip_blocks;
@@ -145,6 +147,37 @@ impl<'a> Reader<'a> {
         self.keep(read)
     }
 
+    /// Goes past the MCUs of an excerpt if it meets it, and answers whether it did. If not, nothing changes.
+    pub fn skip_excerpt(&mut self, excerpt: &Excerpt<'a>) -> bool
+        requires { IsExcerpt self.old.shape self.old.bytes excerpt.now }
+        ensures past { Meets self.old excerpt.now → result ≡ true }
+        ensures meets { result ≡ true → Meets self.old excerpt.now }
+        ensures read { result ≡ true → ((mcus : List (List (List ℤ)))
+            × (mcus_at excerpt.now.mcus self.old.shape self.old.bytes self.old.at
+            ≡ Ok (mcus, self.new.at))) }
+        ensures same { self.new ≡ record self.old { at = self.new.at } }
+        ensures stays { result ≡ false → self.new ≡ self.old }
+    {
+        if !self.meets(excerpt) {
+            return false;
+        }
+        self.before = sums(&self.before, &excerpt.change);
+        self.input = excerpt.to.copied();
+        self.count += excerpt.mcus;
+        true
+    }
+
+    // Whether it is at the start of an excerpt, with MCUs left after it.
+    fn meets(&self, excerpt: &Excerpt<'a>) -> bool
+        ensures { result ≡ true ↔ Meets self.now excerpt.now }
+    {
+        self.input.is_at(&excerpt.from)
+            && are_near(&self.before)
+            && excerpt.mcus < self.shape.mcus() - self.count
+            && self.pad.is_none()
+            && self.stop.is_none()
+    }
+
     /// Blocks of an MCU, at most ten.
     pub fn mcu_blocks(&self) -> usize
         ensures value { result ≡ length self.now.shape.slots }
@@ -166,12 +199,7 @@ impl<'a> Reader<'a> {
     pub fn place(&self) -> usize
         ensures { result ≡ resume_place self.now.at.cursor }
     {
-        let (_, left) = self.input.left();
-        if left == 0 {
-            self.input.next_place()
-        } else {
-            self.input.place()
-        }
+        needed_from(&self.input)
     }
 
     /// Whether a restart interval or the scan ends after the MCUs that were read. Before the first one this is true if

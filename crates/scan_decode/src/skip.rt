@@ -46,10 +46,10 @@ pub(crate) fn skip_blocks(
     skip_blocks_by(skips.as_slice(), codes, slots, before, input)
 }
 
-// Makes the words of the components, up to one that is out of memory.
+/// Makes the words of the components, up to one that is out of memory.
 #[cold]
 #[inline(never)]
-fn make_skips(skips: &mut Vec<Vec<SkipWord>>, codes: &[ComponentCodes], slots: &[u8])
+pub(crate) fn make_skips(skips: &mut Vec<Vec<SkipWord>>, codes: &[ComponentCodes], slots: &[u8])
     requires none { skips.old.items ≡ [] }
     requires slots { All (λ slot. slot < length codes.now) slots.now }
     ensures { AreSkipSlots (map (slot_in codes.now) slots.now) (map (λ v. v.items) skips.new.items) }
@@ -68,9 +68,9 @@ fn make_skips(skips: &mut Vec<Vec<SkipWord>>, codes: &[ComponentCodes], slots: &
     }
 }
 
-// The blocks of an MCU, each of the component that its slot names, after the last DC of each component.
+/// The blocks of an MCU, each of the component that its slot names, after the last DC of each component.
 #[inline]
-fn skip_blocks_by(
+pub(crate) fn skip_blocks_by(
     skips: &[Vec<SkipWord>],
     codes: &[ComponentCodes],
     slots: &[u8],

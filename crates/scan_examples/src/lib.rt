@@ -2,6 +2,8 @@
 #![tactic(auto)]
 
 #[cfg(test)]
+mod excerpts;
+#[cfg(test)]
 mod handed_over;
 #[cfg(test)]
 mod headers;

@@ -1,9 +1,11 @@
 -- The pad bits of a pass, MCU by MCU.
-use Rattle.std.proofs.Common.{◌≡◌, ℕ, zero, suc, ◌+◌, Bool, true, false, ◌||◌, if◌then◌else◌, List, [], ◌∷◌, ◌++◌, refl, ap, ap₂, ◌∙◌, sym, arith, append-nil, append_assoc}
+use Rattle.std.proofs.Common.{◌≡◌, ℕ, zero, suc, ◌+◌, ◌<◌, Bool, true, false, ◌==◌, ◌||◌, if◌then◌else◌, List, [], ◌∷◌, ◌++◌, refl, ap, ap₂, ◌∙◌, sym, arith, append-nil, append_assoc}
 use Rattle.std.specs.Prelude.{ℤ, Ok, unwrap_or}
+use Rattle.std.proofs.lemmas.Bool.{eqb-true, false_from_ne_true}
 use Rattle.handover.specs.PadSums.{no_pads, pads_with}
 use Rattle.handover.specs.declared.pads.PadSum.{PadSum}
 use Rattle.scan_spec.specs.Slots.{Shape}
+use Rattle.scan_spec.specs.Scans.{ends_interval}
 use Rattle.scan_spec.specs.Spots.{is_closed}
 use Rattle.scan_spec.specs.ScanCalls.{ScanReader}
 use Rattle.scan_spec.specs.ScanReading.{Standing, mcu_at, mcus_at}
@@ -13,6 +15,7 @@ use Rattle.scan_spec.proofs.PadsTold.{pads_more, no_pads_told, sums_more, no_sum
 use Rattle.scan_spec.proofs.ScanTaken.{mcus_fine, no_mcus}
 use Rattle.segment_code.specs.CodedMcus.{AreReadOn}
 use Rattle.segment_code.specs.FoundPads.{FoundPads, pads_through}
+use Rattle.segment_code.proofs.ReadOn.{one_counted}
 
 -- sums are joined one after another
 or_assoc : (a b c : Bool) → ((a || b) || c) ≡ (a || (b || c))
@@ -152,3 +155,43 @@ within_through reader next mcu pads e open_still =
     (ap (λ (t : Bool). pads_with pads.sum (if t then pad_sum next.pad else no_pads))
     (sym open_still))
     ∙ sym (one_through reader next mcu pads e)
+
+-- of MCUs that have others after them, in a scan without restarts: none tells a pad bit
+none_closed : (shape : Shape) (count : ℕ) → shape.interval ≡ 0 → count < shape.mcus
+    → is_closed shape count ≡ false
+none_closed shape count whole more =
+    let last : (count == shape.mcus) ≡ false = false_from_ne_true (count == shape.mcus)
+    (λ e. let same = eqb-true count shape.mcus e in omega (arith, same, more)) in
+    ap₂ (λ (t : Bool) (i : ℕ). t || ends_interval i count) last whole
+
+record TellsNone (n : ℕ) (shape : Shape) (bytes : List ℕ) (at : Standing) : Type 0 where
+  bits : pads_told n shape bytes at ≡ []
+  sum : sum_told n shape bytes at ≡ no_pads
+
+tells_none : (n : ℕ) (shape : Shape) (bytes : List ℕ) (at end : Standing)
+    (mcus : List (List (List ℤ))) → shape.interval ≡ 0 → at.count + n < shape.mcus
+    → mcus_at n shape bytes at ≡ Ok (mcus, end) → TellsNone n shape bytes at
+tells_none zero shape bytes at end mcus whole more e =
+    record { bits = no_pads_told shape bytes at; sum = no_sum_told shape bytes at }
+tells_none (suc n) shape bytes at end mcus whole more e =
+    let f = mcus_fine n shape bytes at (mcus, end) e in
+    let one = one_counted shape bytes at f.next f.first f.one in
+    let rest = tells_none n shape bytes f.next end f.more whole (omega (arith, one, more)) f.others in
+    let open_still = none_closed shape f.next.count whole (omega (arith, one, more)) in
+    record {
+      bits = pads_more n shape bytes at f.next f.first f.one
+          ∙ ap₂ (λ (t : Bool) (l : List Bool).
+          (if t then unwrap_or f.next.pad true ∷ [] else []) ++ l) open_still rest.bits;
+      sum = sums_more n shape bytes at f.next f.first f.one
+          ∙ ap₂ (λ (t : Bool) (s : PadSum).
+          pads_with (if t then pad_sum f.next.pad else no_pads) s) open_still rest.sum;
+    }
+
+pub excerpt_through : (n : ℕ) (reader next : ScanReader) (mcus : List (List (List ℤ)))
+    (pads : FoundPads) → reader.shape.interval ≡ 0 → reader.at.count + n < reader.shape.mcus
+    → AreReadOn n reader next mcus → pads ≡ pads_through n reader pads
+excerpt_through n reader next mcus pads whole more so =
+    let none = tells_none n reader.shape reader.bytes reader.at next.at mcus whole more so.read in
+    ap₂ found_of
+    (sym (append-nil pads.bits) ∙ ap (λ (l : List Bool). pads.bits ++ l) (sym none.bits))
+    (sym (sum_alone pads.sum) ∙ ap (pads_with pads.sum) (sym none.sum))

@@ -1,4 +1,7 @@
--- View: the values of a pass and of a segment apart from it (own).
+-- View: the values of a pass and of a segment apart from it, and what always holds of a pass (own).
+use Rattle.std.specs.List.{All}
+use Rattle.scan_spec.specs.Slots.{shape_of}
+use Rattle.scan_decode.specs.Excerpts.{IsExcerpt}
 use Rattle.segment_code.specs.ScanPasses.{PartFields, PassFields}
 use Rattle.segment_code.specs.declared.part.SegmentPart.TheInside.{Inside as PartInside}
 use Rattle.segment_code.specs.declared.pass.ScanPass.TheInside.{Inside as PassInside}
@@ -24,3 +27,7 @@ pass_in p = record {
   starts = p.starts;
   pads = p.pads;
 }
+
+-- the excerpts that a pass was given are some of its scan
+abbrev pub HasExcerpts : PassInside → Type 0
+HasExcerpts p = All (IsExcerpt (shape_of p.plan.now) p.bytes.now) p.excerpts.items

@@ -1,11 +1,13 @@
 // A pass over a file's scan, from segment to segment.
 ghost use Rattle.std.specs.Prelude.{◌≡◌, ◌<◌, ◌≤◌, ℕ, Bool, List, IfOk, OnOk, IsErrOf, length, None, ◌^◌};
+ghost use Rattle.std.specs.List.{All};
 ghost use Rattle.jpeg_marker.specs.AcceptedPlans.{CanScan};
 ghost use Rattle.huff_table.specs.ComponentTables.{codes_of};
 ghost use Rattle.scan_spec.specs.Items.{Refuses};
 ghost use Rattle.scan_spec.specs.Scans.{Mcu};
 ghost use Rattle.scan_spec.specs.Slots.{shape_of};
 ghost use Rattle.scan_spec.specs.declared.refusal.ScanRefusal.{ScanRefusal};
+ghost use Rattle.scan_decode.specs.Excerpts.{IsExcerpt};
 ghost use Rattle.segment_code.specs.ReadyParts.{IsEncoderFor, IsReady};
 ghost use Rattle.segment_code.specs.ScanPasses.{HasPassed, IsNextStream, IsNoPart, IsPart, IsPartStream, IsPass, next_part, passed, segments_left};
 ghost use Rattle.segment_code.specs.Starting.{AreStarts, IsFileAt};
@@ -21,7 +23,7 @@ use crate::starts::Starts;
 use allocation::NoMemory;
 use huff_table::PlanCodes;
 use jpeg_marker::Plan;
-use scan_decode::Reader;
+use scan_decode::{Excerpt, Reader};
 use std::alloc::Global;
 use std::marker::Model;
 
@@ -41,17 +43,19 @@ pub struct ScanPass<'a> {
     reader: Reader<'a>,
     starts: Starts,
     pads: PadsFound,
+    // What others read of the scan, in the order of their places.
+    excerpts: Vec<Excerpt<'a>>,
 }
 
 impl<'a> Model for ScanPass<'a> {
     ghost use Rattle.segment_code.specs.ScanPasses.{PassFields};
-    ghost use Rattle.segment_code.specs.PassInside.{pass_in};
+    ghost use Rattle.segment_code.specs.PassInside.{pass_in, HasExcerpts};
 
     ghost Value = { PassFields };
 
     ghost view = { pass_in };
 
-    ghost invariant = { λ p. Unit {0} };
+    ghost invariant = { HasExcerpts };
 }
 
 impl<'a> ScanPass<'a> {
@@ -83,7 +87,17 @@ impl<'a> ScanPass<'a> {
             reader: Reader::start(alloc, plan, copy, bytes, plan.header_length()),
             starts: Starts::none(alloc),
             pads: PadsFound::none(alloc),
+            excerpts: Vec::new(alloc),
         })
+    }
+
+    /// Gives the pass excerpts of its scan. It goes past those that it meets, if they come in the order of their
+    /// places, and finds the same as without them.
+    pub fn use_excerpts(&mut self, excerpts: Vec<Excerpt<'a>>)
+        requires { All (IsExcerpt (shape_of self.old.plan) self.old.bytes) excerpts.items }
+        ensures { self.new ≡ self.old }
+    {
+        self.excerpts = excerpts;
     }
 
     /// The plan whose scan it goes over.
@@ -161,7 +175,7 @@ impl<'a> ScanPass<'a> {
     {
         let next = self.part();
         self.starts.push(next.row, next.place, next.handover)?;
-        read_mcus(&mut self.reader, &mut self.pads, next.mcus)
+        read_mcus(&mut self.reader, &mut self.pads, &self.excerpts, next.mcus)
     }
 
     /// Reads the next segment, keeps where it starts, and makes it ready to be coded. On a refusal or out of memory the
@@ -228,6 +242,7 @@ impl<'a> ScanPass<'a> {
             reader,
             mut starts,
             pads,
+            excerpts: _,
         } = self;
         starts.end(pads, reader.end())?;
         Ok(starts)

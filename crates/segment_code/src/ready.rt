@@ -79,8 +79,8 @@ impl<'a> ReadyPart<'a> {
         })
     }
 
-    /// The segment's stream. Each MCU is read, coded and forgotten. Memory is asked for only if the stream is longer
-    /// than its list has room for. If the bytes are no file's, the segment may be refused, or give bytes that mean
+    /// The segment's stream. Each MCU is read, coded and forgotten. Memory is asked for with the first MCU, by the
+    /// reader, and if the stream is longer than its list has room for. If the bytes are no file's, the segment may be refused, or give bytes that mean
     /// nothing. After an error the encoder is of no worth.
     pub fn encode(&mut self, encoder: &mut SegmentEncoder) -> Result<Vec<u8>, ScanError>
         requires ready { IsReady self.old }

@@ -3,5 +3,6 @@ mod FewLanes
 mod LanesMade
 mod NewLanes
 mod PartsKept
+mod ScoutsBack
 mod StreamsMade
 mod StreamsPassed

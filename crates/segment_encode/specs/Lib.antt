@@ -1,2 +1,3 @@
 pub mod StreamsFound
 pub mod Lanes
+pub mod Scouting

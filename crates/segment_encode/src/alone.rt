@@ -15,7 +15,7 @@ ghost use Rattle.segment_code.specs.FileStarts.{starts_of};
 ghost use Rattle.segment_code.specs.Starting.{AreStarts, IsFileAt};
 
 use crate::streams::{code_rest, lane_of};
-use crate::tasks::Task;
+use crate::tasks::{Coding, Task};
 use allocation::NoMemory;
 use box_format::Chunk;
 use huff_table::PlanCodes;

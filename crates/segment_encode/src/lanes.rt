@@ -6,7 +6,7 @@ ghost use Rattle.segment_code.specs.declared.error.ScanError.TheVariants.{Scan};
 ghost use Rattle.segment_code.specs.ReadyParts.{IsReady, ReadyFields};
 ghost use Rattle.segment_encode.specs.Lanes.{AreMade, AreOfAFile, CanCode, IsNewLane, in_a_lane, most_lanes};
 
-use crate::tasks::Task;
+use crate::tasks::{Coding, Task};
 use allocation::{NoMemory, push, with_capacity};
 use jpeg_marker::Plan;
 use segment_code::{ReadyPart, ScanError, SegmentEncoder};
@@ -40,21 +40,25 @@ pub(crate) struct Lane<'a> {
 }
 
 impl<'a> Task for Lane<'a> {
-    ghost use Rattle.segment_encode.specs.Lanes.{HasCoded, IsNewLane, LaneMakes, LaneRefused};
+    ghost use Rattle.segment_encode.specs.Lanes.{HasCoded, IsNewLane};
 
     ghost ready = { λ lane. IsNewLane lane };
 
     ghost done = { λ lane after. HasCoded lane after };
-
-    ghost makes = { λ lane streams. LaneMakes lane streams };
-
-    ghost refused = { λ lane. LaneRefused lane };
 
     fn perform(&mut self) {
         if let Err(error) = code_parts(&mut self.parts, &mut self.encoder, &mut self.streams) {
             self.error = Some(error);
         }
     }
+}
+
+impl<'a> Coding for Lane<'a> {
+    ghost use Rattle.segment_encode.specs.Lanes.{LaneMakes, LaneRefused};
+
+    ghost makes = { λ lane streams. LaneMakes lane streams };
+
+    ghost refused = { λ lane. LaneRefused lane };
 
     fn streams(self) -> Result<Vec<Vec<u8>>, ScanError> {
         let Lane {

@@ -2,24 +2,25 @@
 // one impl each (`lanes.rt`, `streams.rt`): a closure over a type that names a lifetime can't be proved, one over a
 // type parameter can.
 ghost use Rattle.std.specs.Prelude.{◌≡◌, ◌+◌, ◌*◌, ◌<◌, ◌≤◌, ◌++◌, ℕ, List, map, IfOk, OnOk, IsErrOf};
+ghost use Rattle.std.specs.Mem.{type_size};
 ghost use denote.Param.Send.{IsSend, IsSync};
 ghost use Rattle.scan_spec.specs.declared.refusal.ScanRefusal.{ScanRefusal};
 ghost use Rattle.segment_code.specs.declared.error.ScanError.TheVariants.{Scan};
 ghost use Rattle.allocation.specs.Bounds.{most_at_once};
 ghost use Rattle.segment_encode.specs.Lanes.{most_lanes};
 
-use crate::tasks::Task;
-use allocation::{push, with_capacity};
+use crate::tasks::Coding;
+use allocation::{NoMemory, push, with_capacity};
 use segment_code::ScanError;
 use std::alloc::Global;
 use std::thread;
 use std::thread::Threads;
 
 // The least bytes of a reserve. If a shorter one is given back, the C library keeps later lists for itself as well.
-const LEAST_RESERVE: usize = 33 << 20;
+pub(crate) const LEAST_RESERVE: usize = 33 << 20;
 
 // The pass, whose lanes are of one type. It does the last parts itself.
-pub(crate) trait Pass<N: Task> {
+pub(crate) trait Pass<N: Coding> {
     // It is between two parts.
     ghost holds: { Self → Type 0 };
 
@@ -72,7 +73,7 @@ pub(crate) trait Pass<N: Task> {
 
 // What comes of each part that is left, in order, in lanes of `each` parts.
 #[cycle(parts)]
-pub(crate) fn make_all<R: Threads + Sync, N: Task + Send + Drop, P: Pass<N>>(
+pub(crate) fn make_all<R: Threads + Sync, N: Coding + Send + Drop, P: Pass<N>>(
     rt: &R,
     alloc: Global,
     pass: &mut P,
@@ -105,7 +106,7 @@ pub(crate) fn make_all<R: Threads + Sync, N: Task + Send + Drop, P: Pass<N>>(
 // is kept as a reserve while a thread starts; else after it. So the stack of a thread takes no addresses that are
 // needed later. No byte of the reserve is touched.
 #[cycle(parts)]
-fn with_others<R: Threads + Sync, N: Task + Send + Drop, P: Pass<N>>(
+fn with_others<R: Threads + Sync, N: Coding + Send + Drop, P: Pass<N>>(
     rt: &R,
     alloc: Global,
     lane: &mut N,
@@ -139,7 +140,7 @@ fn with_others<R: Threads + Sync, N: Task + Send + Drop, P: Pass<N>>(
 // A lane in a thread of its own if one can be had, and what comes of the parts after it beside it. The reserve is given
 // back once the thread has started.
 #[cycle(parts)]
-fn beside<R: Threads + Sync, N: Task + Send + Drop, P: Pass<N>>(
+fn beside<R: Threads + Sync, N: Coding + Send + Drop, P: Pass<N>>(
     rt: &R,
     alloc: Global,
     lane: &mut N,
@@ -188,8 +189,17 @@ pub(crate) fn joined(
         ≡ map (λ v. v.items) streams.items ++ map (λ v. v.items) others.items) }
     ensures memory { (refusal : ScanRefusal) → IsErrOf result (Scan refusal) → ⊥ }
 {
-    for stream in others {
-        push(&mut streams, stream)?;
-    }
+    append(&mut streams, others)?;
     Ok(streams)
+}
+
+/// Appends items. The one error is out of memory.
+pub(crate) fn append<T: Drop>(list: &mut Vec<T>, more: Vec<T>) -> Result<(), NoMemory>
+    requires sized { 0 < type_size T.row }
+    ensures { OnOk result (list.new.items ≡ list.old.items ++ more.items) }
+{
+    for item in more {
+        push(list, item)?;
+    }
+    Ok(())
 }

@@ -21,7 +21,8 @@ ghost use Rattle.segment_encode.specs.StreamsFound.{ArePassed, AreStreams, HasPa
 
 use crate::lanes::{Lane, MOST_LANES, in_a_lane};
 use crate::relay::{Pass, joined, make_all};
-use crate::tasks::{Task, perform_all};
+use crate::scouts::scouted;
+use crate::tasks::{Coding, perform_all};
 use allocation::{NoMemory, push, with_capacity};
 use box_format::Chunk;
 use huff_table::PlanCodes;
@@ -57,9 +58,34 @@ pub fn encode_scan<R: Threads + Sync>(
     let codes = PlanCodes::build(alloc, plan)?;
     let mut pass = ScanPass::start(alloc, plan, &codes, bytes, segments as u32)?;
     let each = in_a_lane(pass.left(), plan.blocks());
+    read_ahead(rt, alloc, &mut pass, &codes, bytes, each);
     let streams = make_all(rt, alloc, &mut pass, each)?;
     let starts = pass.end()?;
     Ok((starts, streams))
+}
+
+// Gives the pass excerpts of its scan, if it leaves lanes of `each` segments to other threads.
+fn read_ahead<'a, R: Threads + Sync>(
+    rt: &R,
+    alloc: Global,
+    pass: &mut ScanPass<'a>,
+    codes: &PlanCodes,
+    bytes: &'a [u8],
+    each: u32,
+)
+    requires pass { IsPass pass.old }
+    requires bytes { pass.old.bytes ≡ bytes.now }
+    requires codes { codes.now ≡ codes_of pass.old.plan.components }
+    requires each { 0 < each }
+    ensures { pass.new ≡ pass.old }
+{
+    let left = pass.left();
+    if left > each {
+        let room = pass.room(each);
+        let plan = pass.plan();
+        let excerpts = scouted(rt, alloc, plan, codes, bytes, left - each, left, room);
+        pass.use_excerpts(excerpts);
+    }
 }
 
 impl<'a> Pass<Lane<'a>> for ScanPass<'a> {

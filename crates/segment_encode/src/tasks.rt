@@ -16,20 +16,23 @@ pub(crate) trait Task {
     // What it makes of what it was.
     ghost done: { Self → Self → Type 0 };
 
+    fn perform(&mut self)
+        requires { ready self.old }
+        ensures { done self.old self.new };
+}
+
+/// A task that streams come of.
+pub(crate) trait Coding: Task {
     // The streams that come of it.
     ghost makes: { Self → List (List ℕ) → Type 0 };
 
     // What holds if it is refused.
     ghost refused: { Self → Type 0 };
 
-    fn perform(&mut self)
-        requires { ready self.old }
-        ensures { done self.old self.new };
-
     fn streams(self) -> Result<Vec<Vec<u8>>, ScanError>
-        ensures made { (old : Self) → done old self
+        ensures made { (old : Self) → Self.done old self
             → IfOk result (λ streams. makes old (map (λ v. v.items) streams.items)) }
-        ensures refused { (old : Self) (refusal : ScanRefusal) → done old self
+        ensures refused { (old : Self) (refusal : ScanRefusal) → Self.done old self
             → IsErrOf result (Scan refusal) → refused old };
 }
 
