@@ -17,8 +17,9 @@ use scan_decode::{Excerpt, Scout, SkipTables};
 use std::alloc::Global;
 use std::thread::Threads;
 
-// How many bytes are worth a thread: a scout reads them in about 6 ms, and a thread may take 1 to 5 ms to begin.
-const WORTH_A_SCOUT: usize = 512 << 10;
+// How many bytes are worth a thread: a scout reads them in 1.5 to 3 ms. A thread may take 4 ms to begin, or wait as long
+// for a processor; the less each scout reads, the sooner those that run are through with all.
+const WORTH_A_SCOUT: usize = 256 << 10;
 
 // The most scouts: as many threads as `encode` has lanes by default.
 const MOST_SCOUTS: usize = 8;

@@ -1,6 +1,7 @@
 // Tasks side by side, each with a value of its own. Written over type parameters: a closure over a type that names a
 // lifetime can't be proved.
 ghost use Rattle.std.specs.Prelude.{◌≡◌, ◌<◌, ℕ, List, map, All, IfOk, IsErrOf, length, slice_index_or};
+ghost use denote.Param.Send.{IsSend, IsSync};
 ghost use Rattle.scan_spec.specs.declared.refusal.ScanRefusal.{ScanRefusal};
 ghost use Rattle.segment_code.specs.declared.error.ScanError.TheVariants.{Scan};
 
@@ -36,15 +37,46 @@ pub(crate) trait Coding: Task {
             → IsErrOf result (Scan refusal) → refused old };
 }
 
-/// Each task in a thread of its own if one can be had, or else on the calling thread.
+/// Each task in a thread of its own if one can be had, or else on the calling thread, and the last one there. The
+/// calling thread starts all the others, so that a thread that begins late holds up no other.
+#[cycle(tasks)]
 pub(crate) fn perform_all<R: Threads + Sync, T: Task + Send>(rt: &R, tasks: &mut [T])
     requires { All T.ready tasks.old }
     ensures count { length tasks.new ≡ length tasks.old }
     ensures done { (i : ℕ) (task : T) → i < length tasks.old
         → T.done (slice_index_or tasks.old i task) (slice_index_or tasks.new i task) }
 {
-    let threads = tasks.len();
-    if threads > 0 {
-        thread::for_each_mut(rt, tasks, threads, &|_, task| task.perform());
+    match tasks.split_first_mut() {
+        Some((first, rest)) => perform_beside(rt, first, rest),
+        None => {}
     }
+}
+
+// A task, beside the others after it if there are any.
+#[cycle(tasks)]
+fn perform_beside<R: Threads + Sync, T: Task + Send>(rt: &R, first: &mut T, rest: &mut [T])
+    requires first { T.ready first.old }
+    requires rest { All T.ready rest.old }
+    ensures first { T.done first.old first.new }
+    ensures count { length rest.new ≡ length rest.old }
+    ensures rest { (i : ℕ) (task : T) → i < length rest.old
+        → T.done (slice_index_or rest.old i task) (slice_index_or rest.new i task) }
+{
+    if rest.is_empty() {
+        first.perform();
+        return;
+    }
+    thread::join_mut(
+        rt,
+        &mut ||
+            requires { T.ready first.now }
+            ensures { T.done first.entry.now first.exit.now }
+        { first.perform() },
+        &mut ||
+            requires { IsSync R.row × IsSend T.row × All T.ready rest.now }
+            ensures count { length rest.exit.now ≡ length rest.entry.now }
+            ensures done { (i : ℕ) (task : T) → i < length rest.entry.now
+                → T.done (slice_index_or rest.entry.now i task) (slice_index_or rest.exit.now i task) }
+        { perform_all(rt, rest) },
+    );
 }
