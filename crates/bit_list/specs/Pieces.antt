@@ -3,4 +3,4 @@ use Rattle.std.specs.Prelude.{ℕ}
 
 -- how many bytes a piece has room for
 abbrev pub piece_room : ℕ
-piece_room = 8192
+piece_room = 36864

@@ -7,8 +7,8 @@ use allocation::{NoMemory, from_elem};
 use std::alloc::Global;
 use std::marker::Model;
 
-/// How many bytes a piece has room for: `piece_room` in clauses.
-pub const ROOM: usize = 8_192;
+/// How many bytes a piece has room for: `piece_room` in clauses. These are 32 KiB, and more than an MCU may have.
+pub const ROOM: usize = 36_864;
 
 // How many bytes the memory has after that room, so that eight bytes can be stored at the end of any piece.
 const SPARE: usize = 8;

@@ -35,14 +35,12 @@ pub struct WriteFault {
     pub written: u64,
 }
 
-/// The most bytes that the buffer of `read_all` grows by at a time.
-const PIECE: usize = 1 << 20;
+/// The most bytes that the buffer of `read_all` grows by at a time: so few that they are still in the processor's cache
+/// when they are read.
+const PIECE: u64 = 1 << 16;
 
-/// The fewest, but for what the limit leaves.
-const FIRST_PIECE: usize = 1 << 16;
-
-/// All that a source has left, at most `limit` bytes. It is read into the room of the result itself, in pieces that
-/// grow, and asked for no more once it gave a byte past the limit.
+/// All that a source has left, at most `limit` bytes. It is read into the room of the result itself, and asked
+/// for no more once it gave a byte past the limit.
 pub fn read_all<S: Source>(alloc: Global, source: &mut S, limit: u64) -> Result<Vec<u8>, ReadAll>
     requires readable { S.readable source.old }
     // All that was left is read, and nothing is left.
@@ -152,9 +150,7 @@ fn grow(bytes: &mut Vec<u8>, left: u64) -> Result<(), NoMemory>
     ensures longer { OnOk result (length bytes.old.items < length bytes.new.items) }
     ensures within { OnOk result (length bytes.new.items ≤ length bytes.old.items + (left + 1)) }
 {
-    let piece = left
-        .saturating_add(1)
-        .min(bytes.len().clamp(FIRST_PIECE, PIECE) as u64);
+    let piece = left.saturating_add(1).min(PIECE);
     // No list is as long as the number at which this stops.
     let longer = bytes.len().saturating_add(piece as usize);
     resize(bytes, longer, 0)
