@@ -141,7 +141,7 @@ fn pieces(rt: HostRuntime) -> Result<(), Fail> {
     put(&rt, &mut buffer, 0x3c, 8, &mut out);
     begun_of(&rt, buffer, &mut out);
     assert!(rt; out.bytes() == [0xff, 0xd0, 0x3c].as_slice());
-    assert!(rt; out.free() == 8189);
+    assert!(rt; out.free() == ROOM - 3);
     out.back_to(2);
     assert!(rt; out.bytes() == [0xff, 0xd0].as_slice());
     out.clear();

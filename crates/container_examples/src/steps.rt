@@ -50,9 +50,9 @@ const START_OF_SIX: &[u8] = b"\0\0\0\0\0\0\0\0\0\0\0\0\0\0\0\0\0\0\0\0\0\x06";
 
 const START_OF_SEVEN: &[u8] = b"\0\0\0\0\0\0\0\0\0\0\0\0\0\0\0\0\0\0\0\0\0\x07";
 
-// A header of 8 by 16,000 samples, with a restart after each MCU; and one of 8 by 32 with two code words in each table:
+// A header of 56 by 16,000 samples, with a restart after each MCU; and one of 8 by 32 with two code words in each table:
 // a block of zeros is `11`.
-const TALL: &[u8] = b"\xff\xd8\xff\xc0\0\x0b\x08\x3e\x80\0\x08\x01\x01\x11\0\
+const TALL: &[u8] = b"\xff\xd8\xff\xc0\0\x0b\x08\x3e\x80\0\x38\x01\x01\x11\0\
     \xff\xc4\0\x14\0\x01\0\0\0\0\0\0\0\0\0\0\0\0\0\0\0\0\
     \xff\xc4\0\x14\x10\x01\0\0\0\0\0\0\0\0\0\0\0\0\0\0\0\0\
     \xff\xdd\0\x04\0\x01\xff\xda\0\x08\x01\x01\0\0\x3f\0";
@@ -297,12 +297,12 @@ fn segments(rt: HostRuntime) -> Result<(), Fail> {
     Ok(())
 }
 
-const TWO_THOUSAND: &[&[u8]] = &[LONGER_FRONT, START_OF_ONE, TALL, b"\0"];
+const FOURTEEN_THOUSAND: &[&[u8]] = &[LONGER_FRONT, START_OF_ONE, TALL, b"\0"];
 
-// A segment of more bytes than a piece has: two thousand MCUs, a byte and a marker each.
+// A segment of more bytes than a piece has: fourteen thousand MCUs, a byte and a marker each.
 #[test]
 fn two_pieces(rt: HostRuntime) -> Result<(), Fail> {
-    let bytes = joined(rt.alloc(), TWO_THOUSAND)?;
+    let bytes = joined(rt.alloc(), FOURTEEN_THOUSAND)?;
     let wanted = bytes_and_markers(rt.alloc())?;
     let segment = (0, wanted.as_slice(), 45);
     assert!(rt; are_decoded(rt.alloc(), &bytes, &segment, &segment, 2)?);
@@ -311,9 +311,9 @@ fn two_pieces(rt: HostRuntime) -> Result<(), Fail> {
 
 fn bytes_and_markers(alloc: Global) -> Result<Vec<u8>, AllocError> {
     let mut bytes = Vec::new(alloc);
-    for number in 0..2_000_u16 {
+    for number in 0..14_000_u16 {
         bytes.extend_from_slice(&[0x3f, 0xff, 0xd0 + (number % 8) as u8])?;
     }
-    bytes.truncate(5_998);
+    bytes.truncate(41_998);
     Ok(bytes)
 }

@@ -390,22 +390,22 @@ const DCS: [i16; MOST_SLOTS] = [
     2047, 4094, 6141, 8188, 10235, 12282, 14329, 16376, 2047, 2047,
 ];
 
-// Ten blocks of the most bits, in the least room: 2,082 bytes, of which 1,442 are 0xff, after 2,012 markers.
+// Ten blocks of the most bits, in the least room: 2,082 bytes, of which 1,442 are 0xff, after 16,348 markers.
 #[test]
 fn largest_mcu(rt: HostRuntime) {
     let plan = plan_of(&rt, rt.alloc(), [TEN_BLOCKS, LONG_ELEVEN, LONG_TEN, 0]);
     let mut out = markers(&rt, rt.alloc());
     assert!(rt; out.free() == mcu_room());
     assert!(rt; are_put(&rt, rt.alloc(), &plan, &mut out));
-    assert!(rt; out.len() == 4024 + 3524 && count_of_ff(out.bytes()) == 2012 + 1442);
+    assert!(rt; out.len() == 32_696 + 3524 && count_of_ff(out.bytes()) == 16_348 + 1442);
 }
 
-// A piece of 2,012 markers.
+// A piece of 16,348 markers.
 fn markers(rt: &impl Abort, alloc: Global) -> Piece {
     let mut out = Piece::new(alloc).expect(rt, "memory");
-    for _ in 0..2012 {
+    for _ in 0..16_348 {
         let mut filler = BitOut::at(0, 0);
-        assert!(rt; out.len() < 8000);
+        assert!(rt; out.len() < 36_000);
         filler.mark(0xd0, &mut out);
     }
     out
