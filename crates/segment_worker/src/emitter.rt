@@ -23,7 +23,7 @@ use std::sync::Wait;
 use std::thread::yield_now;
 
 /// The most bytes of one take from a ring.
-const MOST_TAKEN: usize = 16_384;
+const MOST_TAKEN: usize = 8_192;
 
 /// Writes what the window lets through of `count` segments in order, from the container's number `first` on, the bytes
 /// of each from its ring, or decoded here if nobody has claimed it when its turn comes. It returns after the last one,
